@@ -3,6 +3,7 @@ pub mod Chained
 pub mod Composites
 pub mod Constructs
 pub mod Declared
+pub mod Definitions
 pub mod Ends
 pub mod Entered
 pub mod Entities

@@ -1,8 +1,11 @@
 -- What proofs of several subjects cite: of booleans and options, and steps of declarations.
-use Rattle.std.proofs.Common.{◌≡◌, ℕ, Bool, true, false, ◌&&◌, ◌||◌, ◌==◌, if◌then◌else◌, refl, List, ◌∷◌, Option, Some, None}
-use Rattle.std.specs.Prelude.{Ok, is_some, option_map}
+use Rattle.std.proofs.Common.{◌≡◌, ℕ, Bool, true, false, ◌&&◌, ◌||◌, ◌==◌, if◌then◌else◌, refl, List, [], ◌∷◌, Option}
+use Rattle.std.proofs.Common.{Some, None}
+use Rattle.std.specs.Prelude.{Ok, Err, is_some, option_map}
 use Rattle.std.proofs.lemmas.Bool.{eq-eqb}
 use Rattle.c_tree.specs.declared.c_type.TypeWord.{TypeWord}
+use Rattle.c_tree.specs.declared.expression.Kind.TheVariants as kind
+use Rattle.c_tree.specs.Valid.{Scope}
 use Rattle.c_rules.specs.Answer.{Answer, violates}
 use Rattle.c_rules.specs.declared.fault.Rule.{Rule}
 use Rattle.c_rules.specs.declared.fault.Rule.TheVariants.{LargeType}
@@ -50,6 +53,11 @@ or_right false b e = e
 abbrev pub filed : {A : Type 0} → File → State × A → Answer (File × A)
 filed f r = Ok (record f { state = r.0 }, r.1)
 
+-- what a construct gives, whatever state it leaves
+abbrev pub IfGives : {A : Type 0} → (A → Type 0) → Answer (State × A) → Type 0
+IfGives p (Ok r) = p r.1
+IfGives p (Err e) = Unit {0}
+
 abbrev pub unless_large : State → Designated → Name → (array : TypeWord) → (element : List TypeWord) → (line : ℕ)
     → (large : Bool) → Answer (State × List TypeWord)
 unless_large s d name array element line large =
@@ -75,3 +83,7 @@ pub passed_some : (o : Option Rule) (line : ℕ) (other : Answer (Unit {0})) (x 
     → when_some o line other ≡ Ok x → (o ≡ None) × (other ≡ Ok x)
 passed_some (Some r) line other x e = absurd cc
 passed_some None line other x e = (refl, e)
+
+-- where what holds of a program does not matter
+pub some_scope : Scope
+some_scope = record { statics = []; functions = []; types = []; all = []; variables = []; result = kind.Void }

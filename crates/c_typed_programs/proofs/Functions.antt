@@ -4,4 +4,5 @@ pub mod Defined
 pub mod Entities
 pub mod Files
 pub mod Main
+pub mod Places
 pub mod Words

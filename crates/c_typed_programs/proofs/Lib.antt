@@ -6,10 +6,13 @@ pub mod Functions
 pub mod Initializers
 pub mod LaidOut
 pub mod Layouts
+pub mod Literals
 pub mod Names
 pub mod Places
 pub mod Programs
 pub mod Scopes
+pub mod Sizes
 pub mod SpelledTypes
 pub mod Statics
+pub mod Tags
 pub mod Types

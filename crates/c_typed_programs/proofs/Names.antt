@@ -6,3 +6,4 @@ pub mod Held
 pub mod Known
 pub mod Linked
 pub mod Meant
+pub mod Start

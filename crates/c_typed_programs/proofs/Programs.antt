@@ -1,1 +1,3 @@
+pub mod Bytes
 pub mod Functions
+pub mod Units

@@ -1,4 +1,6 @@
 pub mod Declarations
+pub mod Declaring
+pub mod Definitions
 pub mod Extended
 pub mod Files
 pub mod Initializers

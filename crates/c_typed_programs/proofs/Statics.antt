@@ -1,8 +1,12 @@
 pub mod Added
 pub mod Declared
+pub mod Ending
 pub mod Files
+pub mod Initialized
 pub mod Linked
 pub mod Objects
 pub mod Open
 pub mod Program
+pub mod Storing
+pub mod Turns
 pub mod Walked

@@ -106,7 +106,7 @@ well_initialized s d e =
     let g = passed (is_undefined s d) rule.MisplacedStorage d.line _ tt f.1 in
     (passed (is_wrongly_initialized d) rule.MisplacedStorage d.initializer_line _ tt g.1).0
 
-none_by : (has typedef inside of_function has_extern : Bool) → inside ≡ false
+pub none_by : (has typedef inside of_function has_extern : Bool) → inside ≡ false
     → (not typedef && (inside || of_function || has_extern)) ≡ true
     → (has && (typedef || has_extern || of_function)) ≡ false → has ≡ false
 none_by false t i f x a b c = refl

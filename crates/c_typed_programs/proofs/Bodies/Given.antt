@@ -5,7 +5,6 @@ use Rattle.std.specs.Prelude.{Ok, Err, not, is_some}
 use Rattle.c_syntax.specs.Tree.{Initializer}
 use Rattle.c_tree.specs.declared.c_type.TypeWord.{TypeWord}
 use Rattle.c_tree.specs.declared.c_type.TypeWord.TheVariants as word
-use Rattle.c_tree.specs.declared.expression.Kind.TheVariants as kind
 use Rattle.c_tree.specs.Extents.{TypeExtent, extent_of}
 use Rattle.c_tree.specs.Statements.{Part}
 use Rattle.c_tree.specs.Valid.{Scope}
@@ -30,6 +29,7 @@ use Rattle.c_typed_programs.specs.Layouts.Listed.{HasSizes, IfLaidOut, IsLaidOut
 use Rattle.c_typed_programs.specs.Initializers.Initialized.{IfInitialized as IfObject, IfScalar}
 use Rattle.c_typed_programs.proofs.Initializers.Initialized.{initialized_if_is, scalar_initialized}
 use Rattle.c_typed_programs.specs.Bodies.Given.{IfInitialized}
+use Rattle.c_typed_programs.proofs.Common.{some_scope}
 
 -- an array or structure is one behind its initializer
 
@@ -126,9 +126,6 @@ module _ (scope : Scope) (last : Structures) (d : Designated) (name : Name × �
       (λ e. scalar_initialized scope last d name type e s formed x c)
 
 -- the state behind an initializer, if there is one, is laid out
-
-some_scope : Scope
-some_scope = record { statics = []; functions = []; types = []; all = []; variables = []; result = kind.Void }
 
 laid_by : (d : Designated) (name : Name) (s : State) (a : Answer (State × (List TypeWord × List Part)))
     → IfObject some_scope [] d name s a → IfLaidOut anything a

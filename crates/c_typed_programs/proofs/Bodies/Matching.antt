@@ -45,8 +45,8 @@ use Rattle.c_typed_declarators.proofs.Recursion.{specification_extends}
 use Rattle.c_typed_declarators.proofs.Tags.{bound_last}
 use Rattle.c_typed_programs.specs.Bodies.Types.{AreTypesOf, EntryTypes, NameTypes, NextType}
 use Rattle.c_typed_programs.proofs.Bodies.Parameters.{IfSays, Says, fresh_name, shape_says}
-use Rattle.c_typed_programs.proofs.Bodies.Types.{AllTypes, IfGives, parameters_types, types_extended, types_inside}
-use Rattle.c_typed_programs.proofs.Common.{first, second}
+use Rattle.c_typed_programs.proofs.Bodies.Types.{AllTypes, parameters_types, types_extended, types_inside}
+use Rattle.c_typed_programs.proofs.Common.{IfGives, first, second}
 
 -- lists of names, one behind the other
 

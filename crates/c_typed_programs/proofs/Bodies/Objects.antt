@@ -1,5 +1,5 @@
 -- Declared variables and static objects without linkage, with their initializers (C99 6.7.8).
-use Rattle.std.proofs.Common.{◌≡◌, ℕ, ◌+◌, Bool, true, false, ◌&&◌, ◌||◌, refl, sym, ap, ◌∙◌, subst, List, [], ◌∷◌, ◌++◌}
+use Rattle.std.proofs.Common.{◌≡◌, ℕ, ◌+◌, Bool, true, false, ◌&&◌, refl, sym, ap, ◌∙◌, subst, List, [], ◌∷◌, ◌++◌}
 use Rattle.std.proofs.Common.{length, Option, Some, None, if◌then◌else◌, arith}
 use Rattle.std.specs.Prelude.{Ok, Err, is_some, not}
 use Rattle.c_syntax.specs.Tree.{Initializer}
@@ -45,7 +45,7 @@ use Rattle.c_typed_programs.proofs.Bodies.Initialized.{IfInitializes, Initialize
 use Rattle.c_typed_programs.proofs.Bodies.Initialized.{static_meant, variable_meant, with_count}
 use Rattle.c_typed_programs.proofs.Bodies.Opened.{alone_among, among_alone, count_alone}
 use Rattle.c_typed_programs.proofs.Bodies.Standing.{stands_bound}
-use Rattle.c_typed_programs.proofs.Common.{both, filed}
+use Rattle.c_typed_programs.proofs.Common.{both, filed, neither_left}
 
 abbrev pub AreDeclared : Scope → List DeclaredVariable → Type 0
 AreDeclared scope ds = are_declared scope ds ≡ true
@@ -84,10 +84,6 @@ module _ (scope : Scope) (t : State) (n : ℕ) (type : List TypeWord) (has : Has
       ∙ scalar_of (variable_in t n type).is_object (has_size (kind_in t type)) (is_scalar (kind_in t type)) (is ∙ is_false)
       scalar)))
 
-  not_aggregate : (a b : Bool) → (a || b) ≡ false → a ≡ false
-  not_aggregate true b e = e
-  not_aggregate false b e = refl
-
   made_valid : (is_object : Bool) → (variable_in t n type).is_object ≡ is_object → (parts : List Part)
       → AreInitialized scope t type parts
       → is_initializer scope n (Some (parts_initializer is_object parts)) ≡ true
@@ -98,7 +94,7 @@ module _ (scope : Scope) (t : State) (n : ℕ) (type : List TypeWord) (has : Has
   made_valid false is parts h =
       plain_valid false is refl
       (declared_is_variable t n type h.complete.extent h.complete.is h.complete.object) parts
-      (h.scalar (not_aggregate (is_aggregate type) (is_marked t.objects n) is))
+      (h.scalar (neither_left (is_aggregate type) (is_marked t.objects n) is))
 
   pub initializer_valid : (has_one : Bool) (parts : List Part)
       → (has_one ≡ true → AreInitialized scope t type parts)

@@ -268,7 +268,7 @@ module _ (s : State) (is : IsOutside s) (n : ℕ) (name : Name) (at : IsEntity (
       ap (λ o. with_name name (meaning.Named (what.Object n) type)
       (with_entity name (option_map (entity_with_type type) o) s.environment)) at.is
 
-  sized_later : IsLater s (record s { environment = sized_env })
+  pub sized_later : IsLater s (record s { environment = sized_env })
   sized_later =
       let m = meaning.Named (what.Object n) type in
       let u = record s { environment = sized_env } in

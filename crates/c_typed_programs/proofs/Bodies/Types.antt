@@ -59,7 +59,7 @@ use Rattle.c_typed_programs.specs.Declarations.Binding.{Binds}
 use Rattle.c_unit_typing.specs.Declarations.{stored_once}
 use Rattle.c_typed_programs.specs.Bodies.Types.{IsTypeIf, NameTypes, TakeTypes, TakesTypes, are_types, is_type}
 use Rattle.c_typed_programs.proofs.Bodies.Standing.{either}
-use Rattle.c_typed_programs.proofs.Common.{both, first, second}
+use Rattle.c_typed_programs.proofs.Common.{IfGives, both, first, second}
 
 -- types that stand one behind the other
 
@@ -169,10 +169,6 @@ built_type es base e [] is = e
 built_type es base e (d ∷ ds) is = derived_type es d (built es base ds) is.0 (built_type es base e ds is.1)
 
 -- what constructs give
-
-abbrev pub IfGives : {A : Type 0} → (A → Type 0) → Answer (State × A) → Type 0
-IfGives p (Ok r) = p r.1
-IfGives p (Err e) = Unit {0}
 
 pub then_gives : {A B : Type 0} (p : B → Type 0) (a : Answer (State × A)) (next : A → Typing B)
     → ((x : A) (u : State) → IfGives p (next x u)) → IfGives p (a >>= λ r. next r.1 r.0)

@@ -52,7 +52,7 @@ use Rattle.c_typed_programs.specs.Bodies.Standing.{AreLinked, EntitiesLead}
 use Rattle.c_typed_programs.specs.Bodies.Whole.{AreDefinitions, AreInTurn, IfFurther, IfInTurn, IfWhole, IsDefinition, IsFurther, definition_made}
 use Rattle.c_typed_programs.specs.Bodies.Types.{is_type}
 use Rattle.c_typed_programs.specs.Scopes.Defined.{define_functions, defines}
-use Rattle.c_typed_programs.proofs.Bodies.Bodies.{definition_defined}
+use Rattle.c_typed_programs.proofs.Bodies.Definitions.{definition_defined, made_behind}
 use Rattle.c_typed_programs.proofs.Bodies.Entities.{entities_on, entities_same, entity_links, linked_bound}
 use Rattle.c_typed_programs.proofs.Bodies.Outside.{IfBeyond, IsBeyond, IsLinkedIf, declaration_beyond}
 use Rattle.c_typed_programs.proofs.Bodies.Standing.{either}
@@ -111,8 +111,7 @@ defined_further f g h grows = by h.is
       entities = h.entities;
       grows = grows;
       rest = definition_made f g d ∷ [];
-      is = ap (λ z. z.definitions) d.is
-          ∙ ap (λ z. z ++ definition_made f g d ∷ []) (d.typed.leads.definitions ∙ d.leads.definitions);
+      is = made_behind f g d;
       defined = λ end more entities. (
         record {
           is = record {

@@ -72,11 +72,11 @@ complete_by false false false false true c w a b d e g h = absurd cc
 complete_by false false false false false c true a b d e g h = refl
 complete_by false false false false false c false a b d e g h = absurd cc
 
-first_false : (a b c d e : Bool) → a ≡ false → (a && b && c && d && e) ≡ false
+pub first_false : (a b c d e : Bool) → a ≡ false → (a && b && c && d && e) ≡ false
 first_false true b c d e g = absurd cc
 first_false false b c d e g = refl
 
-some_extent : (o : Option TypeExtent) → is_some o ≡ true → (e : TypeExtent) × (o ≡ Some e)
+pub some_extent : (o : Option TypeExtent) → is_some o ≡ true → (e : TypeExtent) × (o ≡ Some e)
 some_extent None e = absurd cc
 some_extent (Some x) e = (x, refl)
 

@@ -159,7 +159,7 @@ abbrev pub IfDeclaredOutside : State → Answer (State × Option Meaning) → Ty
 IfDeclaredOutside s (Ok r) = Counts None s r.0
 IfDeclaredOutside s (Err e) = Unit {0}
 
-linkage_by : (typedef file function has_extern : Bool) → typedef ≡ false → file ≡ true
+pub linkage_by : (typedef file function has_extern : Bool) → typedef ≡ false → file ≡ true
     → (not typedef && (file || function || has_extern)) ≡ true
 linkage_by true file f x e g = absurd cc
 linkage_by false true f x e g = refl

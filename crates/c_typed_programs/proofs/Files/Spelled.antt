@@ -8,7 +8,7 @@ use Rattle.c_syntax.specs.Statements as t
 use Rattle.c_syntax.specs.Tree.{Expression, Initializer, Specifiers}
 use Rattle.c_tree.specs.declared.c_type.TypeWord.{TypeWord}
 use Rattle.c_tree.specs.declared.c_type.TypeWord.TheVariants as word
-use Rattle.c_tree.specs.Extents.{TypeExtent, extent_of}
+use Rattle.c_tree.specs.Extents.{extent_of}
 use Rattle.c_tree.specs.Statements.{DeclaredVariable, Part}
 use Rattle.c_rules.specs.declared.fault.Rule.TheVariants.{MisplacedStorage, Redeclared}
 use Rattle.c_rules.specs.Answer.{Answer, violates, ◌>>=◌}
@@ -58,7 +58,7 @@ use Rattle.c_typed_declarators.proofs.Recursion.{shape_extends, specification_ex
 use Rattle.c_typed_declarators.proofs.Types.{without_faults}
 use Rattle.c_typed_programs.specs.Declarations.Binding.{IfDeclared, linked_meaning, unlinked_meaning}
 use Rattle.c_typed_programs.proofs.Declarations.Bound.{declarator_binds}
-use Rattle.c_typed_programs.proofs.Declarations.Judged.{answered, declared_as_declares}
+use Rattle.c_typed_programs.proofs.Declarations.Judged.{answered, declared_as_declares, complete_by, some_extent}
 use Rattle.c_typed_programs.specs.Scopes.Leaving.{Leading}
 use Rattle.c_typed_programs.specs.Scopes.Regular.{are_regular_declarators, initializer_of, is_regular_declaration}
 use Rattle.c_typed_programs.specs.Scopes.Regular.{is_regular_initializer_if, is_regular_object}
@@ -69,7 +69,7 @@ use Rattle.c_typed_programs.specs.Types.Typed.{Typed, Types, nothing}
 use Rattle.c_typed_programs.proofs.Types.Built.{array_spelled, built_spelled}
 use Rattle.c_typed_programs.proofs.Types.Declarators.{IsDeclared}
 use Rattle.c_typed_programs.proofs.Types.Kept.{each_bound, each_declared, each_meaning, spelled_kept}
-use Rattle.c_typed_programs.proofs.Types.Parameters.{IsJudged, complete_by, judged_known}
+use Rattle.c_typed_programs.proofs.Types.Parameters.{IsJudged, judged_known}
 use Rattle.c_typed_programs.proofs.Types.Recursion.{shape_typed, specification_typed, typed_types}
 use Rattle.c_typed_programs.proofs.Types.States.{declarator_extents, declarator_types, composite_type, library_visible, name_types}
 use Rattle.c_typed_programs.proofs.Types.States.{spelled_has, visible_spelled}
@@ -165,10 +165,6 @@ sized_by s h d name array element line is true = large_by s h d name array eleme
 abbrev pub HasElements : Structures → List TypeWord → Type 0
 HasElements es type =
     (element : List TypeWord) → type ≡ word.OpenArray ∷ element → is_some (extent_of es element) ≡ true
-
-some_extent : (o : Option TypeExtent) → is_some o ≡ true → (e : TypeExtent) × (o ≡ Some e)
-some_extent None e = absurd cc
-some_extent (Some x) e = (x, refl)
 
 completed_typed : (s : State) → Types s → (d : Designated) (name : Name × ℕ) (type : List TypeWord) (n : ℕ)
     → IsSpelled (extents s) type → HasElements (extents s) type → Typed nothing (completed d name type n s)

@@ -47,7 +47,7 @@ entry_kind f h k e is =
       kind = kinds_at (static_objects f) e.0 e.1 at;
     }
 
-literal_got : (ls : List Literal) (n : ℕ) (l : Literal) → slice_get ls n ≡ Some l
+pub literal_got : (ls : List Literal) (n : ℕ) (l : Literal) → slice_get ls n ≡ Some l
     → slice_get (map literal_object ls) n ≡ Some (literal_object l)
 literal_got [] n l e = absurd cc
 literal_got (x ∷ ls) zero l e = ap (λ z. Some (literal_object z)) (the_same e)

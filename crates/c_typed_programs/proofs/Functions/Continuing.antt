@@ -17,38 +17,26 @@ use Rattle.c_syntax.specs.Statements as t
 use Rattle.c_syntax.specs.Tree.{Declarator, Specifiers}
 use Rattle.c_tree.specs.declared.c_type.TypeWord.{TypeWord}
 use Rattle.c_tree.specs.Statements.{DeclaredVariable, Statements}
-use Rattle.c_rules.specs.declared.fault.Rule.TheVariants.{MisplacedStorage}
-use Rattle.c_rules.specs.Answer.{Answer, violates, ◌>>=◌}
-use Rattle.c_scope.specs.declared.meaning.Designated.TheVariants as what
+use Rattle.c_rules.specs.Answer.{Answer, ◌>>=◌}
 use Rattle.c_scope.specs.declared.meaning.Entity.{Entity}
 use Rattle.c_scope.specs.declared.meaning.Meaning.{Meaning}
 use Rattle.c_scope.specs.declared.meaning.Meaning.TheVariants as meaning
 use Rattle.c_scope.specs.Declaring.{Declaration, has_linkage}
-use Rattle.c_scope.specs.Declaring.{is_typedef, judged as judged_declarator}
+use Rattle.c_scope.specs.Declaring.{judged as judged_declarator}
 use Rattle.c_scope.specs.Environment.{Environment, entity_with, in_file, linked, surroundings, visible_type}
 use Rattle.c_scope.specs.Environment.{with_declarator, without_linkage}
 use Rattle.c_scope.specs.Names.{Name, Names, bound, declared}
 use Rattle.c_scope.specs.Names as names
-use Rattle.c_scope.specs.Parameters.{ParameterScope}
-use Rattle.c_typing.specs.Declarators.{Shape, built_in}
-use Rattle.c_typing.specs.Specifications.{Specification}
-use Rattle.c_typing.specs.State.{State, extents, judged, ◌>>>◌}
-use Rattle.c_expression_typing.specs.Typed.{shape, specification}
-use Rattle.c_unit_typing.specs.Declarations.{declaration, stored_once}
-use Rattle.c_unit_typing.specs.Files.{File, FileTyping, in_state, ◌~>◌}
+use Rattle.c_unit_typing.specs.Declarations.{declaration}
+use Rattle.c_unit_typing.specs.Files.{File, FileTyping}
 use Rattle.c_unit_typing.specs.Statements.{block_items}
-use Rattle.c_unit_typing.specs.Units.{around_body, defined_by, definition_of, entered, external}
-use Rattle.c_unit_typing.specs.Units.{left, parameters_in, scope_or_none, with_body}
-use Rattle.c_typed_validity.specs.Sound.{IsFormed, is_sized_array}
-use Rattle.c_typed_declarators.specs.Extending.{Extending, Extends}
-use Rattle.c_typed_declarators.specs.Given.{AreCounted, HasScope, IsShapeOf, IsSpecified}
+use Rattle.c_unit_typing.specs.Units.{around_body, entered, external}
+use Rattle.c_unit_typing.specs.Units.{left, parameters_in}
+use Rattle.c_typed_validity.specs.Sound.{IsFormed}
+use Rattle.c_typed_declarators.specs.Extending.{Extends}
 use Rattle.c_typed_declarators.proofs.Marks.{type_extends}
-use Rattle.c_typed_declarators.proofs.Recursion.{scope_kept, shape_extends}
-use Rattle.c_typed_programs.specs.Declarations.Binding.{IfDeclared, bound_meaning}
-use Rattle.c_typed_programs.proofs.Declarations.Judged.{answered, if_declared}
-use Rattle.c_typed_programs.specs.Scopes.Regular.{is_regular_block, is_regular_external}
-use Rattle.c_typed_programs.proofs.Scopes.Files.{built_definition, entered_leads, inside, inside_formed, scope_is, stored_extends}
-use Rattle.c_typed_programs.proofs.Scopes.Leading.{bound_leads}
+use Rattle.c_typed_programs.specs.Scopes.Regular.{is_regular_external}
+use Rattle.c_typed_programs.proofs.Scopes.Files.{entered_leads, inside, inside_formed}
 use Rattle.c_typed_programs.proofs.Scopes.Statements.{IfFileBehind, items_walk}
 use Rattle.c_typed_programs.proofs.Types.Parameters.{IsJudged, judged_known}
 use Rattle.c_typed_programs.specs.Functions.Entities.{without_sizes}
@@ -66,7 +54,8 @@ use Rattle.c_typed_programs.specs.Functions.Entities.{Continue, IfContinues, IsS
 use Rattle.c_typed_programs.proofs.Functions.Entities.{bound_either, unlinked_entities}
 use Rattle.c_typed_programs.proofs.Functions.Files.{KeepsFile, keeps_walk, visible_words}
 use Rattle.c_typed_programs.specs.Functions.Entities.{Keeps}
-use Rattle.c_typed_programs.proofs.Common.{filed, first, or_left as or_first, second}
+use Rattle.c_typed_programs.proofs.Scopes.Definitions.{DefinitionWalk, definition_walks}
+use Rattle.c_typed_programs.proofs.Common.{first, or_left as or_first, second}
 
 still_same : (x : Entity) → IsStill x (Some x)
 still_same x = record { entity = x; there = refl; what = refl; words = refl; fills = fills_same x.c_type; defined = λ d. d }
@@ -144,101 +133,46 @@ from_continued f g h (Err e) k = tt
 same_entities : (es fs : Names Entity) → fs ≡ es → Continue es fs
 same_entities es fs e = subst (Continue es) (sym e) (continues_same es)
 
-state_behind : {A B : Type 0} (f : File) (p : State → A → Type 0) (a : Answer (State × A)) (next : A → FileTyping B)
-    → Extending false f.state p a
-    → ((x : A) (g : File) → IsFormed g.state → p g.state x → IfContinues g (next x g))
-    → IfContinues f (a >>= filed f >>= λ r. next r.1 r.0)
-state_behind f p (Ok r) next is h =
-    let g = record f { state = r.0 } in
-    from_continued f g (same_entities f.state.environment.entities r.0.environment.entities is.0.entities) (next r.1 g)
-    (h r.1 g is.0.formed is.1)
-state_behind f p (Err e) next is h = tt
+abbrev Continues : File → File → Type 0
+Continues f g = Continue f.state.environment.entities g.state.environment.entities
 
 left_continues : (f g : File) → Continue f.state.environment.entities g.state.environment.entities → (line : ℕ)
     (type : List TypeWord) (ps : List tree_variable.Variable) (a : Answer (File × Statements))
-    → IfFileBehind KeepsFile g a → IfContinues f (a >>= λ r. Ok (left line type ps r, tt {0}))
+    → IfFileBehind KeepsFile g a → IfFileBehind Continues f (a >>= λ r. Ok (left line type ps r, tt {0}))
 left_continues f g h line type ps (Ok r) k =
     continues_on f.state.environment.entities g.state.environment.entities r.0.state.environment.entities h
     (keeps_continues g.state.environment.facts.functions g.state.environment.entities r.0.state.environment.entities
     k.keeps.0)
 left_continues f g h line type ps (Err e) k = tt
 
-body_continues : (line : ℕ) (o : Option ParameterScope) (b : t.Block) → is_regular_block b ≡ true → (m : Option Meaning)
-    (f : File) → IsFormed f.state → HasScope f.state o → IfContinues f (with_body line o b m f)
-body_continues line o (t.block l xs r) c (Some (meaning.Named (what.Function n) type)) f formed has =
-    let p = scope_or_none o in
-    let is = scope_is f.state o has in
-    let entering = type_extends false type (inside n p f) (inside_formed f formed n p is) in
-    left_continues f (entered n type p f)
-    (same_entities f.state.environment.entities (entered n type p f).state.environment.entities entering.entities)
-    line type (parameters_in (entered n type p f).state p.names)
-    (block_items (around_body type) xs (entered n type p f))
-    (items_walk (Extends false) KeepsFile keeps_walk (around_body type) xs c (entered n type p f)
-    (entered_leads f formed n p is type line).formed)
-body_continues line o b c None f formed has = continues_same f.state.environment.entities
-body_continues line o b c (Some (meaning.Typedef type)) f formed has = continues_same f.state.environment.entities
-body_continues line o b c (Some (meaning.Constant w)) f formed has = continues_same f.state.environment.entities
-body_continues line o b c (Some (meaning.Named (what.Object n) type)) f formed has =
-    continues_same f.state.environment.entities
-body_continues line o b c (Some (meaning.Named (what.Static n) type)) f formed has =
-    continues_same f.state.environment.entities
-body_continues line o b c (Some (meaning.Named (what.Library r) type)) f formed has =
-    continues_same f.state.environment.entities
-body_continues line o b c (Some (meaning.Named (what.Variable n) type)) f formed has =
-    continues_same f.state.environment.entities
+continues_walk : DefinitionWalk Continues
+continues_walk = record {
+  file_same = λ f. continues_same f.state.environment.entities;
+  file_on = λ f g h.
+      continues_on f.state.environment.entities g.state.environment.entities h.state.environment.entities;
+  in_file = λ f t h. same_entities f.state.environment.entities t.environment.entities h.entities;
+  declared = λ f d is.
+      declarator_continues f.state.environment d (judged_known (surroundings f.state.environment d) d tt is);
+  block = λ f formed n p is type line xs c.
+      (let begun = entered n type p f in
+      let entering = type_extends false type (inside n p f) (inside_formed f formed n p is) in
+      left_continues f begun
+      (same_entities f.state.environment.entities begun.state.environment.entities entering.entities) line type
+      (parameters_in begun.state p.names) (block_items (around_body type) xs begun)
+      (items_walk (Extends false) KeepsFile keeps_walk (around_body type) xs c begun
+      (entered_leads f formed n p is type line).formed));
+}
 
-named_continues : (f : File) (d : Declaration) (name : Name × ℕ) → d.name ≡ name.0 → (line : ℕ)
-    (o : Option ParameterScope) (b : t.Block) → is_regular_block b ≡ true → HasScope f.state o
-    → ((a : Answer (Unit {0})) → judged_declarator (surroundings f.state.environment d) d ≡ a
-    → IfDeclared d f.state (answered d f.state name a))
-    → (a : Answer (Unit {0})) → judged_declarator (surroundings f.state.environment d) d ≡ a
-    → IfContinues f (answered d f.state name a >>= filed f >>= λ r. with_body line o b r.1 r.0)
-named_continues f d name same line o b c has declares (Ok x) is =
-    let known = judged_known (surroundings f.state.environment d) d x is in
-    let t = record f.state { environment = with_declarator f.state.environment d } in
-    let g = record f { state = t } in
-    let own = declares (Ok x) is in
-    let leads = bound_leads d.name (bound_meaning f.state.environment d) f.state t own.0.binds own.0.formed in
-    from_continued f g (declarator_continues f.state.environment d known)
-    (with_body line o b (declared name.0 t.environment.names.current) g)
-    (body_continues line o b c (declared name.0 t.environment.names.current) g own.0.formed
-    (scope_kept f.state t leads.longer o has))
-named_continues f d name same line o b c has declares (Err e) is = tt
-
-defined_by_name : (f : File) → IsFormed f.state → (spec : Specification) → is_sized_array spec.type ≡ true
-    → (sh : Shape) → AreCounted sh.derivations → HasScope f.state sh.parameters
-    → (b : t.Block) → is_regular_block b ≡ true → (name : Name × ℕ) (is : Bool)
-    → IfContinues f
-    ((if is then violates MisplacedStorage spec.line
-    else answered (definition_of (extents f.state) spec (built_in f.state spec sh) name) f.state name
-    (judged_declarator (surroundings f.state.environment (definition_of (extents f.state) spec
-    (built_in f.state spec sh) name))
-    (definition_of (extents f.state) spec (built_in f.state spec sh) name)))
-    >>= filed f >>= λ r. with_body name.1 sh.parameters b r.1 r.0)
-defined_by_name f formed spec sized sh counted has b c name true = tt
-defined_by_name f formed spec sized sh counted has b c name false =
-    let x = definition_of (extents f.state) spec (built_in f.state spec sh) name in
-    named_continues f x name refl name.1 sh.parameters b c has
-    (λ a g. if_declared f.state formed x (built_definition f.state formed spec sized sh counted name) name refl a g)
-    (judged_declarator (surroundings f.state.environment x) x) refl
-
-defined_continues : (f : File) → IsFormed f.state → (spec : Specification) → is_sized_array spec.type ≡ true
-    → (sh : Shape) → AreCounted sh.derivations → HasScope f.state sh.parameters → (b : t.Block)
-    → is_regular_block b ≡ true → (name : Option (Name × ℕ)) → IfContinues f (defined_by spec sh b name f)
-defined_continues f formed spec sized sh counted has b c None = continues_same f.state.environment.entities
-defined_continues f formed spec sized sh counted has b c (Some name) =
-    defined_by_name f formed spec sized sh counted has b c name (is_typedef spec.storage)
+continues_by : (f : File) (a : Answer (File × Unit {0})) → IfFileBehind Continues f a → IfContinues f a
+continues_by f (Ok r) h = h
+continues_by f (Err e) h = tt
 
 definition_continues : (specs : Specifiers) (d : Declarator) (b : t.Block)
     → is_regular_external (t.definition specs d b) ≡ true → (f : File) → IsFormed f.state
     → IfContinues f (external (t.definition specs d b) f)
 definition_continues specs d b c f formed =
-    state_behind f IsSpecified ((specification false specs >>> λ spec. judged (stored_once spec)) f.state)
-    (λ spec. in_state (shape true d) ~> λ sh. defined_by spec sh b sh.name)
-    (stored_extends specs (first _ _ (first _ _ c)) f.state formed)
-    (λ spec g h sized. state_behind g (λ u sh. IsShapeOf u d sh) (shape true d g.state)
-    (λ sh. defined_by spec sh b sh.name) (shape_extends true d (second _ _ (first _ _ c)) g.state h)
-    (λ sh k i shaped. defined_continues k i spec sized sh shaped.counted shaped.scope b (second _ _ c) sh.name))
+    continues_by f (external (t.definition specs d b) f)
+    (definition_walks Continues continues_walk specs d b c f formed)
 
 declared_continues : (f : File) (a : Answer (File × List DeclaredVariable)) → IfKept f a
     → IfContinues f (a >>= λ r. Ok (r.0, tt {0}))

@@ -1,15 +1,13 @@
 -- Declarations keep objects and functions with linkage.
 use Rattle.std.proofs.Common.{◌≡◌, ℕ, Bool, true, false, refl, sym, ap, ◌∙◌, subst, List, [], ◌∷◌, ◌++◌}
 use Rattle.std.proofs.Common.{Option, Some, None, if◌then◌else◌}
-use Rattle.std.specs.Prelude.{Ok, Err, not, is_none, is_some, option_map}
-use Rattle.std.specs.List.{list_all}
-use Rattle.c_syntax.specs.declared.position.Position.{Position}
+use Rattle.std.specs.Prelude.{Ok, Err, not, is_some, option_map}
 use Rattle.c_syntax.specs.Statements as t
 use Rattle.c_syntax.specs.Tree.{Initializer}
 use Rattle.c_tree.specs.declared.c_type.TypeWord.{TypeWord}
 use Rattle.c_tree.specs.declared.c_type.TypeWord.TheVariants as word
 use Rattle.c_tree.specs.Extents.{extent_of}
-use Rattle.c_tree.specs.Statements.{DeclaredVariable, Part}
+use Rattle.c_tree.specs.Statements.{Part}
 use Rattle.c_rules.specs.declared.fault.Rule.TheVariants.{MisplacedStorage, Redeclared}
 use Rattle.c_rules.specs.Answer.{Answer, violates, ◌>>=◌}
 use Rattle.c_declarators.specs.Derivations.{array_of, is_large}
@@ -25,30 +23,28 @@ use Rattle.c_scope.specs.Names.{Name}
 use Rattle.c_typing.specs.Declarators.{Shape, built_in}
 use Rattle.c_typing.specs.Specifications.{Specification}
 use Rattle.c_typing.specs.State.{State, Typing, done, extents, ◌>>>◌}
-use Rattle.c_expression_typing.specs.Typed.{shape}
-use Rattle.c_unit_typing.specs.Declarations.{alone_in, completed, declaration, declaration_of, declared_as}
+use Rattle.c_unit_typing.specs.Declarations.{completed, declaration, declaration_of, declared_as}
 use Rattle.c_unit_typing.specs.Declarations.{declared_with, has_place, initialized_if, is_same_object, named_by}
-use Rattle.c_unit_typing.specs.Declarations.{specified, with_declarator, with_declarators, with_others, with_parts}
+use Rattle.c_unit_typing.specs.Declarations.{with_parts}
 use Rattle.c_unit_typing.specs.Declarations.{with_static, with_variable}
-use Rattle.c_unit_typing.specs.Files.{File, FileTyping}
+use Rattle.c_unit_typing.specs.Files.{File}
 use Rattle.c_unit_typing.specs.Initializers.{initialized}
 use Rattle.c_unit_typing.specs.Lines.{initializer_line}
 use Rattle.c_typed_validity.specs.Sound.{IsFormed, is_sized_array}
 use Rattle.c_typed_declarators.specs.Extending.{Extending, Extends}
-use Rattle.c_typed_declarators.specs.Given.{AreCounted, IsShapeOf, IsSpecified, anything}
-use Rattle.c_typed_declarators.proofs.Recursion.{shape_extends}
+use Rattle.c_typed_declarators.specs.Given.{AreCounted, anything}
 use Rattle.c_typed_programs.specs.Declarations.Binding.{IfDeclared}
 use Rattle.c_typed_programs.proofs.Declarations.Judged.{answered, declared_as_declares}
-use Rattle.c_typed_programs.specs.Scopes.Leaving.{Leading}
-use Rattle.c_typed_programs.specs.Scopes.Regular.{are_regular_declarators, initializer_of, is_regular_declaration}
-use Rattle.c_typed_programs.specs.Scopes.Regular.{is_regular_initializer_if, is_regular_object}
-use Rattle.c_typed_programs.proofs.Scopes.Declarations.{declarator_leads, specified_extends}
+use Rattle.c_typed_programs.specs.Scopes.Regular.{is_regular_declaration}
+use Rattle.c_typed_programs.specs.Scopes.Regular.{is_regular_initializer_if}
 use Rattle.c_typed_programs.proofs.Scopes.Initializers.{initialized_extends}
 use Rattle.c_typed_programs.proofs.Types.Parameters.{judged_known}
 use Rattle.c_typed_programs.specs.Functions.Entities.{Keeps}
 use Rattle.c_typed_programs.proofs.Functions.Entities.{declarator_facts, declarator_keeps, keeps_on, keeps_same, size_facts}
 use Rattle.c_typed_programs.proofs.Functions.Entities.{size_keeps}
-use Rattle.c_typed_programs.proofs.Common.{filed, first, second, unless_large}
+use Rattle.c_typed_programs.proofs.Scopes.Declaring.{DeclarationWalk, declaration_walks}
+use Rattle.c_typed_programs.proofs.Scopes.Statements.{IfFileBehind}
+use Rattle.c_typed_programs.proofs.Common.{filed, unless_large}
 
 abbrev pub KeepsIn : State → State → Type 0
 KeepsIn s t =
@@ -59,9 +55,11 @@ abbrev pub IfKeeps : {A : Type 0} → State → Answer (State × A) → Type 0
 IfKeeps s (Ok r) = KeepsIn s r.0
 IfKeeps s (Err e) = Unit {0}
 
+abbrev KeepsFile : File → File → Type 0
+KeepsFile f g = KeepsIn f.state g.state
+
 abbrev pub IfKept : {A : Type 0} → File → Answer (File × A) → Type 0
-IfKept f (Ok r) = KeepsIn f.state r.0.state
-IfKept f (Err e) = Unit {0}
+IfKept f a = IfFileBehind KeepsFile f a
 
 pub keeps_in : (s t u : State) → KeepsIn s t → KeepsIn t u → KeepsIn s u
 keeps_in s t u h g = (
@@ -96,20 +94,6 @@ extending_kept s p (Err e) is = tt
 from_file : {A : Type 0} (f g : File) → KeepsIn f.state g.state → (a : Answer (File × A)) → IfKept g a → IfKept f a
 from_file f g h (Ok r) is = keeps_in f.state g.state r.0.state h is
 from_file f g h (Err e) is = tt
-
-pub then_file : {A B : Type 0} (f : File) (a : Answer (File × A)) (next : A → FileTyping B) → Leading f a → IfKept f a
-    → ((x : A) (g : File) → IsFormed g.state → IfKept g (next x g)) → IfKept f (a >>= λ r. next r.1 r.0)
-then_file f (Ok r) next l h g = from_file f r.0 h (next r.1 r.0) (g r.1 r.0 l.state.formed)
-then_file f (Err e) next l h g = tt
-
-pub state_then : {A B : Type 0} (f : File) (p : State → A → Type 0) (a : Answer (State × A)) (next : A → FileTyping B)
-    → Extending false f.state p a
-    → ((x : A) (g : File) → IsFormed g.state → p g.state x → IfKept g (next x g))
-    → IfKept f (a >>= filed f >>= λ r. next r.1 r.0)
-state_then f p (Ok r) next is h =
-    let g = record f { state = r.0 } in
-    from_file f g (extends_keeps f.state r.0 is.0) (next r.1 g) (h r.1 g is.0.formed is.1)
-state_then f p (Err e) next is h = tt
 
 -- an object gets its size
 
@@ -229,43 +213,14 @@ named_kept in_head spec sized x c sh counted (Some name) f formed =
     (declared_as_declares in_head f.state formed spec sized sh counted (option_map initializer_line x) name)
     (placed_kept f.state d refl name spec.line (has_place in_head spec (built_in f.state spec sh).type))
 
-declarator_kept : (in_head : Bool) (spec : Specification) → is_sized_array spec.type ≡ true → (d : t.InitDeclarator)
-    → is_regular_object d (initializer_of d) ≡ true → (f : File) → IsFormed f.state
-    → IfKept f (with_declarator in_head spec d f)
-declarator_kept in_head spec sized d c f formed =
-    state_then f (λ u sh. IsShapeOf u d.declarator sh) (shape false d.declarator f.state)
-    (λ sh. named_by in_head spec (initializer_of d) sh sh.name)
-    (shape_extends false d.declarator (first _ _ c) f.state formed)
-    (λ sh g h is. named_kept in_head spec sized (initializer_of d) (second _ _ c) sh is.counted sh.name g h)
-
-others_kept : (in_head : Bool) (spec : Specification) → is_sized_array spec.type ≡ true
-    → (ds : List (Position × t.InitDeclarator)) → list_all (λ d. is_regular_object d.1 (initializer_of d.1)) ds ≡ true
-    → (vs : List DeclaredVariable) (f : File) → IsFormed f.state → IfKept f (with_others in_head spec ds vs f)
-others_kept in_head spec sized [] c vs f formed = same_in f.state
-others_kept in_head spec sized (d ∷ ds) c vs f formed =
-    then_file f (with_declarator in_head spec d.1 f) (λ us. with_others in_head spec ds (vs ++ us))
-    (declarator_leads in_head spec sized d.1 (first _ _ c) f formed)
-    (declarator_kept in_head spec sized d.1 (first _ _ c) f formed)
-    (λ us g h. others_kept in_head spec sized ds (second _ _ c) (vs ++ us) g h)
-
-alone_kept : (f : File) (a : Answer (List DeclaredVariable)) → IfKept f (a >>= (λ x. Ok (f.state, x)) >>= filed f)
-alone_kept f (Ok x) = same_in f.state
-alone_kept f (Err e) = tt
-
-declarators_kept : (in_head : Bool) (spec : Specification) → is_sized_array spec.type ≡ true
-    → (ds : Option t.InitDeclarators) → are_regular_declarators ds ≡ true → (f : File) → IsFormed f.state
-    → IfKept f (with_declarators in_head spec ds f)
-declarators_kept in_head spec sized None c f formed = alone_kept f (alone_in in_head spec f.state)
-declarators_kept in_head spec sized (Some ds) c f formed =
-    then_file f (with_declarator in_head spec ds.first f) (λ vs. with_others in_head spec ds.others vs)
-    (declarator_leads in_head spec sized ds.first (first _ _ c) f formed)
-    (declarator_kept in_head spec sized ds.first (first _ _ c) f formed)
-    (λ vs g h. others_kept in_head spec sized ds.others (second _ _ c) vs g h)
+declarations_kept : DeclarationWalk KeepsFile
+declarations_kept = record {
+  file_same = λ f. same_in f.state;
+  file_on = λ f g h leads. keeps_in f.state g.state h.state;
+  in_file = λ f t h. extends_keeps f.state t h;
+  named = named_kept;
+}
 
 pub declaration_kept : (in_head : Bool) (d : t.Declaration) → is_regular_declaration d ≡ true → (f : File)
     → IsFormed f.state → IfKept f (declaration in_head d f)
-declaration_kept in_head d c f formed =
-    state_then f IsSpecified (specified (is_none d.declarators) d f.state)
-    (λ spec. with_declarators in_head spec d.declarators)
-    (specified_extends (is_none d.declarators) d c f.state formed)
-    (λ spec g h is. declarators_kept in_head spec is d.declarators (second _ _ c) g h)
+declaration_kept = declaration_walks KeepsFile declarations_kept

@@ -138,7 +138,7 @@ get_last [] y (suc n) e = absurd (omega (arith, e))
 get_last (z ∷ xs) y zero e = absurd (omega (arith, e))
 get_last (z ∷ xs) y (suc n) e = get_last xs y n (omega (arith, e))
 
-one_longer : {A : Type 0} (xs : List A) (y : A) → length (xs ++ y ∷ []) ≡ suc (length xs)
+pub one_longer : {A : Type 0} (xs : List A) (y : A) → length (xs ++ y ∷ []) ≡ suc (length xs)
 one_longer [] y = refl
 one_longer (x ∷ xs) y = ap suc (one_longer xs y)
 

@@ -22,7 +22,7 @@ use Rattle.c_typed_programs.proofs.SpelledTypes.Composites.{none_second, second_
 use Rattle.c_typed_programs.proofs.Types.Parameters.{IsJudged}
 use Rattle.c_typed_programs.specs.Functions.Entities.{Fills, FillsWord, IsFirst, IsSame, Keeps, is_library, names_function, number_of}
 use Rattle.c_typed_programs.specs.Functions.Entities.{without_sizes}
-use Rattle.c_typed_programs.proofs.Common.{or_left}
+use Rattle.c_typed_programs.proofs.Common.{first, or_left, second}
 
 -- names
 
@@ -31,16 +31,9 @@ name_is [] [] e = refl
 name_is [] (c ∷ n) e = absurd cc
 name_is (b ∷ m) [] e = absurd cc
 name_is (b ∷ m) (c ∷ n) e =
-    cons_is b c m n (eqb-true b c (left (nat_eq b c) (is_name m n) e)) (name_is m n (right (nat_eq b c) (is_name m n) e))
+    cons_is b c m n (eqb-true b c (first (nat_eq b c) (is_name m n) e))
+    (name_is m n (second (nat_eq b c) (is_name m n) e))
   where
-    left : (a b : Bool) → (a && b) ≡ true → a ≡ true
-    left true b e = refl
-    left false b e = e
-
-    right : (a b : Bool) → (a && b) ≡ true → b ≡ true
-    right true b e = e
-    right false b e = absurd cc
-
     cons_is : (b c : ℕ) (m n : Name) → b ≡ c → m ≡ n → b ∷ m ≡ c ∷ n
     cons_is b c m n e g = cc
 

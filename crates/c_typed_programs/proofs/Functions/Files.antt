@@ -1,13 +1,11 @@
 -- Definitions of a file number the functions that it defines.
 use Rattle.std.proofs.Common.{◌≡◌, ℕ, Bool, true, false, ◌&&◌, ◌||◌, refl, sym, ap, ◌∙◌, subst}
 use Rattle.std.proofs.Common.{List, [], ◌∷◌, ◌++◌, length, Option, Some, None, if◌then◌else◌}
-use Rattle.std.specs.Prelude.{Ok, Err, not, is_some, option_map}
-use Rattle.c_syntax.specs.declared.position.Position.{Position}
+use Rattle.std.specs.Prelude.{Ok, Err, is_some}
 use Rattle.c_syntax.specs.Formed as formed
 use Rattle.c_syntax.specs.Formed.{defines_function}
 use Rattle.c_syntax.specs.Statements as t
 use Rattle.c_syntax.specs.Tree.{Declarator, Specifiers}
-use Rattle.c_syntax.specs.Tree as tree
 use Rattle.c_tree.specs.declared.c_type.TypeWord.{TypeWord}
 use Rattle.c_tree.specs.declared.c_type.TypeWord.TheVariants as word
 use Rattle.c_tree.specs.Statements.{DeclaredVariable, Statements}
@@ -32,8 +30,7 @@ use Rattle.c_typing.specs.Calls.{place_among}
 use Rattle.c_typing.specs.Declarators.{Shape, built_in}
 use Rattle.c_typing.specs.Specifications.{Specification}
 use Rattle.c_typing.specs.State.{State, extents, judged, ◌>>>◌}
-use Rattle.c_expression_typing.specs.Constructs.{valued}
-use Rattle.c_expression_typing.specs.Typed.{parameter_types, shape, specification, typed}
+use Rattle.c_expression_typing.specs.Typed.{shape, specification}
 use Rattle.c_unit_typing.specs.Declarations.{declaration, stored_once}
 use Rattle.c_unit_typing.specs.Files.{Definition, File, FileTyping, in_state, ◌~>◌}
 use Rattle.c_unit_typing.specs.Statements.{block_items}
@@ -48,7 +45,9 @@ use Rattle.c_typed_declarators.proofs.Marks.{type_extends}
 use Rattle.c_typed_declarators.proofs.Recursion.{scope_kept, shape_extends}
 use Rattle.c_typed_programs.specs.Declarations.Binding.{IfDeclared, bound_meaning, linked_meaning, unlinked_meaning}
 use Rattle.c_typed_programs.proofs.Declarations.Bound.{declarator_binds}
+use Rattle.c_typed_programs.proofs.Declarations.Facts.{declarators_keep_facts}
 use Rattle.c_typed_programs.proofs.Declarations.Judged.{answered, if_declared}
+use Rattle.c_typed_programs.proofs.Declarations.Named.{HasNameOf, named_as, shape_named}
 use Rattle.c_typed_programs.specs.Scopes.Leaving.{FileLeads, Leading}
 use Rattle.c_typed_programs.specs.Scopes.Regular.{is_regular_block, is_regular_external}
 use Rattle.c_typed_programs.proofs.Scopes.Declarations.{declaration_leads}
@@ -58,7 +57,7 @@ use Rattle.c_typed_programs.proofs.Scopes.Leading.{bound_leads, closed_leads, fi
 use Rattle.c_typed_programs.proofs.Scopes.Statements.{IfFileBehind, Walk, items_walk}
 use Rattle.c_typed_programs.specs.Scopes.Defined.{defines}
 use Rattle.c_typed_programs.proofs.Files.Definitions.{definition_function}
-use Rattle.c_typed_programs.proofs.Files.Files.{IsOutside, outside_by}
+use Rattle.c_typed_programs.proofs.Files.Files.{IsOutside, outside_by, linkage_by}
 use Rattle.c_typed_programs.proofs.Files.Spelled.{stored_specification}
 use Rattle.c_typed_programs.specs.Types.Typed.{OfSpecification, Structures, Typed, Types}
 use Rattle.c_typed_programs.proofs.Types.Declarators.{IsDeclared}
@@ -72,7 +71,7 @@ use Rattle.c_typed_programs.proofs.Functions.Defined.{defines_kept, defines_more
 use Rattle.c_typed_programs.proofs.Functions.Defined.{registered_add, registered_more}
 use Rattle.c_typed_programs.proofs.Functions.Entities.{compatible_words, composite_words, conflict, function_words}
 use Rattle.c_typed_programs.proofs.Functions.Entities.{declarator_facts, known_old, new_number}
-use Rattle.c_typed_programs.proofs.Common.{filed, first, or_right as or_true, second}
+use Rattle.c_typed_programs.proofs.Common.{IfGives, filed, first, or_right as or_true, second}
 
 -- blocks
 
@@ -102,42 +101,6 @@ keeps_walk = record {
       kept_by f (declaration in_head d f) (declaration_leads in_head d c f formed)
       (declaration_kept in_head d c f formed);
 }
-
--- the name of a declarator
-
-abbrev named_as : Option (Name × ℕ) → Option Name
-named_as o = option_map (λ n. n.0) o
-
-abbrev IfNamed : Declarator → Answer (State × Shape) → Type 0
-IfNamed d (Ok r) = named_as r.1.name ≡ formed.declared d
-IfNamed d (Err e) = Unit {0}
-
-then_named : (d e : Declarator) (a : Answer (State × Shape)) (next : Shape → State → Answer (State × Shape))
-    → IfNamed d a → ((sh : Shape) (u : State) → named_as sh.name ≡ formed.declared d → IfNamed e (next sh u))
-    → IfNamed e (a >>= λ r. next r.1 r.0)
-then_named d e (Ok r) next h k = k r.1 r.0 h
-then_named d e (Err x) next h k = tt
-
-behind_named : {A : Type 0} (e : Declarator) (a : Answer (State × A)) (next : A → State → Answer (State × Shape))
-    → ((x : A) (u : State) → IfNamed e (next x u)) → IfNamed e (a >>= λ r. next r.1 r.0)
-behind_named e (Ok r) next k = k r.1 r.0
-behind_named e (Err x) next k = tt
-
-shape_named : (b : Bool) (d : Declarator) (s : State) → IfNamed d (shape b d s)
-shape_named b (tree.named x) s = refl
-shape_named b tree.unnamed s = refl
-shape_named b (tree.pointer at consts d) s =
-    then_named d (tree.pointer at consts d) (shape b d s) _ (shape_named b d s) (λ sh u e. e)
-shape_named b (tree.grouped l d r) s = shape_named b d s
-shape_named b (tree.open_array d l r) s =
-    then_named d (tree.open_array d l r) (shape b d s) _ (shape_named b d s) (λ sh u e. e)
-shape_named b (tree.array d l e r) s =
-    then_named d (tree.array d l e r) (shape b d s) _ (shape_named b d s)
-    (λ sh u g. behind_named (tree.array d l e r) (valued (typed false e) u) _ (λ v w. g))
-shape_named b (tree.function d l ps r) s =
-    then_named d (tree.function d l ps r) (shape b d s) _ (shape_named b d s)
-    (λ sh u g. behind_named (tree.function d l ps r) (parameter_types (b && formed.is_plain_name d) ps _) _
-    (λ types w. g))
 
 -- the block of a function
 
@@ -289,12 +252,6 @@ module _ (f : File) (numbers : Names ℕ) (h : Defines f.definitions f.state.env
       (entity_with f.state.environment d (declared d.name f.state.environment.entities)).what ≡ true
   entity_function = (defined_entity (declared d.name f.state.environment.entities) refl).function
 
-linkage_by : (typedef file function has_extern : Bool) → typedef ≡ false → file ≡ true
-    → (not typedef && (file || function || has_extern)) ≡ true
-linkage_by true file f x e g = absurd cc
-linkage_by false true f x e g = refl
-linkage_by false false f x e g = absurd cc
-
 function_type : (es : Structures) (type : List TypeWord) → has_parameters es 0 type ≡ true → is_function type ≡ true
 function_type es (word.Takes ∷ ws) e = refl
 function_type es (word.Gives ∷ ws) e = refl
@@ -412,10 +369,6 @@ defined_defines f numbers h out types spec sized own d defined sh counted is has
 
 -- behind specifiers and a declarator
 
-abbrev IfPlain : {A : Type 0} → (A → Type 0) → Answer (State × A) → Type 0
-IfPlain n (Ok r) = n r.1
-IfPlain n (Err e) = Unit {0}
-
 record IsBehind (f g : File) : Type 0 where
   outside : IsOutside g
   types : Types g.state
@@ -424,7 +377,7 @@ record IsBehind (f g : File) : Type 0 where
 
 state_then : {A B : Type 0} (f : File) (numbers : Names ℕ) → IsOutside f → (p : State → A → Type 0)
     (g : Structures → A → Type 0) (n : A → Type 0) (a : Answer (State × A)) (next : A → FileTyping B)
-    → Extending false f.state p a → Typed g a → IfPlain n a
+    → Extending false f.state p a → Typed g a → IfGives n a
     → ((x : A) (h : File) → IsBehind f h → p h.state x → g (extents h.state) x → n x → IfDefines numbers (next x h))
     → IfDefines numbers (a >>= filed f >>= λ r. next r.1 r.0)
 state_then f numbers out p g n (Ok r) next e is m k =
@@ -432,14 +385,9 @@ state_then f numbers out p g n (Ok r) next e is m k =
     k r.1 (record f { state = r.0 }) (record { outside = o.1; types = is.0; extends = e.0; definitions = refl }) e.1 is.1 m
 state_then f numbers out p g n (Err x) next e is m k = tt
 
-anything_plain : {A : Type 0} (a : Answer (State × A)) → IfPlain (λ x. Unit {0}) a
+anything_plain : {A : Type 0} (a : Answer (State × A)) → IfGives (λ x. Unit {0}) a
 anything_plain (Ok r) = tt
 anything_plain (Err e) = tt
-
-named_plain : (d : Declarator) (a : Answer (State × Shape)) → IfNamed d a
-    → IfPlain (λ sh. named_as sh.name ≡ formed.declared d) a
-named_plain d (Ok r) h = h
-named_plain d (Err e) h = h
 
 defines_behind : (f g : File) (numbers : Names ℕ) → IsBehind f g → FunctionsOf f numbers → FunctionsOf g numbers
 defines_behind f g numbers is h = (
@@ -466,10 +414,10 @@ definition_defines specs d b c defined f numbers h out types =
     (stored_specification false specs (first _ _ (first _ _ c)) f.state out.formed types)
     (anything_plain ((specification false specs >>> λ spec. judged (stored_once spec)) f.state))
     (λ spec g is sized own n. state_then g numbers' is.outside (λ u sh. IsShapeOf u d sh) (IsDeclared true d)
-    (λ sh. named_as sh.name ≡ formed.declared d) (shape true d g.state) (λ sh. defined_by spec sh b sh.name)
+    (HasNameOf d) (shape true d g.state) (λ sh. defined_by spec sh b sh.name)
     (shape_extends true d (second _ _ (first _ _ c)) g.state is.outside.formed)
     (shape_typed true d (second _ _ (first _ _ c)) g.state is.outside.formed is.types)
-    (named_plain d (shape true d g.state) (shape_named true d g.state))
+    (shape_named true d g.state)
     (λ sh k is' shaped declared named. subst (λ z. IfDefines (numbered_if z numbers) (defined_by spec sh b sh.name k)) named
     (defined_defines k numbers (defines_behind g k numbers is' (defines_behind f g numbers is h)) is'.outside is'.types
     spec sized (spelled_kept (extents g.state) (extents k.state) is'.extends.more spec.type own) d defined sh
@@ -492,43 +440,6 @@ declared_defines f numbers h (Ok r) l k = (
 )
 declared_defines f numbers h (Err e) l k = tt
 
-object_functions : (b : Bool) (name : Name) (q : Found)
-    → (facts.with_object b name q).facts.functions ≡ q.facts.functions
-object_functions true name q = refl
-object_functions false name q = refl
-
-named_functions : (h : facts.Heading) (b i : Bool) (name : Name) (q : Found)
-    → (facts.with_named h b i name q).facts.functions ≡ q.facts.functions
-named_functions h b i name q = by h.is_typedef
-  where
-    by : (x : Bool) → (if x then record q { types = bound name b q.types }
-        else facts.with_object (not b && (not h.has_extern || i)) name q).facts.functions ≡ q.facts.functions
-    by true = refl
-    by false = object_functions (not b && (not h.has_extern || i)) name q
-
-name_functions : (h : facts.Heading) (b i : Bool) (name : Option Name) (q : Found)
-    → (facts.with_name h b i name q).facts.functions ≡ q.facts.functions
-name_functions h b i None q = refl
-name_functions h b i (Some name) q = named_functions h b i name q
-
-declarator_functions : (h : facts.Heading) (d : t.InitDeclarator) (q : Found)
-    → (facts.with_declarator h d q).facts.functions ≡ q.facts.functions
-declarator_functions h d q =
-    name_functions h (facts.declares_function h.is_function d.declarator) (is_some d.initializer)
-    (formed.declared d.declarator) q
-
-more_functions : (h : facts.Heading) (ds : List (Position × t.InitDeclarator)) (q : Found)
-    → (facts.with_more h ds q).facts.functions ≡ q.facts.functions
-more_functions h [] q = refl
-more_functions h (d ∷ ds) q =
-    more_functions h ds (facts.with_declarator h d.1 q) ∙ declarator_functions h d.1 q
-
-declarators_functions : (h : facts.Heading) (ds : Option t.InitDeclarators) (q : Found)
-    → (facts.with_declarators h ds q).facts.functions ≡ q.facts.functions
-declarators_functions h None q = refl
-declarators_functions h (Some ds) q =
-    more_functions h ds.others (facts.with_declarator h ds.first q) ∙ declarator_functions h ds.first q
-
 defined_functions : (o : Option Name) (x : Facts) → (facts.defined o x).functions ≡ numbered_if o x.functions
 defined_functions None x = refl
 defined_functions (Some name) x = refl
@@ -542,6 +453,7 @@ external_defines (t.definition specs d b) c defined f q h out types =
     (definition_defines specs d b c defined f q.facts.functions h out types)
 external_defines (t.declaration d) c defined f q h out types =
     subst (λ z. IfDefines z (external (t.declaration d) f))
-    (sym (declarators_functions (facts.heading q.types d.specifiers) d.declarators (facts.with_tags d.specifiers q)))
+    (sym (declarators_keep_facts (λ x. x.functions) (λ x name. refl) (facts.heading q.types d.specifiers) d.declarators
+    (facts.with_tags d.specifiers q)))
     (declared_defines f q.facts.functions h (declaration false d f) (declaration_leads false d c f out.formed)
     (declaration_kept false d c f out.formed))

@@ -122,7 +122,7 @@ library_of facts name x e =
     both_true (is_library x.what) x.is_defined
     (library_found name x (start facts).entities (start_library facts) e)
 
-start_defines : (objects : Option (List (List Bool))) (facts : Facts) → FunctionsOf (file_before objects facts) []
+pub start_defines : (objects : Option (List (List Bool))) (facts : Facts) → FunctionsOf (file_before objects facts) []
 start_defines objects facts = (
   record {
     defines = record {
@@ -281,7 +281,7 @@ main_by f numbers h same ended =
     both true b e g = g
     both false b e g = absurd cc
 
-start_facts : (facts : Facts) → (start facts).facts ≡ facts
+pub start_facts : (facts : Facts) → (start facts).facts ≡ facts
 unfolding start
 start_facts facts = refl
 

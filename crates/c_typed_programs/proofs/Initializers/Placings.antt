@@ -56,7 +56,7 @@ any_open : (os : List Open) → AreOpen (λ o. Unit {0}) os
 any_open [] = tt
 any_open (o ∷ os) = (tt, any_open os)
 
-any_object : (o : Option Subobject) → HasIf (λ o. Unit {0}) o
+pub any_object : (o : Option Subobject) → HasIf (λ o. Unit {0}) o
 any_object None = tt
 any_object (Some o) = tt
 

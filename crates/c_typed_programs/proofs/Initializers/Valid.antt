@@ -1,5 +1,5 @@
 -- What an initializer stores is valid (C99 6.7.8).
-use Rattle.std.proofs.Common.{◌≡◌, true, refl, Option, Some, None}
+use Rattle.std.proofs.Common.{◌≡◌, true, refl}
 use Rattle.std.specs.Prelude.{Ok, Err}
 use Rattle.c_syntax.specs.Tree.{Initializer}
 use Rattle.c_tree.specs.Kinds.{is_value}
@@ -14,10 +14,10 @@ use Rattle.c_unit_typing.specs.Initializers.{initialized}
 use Rattle.c_typed_validity.specs.Sound.{Sound}
 use Rattle.c_typed_validity.specs.Steps.{Structures}
 use Rattle.c_typed_programs.specs.Scopes.Regular.{is_regular_initializer}
-use Rattle.c_typed_programs.specs.Initializers.Cursor.{Every, HasIf}
+use Rattle.c_typed_programs.specs.Initializers.Cursor.{Every}
 use Rattle.c_typed_programs.specs.Initializers.Giving.{ExpressionsKeep, Giving, IfKept}
 use Rattle.c_typed_programs.specs.Initializers.Initialized.{IsValidPart}
-use Rattle.c_typed_programs.proofs.Initializers.Placings.{any_objects, placing_steps}
+use Rattle.c_typed_programs.proofs.Initializers.Placings.{any_objects, placing_steps, any_object}
 use Rattle.c_typed_programs.proofs.Initializers.Recursion.{initialized_given}
 use Rattle.c_typed_programs.proofs.Initializers.Steps.{KeepsParts, keeps_every}
 use Rattle.c_typed_programs.proofs.Common.{both}
@@ -34,10 +34,6 @@ nothing_kept = record { each = λ is e c s formed. by s (typed is e s) }
     by : {A : Type 0} (s : State) (a : Answer (State × A)) → IfKept (λ s. Unit {0}) s a
     by s (Ok r) = λ k. tt
     by s (Err f) = tt
-
-any_part : (o : Option Subobject) → HasIf (λ o. Unit {0}) o
-any_part None = tt
-any_part (Some o) = tt
 
 to_sound : (scope : Scope) (last : Structures) (s : State) (given : Structures → Type 0)
     (gives : Structures → Initializing → Type 0) (less : Structures → Type 0)
@@ -58,4 +54,4 @@ initialized_valid scope last x c i s =
     (λ es h. record { objects = any_objects i; parts = h }) (λ es j h. h.parts)
     (initialized_given true scope last (λ s. Unit {0}) nothing_kept _ _ _ _
     (placing_steps true scope (λ s. Unit {0}) (λ es o. Unit {0}) (λ es. Every (IsValidPart scope)) (λ o es more h x. tt)
-    (λ ps es more h x. x) (λ s k o n x. any_part _) (λ es. keeps_valid scope es (λ o. Unit {0}))) 0 x c i s)
+    (λ ps es more h x. x) (λ s k o n x. any_object _) (λ es. keeps_valid scope es (λ o. Unit {0}))) 0 x c i s)

@@ -8,8 +8,6 @@ use Rattle.c_syntax.specs.Statements as t
 use Rattle.c_syntax.specs.Tree.{Initializer}
 use Rattle.c_tree.specs.declared.c_type.TypeWord.{TypeWord}
 use Rattle.c_tree.specs.Statements.{DeclaredVariable, Part}
-use Rattle.c_tree.specs.declared.expression.Kind.TheVariants as kind
-use Rattle.c_tree.specs.Valid.{Scope}
 use Rattle.c_rules.specs.declared.fault.Rule.TheVariants.{MisplacedStorage}
 use Rattle.c_rules.specs.Answer.{Answer, violates, ◌>>=◌}
 use Rattle.c_scope.specs.declared.meaning.Designated.{Designated}
@@ -46,7 +44,7 @@ use Rattle.c_typed_programs.proofs.Initializers.Initialized.{initialized_if_is}
 use Rattle.c_typed_programs.specs.LaidOut.Behind.{IfLaid}
 use Rattle.c_typed_programs.proofs.LaidOut.Chained.{StateLaid, both_laid, from_file, in_state_then, judged_lays, state_lays}
 use Rattle.c_typed_programs.proofs.LaidOut.Chained.{then_lays}
-use Rattle.c_typed_programs.proofs.Common.{first, second}
+use Rattle.c_typed_programs.proofs.Common.{first, second, some_scope}
 
 -- an object with its initializer
 
@@ -58,12 +56,8 @@ object_by : {A : Type 0} (f : File) (a : Answer (State × A)) → StateLeads f.s
 object_by f (Ok r) h is = (state_leads f r.0 h, is.0)
 object_by f (Err e) h is = tt
 
--- what holds of a program does not matter
-nothing : Scope
-nothing = record { statics = []; functions = []; types = []; all = []; variables = []; result = kind.Void }
-
 initialized_laid : (d : Designated) (name : Name × ℕ) (s : State) (a : Answer (State × (List TypeWord × List Part)))
-    → IfInitialized nothing [] d name.0 s a → IfLaidOut anything a
+    → IfInitialized some_scope [] d name.0 s a → IfLaidOut anything a
 initialized_laid d name s (Ok r) h = (h.laid_out, tt)
 initialized_laid d name s (Err e) h = tt
 
@@ -76,7 +70,7 @@ object_laid f formed laid d name type (Some x) c is =
     object_by f (initialized_if d name type (Some x) f.state)
     (initialized_leads f.state formed d name type (Some x) c)
     (initialized_laid d name f.state (initialized_if d name type (Some x) f.state)
-    (initialized_if_is nothing [] d name type (Some x) c f.state formed laid is.complete is.arrays))
+    (initialized_if_is some_scope [] d name type (Some x) c f.state formed laid is.complete is.arrays))
 
 declared_lays : (name : Name × ℕ) (x : Option Initializer) → is_regular_initializer_if x ≡ true
     → (m : Option Meaning) (f : File) → IsFormed f.state → IsLaidOut f.state → IsDeclared (is_some x) f.state m

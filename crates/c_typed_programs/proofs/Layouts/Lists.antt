@@ -7,7 +7,6 @@ use Rattle.std.specs.Prelude.{Ok, not, get_or, nat_lt, option_map, slice_get}
 use Rattle.std.proofs.lemmas.Bool.{ltb-false}
 use Rattle.c_tree.specs.declared.c_type.TypeWord.{TypeWord}
 use Rattle.c_tree.specs.Extents.{TypeExtent, extent_of}
-use Rattle.c_rules.specs.declared.fault.Rule.{Rule}
 use Rattle.c_rules.specs.declared.fault.Rule.TheVariants as rule
 use Rattle.c_rules.specs.Answer.{Answer, violates, ◌>>=◌}
 use Rattle.c_place_rules.specs.declared.place.Member.{Member}
@@ -23,9 +22,9 @@ use Rattle.c_scope.specs.Structures.{Body, Structures, begun, changed, declared_
 use Rattle.c_scope.specs.Structures.{members_in}
 use Rattle.c_scope.specs.Tags.{added, begins_in, has_begun, if_file, is_of, marked, next_tag, tag_found, referred}
 use Rattle.c_current_object.specs.Members.{MemberList, list_in, lists_in}
-use Rattle.c_typing.specs.Declarators.{Shape, built_in, unless}
+use Rattle.c_typing.specs.Declarators.{Shape, built_in}
 use Rattle.c_typing.specs.Members.{Entries, Entry, extent_with, member_added, member_at, member_named}
-use Rattle.c_typing.specs.Members.{member_rule, members_at, offsets_in, rule_or_repeated, sized_entry, tag_completed}
+use Rattle.c_typing.specs.Members.{member_rule, members_at, offsets_in, sized_entry, tag_completed}
 use Rattle.c_typing.specs.Members.{with_structure}
 use Rattle.c_typing.specs.Specifications.{Specification}
 use Rattle.c_typing.specs.State.{State, extents}
@@ -42,6 +41,7 @@ use Rattle.c_typed_declarators.proofs.Types.{NoFaults, first_faultless, without_
 use Rattle.c_typed_programs.specs.Layouts.Listed.{AreListed, IsListed, has_array_bytes}
 use Rattle.c_typed_programs.proofs.Layouts.Arrays.{arrays_kept, built_arrays, listed_kept}
 use Rattle.c_typed_programs.proofs.Layouts.Chained.{HasLists, Laid}
+use Rattle.c_typed_programs.proofs.Types.Declarators.{no_rule, unless_by}
 use Rattle.c_typed_programs.proofs.Common.{the_same}
 
 -- a list of members, each with a property
@@ -106,22 +106,13 @@ sized_have es entries h name line type is None = tt
 sized_have es entries h name line type is (Some x) =
     one_more es entries.entries (record { name = name; type = type; extent = x }) h is
 
-unless_rule : (r : Option Rule) (line : ℕ) (es : Entries) (next : Entries → Answer Entries) (P : Entries → Type 0)
-    → (r ≡ None → IfAnswer P (next es)) → IfAnswer P (unless r line es >>= next)
-unless_rule None line es next P h = h refl
-unless_rule (Some r) line es next P h = tt
-
-no_rule : (r : Option Rule) (b : Bool) → rule_or_repeated r b ≡ None → r ≡ None
-no_rule None b e = refl
-no_rule (Some r) b e = absurd cc
-
 named_have : (es : List (Option TypeExtent)) (entries : Entries) → HaveArrays es entries.entries → (b : BuiltType)
     → (NoFaults b.faults → has_array_bytes es b.type ≡ true) → (name : Option (Name × ℕ))
     → IfAnswer (λ z. HaveArrays es z.entries) (member_named es b name entries)
 named_have es entries h b is None = h
 named_have es entries h b is (Some name) =
     let faults = element_faults es b.type in
-    unless_rule (member_rule es b name.0 entries) name.1 entries
+    unless_by (member_rule es b name.0 entries) name.1 entries
     (λ entries. sized_entry name.0 name.1 b.type (extent_of es b.type) entries) (λ z. HaveArrays es z.entries)
     (λ r. let good = without_faults (and_faults b.faults faults) (no_rule (rule_of (and_faults b.faults faults)) _ r) in
     sized_have es entries h name.0 name.1 b.type (is (first_faultless b.faults faults good)) (extent_of es b.type))

@@ -1,301 +1,297 @@
--- In a file that is accepted names with linkage stand for objects and functions whose types have the sizes of theirs.
-use Rattle.std.proofs.Common.{◌≡◌, ◌⊎◌, inl, inr, ℕ, Bool, true, false, refl, sym, ap, ◌∙◌, subst, List, [], ◌∷◌, ◌++◌}
-use Rattle.std.proofs.Common.{Option, Some}
-use Rattle.std.specs.Prelude.{Ok, Err, codes}
+-- The definitions of a file that is accepted stand in turn, each at the place that is the number of its function, and
+-- names with linkage stand for objects and functions whose types have the sizes of theirs (C99 6.9).
+use Rattle.std.proofs.Common.{◌≡◌, ◌⊎◌, inl, inr, ℕ, suc, Bool, true, false, refl, sym, ap, ◌∙◌, subst, List, [], ◌∷◌}
+use Rattle.std.proofs.Common.{◌++◌, length, Option}
+use Rattle.std.specs.Prelude.{Ok, Err}
 use Rattle.std.proofs.lemmas.List.{append-nil, append_assoc}
+use Rattle.c_syntax.specs.Formed as formed
 use Rattle.c_syntax.specs.Statements as t
-use Rattle.c_tree.specs.declared.c_type.TypeWord.{TypeWord}
-use Rattle.c_tree.specs.declared.c_type.TypeWord.TheVariants.{Integer}
-use Rattle.obj_memory.specs.declared.int_type.IntType.TheVariants.{UnsignedLong}
-use Rattle.c_tree.specs.declared.expression.Routine.{Routine}
+use Rattle.c_tree.specs.Programs.{StaticObject}
+use Rattle.c_facts.specs.Facts.{Found, facts_in, found_in, nothing_found, with_external}
+use Rattle.c_facts.specs.Facts as facts
 use Rattle.c_rules.specs.Answer.{Answer, ◌>>=◌}
-use Rattle.c_call_rules.specs.Routines.{routine_words}
-use Rattle.c_facts.specs.Facts.{facts_in}
-use Rattle.c_scope.specs.declared.meaning.Designated.{Designated}
-use Rattle.c_scope.specs.declared.meaning.Designated.TheVariants as what
-use Rattle.c_scope.specs.declared.meaning.Entity.{Entity}
-use Rattle.c_scope.specs.declared.meaning.LibraryFunction.{LibraryFunction}
-use Rattle.c_scope.specs.declared.meaning.LibraryFunction.TheVariants as library
-use Rattle.c_scope.specs.declared.meaning.Meaning.{Meaning}
-use Rattle.c_scope.specs.declared.meaning.Meaning.TheVariants as meaning
-use Rattle.c_scope.specs.Declaring.{is_linked}
-use Rattle.c_scope.specs.Environment.{Environment, Facts, with_name}
-use Rattle.c_scope.specs.Library.{name_of, routines}
-use Rattle.c_scope.specs.Names.{Name, bound, declared, found, or_else}
-use Rattle.c_scope.specs.Names as names
-use Rattle.c_scope.specs.Start.{empty, start, with_library, with_routine, with_routines}
+use Rattle.c_scope.specs.Environment.{Facts}
+use Rattle.c_scope.specs.Names.{Name, Names, is_empty}
 use Rattle.c_unit_typing.specs.Declarations.{declaration}
 use Rattle.c_unit_typing.specs.Files.{Definition, File, FileTyping, finished}
 use Rattle.c_unit_typing.specs.Units.{definition, external, externals, file_before, file_with}
 use Rattle.c_typed_validity.specs.Typed.{HaveMembers}
-use Rattle.c_typed_programs.proofs.Declarations.Bound.{bound_here}
 use Rattle.c_typed_programs.specs.Scopes.Defined.{define_functions, defines}
-use Rattle.c_typed_programs.specs.Scopes.Leaving.{Grows, Growing}
+use Rattle.c_typed_programs.specs.Scopes.Leaving.{Growing, Grows}
 use Rattle.c_typed_programs.specs.Scopes.Regular.{are_regular_externals, is_regular_external}
 use Rattle.c_typed_programs.proofs.Scopes.Files.{external_grows, grows_on, grows_same}
 use Rattle.c_typed_programs.proofs.Scopes.Start.{file_members}
+use Rattle.c_typed_programs.specs.Types.Typed.{Types}
 use Rattle.c_typed_programs.specs.Layouts.Listed.{IsLaidOut}
 use Rattle.c_typed_programs.proofs.Layouts.Start.{file_laid}
 use Rattle.c_typed_programs.specs.LaidOut.Behind.{IsLaidIf}
 use Rattle.c_typed_programs.proofs.LaidOut.Files.{external_laid}
+use Rattle.c_typed_programs.proofs.Files.Definitions.{external_typed}
 use Rattle.c_typed_programs.proofs.Files.Ends.{answer, behind_all, same_ok}
-use Rattle.c_typed_programs.specs.Bodies.Defined.{DefinesNothing, Defines, IfDefined, IsDefined}
+use Rattle.c_typed_programs.proofs.Files.Ends as ends
+use Rattle.c_typed_programs.proofs.Files.Files.{IfAddsOutside, external_adds}
+use Rattle.c_typed_programs.proofs.Files.Files as files
+use Rattle.c_typed_programs.proofs.Files.Functions.{start_types}
+use Rattle.c_typed_programs.proofs.Files.Spelled.{IfTypes}
+use Rattle.c_typed_programs.specs.Bodies.Defined.{DefinesNothing}
 use Rattle.c_typed_programs.specs.Bodies.Parameters.{IsOutside}
 use Rattle.c_typed_programs.specs.Bodies.Standing.{EntitiesLead}
-use Rattle.c_typed_programs.specs.Bodies.Whole.{definition_made}
-use Rattle.c_typed_programs.proofs.Bodies.Bodies.{definition_defined}
+use Rattle.c_typed_programs.specs.Bodies.Whole.{BeginsWith, definition_made}
+use Rattle.c_typed_programs.proofs.Bodies.Definitions.{DefinesNamed, IfNamed, definition_named, made_behind}
 use Rattle.c_typed_programs.proofs.Bodies.Entities.{entities_on, entities_same}
 use Rattle.c_typed_programs.proofs.Bodies.Outside.{IfBeyond, declaration_beyond}
 use Rattle.c_typed_programs.proofs.Bodies.Whole.{file_outside}
-use Rattle.c_typed_programs.specs.Functions.Entities.{Fills}
-use Rattle.c_typed_programs.proofs.Functions.Entities.{bound_either, fills_same, some_is}
+use Rattle.c_typed_programs.proofs.Functions.Defined.{one_longer}
+use Rattle.c_typed_programs.proofs.Functions.Files.{FunctionsOf, IfDefines, external_defines}
+use Rattle.c_typed_programs.proofs.Functions.Main.{start_defines, start_facts}
+use Rattle.c_typed_programs.proofs.Functions.Places.{DefinesAt, Kept, defines_at, found_kept}
 use Rattle.c_typed_programs.specs.Names.Known.{AreKnown}
-use Rattle.c_typed_programs.specs.Names.Linked.{AreFilled, IsFilled}
+use Rattle.c_typed_programs.specs.Names.Linked.{AreFilled}
 use Rattle.c_typed_programs.proofs.Names.Definitions.{external_filled}
-use Rattle.c_typed_programs.proofs.Names.Filled.{IfFileFilled, filled_named, unchanged}
+use Rattle.c_typed_programs.proofs.Names.Filled.{IfFileFilled}
+use Rattle.c_typed_programs.proofs.Names.Start.{start_filled}
 use Rattle.c_typed_programs.proofs.Common.{first, second}
 
--- where a file begins
+-- definitions in turn, from one place on
 
-module _ (name : Name) (f : LibraryFunction) (type : List TypeWord) (env : Environment) (is : AreFilled env) where
-  abbrev entity : Entity
-  entity = record { what = what.Library f; c_type = type; is_defined = true; is_tentative = false }
+pub record BeginsAt (end : File) (place : ℕ) (d : Definition) (before : List (ℕ × StaticObject)) : Type 0 where
+  pub begins : BeginsWith end d before
+  pub number : begins.is.defines.number ≡ place
+  pub filled : AreFilled begins.is.behind.state.environment
+  pub members : HaveMembers begins.is.before.state
 
-  abbrev meant : Meaning
-  meant = meaning.Named (what.Library f) type
+abbrev pub StandAt : File → (place : ℕ) → List Definition → (before behind : List (ℕ × StaticObject)) → Type 0
+StandAt end place [] before behind = behind ≡ before
+StandAt end place (d ∷ ds) before behind =
+    (h : BeginsAt end place d before) × StandAt end (suc place) ds h.begins.is.defines.end.statics behind
 
-  abbrev behind : Environment
-  behind = with_library name f type env
-
-  abbrev Stands : Name → Designated → List TypeWord → Type 0
-  Stands other d t = IsFilled d t (declared other behind.entities)
-
-  own_filled : (d : Designated) (t : List TypeWord) → meant ≡ meaning.Named d t → Stands name d t
-  own_filled d t e = record {
-    entity = entity;
-    is = bound_here name entity env.entities;
-    same = the_what e;
-    fills = subst (λ z. Fills z type) (the_type e) (fills_same type);
-  }
-    where
-      the_what : meant ≡ meaning.Named d t → what.Library f ≡ d
-      the_what e = cc
-
-      the_type : meant ≡ meaning.Named d t → type ≡ t
-      the_type e = cc
-
-  here_filled : (other : Name) (d : Designated) (t : List TypeWord) → other ≡ name
-      → names.meaning other behind.names ≡ Some (meaning.Named d t) → Stands other d t
-  here_filled other d t same e =
-      subst (λ z. Stands z d t) (sym same)
-      (own_filled d t
-      (some_is (sym (ap (λ z. or_else z (found name env.names.outer)) (bound_here name meant env.names.current))
-      ∙ ap (λ z. names.meaning z behind.names) (sym same) ∙ e)))
-
-  library_filled : AreFilled behind
-  library_filled = record {
-    each = λ other d t e l.
-        by other d t e l (bound_either other name meant env.names.current)
-        (bound_either other name entity env.entities);
-  }
-    where
-      by : (other : Name) (d : Designated) (t : List TypeWord)
-          → names.meaning other behind.names ≡ Some (meaning.Named d t) → is_linked d ≡ true
-          → (declared other (bound name meant env.names.current) ≡ declared other env.names.current)
-          ⊎ ((other ≡ name) × (declared other (bound name meant env.names.current) ≡ Some meant))
-          → (declared other (bound name entity env.entities) ≡ declared other env.entities)
-          ⊎ ((other ≡ name) × (declared other (bound name entity env.entities) ≡ Some entity)) → Stands other d t
-      by other d t e l (inr g) h = here_filled other d t g.0 e
-      by other d t e l (inl g) (inr h) = here_filled other d t h.0 e
-      by other d t e l (inl g) (inl h) =
-          subst (IsFilled d t) (sym h)
-          (is.each other d t (ap (λ z. or_else z (found other env.names.outer)) (sym g) ∙ e) l)
-
-routines_filled : (rs : List Routine) (env : Environment) → AreFilled env → AreFilled (with_routines rs env)
-routines_filled [] env is = is
-routines_filled (r ∷ rs) env is =
-    routines_filled rs (with_routine r env) (library_filled (name_of r) (library.Routine r) (routine_words r) env is)
-
-typedef_filled : (env : Environment) (name : Name) (type : List TypeWord) → AreFilled env
-    → AreFilled (with_name name (meaning.Typedef type) env)
-typedef_filled env name type is =
-    filled_named env (with_name name (meaning.Typedef type) env) name (meaning.Typedef type) refl
-    (unchanged env.entities)
-    (λ d t e l. absurd cc) is
-
-start_filled : (facts : Facts) → AreFilled (start facts)
-unfolding start
-start_filled facts =
-    let routines_in = with_routines routines (empty facts) in
-    let env = with_library (codes "printf") library.Printf [] routines_in in
-    typedef_filled env (codes "size_t") (Integer UnsignedLong ∷ [])
-    (library_filled (codes "printf") library.Printf [] routines_in
-    (routines_filled routines (empty facts) (record { each = λ name d type e l. absurd cc })))
-
--- declarations and definitions one behind the other
-
-record IsOn (f behind : File) : Type 0 where
-  outside : IsOutside behind.state
-  filled : AreFilled behind.state.environment
-  members : HaveMembers behind.state
-  entities : EntitiesLead f.state.environment behind.state.environment
-  grows : Grows f behind
+-- from a file on to one behind the last definition
+record IsOn (f end : File) : Type 0 where
+  grows : Grows f end
+  entities : EntitiesLead f.state.environment end.state.environment
   rest : List Definition
-  is : behind.definitions ≡ f.definitions ++ rest
-  known : (end : File) → Grows behind end → EntitiesLead behind.state.environment end.state.environment
-      → AreKnown end rest
+  is : end.definitions ≡ f.definitions ++ rest
+  stand : StandAt end (length f.definitions) rest f.statics end.statics
+  filled : AreFilled end.state.environment
 
 abbrev IfOn : {A : Type 0} → File → Answer (File × A) → Type 0
 IfOn f (Ok r) = IsOn f r.0
 IfOn f (Err e) = Unit {0}
 
-both_known : (end : File) (xs ys : List Definition) → AreKnown end xs → AreKnown end ys → AreKnown end (xs ++ ys)
-both_known end [] ys h g = g
-both_known end (x ∷ xs) ys h g = (h.0, both_known end xs ys h.1 g)
+-- one declaration or definition
+record Steps (f behind : File) : Type 0 where
+  grows : Grows f behind
+  entities : EntitiesLead f.state.environment behind.state.environment
+  filled : AreFilled behind.state.environment
+  outside : IsOutside behind.state
+  is : DefinesAt f behind ⊎ DefinesNothing f behind
 
-on_on : (f g h : File) → IsOn f g → IsOn g h → IsOn f h
-on_on f g h a b = record {
-  outside = b.outside;
-  filled = b.filled;
-  members = b.members;
-  entities = entities_on f.state.environment g.state.environment h.state.environment a.entities b.entities;
-  grows = grows_on f g h a.grows b.grows;
-  rest = a.rest ++ b.rest;
-  is = b.is ∙ ap (λ z. z ++ b.rest) a.is ∙ append_assoc f.definitions a.rest b.rest;
-  known = λ end grows entities.
-      both_known end a.rest b.rest
-      (a.known end (grows_on g h end b.grows grows)
-      (entities_on g.state.environment h.state.environment end.state.environment b.entities entities))
-      (b.known end grows entities);
-}
+abbrev IfSteps : {A : Type 0} → File → Answer (File × A) → Type 0
+IfSteps f (Ok r) = Steps f r.0
+IfSteps f (Err e) = Unit {0}
 
-on_same : (f : File) → IsOutside f.state → AreFilled f.state.environment → HaveMembers f.state → IsOn f f
-on_same f outside filled members = record {
-  outside = outside;
-  filled = filled;
-  members = members;
-  entities = entities_same f.state.environment f.state.environment refl;
+on_same : (f : File) → IsOutside f.state → AreFilled f.state.environment → IsOn f f
+on_same f outside filled = record {
   grows = grows_same f outside.formed;
+  entities = entities_same f.state.environment f.state.environment refl;
   rest = [];
   is = sym (append-nil f.definitions);
-  known = λ end grows entities. tt;
-}
-
-from_on : {A : Type 0} (f g : File) → IsOn f g → (a : Answer (File × A)) → IfOn g a → IfOn f a
-from_on f g h (Ok r) is = on_on f g r.0 h is
-from_on f g h (Err e) is = tt
-
-defined_on : (f g : File) → HaveMembers f.state → IsDefined f g → Grows f g → AreFilled g.state.environment → IsOn f g
-defined_on f g members h grows filled = by h.is
-  where
-    by : Defines f g ⊎ DefinesNothing f g → IsOn f g
-    by (inl d) = record {
-      outside = h.outside;
-      filled = filled;
-      members = grows.members members;
-      entities = h.entities;
-      grows = grows;
-      rest = definition_made f g d ∷ [];
-      is = ap (λ z. z.definitions) d.is
-          ∙ ap (λ z. z ++ definition_made f g d ∷ []) (d.typed.leads.definitions ∙ d.leads.definitions);
-      known = λ end more entities. (
-        record {
-          definition = record {
-            before = f;
-            behind = g;
-            defines = d;
-            is = refl;
-            grows = more;
-            entities = entities;
-          };
-          filled = filled;
-          members = members;
-        },
-        tt,
-      );
-    }
-    by (inr same) = record {
-      outside = h.outside;
-      filled = filled;
-      members = grows.members members;
-      entities = h.entities;
-      grows = grows;
-      rest = [];
-      is = same.definitions ∙ sym (append-nil f.definitions);
-      known = λ end more entities. tt;
-    }
-
-definition_on : (f : File) → HaveMembers f.state → (a : Answer (File × Unit {0})) → IfDefined f a → Growing f a
-    → IfFileFilled a → IfOn f a
-definition_on f members (Ok r) h grows filled = defined_on f r.0 members h grows filled
-definition_on f members (Err e) h grows filled = tt
-
-declaration_on : {A : Type 0} (f : File) → HaveMembers f.state → (a : Answer (File × A)) → IfBeyond f a
-    → Growing f (a >>= λ r. finished (tt {0}) r.0) → IfFileFilled (a >>= λ r. finished (tt {0}) r.0)
-    → IfOn f (a >>= λ r. finished (tt {0}) r.0)
-declaration_on f members (Ok r) h grows filled = record {
-  outside = h.outside;
+  stand = refl;
   filled = filled;
-  members = grows.members members;
-  entities = h.entities;
-  grows = grows;
-  rest = [];
-  is = h.definitions ∙ sym (append-nil f.definitions);
-  known = λ end more entities. tt;
 }
-declaration_on f members (Err e) h grows filled = tt
 
-external_on : (e : t.External) → is_regular_external e ≡ true → defines e ≡ true → (f : File) → IsOutside f.state
-    → IsLaidOut f.state → AreFilled f.state.environment → HaveMembers f.state → IfOn f (external e f)
-external_on (t.definition specs d b) c is f outside laid filled members =
-    definition_on f members (definition specs d b f)
-    (definition_defined specs d b (first _ _ (first _ _ c)) (second _ _ (first _ _ c)) (second _ _ c) is f outside laid)
-    (external_grows (t.definition specs d b) c f outside.formed)
-    (external_filled (t.definition specs d b) c f outside.formed filled)
-external_on (t.declaration d) c is f outside laid filled members =
-    declaration_on f members (declaration false d f) (declaration_beyond false d c f outside)
-    (external_grows (t.declaration d) c f outside.formed)
-    (external_filled (t.declaration d) c f outside.formed filled)
+on_on : (f g end : File) → HaveMembers f.state → Steps f g → IsOn g end → IsOn f end
+on_on f g end members h on = by h.is
+  where
+    grown : Grows f end
+    grown = grows_on f g end h.grows on.grows
 
-then_on : {A B : Type 0} (f : File) (a : Answer (File × A)) (next : A → FileTyping B) → IfOn f a → IsLaidIf a
-    → ((x : A) (g : File) → IsOn f g → IsLaidOut g.state → IfOn g (next x g)) → IfOn f (a >>= λ r. next r.1 r.0)
-then_on f (Ok r) next h laid g = from_on f r.0 h (next r.1 r.0) (g r.1 r.0 h laid)
-then_on f (Err e) next h laid g = tt
+    led : EntitiesLead f.state.environment end.state.environment
+    led = entities_on f.state.environment g.state.environment end.state.environment h.entities on.entities
+
+    by : DefinesAt f g ⊎ DefinesNothing f g → IsOn f end
+    by (inl d) =
+        let made = definition_made f g d.defines in
+        let more = made_behind f g d.defines in record {
+          grows = grown;
+          entities = led;
+          rest = made ∷ on.rest;
+          is = on.is ∙ ap (λ z. z ++ on.rest) more ∙ append_assoc f.definitions (made ∷ []) on.rest;
+          stand = (
+            record {
+              begins = record {
+                is = record {
+                  before = f;
+                  behind = g;
+                  defines = d.defines;
+                  is = refl;
+                  grows = on.grows;
+                  entities = on.entities;
+                };
+                statics = d.defines.statics;
+              };
+              number = d.number;
+              filled = h.filled;
+              members = members;
+            },
+            subst (λ z. StandAt end z on.rest d.defines.end.statics end.statics)
+                (ap length more ∙ one_longer f.definitions made)
+                (subst (λ z. StandAt end (length g.definitions) on.rest z end.statics)
+                (ap (λ z. z.statics) d.defines.is) on.stand),
+          );
+          filled = on.filled;
+        }
+    by (inr same) = record {
+      grows = grown;
+      entities = led;
+      rest = on.rest;
+      is = on.is ∙ ap (λ z. z ++ on.rest) same.definitions;
+      stand = subst (λ z. StandAt end (length z) on.rest f.statics end.statics) same.definitions
+          (subst (λ z. StandAt end (length g.definitions) on.rest z end.statics) same.statics on.stand);
+      filled = on.filled;
+    }
+
+-- a definition has the place of its function, a declaration adds nothing
+
+definition_steps : (name : Option Name) (f : File) (x : Facts) → FunctionsOf f x.functions
+    → Kept (facts.defined name x).functions f.state.environment.facts.functions → (a : Answer (File × Unit {0}))
+    → IfNamed name f a → Growing f a → IfFileFilled a → IfDefines (facts.defined name x).functions a
+    → IfSteps f a
+definition_steps name f x before kept (Ok r) h grows filled after = record {
+  grows = grows;
+  entities = h.entities;
+  filled = filled;
+  outside = h.outside;
+  is = by h.is;
+}
+  where
+    by : DefinesNamed name f r.0 ⊎ DefinesNothing f r.0 → DefinesAt f r.0 ⊎ DefinesNothing f r.0
+    by (inl d) =
+        inl (defines_at name f r.0 d x before after
+        (subst (λ z. Kept (facts.defined name x).functions z.functions) (sym grows.facts) kept))
+    by (inr same) = inr same
+definition_steps name f x before kept (Err e) h grows filled after = tt
+
+declaration_steps : {A : Type 0} (f : File) (a : Answer (File × A)) → IfBeyond f a
+    → Growing f (a >>= λ r. finished (tt {0}) r.0) → IfFileFilled (a >>= λ r. finished (tt {0}) r.0)
+    → IfSteps f (a >>= λ r. finished (tt {0}) r.0)
+declaration_steps f (Ok r) h grows filled = record {
+  grows = grows;
+  entities = h.entities;
+  filled = filled;
+  outside = h.outside;
+  is = inr (record { definitions = h.definitions; statics = h.statics });
+}
+declaration_steps f (Err e) h grows filled = tt
+
+-- what is known of a file between two declarations or definitions
+record IsReached (f : File) (numbers : Names ℕ) : Type 0 where
+  outside : IsOutside f.state
+  apart : files.IsOutside f
+  laid : IsLaidOut f.state
+  types : Types f.state
+  functions : FunctionsOf f numbers
+  filled : AreFilled f.state.environment
+  members : HaveMembers f.state
+
+external_steps : (e : t.External) → is_regular_external e ≡ true → defines e ≡ true → (f : File) (q : Found)
+    → IsReached f q.facts.functions
+    → Kept (with_external e q).facts.functions f.state.environment.facts.functions → IfSteps f (external e f)
+external_steps (t.definition specs d b) c is f q at kept =
+    let good = at.outside.formed in
+    definition_steps (formed.declared d) f (facts.with_tags specs q).facts at.functions kept (definition specs d b f)
+    (definition_named specs d b (first _ _ (first _ _ c)) (second _ _ (first _ _ c)) (second _ _ c) is f at.outside
+    at.laid)
+    (external_grows (t.definition specs d b) c f good) (external_filled (t.definition specs d b) c f good at.filled)
+    (external_defines (t.definition specs d b) c is f q at.functions at.apart at.types)
+external_steps (t.declaration d) c is f q at kept =
+    declaration_steps f (declaration false d f) (declaration_beyond false d c f at.outside)
+    (external_grows (t.declaration d) c f at.outside.formed)
+    (external_filled (t.declaration d) c f at.outside.formed at.filled)
+
+from_on : {A : Type 0} (f g : File) → HaveMembers f.state → Steps f g → (a : Answer (File × A)) → IfOn g a → IfOn f a
+from_on f g members h (Ok r) is = on_on f g r.0 members h is
+from_on f g members h (Err e) is = tt
+
+then_on : {B : Type 0} (f : File) (numbers more : Names ℕ) → IsReached f numbers → (a : Answer (File × Unit {0}))
+    (next : Unit {0} → FileTyping B) → IfSteps f a → IsLaidIf a → IfAddsOutside f a → IfTypes a → IfDefines more a
+    → ((g : File) → Steps f g → IsReached g more → IfOn g (next tt g)) → IfOn f (a >>= λ r. next r.1 r.0)
+then_on f numbers more at (Ok r) next h laid adds types functions k =
+    from_on f r.0 at.members h (next r.1 r.0)
+    (k r.0 h (record {
+      outside = h.outside;
+      apart = record {
+        formed = h.grows.formed;
+        linked = adds.adds.linked;
+        file = ap is_empty adds.outer ∙ at.apart.file;
+      };
+      laid = laid;
+      types = types;
+      functions = functions;
+      filled = h.filled;
+      members = h.grows.members at.members;
+    }))
+then_on f numbers more at (Err e) next h laid adds types functions k = tt
 
 externals_on : (es : List t.External) → are_regular_externals es ≡ true → define_functions es ≡ true → (f : File)
-    → IsOutside f.state → IsLaidOut f.state → AreFilled f.state.environment → HaveMembers f.state
-    → IfOn f (externals es f)
-externals_on [] c is f outside laid filled members = on_same f outside filled members
-externals_on (e ∷ es) c is f outside laid filled members =
-    then_on f (external e f) (λ done. externals es)
-    (external_on e (first _ _ c) (first (defines e) (define_functions es) is) f outside laid filled members)
-    (external_laid e (first _ _ c) f outside.formed laid)
-    (λ done g h laid.
-    externals_on es (second _ _ c) (second (defines e) (define_functions es) is) g h.outside laid h.filled h.members)
+    (q : Found) → IsReached f q.facts.functions
+    → f.state.environment.facts.functions ≡ (found_in es q).facts.functions → IfOn f (externals es f)
+externals_on [] c d f q at same = on_same f at.outside at.filled
+externals_on (e ∷ es) c d f q at same =
+    let more = with_external e q in
+    let good = at.outside.formed in
+    then_on f q.facts.functions more.facts.functions at (external e f) (λ done. externals es)
+    (external_steps e (first _ _ c) (first (defines e) (define_functions es) d) f q at
+    (subst (Kept more.facts.functions) (sym same) (found_kept es more)))
+    (external_laid e (first _ _ c) f good at.laid) (external_adds e (first _ _ c) f at.apart)
+    (external_typed e (first _ _ c) (first (defines e) (define_functions es) d) f good at.types)
+    (external_defines e (first _ _ c) (first (defines e) (define_functions es) d) f q at.functions at.apart at.types)
+    (λ g h there. externals_on es (second _ _ c) (second (defines e) (define_functions es) d) g more there
+    (ap (λ z. z.functions) h.grows.facts ∙ same))
 
 -- a file that is accepted
 
+known_all : (end : File) (place : ℕ) (ds : List Definition) (before behind : List (ℕ × StaticObject))
+    → StandAt end place ds before behind → AreKnown end ds
+known_all end place [] before behind h = tt
+known_all end place (d ∷ ds) before behind h = (
+  record { definition = h.0.begins.is; filled = h.0.filled; members = h.0.members },
+  known_all end (suc place) ds h.0.begins.is.defines.end.statics behind h.1,
+)
+
 pub record IsKnownFile (f : File) : Type 0 where
   pub filled : AreFilled f.state.environment
+  pub stand : StandAt f 0 f.definitions [] f.statics
   pub known : AreKnown f f.definitions
 
-known_by : (before g : File) → before.definitions ≡ [] → (a : Answer (File × Unit {0})) → IfOn before a
-    → a ≡ answer (g, tt) → IsKnownFile g
-known_by before g none (Ok r) h e =
-    let rest_is : r.0.definitions ≡ h.rest = h.is ∙ ap (λ z. z ++ h.rest) none in
+known_by : (objects : Option (List (List Bool))) (facts : Facts) (g : File) (a : Answer (File × Unit {0}))
+    → IfOn (file_before objects facts) a → a ≡ answer (g, tt) → IsKnownFile g
+known_by objects facts g (Ok r) h e =
+    let stand = subst (λ ds. StandAt r.0 0 ds [] r.0.statics) (sym h.is) h.stand in
     subst IsKnownFile (ap (λ z. z.0) (same_ok r (g, tt) e)) (record {
       filled = h.filled;
-      known = subst (AreKnown r.0) (sym rest_is)
-          (h.known r.0 (grows_same r.0 h.outside.formed)
-          (entities_same r.0.state.environment r.0.state.environment refl));
+      stand = stand;
+      known = known_all r.0 0 r.0.definitions [] r.0.statics stand;
     })
-known_by before g none (Err x) h e = absurd cc
+known_by objects facts g (Err x) h e = absurd cc
+
+before_reached : (objects : Option (List (List Bool))) (facts : Facts) → IsReached (file_before objects facts) []
+before_reached objects facts = record {
+  outside = file_outside objects facts;
+  apart = ends.file_outside objects facts;
+  laid = file_laid objects facts;
+  types = start_types facts;
+  functions = start_defines objects facts;
+  filled = start_filled facts;
+  members = file_members objects facts;
+}
 
 pub file_known : (objects : Option (List (List Bool))) (end : ℕ) (es : List t.External) (f : File)
     → are_regular_externals es ≡ true → define_functions es ≡ true → file_with objects end es ≡ Ok f → IsKnownFile f
 file_known objects end es f c d is =
-    let before = file_before objects (facts_in es) in
+    let all = facts_in es in
+    let before = file_before objects all in
     behind_all IsKnownFile f end (externals es before)
-    (λ g e ended. known_by before g refl (externals es before)
-    (externals_on es c d before (file_outside objects (facts_in es)) (file_laid objects (facts_in es))
-    (start_filled (facts_in es)) (file_members objects (facts_in es))) e) is
+    (λ g e ended. known_by objects all g (externals es before)
+    (externals_on es c d before nothing_found (before_reached objects all)
+    (ap (λ z. z.functions) (start_facts all))) e) is

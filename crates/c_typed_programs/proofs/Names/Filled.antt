@@ -202,7 +202,7 @@ abbrev pub IsSizable : Designated → Name → Names Entity → Type 0
 IsSizable (what.Object n) name es = (y : Entity) × ((declared name es ≡ Some y) × (y.what ≡ what.Object n))
 IsSizable d name es = is_linked d ≡ false
 
-sized_entity : (n : ℕ) (name : Name) (type : List TypeWord) (y : Entity) (es : Names Entity)
+pub sized_entity : (n : ℕ) (name : Name) (type : List TypeWord) (y : Entity) (es : Names Entity)
     → y.what ≡ what.Object n → are_compatible y.c_type type ≡ true
     → IsFilled (what.Object n) type (declared name (bound name (entity_with_type type y) es))
 sized_entity n name type y es e h = record {
@@ -235,7 +235,7 @@ object_filled env n name type y w is (Some x) e h more =
         → type ≡ t
     the_type d t g = cc
 
-size_filled : (env : Environment) (d : Designated) (name : Name) (type : List TypeWord)
+pub size_filled : (env : Environment) (d : Designated) (name : Name) (type : List TypeWord)
     → is_same_object d name type env ≡ true → IsSizable d name env.entities → AreFilled env
     → AreFilled (with_size d name type env)
 size_filled env (what.Object n) name type e at is =

@@ -92,6 +92,28 @@ module _ (objects : Option (List (List Bool))) (end : ℕ) (es : List External) 
       (subst (λ z. z < length types) number
       (subst (λ z. g.type_number < z) (length-map types (function_type (extents f.state))) low)))
 
+  -- its scope is that of the definition that it is made of
+  pub scope_is : (k : ℕ) (g : Function) → slice_get (program_of f).functions k ≡ Some g → (d : Definition) (size : ℕ)
+      → g ≡ function_of f.state.function_types size d → (known : IsKnown f d)
+      → IsScopeOf (function_scope (program_of f) g) (extents f.state) g known.definition.before
+      known.definition.behind known.definition.defines
+  scope_is k g e d size of known =
+      let scope = function_scope (program_of f) g in
+      let h = known.definition in
+      let spelled = type_spelled k g e d size of in
+      let result : scope.result ≡ spelled.signature.result = ap (λ z. z.result) spelled.has.same in record {
+        all = refl;
+        variables = refl;
+        parameters = ap (λ z. z.parameters) of ∙ ap (λ z. z.parameters) h.is;
+        declared = ap (λ z. z.variables) of ∙ ap (λ z. z.variables) h.is;
+        body = ap (λ z. z.body) of ∙ ap (λ z. z.body) h.is;
+        gives = subst (λ z. IsResult scope (extents f.state) (result_type 0 z)) (ap (λ z. z.type) h.is)
+            (result_is scope (extents f.state) d.type spelled.signature spelled.spelled result);
+        knows = definition_knows objects end es f regular defined is sized scope (scope_of g) d known;
+        has = definition_has scope (extents f.state) f d h
+            (program_has objects end es f regular defined is sized scope (scope_of g));
+      }
+
   function_valid : (k : ℕ) (g : Function) → slice_get (program_of f).functions k ≡ Some g
       → is_function (program_of f) k g ≡ true
   function_valid k g e =
@@ -104,20 +126,7 @@ module _ (objects : Option (List (List Bool))) (end : ℕ) (es : List External) 
       let spelled = type_spelled k g e d m.size m.is in
       let type : d.type ≡ h.defines.type = ap (λ z. z.type) h.is in
       let own = functions_have_rooms objects end es f regular defined is k g e in
-      let result : scope.result ≡ spelled.signature.result = ap (λ z. z.result) spelled.has.same in
-      let of : IsScopeOf scope (extents f.state) g h.before h.behind h.defines =
-      record {
-        all = refl;
-        variables = refl;
-        parameters = ap (λ z. z.parameters) m.is ∙ ap (λ z. z.parameters) h.is;
-        declared = ap (λ z. z.variables) m.is ∙ ap (λ z. z.variables) h.is;
-        body = ap (λ z. z.body) m.is ∙ ap (λ z. z.body) h.is;
-        gives = subst (λ z. IsResult scope (extents f.state) (result_type 0 z)) type
-            (result_is scope (extents f.state) d.type spelled.signature spelled.spelled result);
-        knows = definition_knows objects end es f regular defined is sized scope (scope_of g) d known;
-        has = definition_has scope (extents f.state) f d h
-            (program_has objects end es f regular defined is sized scope (scope_of g));
-      } in
+      let of = scope_is k g e d m.size m.is known in
       let parameters = ap (λ z. are_parameters g.parameters z.parameters) spelled.has.same
       ∙ function_parameters scope (extents f.state) g h.before h.behind h.defines of spelled.signature.parameters
       spelled.signature.result

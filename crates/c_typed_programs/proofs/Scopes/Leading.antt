@@ -107,9 +107,9 @@ bound_leads name m s t b formed =
 
 -- files
 
-pub file_same : (f : File) → IsFormed f.state → FileLeads f f
-file_same f formed = record {
-  state = leads_same f.state formed;
+pub state_leads : (f : File) (t : State) → Leads f.state t → FileLeads f (record f { state = t })
+state_leads f t h = record {
+  state = h;
   variables = same_list f.variables;
   statics = same_list f.statics;
   initializers = same_list f.initializers;
@@ -117,6 +117,9 @@ file_same f formed = record {
   objects = refl;
   taken = refl;
 }
+
+pub file_same : (f : File) → IsFormed f.state → FileLeads f f
+file_same f formed = state_leads f f.state (leads_same f.state formed)
 
 pub file_on : (f g h : File) → FileLeads f g → FileLeads g h → FileLeads f h
 file_on f g h a b = record {
@@ -127,17 +130,6 @@ file_on f g h a b = record {
   definitions = b.definitions ∙ a.definitions;
   objects = b.objects ∙ a.objects;
   taken = b.taken ∙ a.taken;
-}
-
-pub state_leads : (f : File) (t : State) → Leads f.state t → FileLeads f (record f { state = t })
-state_leads f t h = record {
-  state = h;
-  variables = same_list f.variables;
-  statics = same_list f.statics;
-  initializers = same_list f.initializers;
-  definitions = refl;
-  objects = refl;
-  taken = refl;
 }
 
 pub from_file : {A : Type 0} (f g : File) → FileLeads f g → (a : Answer (File × A)) → Leading g a → Leading f a

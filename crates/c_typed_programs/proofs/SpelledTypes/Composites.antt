@@ -234,7 +234,7 @@ composite_second es (v ∷ s) (w ∷ t) c e y is =
 
 -- what a word asks of those behind it
 
-bytes_same : (n b : ℕ) (o more : Option TypeExtent) → ((y : TypeExtent) → o ≡ Some y → more ≡ Some y)
+pub bytes_same : (n b : ℕ) (o more : Option TypeExtent) → ((y : TypeExtent) → o ≡ Some y → more ≡ Some y)
     → has_bytes n b o ≡ true → has_bytes n b more ≡ true
 bytes_same n b None more h e = absurd cc
 bytes_same n b (Some y) more h e = ap (has_bytes n b) (h y refl) ∙ e

@@ -30,7 +30,7 @@ use Rattle.c_typed_programs.proofs.Initializers.Initialized.{initialized_if_is}
 use Rattle.c_typed_programs.specs.Statics.Linked.{IfAddsParts, are_initialized, are_parts_at, is_initialized}
 use Rattle.c_typed_programs.specs.Statics.Program.{are_static_objects}
 use Rattle.c_typed_programs.proofs.Statics.Program.{object_in}
-use Rattle.c_typed_programs.proofs.Common.{both, filed, first as left_true, second as right_true}
+use Rattle.c_typed_programs.proofs.Common.{both, filed, first as left_true, second as right_true, some_scope}
 
 -- in the program
 
@@ -79,9 +79,6 @@ linked_valid p f (x ∷ es) e =
     (linked_valid p f es (right_true (is_initialized p f x.1.c_type x.1.what) (are_initialized p f es) e))
 
 -- where it is declared
-
-some_scope : Scope
-some_scope = record { statics = []; functions = []; types = []; all = []; variables = []; result = kind.Void }
 
 parts_by : (f : File) (n : ℕ) (name : Name) (a : Answer (State × (List TypeWord × List Part)))
     → ((scope : Scope) (last : Structures) → IfInitialized scope last (what.Object n) name f.state a)

@@ -46,7 +46,7 @@ use Rattle.c_typed_programs.proofs.Common.{both, first as left, second as right}
 
 -- parameters
 
-kind_by : (o : Option TypeExtent) → is_some o ≡ true → is_some (structure_kind o) ≡ true
+pub kind_by : (o : Option TypeExtent) → is_some o ≡ true → is_some (structure_kind o) ≡ true
 kind_by None e = absurd cc
 kind_by (Some x) e = refl
 

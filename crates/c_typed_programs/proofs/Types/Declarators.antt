@@ -159,11 +159,11 @@ sized_entries es name line type (Some x) entries h e is =
     (record { name = name; type = type; extent = x } ∷ []) h
     (record { spelled = is; readable = complete_readable es type (ap is_some e) }, tt)
 
-no_rule : (r : Option Rule) (b : Bool) → rule_or_repeated r b ≡ None → r ≡ None
+pub no_rule : (r : Option Rule) (b : Bool) → rule_or_repeated r b ≡ None → r ≡ None
 no_rule None b e = refl
 no_rule (Some r) b e = absurd cc
 
-unless_by : (r : Option Rule) (line : ℕ) (es : Entries) (next : Entries → Answer Entries) (P : Entries → Type 0)
+pub unless_by : (r : Option Rule) (line : ℕ) (es : Entries) (next : Entries → Answer Entries) (P : Entries → Type 0)
     → (r ≡ None → IfAnswer P (next es)) → IfAnswer P (unless r line es >>= next)
 unless_by None line es next P h = h refl
 unless_by (Some r) line es next P h = tt

@@ -1,11 +1,10 @@
 -- Types stay spelled where more structures are complete, and lists of names, members and types with one more.
-use Rattle.std.proofs.Common.{◌≡◌, ◌⊎◌, inl, inr, ℕ, zero, suc, Bool, true, false, refl, ap, ◌∙◌, subst}
+use Rattle.std.proofs.Common.{◌≡◌, ◌⊎◌, inl, inr, ℕ, zero, suc, Bool, true, false, refl, ap, subst}
 use Rattle.std.proofs.Common.{List, [], ◌∷◌, ◌++◌, Option, Some, None, if◌then◌else◌}
 use Rattle.std.specs.Prelude.{is_some}
 use Rattle.c_tree.specs.declared.c_type.TypeWord.{TypeWord}
 use Rattle.c_tree.specs.declared.c_type.TypeWord.TheVariants as word
-use Rattle.c_tree.specs.Arrays.{has_bytes}
-use Rattle.c_tree.specs.Extents.{TypeExtent, extent_of, structure_extent}
+use Rattle.c_tree.specs.Extents.{extent_of, structure_extent}
 use Rattle.c_tree.specs.TypesAgree.{kind_of_type, still}
 use Rattle.c_call_rules.specs.FunctionTypes.{result_type}
 use Rattle.c_scope.specs.declared.meaning.Designated.{Designated}
@@ -23,6 +22,7 @@ use Rattle.c_typed_programs.specs.SpelledTypes.Spelled.{IsFunctionType, IsValueT
 use Rattle.c_typed_programs.specs.SpelledTypes.Spelled.{is_spelled}
 use Rattle.c_typed_programs.specs.Types.Typed.{AreMembers, AreNamed, Each, HasType, HaveTypes, IsEntity, IsNamed, IsSpelled}
 use Rattle.c_typed_programs.specs.Types.Typed.{OfType, Structures}
+use Rattle.c_typed_programs.proofs.SpelledTypes.Composites.{bytes_same}
 use Rattle.c_typed_programs.proofs.Common.{both, first as left, second as right, the_same}
 
 -- lists
@@ -97,11 +97,6 @@ each_changed p (suc n) change (x ∷ xs) h is = (is.0, each_changed p n change x
 
 -- more structures
 
-bytes_kept : (n b : ℕ) (o more : Option TypeExtent) → ((y : TypeExtent) → o ≡ Some y → more ≡ Some y)
-    → has_bytes n b o ≡ true → has_bytes n b more ≡ true
-bytes_kept n b None more h e = absurd cc
-bytes_kept n b (Some y) more h e = ap (has_bytes n b) (h y refl) ∙ e
-
 some_kept : {A : Type 0} (o more : Option A) → ((y : A) → o ≡ Some y → more ≡ Some y) → is_some o ≡ true
     → is_some more ≡ true
 some_kept None more h e = absurd cc
@@ -110,7 +105,7 @@ some_kept (Some y) more h e = ap is_some (h y refl)
 module _ (es more : Structures) (h : AreMore es more) where
   fits_kept : (w : TypeWord) (ws : List TypeWord) → fits es w ws ≡ true → fits more w ws ≡ true
   fits_kept (word.Array c b) ws e =
-      bytes_kept c b (extent_of es ws) (extent_of more ws) (λ y. extent_kept es more h ws y) e
+      bytes_same c b (extent_of es ws) (extent_of more ws) (λ y. extent_kept es more h ws y) e
   fits_kept word.Const ws e = e
   fits_kept word.Gives ws e = e
   fits_kept word.Void ws e = e

@@ -4,8 +4,8 @@ use Rattle.std.proofs.Common.{Option, Some, None, if◌then◌else◌}
 use Rattle.std.specs.Prelude.{Ok, Err, not, is_some}
 use Rattle.c_tree.specs.declared.c_type.TypeWord.{TypeWord}
 use Rattle.c_tree.specs.declared.c_type.TypeWord.TheVariants as word
-use Rattle.c_tree.specs.Extents.{TypeExtent, extent_of, structure_extent}
-use Rattle.c_tree.specs.TypesAgree.{kind_of_type, structure_kind}
+use Rattle.c_tree.specs.Extents.{extent_of, structure_extent}
+use Rattle.c_tree.specs.TypesAgree.{kind_of_type}
 use Rattle.c_rules.specs.declared.fault.Rule.{Rule}
 use Rattle.c_rules.specs.declared.fault.Rule.TheVariants as rule
 use Rattle.c_rules.specs.Answer.{Answer, violates, ◌>>=◌}
@@ -35,6 +35,8 @@ use Rattle.c_typed_programs.specs.Types.Typed.{Types}
 use Rattle.c_typed_programs.proofs.Types.Built.{adjusted_spelled, built_spelled}
 use Rattle.c_typed_programs.proofs.Types.Kept.{each_append, each_around, each_innermost}
 use Rattle.c_typed_programs.proofs.Types.States.{declarator_extents, declarator_types}
+use Rattle.c_typed_programs.proofs.Declarations.Judged.{complete_by, first_false}
+use Rattle.c_typed_programs.proofs.Types.Calls.{kind_by}
 use Rattle.c_typed_programs.proofs.Common.{first as left_true, neither_right as second_false, passed, passed_some, second as right}
 
 -- the scope of a list of parameters
@@ -111,15 +113,11 @@ IsKinded es type = is_some (kind_of_type es type) ≡ true
 abbrev pub OfParameter : (defined : Bool) → Structures → List TypeWord → Type 0
 OfParameter defined es type = IsSpelled es type × (defined ≡ true → IsKinded es type)
 
-structure_kinded : (o : Option TypeExtent) → is_some o ≡ true → is_some (structure_kind o) ≡ true
-structure_kinded None e = absurd cc
-structure_kinded (Some x) e = refl
-
 extent_kinded : (es : Structures) (ws : List TypeWord) → IsSpelled es ws → is_array ws ≡ false
     → is_some (extent_of es ws) ≡ true → IsKinded es (unqualified ws)
 unfolding extent_of
 extent_kinded es [] s a e = absurd cc
-extent_kinded es (word.Structure n ∷ ws) s a e = structure_kinded (structure_extent es n) e
+extent_kinded es (word.Structure n ∷ ws) s a e = kind_by (structure_extent es n) e
 extent_kinded es (word.Const ∷ ws) s a e =
     extent_kinded es ws (right (not (is_array ws)) _ s) (not_array (is_array ws) (left_true (not (is_array ws)) _ s)) e
   where
@@ -147,22 +145,6 @@ no_array (word.Structure n ∷ ws) = refl
 no_array (word.Const ∷ ws) = refl
 no_array (word.Takes ∷ ws) = refl
 no_array (word.Gives ∷ ws) = refl
-
-pub complete_by : (typedef f x m tentative completed whole : Bool) → typedef ≡ false → f ≡ false → x ≡ false → m ≡ false
-    → tentative ≡ false
-    → (if typedef || f || x || m then false else if tentative then not completed else not whole) ≡ false
-    → whole ≡ true
-complete_by true f x m t c w a b d e g h = absurd cc
-complete_by false true x m t c w a b d e g h = absurd cc
-complete_by false false true m t c w a b d e g h = absurd cc
-complete_by false false false true t c w a b d e g h = absurd cc
-complete_by false false false false true c w a b d e g h = absurd cc
-complete_by false false false false false c true a b d e g h = refl
-complete_by false false false false false c false a b d e g h = absurd cc
-
-pub first_false : (a b c d e : Bool) → a ≡ false → (a && b && c && d && e) ≡ false
-first_false true b c d e g = absurd cc
-first_false false b c d e g = refl
 
 record IsPlain (z : Storage) : Type 0 where
   no_typedef : is_typedef z ≡ false

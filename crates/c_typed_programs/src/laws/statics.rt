@@ -1,8 +1,8 @@
 //! Laws of static objects.
 
-ghost use Rattle.std.specs.Prelude.{◌≡◌, ℕ, Bool, true, List, Some, map};
+ghost use Rattle.std.specs.Prelude.{◌≡◌, ℕ, Bool, true, List, Ok, Option, Some, map};
 ghost use Rattle.std.specs.List.{list_all};
-ghost use Rattle.c_syntax.specs.Statements.{BlockItems, Declaration, Statement};
+ghost use Rattle.c_syntax.specs.Statements.{BlockItems, Declaration, External, Statement};
 ghost use Rattle.c_syntax.specs.Tree.{Initializer};
 ghost use Rattle.c_tree.specs.declared.c_type.TypeWord.{TypeWord};
 ghost use Rattle.c_tree.specs.Programs.{Program};
@@ -17,15 +17,19 @@ ghost use Rattle.c_unit_typing.specs.Declarations.{declaration, initialized_if, 
 ghost use Rattle.c_unit_typing.specs.Files.{File, in_state, ◌~>◌};
 ghost use Rattle.c_unit_typing.specs.Statements.{block_items, statement};
 ghost use Rattle.c_unit_typing.specs.Programs.{linked_objects, literal_object, program_of};
+ghost use Rattle.c_unit_typing.specs.Units.{file_with};
 ghost use Rattle.c_typed_validity.specs.Sound.{Covers, IsFormed};
 ghost use Rattle.c_typed_validity.specs.Steps.{Structures};
+ghost use Rattle.c_typed_programs.specs.Scopes.Defined.{define_functions};
 ghost use Rattle.c_typed_programs.specs.Scopes.Regular.{are_regular_block_items, is_regular_declaration, is_regular_statement};
-ghost use Rattle.c_typed_programs.specs.Scopes.Regular.{is_regular_initializer};
+ghost use Rattle.c_typed_programs.specs.Scopes.Regular.{are_regular_externals, is_regular_initializer};
 ghost use Rattle.c_typed_programs.specs.Declarations.Binding.{IsCompleteFor};
 ghost use Rattle.c_typed_programs.specs.Layouts.Listed.{HasSizes, IsLaidOut};
 ghost use Rattle.c_typed_programs.specs.Bodies.Defined.{Defines};
 ghost use Rattle.c_typed_programs.specs.Bodies.Standing.{IsReady};
+ghost use Rattle.c_typed_programs.specs.Names.Linked.{HaveSizes};
 ghost use Rattle.c_typed_programs.specs.Statics.Added.{IfAdds};
+ghost use Rattle.c_typed_programs.specs.Statics.Defining.{HasFunctions};
 ghost use Rattle.c_typed_programs.specs.Statics.Linked.{IfAddsParts, are_initialized};
 ghost use Rattle.c_typed_programs.specs.Statics.Program.{AddsObjectsOf, HasObjectsOf, IsFunctionOf, are_static_objects};
 ghost use Rattle.c_typed_programs.specs.Statics.Program.{stand_in_functions};
@@ -73,4 +77,20 @@ pub fn objects_with_linkage_are_valid()
 pub fn static_objects_of_files_are_valid()
     ensures { (f : File) → HasObjectsOf f
         → list_all (is_static_object (program_of f)) (program_of f).statics ≡ true }
+{}
+
+/// At the end of a file that is accepted, and whose objects with linkage have sizes, what their initializers store is
+/// valid where no variable can be named, and lies in them (C99 6.2.7, 6.7.8, 6.9.2).
+pub fn linked_objects_are_initialized()
+    ensures { (objects : Option (List (List Bool))) (end : ℕ) (es : List External) (f : File)
+        → are_regular_externals es ≡ true → define_functions es ≡ true → file_with objects end es ≡ Ok f → HaveSizes f
+        → are_initialized (program_of f) f f.state.environment.entities ≡ true }
+{}
+
+/// The definitions of a file that is accepted stand in turn, and each has its function in the program, whose number is
+/// the place of the definition (C99 6.9.1); the program has what the file has at its end.
+pub fn definitions_have_their_functions()
+    ensures { (objects : Option (List (List Bool))) (end : ℕ) (es : List External) (f : File)
+        → are_regular_externals es ≡ true → define_functions es ≡ true → file_with objects end es ≡ Ok f
+        → HaveSizes f → HasFunctions f }
 {}

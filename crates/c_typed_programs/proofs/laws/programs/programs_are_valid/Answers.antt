@@ -1,5 +1,5 @@
-use Rattle.c_typed_programs.proofs.Programs.Functions.{program_valid}
+use Rattle.c_typed_programs.proofs.Programs.Units.{file_valid}
 use Rattle.c_typed_programs.proofs.laws.programs.programs_are_valid.Goals as goal
 
 pub returns : goal.returns
-returns c = program_valid
+returns c = file_valid

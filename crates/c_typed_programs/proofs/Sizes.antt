@@ -1,0 +1,9 @@
+pub mod Bodies
+pub mod Declarations
+pub mod Definitions
+pub mod Files
+pub mod Found
+pub mod Recursion
+pub mod Steps
+pub mod Storage
+pub mod Types

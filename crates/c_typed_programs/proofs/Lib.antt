@@ -16,3 +16,4 @@ pub mod SpelledTypes
 pub mod Statics
 pub mod Tags
 pub mod Types
+pub mod Walks

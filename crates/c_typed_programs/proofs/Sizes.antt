@@ -3,7 +3,6 @@ pub mod Declarations
 pub mod Definitions
 pub mod Files
 pub mod Found
-pub mod Recursion
 pub mod Steps
 pub mod Storage
 pub mod Types

@@ -21,10 +21,12 @@ use Rattle.c_typed_declarators.proofs.Parameters.{within_block, within_formed}
 use Rattle.c_typed_programs.specs.Scopes.Leaving.{FileLeads}
 use Rattle.c_typed_programs.proofs.Scopes.Leading.{closed_leads, file_on, file_same, leads_by, state_leads}
 use Rattle.c_typed_programs.specs.Layouts.Listed.{IfLaidOut, IsLaidOut}
-use Rattle.c_typed_programs.specs.Bodies.Standing.{AreLinked, AreOpen, AreVariables, Ends, IsReady, IsResult, Numbers, Stands}
+use Rattle.c_typed_programs.specs.Bodies.Standing.{AreLinked, AreOpen, AreVariables, Ends, IsReady, IsResult, Numbers}
+use Rattle.c_typed_programs.specs.Bodies.Standing.{Stands}
 use Rattle.c_typed_programs.specs.Bodies.Typed.{IfTyped, Typed, none}
 use Rattle.c_typed_programs.proofs.Bodies.Ends.{ends_before, ends_closed, ends_within, numbers_on}
-use Rattle.c_typed_programs.proofs.Bodies.Entities.{entities_on, entities_same, linked_closed, linked_extended, linked_opened}
+use Rattle.c_typed_programs.proofs.Bodies.Entities.{entities_on, entities_same, linked_closed, linked_extended}
+use Rattle.c_typed_programs.proofs.Bodies.Entities.{linked_opened}
 use Rattle.c_typed_programs.proofs.Bodies.Laid.{laid_closed, laid_opened}
 use Rattle.c_typed_programs.proofs.Bodies.Opened.{among_either, among_left, among_right, within_open}
 use Rattle.c_typed_programs.proofs.Bodies.Standing.{stands_closed, stands_extended, stands_opened, stands_within}

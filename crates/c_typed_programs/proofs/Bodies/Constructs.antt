@@ -39,7 +39,8 @@ use Rattle.c_typed_programs.proofs.Scopes.Extended.{step_extends}
 use Rattle.c_typed_programs.proofs.Scopes.Extended.{controlling_extends, expression_extends}
 use Rattle.c_typed_programs.proofs.Scopes.Extended.{returned_extends}
 use Rattle.c_typed_programs.specs.Layouts.Listed.{IfLaidOut}
-use Rattle.c_typed_programs.specs.Bodies.Parts.{has_valid_parts, have_valid_parts, is_valid_head, items_have_valid_parts}
+use Rattle.c_typed_programs.specs.Bodies.Parts.{has_valid_parts, have_valid_parts, is_valid_head}
+use Rattle.c_typed_programs.specs.Bodies.Parts.{items_have_valid_parts}
 use Rattle.c_typed_programs.specs.Bodies.Standing.{IsReady}
 use Rattle.c_typed_programs.specs.Bodies.Typed.{IfTyped, none}
 use Rattle.c_typed_programs.proofs.Bodies.Chained.{StateSound, after_typed}

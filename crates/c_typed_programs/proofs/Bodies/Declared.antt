@@ -1,6 +1,6 @@
 -- Declarations in blocks are typed to variables with valid initializers (C99 6.7).
-use Rattle.std.proofs.Common.{◌≡◌, ℕ, ◌+◌, Bool, true, false, ◌&&◌, ◌||◌, refl, sym, ap, ◌∙◌, subst, List, [], ◌∷◌, ◌++◌}
-use Rattle.std.proofs.Common.{Option, Some, None, if◌then◌else◌}
+use Rattle.std.proofs.Common.{◌≡◌, ℕ, ◌+◌, Bool, true, false, ◌&&◌, ◌||◌, refl, sym, ap, ◌∙◌, subst, List, [], ◌∷◌}
+use Rattle.std.proofs.Common.{◌++◌, Option, Some, None, if◌then◌else◌}
 use Rattle.std.specs.Prelude.{Ok, Err, is_none, is_some, not, option_map}
 use Rattle.std.specs.List.{list_all}
 use Rattle.std.proofs.lemmas.List.{append-nil, append_assoc, map-append}
@@ -59,8 +59,8 @@ use Rattle.c_typed_programs.proofs.Layouts.Behind.{shape_behind}
 use Rattle.c_typed_programs.proofs.Layouts.Declared.{declared_as_laid}
 use Rattle.c_typed_programs.specs.Bodies.Standing.{AreLinked, Ends, EntitiesLead, IsOpenMeaning, IsReady, Stands}
 use Rattle.c_typed_programs.specs.Bodies.Typed.{IfTyped, Typed}
-use Rattle.c_typed_programs.proofs.Bodies.Chained.{after_state, finished_typed, given_typed, kept_sound, no_numbers, no_variables}
-use Rattle.c_typed_programs.proofs.Bodies.Chained.{two_behind}
+use Rattle.c_typed_programs.proofs.Bodies.Chained.{after_state, finished_typed, given_typed, kept_sound, no_numbers}
+use Rattle.c_typed_programs.proofs.Bodies.Chained.{no_variables, two_behind}
 use Rattle.c_typed_programs.proofs.Bodies.Ends.{linked_open}
 use Rattle.c_typed_programs.proofs.Bodies.Entities.{declared_linked, entities_linked, entities_same, linked_behind}
 use Rattle.c_typed_programs.proofs.Bodies.Entities.{linked_bound}
@@ -174,8 +174,8 @@ module _ (result : List TypeWord) where
     abbrev the_type : List TypeWord
     the_type = visible_type d.type (names.meaning d.name env.names)
 
-    bare_by : (w : Designated) → is_linked w ≡ true → (type : List TypeWord) (y : Option Initializer) → is_some y ≡ false
-        → Typed result variables_in variables_in AreDeclared f (record f { state = u }, [])
+    bare_by : (w : Designated) → is_linked w ≡ true → (type : List TypeWord) (y : Option Initializer)
+        → is_some y ≡ false → Typed result variables_in variables_in AreDeclared f (record f { state = u }, [])
         → IfTyped result variables_in variables_in AreDeclared f
         (declared_with (d.name, line) y (Some (meaning.Named w type)) (record f { state = u }))
     bare_by (what.Object n) l type None e h = h
@@ -387,7 +387,8 @@ module _ (result : List TypeWord) where
       → IfTyped result variables_in variables_in AreDeclared f (with_declarators in_head spec ds f)
   declarators_typed in_head spec sized None c f ready arrays =
       alone_typed f ready
-      (is_misplaced (in_file f.state.environment) false spec.storage || not (has_place in_head spec spec.type)) spec.line
+      (is_misplaced (in_file f.state.environment) false spec.storage || not (has_place in_head spec spec.type))
+      spec.line
   declarators_typed in_head spec sized (Some ds) c f ready arrays =
       together_typed in_head spec ds.others
       (λ g h k. others_typed in_head spec sized ds.others (second _ _ c) g h k) f ready arrays

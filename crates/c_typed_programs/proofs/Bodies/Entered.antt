@@ -162,7 +162,8 @@ declared_among es s last name (e ∷ entries) first is =
 
 -- what stands for a name in the block of a function: a parameter, or what has linkage
 
-linked_meant : (scope : Scope) (last : Structures) (s t : State) → t.environment.facts ≡ s.environment.facts → (d : Designated) (type : List TypeWord) → is_linked d ≡ true
+linked_meant : (scope : Scope) (last : Structures) (s t : State) → t.environment.facts ≡ s.environment.facts
+    → (d : Designated) (type : List TypeWord) → is_linked d ≡ true
     → IsMeant scope last s (Some (meaning.Named d type)) → IsMeant scope last t (Some (meaning.Named d type))
 linked_meant scope last s t f (what.Object n) type l is = is
 linked_meant scope last s t f (what.Function n) type l is =

@@ -50,8 +50,8 @@ use Rattle.c_typed_programs.proofs.Scopes.Extended.{switching_extends, valued_if
 use Rattle.c_typed_programs.specs.Layouts.Listed.{HasArrays, HasArraysIn, IfLaidOut, IsLaidOut, has_array_bytes}
 use Rattle.c_typed_programs.proofs.Layouts.Arrays.{built_arrays}
 use Rattle.c_typed_programs.proofs.Layouts.Behind.{specification_behind}
-use Rattle.c_typed_programs.proofs.Layouts.Chained.{HasLists, Laid, judged_laid, laid_out_behind, meaning_kept, new_arrays}
-use Rattle.c_typed_programs.proofs.Layouts.Chained.{then_laid, then_lists, to_laid_out}
+use Rattle.c_typed_programs.proofs.Layouts.Chained.{HasLists, Laid, judged_laid, laid_out_behind, meaning_kept}
+use Rattle.c_typed_programs.proofs.Layouts.Chained.{new_arrays, then_laid, then_lists, to_laid_out}
 use Rattle.c_typed_programs.proofs.Layouts.Declared.{declared_by}
 use Rattle.c_typed_programs.proofs.Layouts.Recursion.{typed_laid, valued_laid}
 use Rattle.c_typed_programs.proofs.Layouts.Standing.{same_lists}

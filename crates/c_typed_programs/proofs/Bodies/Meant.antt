@@ -41,7 +41,8 @@ module _ (scope : Scope) (numbers : List ℕ) (lengths : length scope.variables 
       (let f = is defined in record { signature = f.signature; has = f.has; spelled = f.spelled })
   meant_within (Some (meaning.Named (what.Library r) type)) shown is = tt
   meant_within (Some (meaning.Named (what.Variable n) type)) shown is =
-      variable_within scope (within scope numbers) last s n type (open_within scope numbers lengths n shown ∙ sym shown) is
+      variable_within scope (within scope numbers) last s n type
+      (open_within scope numbers lengths n shown ∙ sym shown) is
 
   pub open_meaning : (m : Option Meaning) → IsOpenMeaning scope m → IsOpenMeaning (within scope numbers) m
   open_meaning None shown = tt

@@ -41,8 +41,8 @@ use Rattle.c_typed_programs.specs.Bodies.Typed.{IfTyped, Typed}
 use Rattle.c_typed_programs.proofs.Bodies.Chained.{no_numbers, no_variables}
 use Rattle.c_typed_programs.proofs.Bodies.Entities.{entities_same, linked_bound}
 use Rattle.c_typed_programs.proofs.Bodies.Given.{initializer_given, initializer_laid}
-use Rattle.c_typed_programs.proofs.Bodies.Initialized.{IfInitializes, Initializes, TypeBehind, as_it_is, extent_at, initialized_is}
-use Rattle.c_typed_programs.proofs.Bodies.Initialized.{static_meant, variable_meant, with_count}
+use Rattle.c_typed_programs.proofs.Bodies.Initialized.{IfInitializes, Initializes, TypeBehind, as_it_is, extent_at}
+use Rattle.c_typed_programs.proofs.Bodies.Initialized.{initialized_is, static_meant, variable_meant, with_count}
 use Rattle.c_typed_programs.proofs.Bodies.Opened.{alone_among, among_alone, count_alone}
 use Rattle.c_typed_programs.proofs.Bodies.Standing.{stands_bound}
 use Rattle.c_typed_programs.proofs.Common.{both, filed, neither_left}
@@ -81,8 +81,8 @@ module _ (scope : Scope) (t : State) (n : ℕ) (type : List TypeWord) (has : Has
       (ap (λ v. is_kind v.kind (kind_of one.tree)) has ∙ ap (is_kind (kind_in t type)) one.kind
       ∙ same_kind (kind_in t type)))
       (ap is_scalar one.kind
-      ∙ scalar_of (variable_in t n type).is_object (has_size (kind_in t type)) (is_scalar (kind_in t type)) (is ∙ is_false)
-      scalar)))
+      ∙ scalar_of (variable_in t n type).is_object (has_size (kind_in t type)) (is_scalar (kind_in t type))
+      (is ∙ is_false) scalar)))
 
   made_valid : (is_object : Bool) → (variable_in t n type).is_object ≡ is_object → (parts : List Part)
       → AreInitialized scope t type parts
@@ -270,7 +270,8 @@ module _ (result : List TypeWord) (f : File) (ready : IsReady f.state) (u : Stat
           h.is) tt stands in
           let object = object_behind u r.0 (is_some x) type r.1.0 h.leads.more complete h.is
           (λ e. (is scope last known e ends.covers).complete) in
-          h.stands scope last known (static_is scope r.0 last ends.covers.more n r.1.0 object.extent object.is object.object has) tt
+          h.stands scope last known
+          (static_is scope r.0 last ends.covers.more n r.1.0 object.extent object.is object.object has) tt
 
       static_made : Typed result variables_in variables_in AreDeclared f (with_object r.0 r.1.0 r.1.1, [])
       static_made = record {

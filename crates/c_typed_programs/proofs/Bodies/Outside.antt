@@ -44,7 +44,8 @@ use Rattle.c_typed_validity.specs.Sound.{IsFormed, is_sized_array}
 use Rattle.c_typed_declarators.specs.Extending.{Extending, Extends, IsNew}
 use Rattle.c_typed_declarators.specs.Given.{AreCounted, IsShapeOf, IsSpecified, anything}
 use Rattle.c_typed_declarators.proofs.Recursion.{shape_extends}
-use Rattle.c_typed_programs.specs.Declarations.Binding.{Binds, IfDeclared, bound_meaning, linked_meaning, unlinked_meaning}
+use Rattle.c_typed_programs.specs.Declarations.Binding.{Binds, IfDeclared, bound_meaning, linked_meaning}
+use Rattle.c_typed_programs.specs.Declarations.Binding.{unlinked_meaning}
 use Rattle.c_typed_programs.proofs.Declarations.Completed.{size_binds}
 use Rattle.c_typed_programs.proofs.Declarations.Formed.{formed_behind}
 use Rattle.c_typed_programs.proofs.Declarations.Judged.{declared_as_declares}
@@ -56,12 +57,12 @@ use Rattle.c_typed_programs.specs.Bodies.Parameters.{IsFileScope, IsOutside}
 use Rattle.c_typed_programs.specs.Bodies.Standing.{AreLinked, EntitiesLead, EntityLeads, IsEntity}
 use Rattle.c_typed_programs.proofs.Bodies.Declared.{IfMade, placed_made}
 use Rattle.c_typed_programs.proofs.Bodies.Entities.{declared_linked, entities_linked, entities_on, entities_same}
-use Rattle.c_typed_programs.proofs.Bodies.Entities.{entity_bound, entity_leads, entity_links, linked_behind, linked_bound}
-use Rattle.c_typed_programs.proofs.Bodies.Entities.{linked_extended}
+use Rattle.c_typed_programs.proofs.Bodies.Entities.{entity_bound, entity_leads, entity_links, linked_behind}
+use Rattle.c_typed_programs.proofs.Bodies.Entities.{linked_bound, linked_extended}
 use Rattle.c_typed_programs.specs.Bodies.Types.{is_type}
 use Rattle.c_typed_programs.proofs.Bodies.Standing.{either}
-use Rattle.c_typed_programs.proofs.Bodies.Types.{WholeShape, also_gives, built_type, shape_types, stored_type, types_bound}
-use Rattle.c_typed_programs.proofs.Bodies.Types.{types_extended}
+use Rattle.c_typed_programs.proofs.Bodies.Types.{WholeShape, also_gives, built_type, shape_types, stored_type}
+use Rattle.c_typed_programs.proofs.Bodies.Types.{types_bound, types_extended}
 use Rattle.c_typed_programs.proofs.Common.{filed, first, second}
 
 -- names at file scope

@@ -82,7 +82,8 @@ stands_closed scope last f g h is =
     record {
       knows = record {
         names = λ name.
-            meant_kept scope last f.state (scope_closed g).state h.state.objects h.state.facts (names.meaning name (scope_closed g).state.environment.names)
+            meant_kept scope last f.state (scope_closed g).state h.state.objects h.state.facts
+            (names.meaning name (scope_closed g).state.environment.names)
             (subst (IsMeant scope last f.state) (same_name name) (is.knows.names name));
         members = record { each = members.each };
       };

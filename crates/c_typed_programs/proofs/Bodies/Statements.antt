@@ -36,11 +36,13 @@ use Rattle.c_typed_validity.specs.Regular.{is_regular}
 use Rattle.c_typed_declarators.specs.Extending.{Extending}
 use Rattle.c_typed_declarators.specs.Given.{anything}
 use Rattle.c_typed_programs.specs.Scopes.Regular.{are_regular_block_items, is_regular_block, is_regular_block_item}
-use Rattle.c_typed_programs.specs.Scopes.Regular.{is_regular_declaration, is_regular_first, is_regular_if, is_regular_statement}
+use Rattle.c_typed_programs.specs.Scopes.Regular.{is_regular_declaration, is_regular_first, is_regular_if}
+use Rattle.c_typed_programs.specs.Scopes.Regular.{is_regular_statement}
 use Rattle.c_typed_programs.proofs.Scopes.Extended.{step_extends}
 use Rattle.c_typed_programs.proofs.Scopes.Extended.{case_extends, evaluated_extends}
 use Rattle.c_typed_programs.proofs.Scopes.Extended.{switching_extends}
-use Rattle.c_typed_programs.specs.Bodies.Parts.{has_valid_parts, have_valid_parts, is_valid_head, items_have_valid_parts}
+use Rattle.c_typed_programs.specs.Bodies.Parts.{has_valid_parts, have_valid_parts, is_valid_head}
+use Rattle.c_typed_programs.specs.Bodies.Parts.{items_have_valid_parts}
 use Rattle.c_typed_programs.specs.Bodies.Standing.{IsReady}
 use Rattle.c_typed_programs.specs.Bodies.Typed.{IfTyped, Typed, none}
 use Rattle.c_typed_programs.proofs.Bodies.Chained.{after_typed, block_typed, finished_typed, given_typed, kept_sound}
@@ -53,9 +55,9 @@ use Rattle.c_typed_programs.proofs.Bodies.Laid.{case_laid, evaluated_laid, head_
 use Rattle.c_typed_programs.proofs.Bodies.Objects.{AreDeclared}
 use Rattle.c_typed_programs.proofs.Bodies.Constructs.{AllParts, HeadParts, IsFirst, IsHead, ItemParts, Parts}
 use Rattle.c_typed_programs.proofs.Bodies.Constructs.{SwitchParts, Switches, TypesStatement, controlled_typed}
-use Rattle.c_typed_programs.proofs.Bodies.Constructs.{do_loop_typed, expression_statement_typed, head_made, if_otherwise_typed}
-use Rattle.c_typed_programs.proofs.Bodies.Constructs.{if_then_typed, jump_typed, labelled_typed, loop_typed, made_by}
-use Rattle.c_typed_programs.proofs.Bodies.Constructs.{opened_by, returned_typed, unlabelled_typed}
+use Rattle.c_typed_programs.proofs.Bodies.Constructs.{do_loop_typed, expression_statement_typed, head_made}
+use Rattle.c_typed_programs.proofs.Bodies.Constructs.{if_otherwise_typed, if_then_typed, jump_typed, labelled_typed}
+use Rattle.c_typed_programs.proofs.Bodies.Constructs.{loop_typed, made_by, opened_by, returned_typed, unlabelled_typed}
 use Rattle.c_typed_programs.proofs.Common.{both, first, second}
 
 -- the head of a `for`

@@ -12,7 +12,8 @@ use Rattle.c_tree.specs.ValidProgram.{Inside, are_different, are_items, are_stat
 use Rattle.c_tree.specs.ValidProgram.{is_condition_if, is_declaration, is_expression_if, is_first, is_label}
 use Rattle.c_tree.specs.ValidProgram.{is_statement, labels_of}
 use Rattle.c_typed_programs.specs.Places.Placed.{are_placed, are_placed_items, is_placed}
-use Rattle.c_typed_programs.specs.Bodies.Parts.{has_valid_parts, have_valid_parts, is_valid_head, items_have_valid_parts}
+use Rattle.c_typed_programs.specs.Bodies.Parts.{has_valid_parts, have_valid_parts, is_valid_head}
+use Rattle.c_typed_programs.specs.Bodies.Parts.{items_have_valid_parts}
 use Rattle.c_typed_programs.proofs.Common.{both, first, second, three}
 
 mutual

@@ -49,7 +49,8 @@ use Rattle.c_typed_programs.specs.Scopes.Regular.{is_regular_initializer_if, is_
 use Rattle.c_typed_programs.proofs.Scopes.Declarations.{declarator_leads, specified_extends}
 use Rattle.c_typed_programs.proofs.Scopes.Initializers.{initialized_extends}
 use Rattle.c_typed_programs.specs.Files.Numbers.{are_linked, owners, statics_at, waiting}
-use Rattle.c_typed_programs.proofs.Files.Numbers.{Counts, counts_by, counts_on, counts_same, declarator_counts, size_counts}
+use Rattle.c_typed_programs.proofs.Files.Numbers.{Counts, counts_by, counts_on, counts_same, declarator_counts}
+use Rattle.c_typed_programs.proofs.Files.Numbers.{size_counts}
 use Rattle.c_typed_programs.proofs.Common.{filed, first, second, unless_large}
 
 abbrev pub AreLinked : State → Type 0

@@ -59,14 +59,16 @@ use Rattle.c_typed_programs.specs.Types.Typed.{OfSpecification, Structures, Type
 use Rattle.c_typed_programs.proofs.Types.Built.{built_spelled}
 use Rattle.c_typed_programs.proofs.Types.Calls.{gives_no_array, gives_no_function, result_fits}
 use Rattle.c_typed_programs.proofs.Types.Declarators.{HasKinds, IsDeclared}
-use Rattle.c_typed_programs.proofs.Types.Kept.{each_append, each_around, each_innermost, each_meaning, names_kept, spelled_kept}
+use Rattle.c_typed_programs.proofs.Types.Kept.{each_append, each_around, each_innermost, each_meaning, names_kept}
+use Rattle.c_typed_programs.proofs.Types.Kept.{spelled_kept}
 use Rattle.c_typed_programs.proofs.Types.Parameters.{judged_known}
 use Rattle.c_typed_programs.proofs.Types.Recursion.{shape_typed}
 use Rattle.c_typed_programs.proofs.Types.States.{declarator_extents, declarator_types, type_stays}
 use Rattle.c_typed_programs.specs.Scopes.Defined.{define_functions, defines}
-use Rattle.c_typed_programs.proofs.Files.FunctionWords.{composite_function_type, rest_spelled, result_kinded, words_parameters}
-use Rattle.c_typed_programs.proofs.Files.FunctionWords.{words_result}
-use Rattle.c_typed_programs.proofs.Files.Spelled.{IfTypes, Values, declaration_typed, state_then, stored_specification, types_walk}
+use Rattle.c_typed_programs.proofs.Files.FunctionWords.{composite_function_type, rest_spelled, result_kinded}
+use Rattle.c_typed_programs.proofs.Files.FunctionWords.{words_parameters, words_result}
+use Rattle.c_typed_programs.proofs.Files.Spelled.{IfTypes, Values, declaration_typed, state_then, stored_specification}
+use Rattle.c_typed_programs.proofs.Files.Spelled.{types_walk}
 use Rattle.c_typed_programs.proofs.Common.{filed, first, neither_left, neither_right, second, the_same}
 
 -- blocks
@@ -169,7 +171,8 @@ body_by f formed n p is type line (t.block l xs r) c types own function =
 -- what a definition binds its name to
 
 abbrev OfFunction : Structures → Option Meaning → Type 0
-OfFunction es m = (n : ℕ) (type : List TypeWord) → m ≡ Some (meaning.Named (what.Function n) type) → IsFunctionType es type
+OfFunction es m =
+    (n : ℕ) (type : List TypeWord) → m ≡ Some (meaning.Named (what.Function n) type) → IsFunctionType es type
 
 scope_named : (es : Structures) (o : Option ParameterScope) → OfParameters es o → AreNamed es (scope_or_none o).names
 scope_named es None h = tt

@@ -44,7 +44,8 @@ answer x = Ok x
 pub same_ok : {A : Type 0} (x y : A) → answer x ≡ answer y → x ≡ y
 same_ok x y e = cc
 
-used_by : (f g : File) (o : Option ℕ) → g.state.undefined ≡ o → all_defined o g ≡ Ok f → (g ≡ f) × (g.state.undefined ≡ None)
+used_by : (f g : File) (o : Option ℕ) → g.state.undefined ≡ o → all_defined o g ≡ Ok f
+    → (g ≡ f) × (g.state.undefined ≡ None)
 used_by f g None e is = (same_ok g f is, e)
 used_by f g (Some line) e is = absurd cc
 

@@ -37,7 +37,8 @@ use Rattle.c_typed_programs.proofs.Scopes.Files.{defined_as_declares, entered_le
 use Rattle.c_typed_programs.proofs.Scopes.Files.{inside_formed}
 use Rattle.c_typed_programs.proofs.Scopes.Files.{scope_is, stored_extends}
 use Rattle.c_typed_programs.proofs.Scopes.Initializers.{values_walk}
-use Rattle.c_typed_programs.proofs.Scopes.Leading.{bound_leads, closed_leads, file_on, file_same, leads_by, leads_on, outer_is, state_leads}
+use Rattle.c_typed_programs.proofs.Scopes.Leading.{bound_leads, closed_leads, file_on, file_same, leads_by, leads_on}
+use Rattle.c_typed_programs.proofs.Scopes.Leading.{outer_is, state_leads}
 use Rattle.c_typed_programs.proofs.Scopes.Statements.{IfFileBehind, Walk, items_walk}
 use Rattle.c_typed_programs.specs.Files.Numbers.{statics_at}
 use Rattle.c_typed_programs.proofs.Files.Declarations.{AddsFor, AreLinked, IfAdds, adds_on, adds_same}

@@ -1,6 +1,6 @@
 -- Words of function types: their parameters and results, also in composite types, and their kinds.
-use Rattle.std.proofs.Common.{◌≡◌, ℕ, zero, suc, ◌+◌, arith, Bool, true, false, refl, sym, ap, ◌∙◌, subst, List, [], ◌∷◌}
-use Rattle.std.proofs.Common.{◌++◌, Option, Some, None}
+use Rattle.std.proofs.Common.{◌≡◌, ℕ, zero, suc, ◌+◌, arith, Bool, true, false, refl, sym, ap, ◌∙◌, subst, List, []}
+use Rattle.std.proofs.Common.{◌∷◌, ◌++◌, Option, Some, None}
 use Rattle.std.specs.Prelude.{not, is_none, is_some}
 use Rattle.c_tree.specs.declared.c_type.TypeWord.{TypeWord}
 use Rattle.c_tree.specs.declared.c_type.TypeWord.TheVariants as word
@@ -17,8 +17,9 @@ use Rattle.c_scope.specs.Declaring.{is_function}
 use Rattle.c_unit_typing.specs.Programs.{kind_or_void, parameter_kinds, result_kind}
 use Rattle.c_unit_typing.specs.Units.{is_incomplete_structure}
 use Rattle.c_typed_programs.specs.SpelledTypes.Spelled.{IsFunctionType, fits, has_parameters, is_spelled}
-use Rattle.c_typed_programs.proofs.SpelledTypes.Composites.{IsJoint, alike, first_sized, composite_nothing, composite_spelled, joins}
-use Rattle.c_typed_programs.proofs.SpelledTypes.Composites.{none_first, none_second, second_sized}
+use Rattle.c_typed_programs.proofs.SpelledTypes.Composites.{IsJoint, alike, first_sized, composite_nothing}
+use Rattle.c_typed_programs.proofs.SpelledTypes.Composites.{composite_spelled, joins, none_first, none_second}
+use Rattle.c_typed_programs.proofs.SpelledTypes.Composites.{second_sized}
 use Rattle.c_typed_programs.proofs.SpelledTypes.Words.{spelled_end, still_more}
 use Rattle.c_typed_programs.specs.Types.Typed.{AreSpelled, Each, IsSpelled, Structures}
 use Rattle.c_typed_programs.proofs.Types.Parameters.{IsKinded}
@@ -293,7 +294,8 @@ composite_function_type es s t c e h is = record {
 
 rest_by : (es : Structures) (m : ℕ) (p : List TypeWord) (w : TypeWord) (rest : List TypeWord) (n : ℕ) → n ≡ m + 1
     → is_spelled es m p ≡ true → is_spelled es n (p ++ w ∷ rest) ≡ true → is_spelled es 1 (w ∷ rest) ≡ true
-rest_by es zero [] w rest n e s g = let one : n ≡ 1 = omega (arith, e) in ap (λ z. is_spelled es z (w ∷ rest)) (sym one) ∙ g
+rest_by es zero [] w rest n e s g =
+    let one : n ≡ 1 = omega (arith, e) in ap (λ z. is_spelled es z (w ∷ rest)) (sym one) ∙ g
 rest_by es zero (v ∷ p) w rest n e s g = absurd cc
 rest_by es (suc m) [] w rest n e s g = absurd cc
 rest_by es (suc m) (v ∷ p) w rest zero e s g = absurd (omega (arith, e))

@@ -31,7 +31,8 @@ use Rattle.c_typed_programs.specs.SpelledTypes.Spelled.{IsFunctionType}
 use Rattle.c_typed_programs.proofs.SpelledTypes.Words.{spelled_sized}
 use Rattle.c_typed_programs.specs.Scopes.Regular.{are_regular_externals}
 use Rattle.c_typed_programs.proofs.Scopes.Start.{file_formed}
-use Rattle.c_typed_programs.specs.Types.Typed.{Each, HaveTypes, IsEntity, IsNamed, IsSpelled, Structures, Types, are_different}
+use Rattle.c_typed_programs.specs.Types.Typed.{Each, HaveTypes, IsEntity, IsNamed, IsSpelled, Structures, Types}
+use Rattle.c_typed_programs.specs.Types.Typed.{are_different}
 use Rattle.c_typed_programs.proofs.Types.Calls.{routine_spelled}
 use Rattle.c_typed_programs.proofs.Types.Kept.{each_bound}
 use Rattle.c_typed_programs.specs.Scopes.Defined.{define_functions}

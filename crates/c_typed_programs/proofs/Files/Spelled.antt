@@ -45,8 +45,8 @@ use Rattle.c_unit_typing.specs.Declarations.{with_static, with_variable}
 use Rattle.c_unit_typing.specs.Files.{File, FileTyping}
 use Rattle.c_unit_typing.specs.Initializers.{initialized}
 use Rattle.c_unit_typing.specs.Lines.{initializer_line}
-use Rattle.c_typed_programs.proofs.SpelledTypes.Composites.{IsJoint, alike, composite_second, first_sized, joins, none_first}
-use Rattle.c_typed_programs.proofs.SpelledTypes.Composites.{none_second, second_sized}
+use Rattle.c_typed_programs.proofs.SpelledTypes.Composites.{IsJoint, alike, composite_second, first_sized, joins}
+use Rattle.c_typed_programs.proofs.SpelledTypes.Composites.{none_first, none_second, second_sized}
 use Rattle.c_typed_validity.specs.Regular.{are_regular_specifiers, is_regular}
 use Rattle.c_typed_validity.specs.More.{AreMore}
 use Rattle.c_typed_validity.specs.Sound.{IsFormed, is_sized_array}
@@ -64,15 +64,15 @@ use Rattle.c_typed_programs.specs.Scopes.Regular.{are_regular_declarators, initi
 use Rattle.c_typed_programs.specs.Scopes.Regular.{is_regular_initializer_if, is_regular_object}
 use Rattle.c_typed_programs.proofs.Scopes.Declarations.{declarator_leads, specified_extends}
 use Rattle.c_typed_programs.proofs.Scopes.Initializers.{IfBehind, ValueWalk, initialized_walks, value_extends}
-use Rattle.c_typed_programs.specs.Types.Typed.{HasType, IsEntity, IsNamed, IsSpelled, OfSpecification, OfValueType, Structures}
-use Rattle.c_typed_programs.specs.Types.Typed.{Typed, Types, nothing}
+use Rattle.c_typed_programs.specs.Types.Typed.{HasType, IsEntity, IsNamed, IsSpelled, OfSpecification, OfValueType}
+use Rattle.c_typed_programs.specs.Types.Typed.{Structures, Typed, Types, nothing}
 use Rattle.c_typed_programs.proofs.Types.Built.{array_spelled, built_spelled}
 use Rattle.c_typed_programs.proofs.Types.Declarators.{IsDeclared}
 use Rattle.c_typed_programs.proofs.Types.Kept.{each_bound, each_declared, each_meaning, spelled_kept}
 use Rattle.c_typed_programs.proofs.Types.Parameters.{IsJudged, judged_known}
 use Rattle.c_typed_programs.proofs.Types.Recursion.{shape_typed, specification_typed, typed_types}
-use Rattle.c_typed_programs.proofs.Types.States.{declarator_extents, declarator_types, composite_type, library_visible, name_types}
-use Rattle.c_typed_programs.proofs.Types.States.{spelled_has, visible_spelled}
+use Rattle.c_typed_programs.proofs.Types.States.{declarator_extents, declarator_types, composite_type, library_visible}
+use Rattle.c_typed_programs.proofs.Types.States.{name_types, spelled_has, visible_spelled}
 use Rattle.c_typed_programs.proofs.Types.Steps.{then_typed, valued_typed}
 use Rattle.c_typed_programs.proofs.Common.{filed, first, second, the_same, unless_large}
 
@@ -302,7 +302,8 @@ not_tentative true true true false x e = absurd cc
 
 complete_with : (es : Structures) (d : Declaration) → d.has_initializer ≡ true → is_complete es d ≡ true
     → is_some (extent_of es (sized_by_initializer d.type)) ≡ true
-complete_with es d e g = ap (λ b. is_some (extent_of es (if b then sized_by_initializer d.type else d.type))) (sym e) ∙ g
+complete_with es d e g =
+    ap (λ b. is_some (extent_of es (if b then sized_by_initializer d.type else d.type))) (sym e) ∙ g
 
 initialized_complete : (s : State) (d : Declaration) → d.may_be_incomplete ≡ false
     → IsJudged (surroundings s.environment d) d → d.has_initializer ≡ true

@@ -1,6 +1,6 @@
 -- The kinds of static objects by their numbers.
-use Rattle.std.proofs.Common.{◌≡◌, ℕ, zero, suc, ◌+◌, ◌<◌, Bool, true, false, refl, sym, subst, ap, ◌∙◌, List, [], ◌∷◌, ◌++◌}
-use Rattle.std.proofs.Common.{length, map, Some, None, arith, if◌then◌else◌}
+use Rattle.std.proofs.Common.{◌≡◌, ℕ, zero, suc, ◌+◌, ◌<◌, Bool, true, false, refl, sym, subst, ap, ◌∙◌, List, [], ◌∷◌}
+use Rattle.std.proofs.Common.{◌++◌, length, map, Some, None, arith, if◌then◌else◌}
 use Rattle.std.specs.Prelude.{get_or, slice_get}
 use Rattle.std.proofs.lemmas.Bool.{lt-ltb}
 use Rattle.std.proofs.lemmas.List.{append_assoc}
@@ -138,10 +138,10 @@ entity_entry : (f : File) (e : Name × Entity) (es : Names Entity) (name : Name)
     → (if b then Some e.1 else declared name es) ≡ Some x
     → HasEntryOf (linked_objects f (e ∷ es)) n (kind_in f.state (final_type (extents f.state) x.c_type))
 entity_entry f e es name x n true w h g =
-    entry_before (linked_object f e.1.c_type e.1.what) (linked_objects f es) n
-    (kind_in f.state (final_type (extents f.state) x.c_type))
-    (subst (λ z. HasEntryOf (linked_object f z.c_type z.what) n (kind_in f.state (final_type (extents f.state) x.c_type)))
-    (sym (the_same g)) (object_entry f x.c_type x.what n w))
+    let kind = kind_in f.state (final_type (extents f.state) x.c_type) in
+    entry_before (linked_object f e.1.c_type e.1.what) (linked_objects f es) n kind
+    (subst (λ z. HasEntryOf (linked_object f z.c_type z.what) n kind) (sym (the_same g))
+    (object_entry f x.c_type x.what n w))
   where
     the_same : Some e.1 ≡ Some x → e.1 ≡ x
     the_same e = cc

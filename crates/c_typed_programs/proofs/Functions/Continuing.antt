@@ -1,7 +1,7 @@
 -- Objects and functions with linkage stay what they are in the declarations and definitions behind.
 use Rattle.c_typed_programs.proofs.Functions.Entities.{compatible_fills, fills_on, fills_same}
-use Rattle.c_typed_programs.proofs.SpelledTypes.Composites.{IsJoint, alike, first_sized, second_sized, composite_nothing, joins, none_first}
-use Rattle.c_typed_programs.proofs.SpelledTypes.Composites.{none_second}
+use Rattle.c_typed_programs.proofs.SpelledTypes.Composites.{IsJoint, alike, first_sized, second_sized}
+use Rattle.c_typed_programs.proofs.SpelledTypes.Composites.{composite_nothing, joins, none_first, none_second}
 use Rattle.c_scope.specs.declared.meaning.Designated.{Designated}
 use Rattle.c_typed_programs.specs.Functions.Entities.{Fills, FillsWord}
 use Rattle.c_scope.specs.Composite.{composite}
@@ -58,7 +58,14 @@ use Rattle.c_typed_programs.proofs.Scopes.Definitions.{DefinitionWalk, definitio
 use Rattle.c_typed_programs.proofs.Common.{first, or_left as or_first, second}
 
 still_same : (x : Entity) → IsStill x (Some x)
-still_same x = record { entity = x; there = refl; what = refl; words = refl; fills = fills_same x.c_type; defined = λ d. d }
+still_same x = record {
+  entity = x;
+  there = refl;
+  what = refl;
+  words = refl;
+  fills = fills_same x.c_type;
+  defined = λ d. d;
+}
 
 continues_same : (es : Names Entity) → Continue es es
 continues_same es = record { each = λ name x e. subst (IsStill x) (sym e) (still_same x) }
@@ -81,7 +88,14 @@ continues_on es fs gs h k = record {
 pub keeps_continues : (numbers : Names ℕ) (es more : Names Entity) → Keeps numbers es more → Continue es more
 keeps_continues numbers es more h = record {
   each = λ name x e. (let s = h.same name x e in
-      record { entity = s.entity; there = s.there; what = s.what; words = s.words; fills = s.fills; defined = s.defined });
+      record {
+        entity = s.entity;
+        there = s.there;
+        what = s.what;
+        words = s.words;
+        fills = s.fills;
+        defined = s.defined;
+      });
 }
 
 bound_continues : (es : Names Entity) (name : Name) (x : Entity)
@@ -216,8 +230,8 @@ items_by f (Ok r) k =
     k.keeps.0
 items_by f (Err e) k = tt
 
-pub items_continue : (around : Around) (xs : t.BlockItems) → are_regular_block_items xs ≡ true → (f : File) → IsFormed f.state
-    → IfContinues f (block_items around xs f)
+pub items_continue : (around : Around) (xs : t.BlockItems) → are_regular_block_items xs ≡ true → (f : File)
+    → IsFormed f.state → IfContinues f (block_items around xs f)
 items_continue around xs c f formed =
     items_by f (block_items around xs f)
     (items_walk (Extends false) KeepsFile keeps_walk around xs c f formed)
@@ -260,7 +274,8 @@ least (v ∷ s) [] c u e h g = none_second v s c _ e
 least (v ∷ s) (w ∷ t) c [] e h g = absurd cc
 least (v ∷ s) (w ∷ t) c (y ∷ u) e h g =
     let j = joins v s w t c e in
-    subst (λ z. Fills z (y ∷ u)) (sym j.is) (least_word v w j.first y j.joint h.0 g.0, least s t j.rest u j.behind h.1 g.1)
+    subst (λ z. Fills z (y ∷ u)) (sym j.is)
+    (least_word v w j.first y j.joint h.0 g.0, least s t j.rest u j.behind h.1 g.1)
 
 visible_fills : (t u : List TypeWord) → Fills t u → (m : Option Meaning)
     → ((w : Designated) (s : List TypeWord) → m ≡ Some (meaning.Named w s) → is_linked w ≡ true → Fills s u)

@@ -40,8 +40,8 @@ use Rattle.c_typed_programs.specs.Scopes.Regular.{is_regular_initializer_if}
 use Rattle.c_typed_programs.proofs.Scopes.Initializers.{initialized_extends}
 use Rattle.c_typed_programs.proofs.Types.Parameters.{judged_known}
 use Rattle.c_typed_programs.specs.Functions.Entities.{Keeps}
-use Rattle.c_typed_programs.proofs.Functions.Entities.{declarator_facts, declarator_keeps, keeps_on, keeps_same, size_facts}
-use Rattle.c_typed_programs.proofs.Functions.Entities.{size_keeps}
+use Rattle.c_typed_programs.proofs.Functions.Entities.{declarator_facts, declarator_keeps, keeps_on, keeps_same}
+use Rattle.c_typed_programs.proofs.Functions.Entities.{size_facts, size_keeps}
 use Rattle.c_typed_programs.proofs.Scopes.Declaring.{DeclarationWalk, declaration_walks}
 use Rattle.c_typed_programs.proofs.Scopes.Statements.{IfFileBehind}
 use Rattle.c_typed_programs.proofs.Common.{filed, unless_large}

@@ -12,8 +12,8 @@ use Rattle.c_unit_typing.specs.Files.{Definition}
 use Rattle.c_typed_validity.specs.Sound.{Extended}
 use Rattle.c_typed_validity.proofs.Sound.{get_extended}
 use Rattle.c_typed_programs.proofs.Declarations.Bound.{bound_here}
-use Rattle.c_typed_programs.specs.Functions.Entities.{AreNumbered, IsFirst, IsSame, Keeps, is_library, names_function, number_of}
-use Rattle.c_typed_programs.specs.Functions.Entities.{without_sizes}
+use Rattle.c_typed_programs.specs.Functions.Entities.{AreNumbered, IsFirst, IsSame, Keeps, is_library, names_function}
+use Rattle.c_typed_programs.specs.Functions.Entities.{number_of, without_sizes}
 use Rattle.c_typed_programs.specs.Functions.Functions.{Defines, IsDefinition, Registered}
 use Rattle.c_typed_programs.proofs.Functions.Entities.{bound_either, conflict, function_words, none_some, some_is}
 

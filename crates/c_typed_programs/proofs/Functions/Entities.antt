@@ -17,11 +17,11 @@ use Rattle.c_scope.specs.Environment.{Environment, entity_with, in_file, linked,
 use Rattle.c_scope.specs.Environment.{with_declarator, without_linkage}
 use Rattle.c_scope.specs.Names.{Name, Names, bound, declared, is_name}
 use Rattle.c_unit_typing.specs.Declarations.{entity_with_type, is_of_type, is_same_object, with_entity, with_size}
-use Rattle.c_typed_programs.proofs.SpelledTypes.Composites.{IsJoint, alike, composite_nothing, first_sized, joins, none_first}
-use Rattle.c_typed_programs.proofs.SpelledTypes.Composites.{none_second, second_sized}
+use Rattle.c_typed_programs.proofs.SpelledTypes.Composites.{IsJoint, alike, composite_nothing, first_sized, joins}
+use Rattle.c_typed_programs.proofs.SpelledTypes.Composites.{none_first, none_second, second_sized}
 use Rattle.c_typed_programs.proofs.Types.Parameters.{IsJudged}
-use Rattle.c_typed_programs.specs.Functions.Entities.{Fills, FillsWord, IsFirst, IsSame, Keeps, is_library, names_function, number_of}
-use Rattle.c_typed_programs.specs.Functions.Entities.{without_sizes}
+use Rattle.c_typed_programs.specs.Functions.Entities.{Fills, FillsWord, IsFirst, IsSame, Keeps, is_library}
+use Rattle.c_typed_programs.specs.Functions.Entities.{names_function, number_of, without_sizes}
 use Rattle.c_typed_programs.proofs.Common.{first, or_left, second}
 
 -- names

@@ -21,8 +21,8 @@ use Rattle.c_scope.specs.declared.meaning.Meaning.TheVariants as meaning
 use Rattle.c_scope.specs.Composite.{composite}
 use Rattle.c_scope.specs.Declaring.{Declaration, has_linkage, is_extern, is_function, is_linked}
 use Rattle.c_scope.specs.Declaring.{is_typedef, judged as judged_declarator}
-use Rattle.c_scope.specs.Environment.{Environment, Facts, entity_with, in_file, linked, surroundings, type_or, visible_type}
-use Rattle.c_scope.specs.Environment.{with_declarator, without_linkage}
+use Rattle.c_scope.specs.Environment.{Environment, Facts, entity_with, in_file, linked, surroundings, type_or}
+use Rattle.c_scope.specs.Environment.{visible_type, with_declarator, without_linkage}
 use Rattle.c_scope.specs.Names.{Name, Names, bound, declared}
 use Rattle.c_scope.specs.Names as names
 use Rattle.c_scope.specs.Parameters.{ParameterScope}
@@ -51,7 +51,8 @@ use Rattle.c_typed_programs.proofs.Declarations.Named.{HasNameOf, named_as, shap
 use Rattle.c_typed_programs.specs.Scopes.Leaving.{FileLeads, Leading}
 use Rattle.c_typed_programs.specs.Scopes.Regular.{is_regular_block, is_regular_external}
 use Rattle.c_typed_programs.proofs.Scopes.Declarations.{declaration_leads}
-use Rattle.c_typed_programs.proofs.Scopes.Files.{built_definition, entered_leads, inside, inside_formed, scope_is, stored_extends}
+use Rattle.c_typed_programs.proofs.Scopes.Files.{built_definition, entered_leads, inside, inside_formed, scope_is}
+use Rattle.c_typed_programs.proofs.Scopes.Files.{stored_extends}
 use Rattle.c_typed_programs.proofs.Scopes.Initializers.{values_walk}
 use Rattle.c_typed_programs.proofs.Scopes.Leading.{bound_leads, closed_leads, file_on, file_same, leads_by, state_leads}
 use Rattle.c_typed_programs.proofs.Scopes.Statements.{IfFileBehind, Walk, items_walk}
@@ -65,7 +66,8 @@ use Rattle.c_typed_programs.proofs.Types.Kept.{spelled_kept}
 use Rattle.c_typed_programs.proofs.Types.Parameters.{IsJudged, judged_known}
 use Rattle.c_typed_programs.proofs.Types.Recursion.{shape_typed}
 use Rattle.c_typed_programs.specs.Functions.Entities.{AreNumbered, is_library, names_function, number_of, without_sizes}
-use Rattle.c_typed_programs.proofs.Functions.Declarations.{IfKept, KeepsIn, declaration_kept, extends_keeps, keeps_in, same_in}
+use Rattle.c_typed_programs.proofs.Functions.Declarations.{IfKept, KeepsIn, declaration_kept, extends_keeps, keeps_in}
+use Rattle.c_typed_programs.proofs.Functions.Declarations.{same_in}
 use Rattle.c_typed_programs.specs.Functions.Functions.{Defines, Functions, Registered}
 use Rattle.c_typed_programs.proofs.Functions.Defined.{defines_kept, defines_more, numbered_kept, numbered_more}
 use Rattle.c_typed_programs.proofs.Functions.Defined.{registered_add, registered_more}
@@ -382,7 +384,8 @@ state_then : {A B : Type 0} (f : File) (numbers : Names ℕ) → IsOutside f →
     → IfDefines numbers (a >>= filed f >>= λ r. next r.1 r.0)
 state_then f numbers out p g n (Ok r) next e is m k =
     let o = outside_by f out r.0 e.0 in
-    k r.1 (record f { state = r.0 }) (record { outside = o.1; types = is.0; extends = e.0; definitions = refl }) e.1 is.1 m
+    k r.1 (record f { state = r.0 }) (record { outside = o.1; types = is.0; extends = e.0; definitions = refl }) e.1
+    is.1 m
 state_then f numbers out p g n (Err x) next e is m k = tt
 
 anything_plain : {A : Type 0} (a : Answer (State × A)) → IfGives (λ x. Unit {0}) a
@@ -418,7 +421,8 @@ definition_defines specs d b c defined f numbers h out types =
     (shape_extends true d (second _ _ (first _ _ c)) g.state is.outside.formed)
     (shape_typed true d (second _ _ (first _ _ c)) g.state is.outside.formed is.types)
     (shape_named true d g.state)
-    (λ sh k is' shaped declared named. subst (λ z. IfDefines (numbered_if z numbers) (defined_by spec sh b sh.name k)) named
+    (λ sh k is' shaped declared named.
+    subst (λ z. IfDefines (numbered_if z numbers) (defined_by spec sh b sh.name k)) named
     (defined_defines k numbers (defines_behind g k numbers is' (defines_behind f g numbers is h)) is'.outside is'.types
     spec sized (spelled_kept (extents g.state) (extents k.state) is'.extends.more spec.type own) d defined sh
     shaped.counted declared shaped.scope b (second _ _ c) sh.name)))

@@ -330,7 +330,8 @@ pub functions_stand : (objects : Option (List (List Bool))) (end : ℕ) (es : Li
     → are_regular_externals es ≡ true → define_functions es ≡ true → file_with objects end es ≡ Ok f
     → Functions f.definitions f.state.environment.entities f.state.function_types f.state.environment.facts.functions
 functions_stand objects end es f c d is =
-    let h = functions_end objects end es f c d is in subst (Functions f.definitions f.state.environment.entities f.state.function_types) (sym h.facts) h.functions.0
+    let h = functions_end objects end es f c d is in
+    subst (Functions f.definitions f.state.environment.entities f.state.function_types) (sym h.facts) h.functions.0
 
 -- a function that is defined, by its number
 
@@ -359,7 +360,8 @@ definition_at objects end es f c d is name x n e w known =
 
 -- the type and the room of each function
 
-types_count : (es : List (Option TypeExtent)) (types : List (List TypeWord)) → length (map (function_type es) types) ≡ length types
+types_count : (es : List (Option TypeExtent)) (types : List (List TypeWord))
+    → length (map (function_type es) types) ≡ length types
 types_count es [] = refl
 types_count es (t ∷ types) = ap suc (types_count es types)
 
@@ -467,7 +469,8 @@ function_designated objects end es f c d is scope same name x n e w type alike k
       has = record {
         there = ap (λ z. has_number z n) same
             ∙ lt-ltb n (length (map (λ g. signature_at (program_of f) g.type_number) (program_of f).functions))
-            (subst (λ z. n < z) (sym (mapped_count (λ g. signature_at (program_of f) g.type_number) (program_of f).functions
+            (subst (λ z. n < z)
+            (sym (mapped_count (λ g. signature_at (program_of f) g.type_number) (program_of f).functions
             ∙ functions_count f (static_objects f) 0 f.definitions)) (get_low f.definitions n own at.there));
         same = ap (λ z. get_or z n no_signature) same
             ∙ function_signature f (program_of f) (static_objects f) 0 f.definitions n own at.there

@@ -49,7 +49,8 @@ behind_sizes (suc n) (word.Const ∷ ws) = behind_sizes (still word.Const n) ws
 behind_sizes (suc n) (word.Takes ∷ ws) = behind_sizes (still word.Takes n) ws
 behind_sizes (suc n) (word.Gives ∷ ws) = behind_sizes (still word.Gives n) ws
 
-gives_sizes : (es : Structures) (ws : List TypeWord) (r : Kind) → gives_kind es (without_sizes ws) r ≡ gives_kind es ws r
+gives_sizes : (es : Structures) (ws : List TypeWord) (r : Kind)
+    → gives_kind es (without_sizes ws) r ≡ gives_kind es ws r
 gives_sizes es [] r = refl
 gives_sizes es (word.Void ∷ ws) r = refl
 gives_sizes es (word.Integer i ∷ ws) r = refl

@@ -45,14 +45,15 @@ use Rattle.c_typed_programs.proofs.Initializers.Counted.{IsCounted, keeps_counte
 use Rattle.c_typed_programs.proofs.Initializers.Cursor.{If, begun_objects}
 use Rattle.c_typed_programs.proofs.Initializers.Ended.{closed_parts, open_parts}
 use Rattle.c_typed_programs.proofs.Initializers.Fitting.{has_kept, keeps_fitting, placed_kept, whole_placed}
-use Rattle.c_typed_programs.proofs.Initializers.Objects.{IsBase, IsSized, base_of, complete_kept, completed_sized, completes}
-use Rattle.c_typed_programs.proofs.Initializers.Objects.{covers_before, kind_total, scalar_completed, total}
+use Rattle.c_typed_programs.proofs.Initializers.Objects.{IsBase, IsSized, base_of, complete_kept, completed_sized}
+use Rattle.c_typed_programs.proofs.Initializers.Objects.{completes, covers_before, kind_total, scalar_completed, total}
 use Rattle.c_typed_programs.proofs.Initializers.Places.{parts_placed}
 use Rattle.c_typed_programs.proofs.Initializers.Placings.{placing_steps}
 use Rattle.c_typed_programs.proofs.Initializers.Recursion.{initialized_given}
-use Rattle.c_typed_programs.proofs.Initializers.Scalars.{IsAtMostOne, IsOne, at_most_stays, exactly_one, keeps_one, none}
-use Rattle.c_typed_programs.proofs.Initializers.Scalars.{parts_whole, same_aggregate, scalar_kind}
-use Rattle.c_typed_programs.proofs.Initializers.Some.{At, HasSome, IsAwaited, IsStored, begun_awaited, ended_some, some_steps}
+use Rattle.c_typed_programs.proofs.Initializers.Scalars.{IsAtMostOne, IsOne, at_most_stays, exactly_one, keeps_one}
+use Rattle.c_typed_programs.proofs.Initializers.Scalars.{none, parts_whole, same_aggregate, scalar_kind}
+use Rattle.c_typed_programs.proofs.Initializers.Some.{At, HasSome, IsAwaited, IsStored, begun_awaited, ended_some}
+use Rattle.c_typed_programs.proofs.Initializers.Some.{some_steps}
 use Rattle.c_typed_programs.proofs.Initializers.Valid.{initialized_valid, nothing_kept}
 use Rattle.c_typed_programs.proofs.Common.{the_same}
 

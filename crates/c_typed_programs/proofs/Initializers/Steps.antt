@@ -31,8 +31,9 @@ use Rattle.c_initializer_rules.specs.Literals.{filling, is_too_long}
 use Rattle.c_initializer_rules.specs.Placed.{PlacedPart, overrides, placed, with_part, without}
 use Rattle.c_typed_programs.specs.Initializers.Cursor.{Every, HasIf, IsCurrent, HoldsOfAll, IsNext, IsPlacing}
 use Rattle.c_typed_programs.specs.Initializers.Giving.{IsFineIf, IsStored}
-use Rattle.c_typed_programs.proofs.Initializers.Cursor.{If, closed_objects, designation_objects, index_objects, name_objects}
-use Rattle.c_typed_programs.proofs.Initializers.Cursor.{next_objects, opened_objects, place_is, stored_objects, too_many_objects}
+use Rattle.c_typed_programs.proofs.Initializers.Cursor.{If, closed_objects, designation_objects, index_objects}
+use Rattle.c_typed_programs.proofs.Initializers.Cursor.{name_objects, next_objects, opened_objects, place_is}
+use Rattle.c_typed_programs.proofs.Initializers.Cursor.{stored_objects, too_many_objects}
 
 -- a value that is converted as by assignment
 

@@ -42,8 +42,8 @@ use Rattle.c_typed_programs.proofs.Scopes.Leading.{file_same, state_leads}
 use Rattle.c_typed_programs.specs.Initializers.Initialized.{IfInitialized}
 use Rattle.c_typed_programs.proofs.Initializers.Initialized.{initialized_if_is}
 use Rattle.c_typed_programs.specs.LaidOut.Behind.{IfLaid}
-use Rattle.c_typed_programs.proofs.LaidOut.Chained.{StateLaid, both_laid, from_file, in_state_then, judged_lays, state_lays}
-use Rattle.c_typed_programs.proofs.LaidOut.Chained.{then_lays}
+use Rattle.c_typed_programs.proofs.LaidOut.Chained.{StateLaid, both_laid, from_file, in_state_then, judged_lays}
+use Rattle.c_typed_programs.proofs.LaidOut.Chained.{state_lays, then_lays}
 use Rattle.c_typed_programs.proofs.Common.{first, second, some_scope}
 
 -- an object with its initializer

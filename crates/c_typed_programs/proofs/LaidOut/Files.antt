@@ -35,7 +35,8 @@ use Rattle.c_typed_declarators.proofs.Recursion.{scope_kept, shape_extends}
 use Rattle.c_typed_declarators.proofs.Types.{without_faults}
 use Rattle.c_typed_programs.specs.Declarations.Binding.{IfDeclared, bound_meaning}
 use Rattle.c_typed_programs.proofs.Declarations.Judged.{answered}
-use Rattle.c_typed_programs.specs.Layouts.Listed.{HasArrays, HasArraysIn, IfLaidOut, IsDeclared, IsLaidOut, has_array_bytes}
+use Rattle.c_typed_programs.specs.Layouts.Listed.{HasArrays, HasArraysIn, IfLaidOut, IsDeclared, IsLaidOut}
+use Rattle.c_typed_programs.specs.Layouts.Listed.{has_array_bytes}
 use Rattle.c_typed_programs.proofs.Layouts.Arrays.{arrays_kept, built_arrays}
 use Rattle.c_typed_programs.proofs.Layouts.Chained.{Laid, judged_laid, laid_out_behind, meaning_kept, new_arrays}
 use Rattle.c_typed_programs.proofs.Layouts.Chained.{then_lists}
@@ -43,8 +44,8 @@ use Rattle.c_typed_programs.proofs.Layouts.Declared.{declared_by}
 use Rattle.c_typed_programs.proofs.Layouts.Recursion.{shape_laid, specification_laid}
 use Rattle.c_typed_programs.specs.Scopes.Leaving.{FileLeads, Growing}
 use Rattle.c_typed_programs.specs.Scopes.Regular.{are_regular_externals, is_regular_block, is_regular_external}
-use Rattle.c_typed_programs.proofs.Scopes.Files.{built_definition, defined_as_declares, entered_leads, external_grows, inside}
-use Rattle.c_typed_programs.proofs.Scopes.Files.{scope_is, stored_extends}
+use Rattle.c_typed_programs.proofs.Scopes.Files.{built_definition, defined_as_declares, entered_leads, external_grows}
+use Rattle.c_typed_programs.proofs.Scopes.Files.{inside, scope_is, stored_extends}
 use Rattle.c_typed_programs.proofs.Scopes.Leading.{bound_leads, leads_on, names_are}
 use Rattle.c_typed_programs.specs.LaidOut.Behind.{IfLaid, IsLaidIf}
 use Rattle.c_typed_programs.proofs.LaidOut.Chained.{StateLaid}

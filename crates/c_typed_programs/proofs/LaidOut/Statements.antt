@@ -34,11 +34,12 @@ use Rattle.c_typed_validity.specs.Regular.{is_regular}
 use Rattle.c_typed_validity.specs.Sound.{IsFormed}
 use Rattle.c_typed_programs.specs.Layouts.Listed.{IsLaidOut}
 use Rattle.c_typed_programs.specs.Scopes.Regular.{are_regular_block_items, is_regular_block, is_regular_block_item}
-use Rattle.c_typed_programs.specs.Scopes.Regular.{is_regular_declaration, is_regular_first, is_regular_if, is_regular_statement}
+use Rattle.c_typed_programs.specs.Scopes.Regular.{is_regular_declaration, is_regular_first, is_regular_if}
+use Rattle.c_typed_programs.specs.Scopes.Regular.{is_regular_statement}
 use Rattle.c_typed_programs.proofs.Scopes.Leading.{file_same}
 use Rattle.c_typed_programs.specs.LaidOut.Behind.{IfLaid}
-use Rattle.c_typed_programs.proofs.LaidOut.Chained.{Lays, StateLays, chain, done_lays, finished_lays, judged_lays, scoped}
-use Rattle.c_typed_programs.proofs.LaidOut.Chained.{state_chain, state_lays, then_lays, value_lays}
+use Rattle.c_typed_programs.proofs.LaidOut.Chained.{Lays, StateLays, chain, done_lays, finished_lays, judged_lays}
+use Rattle.c_typed_programs.proofs.LaidOut.Chained.{scoped, state_chain, state_lays, then_lays, value_lays}
 use Rattle.c_typed_programs.proofs.LaidOut.Declarations.{declaration_laid}
 use Rattle.c_typed_programs.proofs.Common.{first, second}
 

@@ -67,8 +67,8 @@ use Rattle.c_typed_programs.proofs.Layouts.Chained.{Laid, judged_laid, then_laid
 use Rattle.c_typed_programs.proofs.Layouts.Lists.{HaveArrays, begun_laid, entries_have, member_has, tag_completed_laid}
 use Rattle.c_typed_programs.proofs.Layouts.Lists.{tagged_laid}
 use Rattle.c_typed_programs.proofs.Layouts.Standing.{accessed_stands, applied_stands, enumerated_stands, literal_stands}
-use Rattle.c_typed_programs.proofs.Layouts.Standing.{name_called_stands, named_stands, parameter_stands, prefixed_stands}
-use Rattle.c_typed_programs.proofs.Layouts.Standing.{stands_laid, value_stands}
+use Rattle.c_typed_programs.proofs.Layouts.Standing.{name_called_stands, named_stands, parameter_stands}
+use Rattle.c_typed_programs.proofs.Layouts.Standing.{prefixed_stands, stands_laid, value_stands}
 use Rattle.c_typed_programs.proofs.Common.{first, second}
 
 whatever : {A : Type 0} (s : State) (a : Answer A) → IfAnswer (anything s) a

@@ -1,6 +1,6 @@
 -- String literals of a file stand outside of functions, or in functions that it defines (C99 6.4.5, 6.9.1).
-use Rattle.std.proofs.Common.{◌≡◌, ℕ, Bool, true, false, ◌||◌, refl, sym, ◌∙◌, subst, List, [], ◌∷◌, Option, Some}
-use Rattle.std.proofs.Common.{None, if◌then◌else◌}
+use Rattle.std.proofs.Common.{◌≡◌, ℕ, Bool, true, false, ◌||◌, refl, sym, ◌∙◌, subst, List, [], ◌∷◌, Option, Some, None}
+use Rattle.std.proofs.Common.{if◌then◌else◌}
 use Rattle.std.specs.Prelude.{Ok, Err}
 use Rattle.c_syntax.specs.Statements as t
 use Rattle.c_syntax.specs.Tree.{Declarator, Specifiers}
@@ -17,8 +17,8 @@ use Rattle.c_scope.specs.declared.meaning.Meaning.TheVariants as meaning
 use Rattle.c_scope.specs.declared.meaning.Storage.{Storage}
 use Rattle.c_scope.specs.declared.meaning.Storage.TheVariants as storage
 use Rattle.c_scope.specs.Declaring.{Declaration, has_linkage, is_typedef, judged as judged_declarator}
-use Rattle.c_scope.specs.Environment.{Environment, entity_with, in_file, linked, surroundings}
-use Rattle.c_scope.specs.Environment.{with_declarator, without_linkage}
+use Rattle.c_scope.specs.Environment.{Environment, entity_with, in_file, linked, surroundings, with_declarator}
+use Rattle.c_scope.specs.Environment.{without_linkage}
 use Rattle.c_scope.specs.Names.{Name, Names, declared}
 use Rattle.c_scope.specs.Parameters.{ParameterScope}
 use Rattle.c_typing.specs.Declarators.{Shape, built_in}
@@ -52,12 +52,14 @@ use Rattle.c_typed_programs.proofs.Functions.Continuing.{declarator_continues, k
 use Rattle.c_typed_programs.proofs.Functions.Declarations.{IfKept, declaration_kept, extends_keeps}
 use Rattle.c_typed_programs.specs.Literals.Added.{AddsLiterals, IsDefinedFunction, IsOf, IsOutsideOrDefined, IsPlaced}
 use Rattle.c_typed_programs.specs.Literals.Added.{PlacesLiterals}
-use Rattle.c_typed_programs.proofs.Literals.Chained.{Adding, IfAdds, IfFileAdds, adds_none, adds_on, judged_adds}
-use Rattle.c_typed_programs.proofs.Literals.Chained.{then_adds}
-use Rattle.c_typed_programs.proofs.Literals.Declarations.{declaration_adds}
-use Rattle.c_typed_programs.proofs.Literals.Recursion.{shape_adds, specification_adds}
-use Rattle.c_typed_programs.proofs.Literals.Steps.{type_adds}
-use Rattle.c_typed_programs.proofs.Literals.Walked.{FileAdds, items_add}
+use Rattle.c_typed_programs.proofs.Functions.Files.{KeepsFile}
+use Rattle.c_typed_programs.proofs.Literals.Walked.{adds_none, adds_on, items_add, literals_walk}
+use Rattle.c_typed_programs.proofs.Scopes.Initializers.{IfBehind}
+use Rattle.c_typed_programs.proofs.Walks.Declarations.{declaration_walks, stored_walks}
+use Rattle.c_typed_programs.proofs.Walks.Recursion.{shape_walks}
+use Rattle.c_typed_programs.proofs.Walks.States.{IfFileWalks}
+use Rattle.c_typed_programs.proofs.Walks.Statements.{BothFiles}
+use Rattle.c_typed_programs.proofs.Walks.Steps.{type_stands}
 use Rattle.c_typed_programs.proofs.Common.{filed, first, or_right, second}
 
 -- literals where more is declared
@@ -118,18 +120,19 @@ IfPlaces (Err e) = Unit {0}
 left_places : (f : File) (formed : IsFormed f.state) (n : ℕ) (p : ParameterScope) (is : IsParameterScope f.state p)
     (type : List TypeWord) (line : ℕ) (ps : List tree_variable.Variable) → PlacesLiterals f
     → IsDefinedFunction f.state.environment.entities n → (a : Answer (File × Statements))
-    → IfFileBehind FileAdds (entered n type p f) a
+    → IfFileBehind (BothFiles KeepsFile AddsLiterals) (entered n type p f) a
     → IfPlaces (a >>= λ r. Ok (left line type ps r, tt {0}))
 left_places f formed n p is type line ps h defined (Ok r) k =
     let into = inside n p f in
     let inner = (entered n type p f).state in
     let entering = type_extends false type into (inside_formed f formed n p is) in
     let body = keeps_continues inner.environment.facts.functions inner.environment.entities
-    r.0.state.environment.entities k.keeps.keeps.0 in
+    r.0.state.environment.entities k.behind.keeps.0 in
     let all = subst (λ z. Continue z r.0.state.environment.entities) entering.entities body in
     record {
       outside = refl;
-      each = placed_behind into r.0.state h.each all (adds_on into inner r.0.state (type_adds type into) k.adds)
+      each = placed_behind into r.0.state h.each all
+          (adds_on into inner r.0.state (literals_walk.stands into inner (type_stands type into)) k.keeps)
           (function_continues f.state.environment.entities r.0.state.environment.entities all n defined);
     }
 left_places f formed n p is type line ps h defined (Err e) k = tt
@@ -241,7 +244,7 @@ defined_places f formed spec sized sh counted has b c h (Some name) =
 -- definitions and declarations
 
 state_then : {A B : Type 0} (f : File) → PlacesLiterals f → (p : State → A → Type 0) (a : Answer (State × A))
-    (next : A → FileTyping B) → Extending false f.state p a → IfAdds f.state a
+    (next : A → FileTyping B) → Extending false f.state p a → IfBehind AddsLiterals f.state a
     → ((x : A) (g : File) → IsFormed g.state → PlacesLiterals g → p g.state x → IfPlaces (next x g))
     → IfPlaces (a >>= filed f >>= λ r. next r.1 r.0)
 state_then f h p (Ok r) next is adds k =
@@ -259,18 +262,14 @@ definition_places specs d b c f formed h =
     let specified = specification false specs >>> λ spec. judged (stored_once spec) in
     state_then f h IsSpecified (specified f.state)
     (λ spec. in_state (shape true d) ~> λ sh. defined_by spec sh b sh.name)
-    (stored_extends specs (first _ _ (first _ _ c)) f.state formed) (specified_add f.state).by
+    (stored_extends specs (first _ _ (first _ _ c)) f.state formed) (stored_walks literals_walk false specs f.state).by
     (λ spec g i k sized. state_then g k (λ u sh. IsShapeOf u d sh) (shape true d g.state)
     (λ sh. defined_by spec sh b sh.name) (shape_extends true d (second _ _ (first _ _ c)) g.state i)
-    (shape_adds true d g.state).by
+    (shape_walks literals_walk true d g.state).by
     (λ sh j l m shaped. defined_places j l spec sized sh shaped.counted shaped.scope b (second _ _ c) m sh.name))
-  where
-    specified_add : (s : State) → Adding s ((specification false specs >>> λ spec. judged (stored_once spec)) s)
-    specified_add s =
-        then_adds (specification_adds false specs s) (λ spec. judged_adds spec.0 (stored_once spec.1 spec.0))
 
 declared_places : (f : File) → PlacesLiterals f → (a : Answer (File × List DeclaredVariable)) → IfKept f a
-    → IfFileAdds f a → IfPlaces (a >>= λ r. Ok (r.0, tt {0}))
+    → IfFileWalks AddsLiterals f a → IfPlaces (a >>= λ r. Ok (r.0, tt {0}))
 declared_places f h (Ok r) k adds =
     outside_behind f r.0 h (keeps_continues f.state.environment.facts.functions f.state.environment.entities
     r.0.state.environment.entities k.0) adds
@@ -280,7 +279,8 @@ external_places : (e : t.External) → is_regular_external e ≡ true → (f : F
     → IfPlaces (external e f)
 external_places (t.definition specs d b) c f formed h = definition_places specs d b c f formed h
 external_places (t.declaration d) c f formed h =
-    declared_places f h (declaration false d f) (declaration_kept false d c f formed) (declaration_adds false d f).by
+    declared_places f h (declaration false d f) (declaration_kept false d c f formed)
+    (declaration_walks literals_walk false d f).by
 
 then_places : (f : File) (a : Answer (File × Unit {0})) (next : Unit {0} → FileTyping (Unit {0})) → Growing f a
     → IfPlaces a → ((x : Unit {0}) (g : File) → IsFormed g.state → PlacesLiterals g → IfPlaces (next x g))

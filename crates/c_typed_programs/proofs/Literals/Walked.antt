@@ -1,77 +1,59 @@
--- Statements and the items of blocks add string literals of the function of the state alone (C99 6.4.5, 6.8).
-use Rattle.std.proofs.Common.{◌≡◌, true, false}
-use Rattle.std.specs.Prelude.{Ok, Err}
+-- Whatever is typed adds string literals of the function of the state alone (C99 6.4.5).
+use Rattle.std.proofs.Common.{◌≡◌, true, false, refl, sym, ap, ◌∙◌, subst, [], ◌++◌}
+use Rattle.std.proofs.lemmas.List.{append-nil, append_assoc}
 use Rattle.c_syntax.specs.Statements.{BlockItems}
-use Rattle.c_rules.specs.Answer.{Answer}
+use Rattle.c_scope.specs.Tags.{added, marked}
+use Rattle.c_typing.specs.Members.{with_structure}
 use Rattle.c_typing.specs.State.{State}
-use Rattle.c_expression_typing.specs.Constructs.{valued}
-use Rattle.c_expression_typing.specs.Typed.{typed}
 use Rattle.c_unit_typing.specs.Constructs.{Around}
-use Rattle.c_unit_typing.specs.Declarations.{declaration}
 use Rattle.c_unit_typing.specs.Files.{File}
 use Rattle.c_unit_typing.specs.Statements.{block_items}
 use Rattle.c_typed_validity.specs.Sound.{IsFormed}
 use Rattle.c_typed_declarators.specs.Extending.{Extends}
 use Rattle.c_typed_programs.specs.Scopes.Regular.{are_regular_block_items}
-use Rattle.c_typed_programs.proofs.Scopes.Initializers.{IfBehind, ValueWalk, values_walk}
-use Rattle.c_typed_programs.proofs.Scopes.Statements.{IfFileBehind, Walk, items_walk}
+use Rattle.c_typed_programs.proofs.Scopes.Statements.{IfFileBehind, items_walk}
 use Rattle.c_typed_programs.proofs.Functions.Files.{KeepsFile, keeps_walk}
-use Rattle.c_typed_programs.specs.Literals.Added.{AddsLiterals}
-use Rattle.c_typed_programs.proofs.Literals.Chained.{IfAdds, IfFileAdds, adds_on, adds_same}
-use Rattle.c_typed_programs.proofs.Literals.Declarations.{declaration_adds}
-use Rattle.c_typed_programs.proofs.Literals.Recursion.{typed_adds}
-use Rattle.c_typed_programs.proofs.Literals.Steps.{valued_adds}
+use Rattle.c_typed_programs.specs.Types.Typed.{Each}
+use Rattle.c_typed_programs.proofs.Types.Kept.{each_append}
+use Rattle.c_typed_programs.specs.Literals.Added.{AddsLiterals, IsOf}
+use Rattle.c_typed_programs.proofs.Walks.States.{StateWalk}
+use Rattle.c_typed_programs.proofs.Walks.Statements.{Both, BothFiles, both_walk}
 
--- a state behind values of expressions
-record StateAdds (s t : State) : Type 0 where
-  extends : Extends false s t
-  adds : AddsLiterals s t
+pub adds_none : (s t : State) → t.literals ≡ s.literals → t.function ≡ s.function → AddsLiterals s t
+adds_none s t e g = record { rest = []; is = e ∙ sym (append-nil s.literals); each = tt; function = g }
 
--- a file behind constructs of a function: it keeps the functions and objects with linkage
-pub record FileAdds (f g : File) : Type 0 where
-  pub keeps : KeepsFile f g
-  pub adds : AddsLiterals f.state g.state
-
-state_both : {A : Type 0} (s : State) (a : Answer (State × A)) → IfBehind (Extends false) s a → IfAdds s a
-    → IfBehind StateAdds s a
-state_both s (Ok r) h g = record { extends = h; adds = g }
-state_both s (Err e) h g = tt
-
-values_add : ValueWalk StateAdds
-values_add = record {
-  same = λ s formed. record { extends = values_walk.same s formed; adds = adds_same s };
-  on = λ s t u h g. record {
-    extends = values_walk.on s t u h.extends g.extends;
-    adds = adds_on s t u h.adds g.adds;
-  };
-  formed = λ s t h. h.extends.formed;
-  value = λ is e c s formed. state_both s (valued (typed is e) s) (values_walk.value is e c s formed)
-      (valued_adds (typed is e) s (typed_adds is e s)).by;
+pub adds_on : (s t u : State) → AddsLiterals s t → AddsLiterals t u → AddsLiterals s u
+adds_on s t u h g = record {
+  rest = h.rest ++ g.rest;
+  is = g.is ∙ ap (λ z. z ++ g.rest) h.is ∙ append_assoc s.literals h.rest g.rest;
+  each = each_append (IsOf s.function) h.rest g.rest h.each (subst (λ z. Each (IsOf z) g.rest) h.function g.each);
+  function = g.function ∙ h.function;
 }
 
-file_both : {A : Type 0} (f : File) (a : Answer (File × A)) → IfFileBehind KeepsFile f a → IfFileAdds f a
-    → IfFileBehind FileAdds f a
-file_both f (Ok r) h g = record { keeps = h; adds = g }
-file_both f (Err e) h g = tt
-
-walk : Walk StateAdds FileAdds
-walk = record {
-  values = values_add;
-  file_same = λ f formed. record { keeps = keeps_walk.file_same f formed; adds = adds_same f.state };
-  file_on = λ f g h a b. record {
-    keeps = keeps_walk.file_on f g h a.keeps b.keeps;
-    adds = adds_on f.state g.state h.state a.adds b.adds;
+pub literals_walk : StateWalk AddsLiterals
+literals_walk = record {
+  on = adds_on;
+  stands = λ s t h. adds_none s t h.literals h.function;
+  literal = λ bytes some s. record {
+    rest = _;
+    is = refl;
+    each = (record { function = refl; bytes = some }, tt);
+    function = refl;
   };
-  file_formed = λ f g h. keeps_walk.file_formed f g h.keeps;
-  in_file = λ f t h. record { keeps = keeps_walk.in_file f t h.extends; adds = h.adds };
-  scope = λ f g formed h. record {
-    keeps = keeps_walk.scope f g formed h.keeps;
-    adds = record { rest = h.adds.rest; is = h.adds.is; each = h.adds.each; function = h.adds.function };
+  declares = λ k name s fresh. adds_none s (record s { environment = added k name s.environment }) refl refl;
+  begins = λ t s. adds_none s (record s { environment = marked t s.environment }) refl refl;
+  completes = λ is_union n es s. adds_none s (with_structure is_union n es s) refl refl;
+  scope = λ s t u h left same_literals same_function. record {
+    rest = h.rest;
+    is = same_literals ∙ h.is;
+    each = h.each;
+    function = same_function ∙ h.function;
   };
-  declared = λ in_head d c f formed. file_both f (declaration in_head d f)
-      (keeps_walk.declared in_head d c f formed) (declaration_adds in_head d f).by;
 }
 
+-- in a function: it keeps the functions and objects with linkage too
 pub items_add : (a : Around) (xs : BlockItems) → are_regular_block_items xs ≡ true → (f : File) → IsFormed f.state
-    → IfFileBehind FileAdds f (block_items a xs f)
-items_add a xs c f formed = items_walk StateAdds FileAdds walk a xs c f formed
+    → IfFileBehind (BothFiles KeepsFile AddsLiterals) f (block_items a xs f)
+items_add a xs c f formed =
+    items_walk (Both (Extends false) AddsLiterals) (BothFiles KeepsFile AddsLiterals)
+    (both_walk keeps_walk literals_walk) a xs c f formed

@@ -1,7 +1,8 @@
--- The definitions of a file that is accepted stand in turn, each at the place that is the number of its function, and
--- names with linkage stand for objects and functions whose types have the sizes of theirs (C99 6.9).
+-- The definitions of a file that is accepted have valid blocks and stand in turn, each at the place that is the number
+-- of its function, and names with linkage stand for objects and functions whose types have the sizes of theirs (C99
+-- 6.9).
 use Rattle.std.proofs.Common.{◌≡◌, ◌⊎◌, inl, inr, ℕ, suc, Bool, true, false, refl, sym, ap, ◌∙◌, subst, List, [], ◌∷◌}
-use Rattle.std.proofs.Common.{◌++◌, length, Option}
+use Rattle.std.proofs.Common.{◌++◌, length, Option, Some, None}
 use Rattle.std.specs.Prelude.{Ok, Err}
 use Rattle.std.proofs.lemmas.List.{append-nil, append_assoc}
 use Rattle.c_syntax.specs.Formed as formed
@@ -14,7 +15,7 @@ use Rattle.c_scope.specs.Environment.{Facts}
 use Rattle.c_scope.specs.Names.{Name, Names, is_empty}
 use Rattle.c_unit_typing.specs.Declarations.{declaration}
 use Rattle.c_unit_typing.specs.Files.{Definition, File, FileTyping, finished}
-use Rattle.c_unit_typing.specs.Units.{definition, external, externals, file_before, file_with}
+use Rattle.c_unit_typing.specs.Units.{definition, external, externals, file_before, file_in, file_with}
 use Rattle.c_typed_validity.specs.Typed.{HaveMembers}
 use Rattle.c_typed_programs.specs.Scopes.Defined.{define_functions, defines}
 use Rattle.c_typed_programs.specs.Scopes.Leaving.{Growing, Grows}
@@ -36,7 +37,8 @@ use Rattle.c_typed_programs.proofs.Files.Spelled.{IfTypes}
 use Rattle.c_typed_programs.specs.Bodies.Defined.{DefinesNothing}
 use Rattle.c_typed_programs.specs.Bodies.Parameters.{IsOutside}
 use Rattle.c_typed_programs.specs.Bodies.Standing.{EntitiesLead}
-use Rattle.c_typed_programs.specs.Bodies.Whole.{BeginsWith, definition_made}
+use Rattle.c_typed_programs.specs.Bodies.Whole.{AreDefinitions, AreInTurn, BeginsWith, IfInTurn, IfWhole}
+use Rattle.c_typed_programs.specs.Bodies.Whole.{definition_made}
 use Rattle.c_typed_programs.proofs.Bodies.Definitions.{DefinesNamed, IfNamed, definition_named, made_behind}
 use Rattle.c_typed_programs.proofs.Bodies.Entities.{entities_on, entities_same}
 use Rattle.c_typed_programs.proofs.Bodies.Outside.{IfBeyond, declaration_beyond}
@@ -67,6 +69,7 @@ StandAt end place (d ∷ ds) before behind =
 
 -- from a file on to one behind the last definition
 record IsOn (f end : File) : Type 0 where
+  outside : IsOutside end.state
   grows : Grows f end
   entities : EntitiesLead f.state.environment end.state.environment
   rest : List Definition
@@ -92,6 +95,7 @@ IfSteps f (Err e) = Unit {0}
 
 on_same : (f : File) → IsOutside f.state → AreFilled f.state.environment → IsOn f f
 on_same f outside filled = record {
+  outside = outside;
   grows = grows_same f outside.formed;
   entities = entities_same f.state.environment f.state.environment refl;
   rest = [];
@@ -113,6 +117,7 @@ on_on f g end members h on = by h.is
     by (inl d) =
         let made = definition_made f g d.defines in
         let more = made_behind f g d.defines in record {
+          outside = on.outside;
           grows = grown;
           entities = led;
           rest = made ∷ on.rest;
@@ -142,6 +147,7 @@ on_on f g end members h on = by h.is
           filled = on.filled;
         }
     by (inr same) = record {
+      outside = on.outside;
       grows = grown;
       entities = led;
       rest = on.rest;
@@ -260,6 +266,7 @@ known_all end place (d ∷ ds) before behind h = (
 )
 
 pub record IsKnownFile (f : File) : Type 0 where
+  pub outside : IsOutside f.state
   pub filled : AreFilled f.state.environment
   pub stand : StandAt f 0 f.definitions [] f.statics
   pub known : AreKnown f f.definitions
@@ -269,6 +276,7 @@ known_by : (objects : Option (List (List Bool))) (facts : Facts) (g : File) (a :
 known_by objects facts g (Ok r) h e =
     let stand = subst (λ ds. StandAt r.0 0 ds [] r.0.statics) (sym h.is) h.stand in
     subst IsKnownFile (ap (λ z. z.0) (same_ok r (g, tt) e)) (record {
+      outside = h.outside;
       filled = h.filled;
       stand = stand;
       known = known_all r.0 0 r.0.definitions [] r.0.statics stand;
@@ -295,3 +303,37 @@ file_known objects end es f c d is =
     (λ g e ended. known_by objects all g (externals es before)
     (externals_on es c d before nothing_found (before_reached objects all)
     (ap (λ z. z.functions) (start_facts all))) e) is
+
+-- its definitions stand in turn, and each has a valid block
+
+in_turn : (end : File) (place : ℕ) (ds : List Definition) (before behind : List (ℕ × StaticObject))
+    → StandAt end place ds before behind → AreInTurn end ds before behind
+in_turn end place [] before behind h = h
+in_turn end place (d ∷ ds) before behind h =
+    (h.0.begins, in_turn end (suc place) ds h.0.begins.is.defines.end.statics behind h.1)
+
+definitions_in_turn : (end : File) (ds : List Definition) (before behind : List (ℕ × StaticObject))
+    → AreInTurn end ds before behind → AreDefinitions end ds
+definitions_in_turn end [] before behind h = tt
+definitions_in_turn end (d ∷ ds) before behind h =
+    (h.0.is, definitions_in_turn end ds h.0.is.defines.end.statics behind h.1)
+
+module _ (end : ℕ) (es : List t.External) (c : are_regular_externals es ≡ true) (d : define_functions es ≡ true) where
+  turn_by : (objects : Option (List (List Bool))) (a : Answer File) → file_with objects end es ≡ a → IfInTurn a
+  turn_by objects (Ok f) is =
+      let h = file_known objects end es f c d is in (h.outside, in_turn f 0 f.definitions [] f.statics h.stand)
+  turn_by objects (Err e) is = tt
+
+  twice : (a : Answer File) → IfInTurn (a >>= λ f. file_with (Some f.taken) end es)
+  twice (Ok f) = turn_by (Some f.taken) (file_with (Some f.taken) end es) refl
+  twice (Err e) = tt
+
+  pub file_in_turn : IfInTurn (file_in end es)
+  file_in_turn = twice (file_with None end es)
+
+  whole_by : (a : Answer File) → IfInTurn a → IfWhole a
+  whole_by (Ok f) h = (h.0, definitions_in_turn f f.definitions [] f.statics h.1)
+  whole_by (Err e) h = tt
+
+  pub file_whole : IfWhole (file_in end es)
+  file_whole = whole_by (file_in end es) file_in_turn

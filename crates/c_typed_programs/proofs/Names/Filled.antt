@@ -57,8 +57,8 @@ use Rattle.c_typed_programs.proofs.Bodies.Declared.{IfMade, placed_made}
 use Rattle.c_typed_programs.proofs.Bodies.Standing.{either}
 use Rattle.c_typed_programs.specs.Functions.Entities.{Continue, Fills}
 use Rattle.c_typed_programs.proofs.Functions.Continuing.{bound_fills, declarator_continues, keeps_continues}
-use Rattle.c_typed_programs.proofs.Functions.Entities.{bound_either, compatible_fills, conflict, fills_on, keeps_same, none_some}
-use Rattle.c_typed_programs.proofs.Functions.Entities.{size_keeps, some_is}
+use Rattle.c_typed_programs.proofs.Functions.Entities.{bound_either, compatible_fills, conflict, fills_on, keeps_same}
+use Rattle.c_typed_programs.proofs.Functions.Entities.{none_some, size_keeps, some_is}
 use Rattle.c_typed_programs.specs.Names.Linked.{AreFilled, IsFilled}
 use Rattle.c_typed_programs.proofs.Common.{filed, first, second}
 

@@ -21,9 +21,8 @@ use Rattle.c_rules.proofs.FineUnary.{same_kind}
 use Rattle.c_rules.proofs.SameTypes.{both_true}
 use Rattle.c_place_laws.specs.FinePlaces.{IsSized, complete, unsized}
 use Rattle.c_scope.specs.Composite.{composite}
-use Rattle.c_typed_programs.proofs.SpelledTypes.Composites.{IsJoint, alike, first_sized, second_sized, composite_nothing, joins}
-use Rattle.c_typed_programs.proofs.SpelledTypes.Composites.{none_first}
-use Rattle.c_typed_programs.proofs.SpelledTypes.Composites.{none_second}
+use Rattle.c_typed_programs.proofs.SpelledTypes.Composites.{IsJoint, alike, first_sized, second_sized}
+use Rattle.c_typed_programs.proofs.SpelledTypes.Composites.{composite_nothing, joins, none_first, none_second}
 use Rattle.c_declarators.specs.Derivations.{array_of}
 use Rattle.c_typing.specs.Primaries.{size_or_zero}
 use Rattle.c_unit_typing.specs.Programs.{final_type}

@@ -28,7 +28,8 @@ use Rattle.c_typed_programs.specs.Scopes.Defined.{define_functions}
 use Rattle.c_typed_programs.specs.Scopes.Regular.{are_regular_externals}
 use Rattle.c_typed_programs.specs.Bodies.Defined.{IsScopeOf, no_jumps}
 use Rattle.c_typed_programs.specs.Bodies.Standing.{IsResult}
-use Rattle.c_typed_programs.proofs.Bodies.Bodies.{function_body, function_declares, function_parameters, function_variables}
+use Rattle.c_typed_programs.proofs.Bodies.Bodies.{function_body, function_declares, function_parameters}
+use Rattle.c_typed_programs.proofs.Bodies.Bodies.{function_variables}
 use Rattle.c_typed_programs.proofs.Bodies.Results.{result_is}
 use Rattle.c_typed_programs.proofs.Bodies.Whole.{definition_has}
 use Rattle.c_typed_programs.proofs.Files.Functions.{function_types_end}

@@ -206,8 +206,8 @@ named_leads in_head spec sized x c sh counted (Some name) f formed =
     (declares_leads in_head spec sized sh counted (option_map initializer_line x) name f.state formed))
     (λ m g h. declared_leads name x c m g h)
 
-pub declarator_leads : (in_head : Bool) (spec : Specification) → is_sized_array spec.type ≡ true → (d : t.InitDeclarator)
-    → is_regular_object d (initializer_of d) ≡ true → (f : File) → IsFormed f.state
+pub declarator_leads : (in_head : Bool) (spec : Specification) → is_sized_array spec.type ≡ true
+    → (d : t.InitDeclarator) → is_regular_object d (initializer_of d) ≡ true → (f : File) → IsFormed f.state
     → Leading f (with_declarator in_head spec d f)
 declarator_leads in_head spec sized d c f formed =
     in_state_then f (λ u sh. IsShapeOf u d.declarator sh) (shape false d.declarator f.state)

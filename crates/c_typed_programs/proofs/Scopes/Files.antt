@@ -47,7 +47,8 @@ use Rattle.c_typed_programs.proofs.Declarations.Judged.{IsBuilt, answered, if_de
 use Rattle.c_typed_programs.specs.Scopes.Leaving.{FileLeads, Grows, Growing, IfEnds, Leading, Leads}
 use Rattle.c_typed_programs.specs.Scopes.Regular.{are_regular_externals, is_regular_block, is_regular_external}
 use Rattle.c_typed_programs.proofs.Scopes.Declarations.{declaration_leads, stored_by}
-use Rattle.c_typed_programs.proofs.Scopes.Leading.{bound_leads, leads_by, leads_on, names_are, state_leads, the_tags_are}
+use Rattle.c_typed_programs.proofs.Scopes.Leading.{bound_leads, leads_by, leads_on, names_are, state_leads}
+use Rattle.c_typed_programs.proofs.Scopes.Leading.{the_tags_are}
 use Rattle.c_typed_programs.proofs.Scopes.Start.{file_formed, file_members}
 use Rattle.c_typed_programs.proofs.Scopes.Statements.{items_lead}
 use Rattle.c_typed_programs.proofs.Common.{filed, first, neither_left, second}

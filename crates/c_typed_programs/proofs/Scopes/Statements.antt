@@ -19,12 +19,11 @@ use Rattle.c_expression_typing.specs.Constructs.{valued}
 use Rattle.c_expression_typing.specs.Typed.{typed}
 use Rattle.c_unit_typing.specs.Constructs.{Around, Labelled, Labels, behind_first, case_label, case_with, controlled}
 use Rattle.c_unit_typing.specs.Constructs.{controlling, controls, controls_if, declaration_typed, default_label}
-use Rattle.c_unit_typing.specs.Constructs.{do_behind}
-use Rattle.c_unit_typing.specs.Constructs.{do_typed, evaluated, evaluated_if, expression_typed, fault_before, fault_or}
-use Rattle.c_unit_typing.specs.Constructs.{first_typed, for_typed, head_typed, if_else_typed, if_typed, in_scope, jump}
-use Rattle.c_unit_typing.specs.Constructs.{labelled, labels_on, looping, no_labels, returned, returned_nothing}
-use Rattle.c_unit_typing.specs.Constructs.{returned_value, scope_closed, scope_opened, switch_typed, switches, switching, switching_on}
-use Rattle.c_unit_typing.specs.Constructs.{valued_if, while_typed, without_labels}
+use Rattle.c_unit_typing.specs.Constructs.{do_behind, do_typed, evaluated, evaluated_if, expression_typed, fault_before}
+use Rattle.c_unit_typing.specs.Constructs.{fault_or, first_typed, for_typed, head_typed, if_else_typed, if_typed}
+use Rattle.c_unit_typing.specs.Constructs.{in_scope, jump, labelled, labels_on, looping, no_labels, returned}
+use Rattle.c_unit_typing.specs.Constructs.{returned_nothing, returned_value, scope_closed, scope_opened, switch_typed}
+use Rattle.c_unit_typing.specs.Constructs.{switches, switching, switching_on, valued_if, while_typed, without_labels}
 use Rattle.c_unit_typing.specs.Declarations.{declaration}
 use Rattle.c_unit_typing.specs.Files.{File, FileTyping, finished, in_state, ◌~>◌}
 use Rattle.c_unit_typing.specs.Statements.{block, block_item, block_items, statement, switch_block, switch_item}
@@ -35,7 +34,8 @@ use Rattle.c_typed_declarators.specs.Extending.{Extends}
 use Rattle.c_typed_declarators.proofs.Parameters.{within_formed}
 use Rattle.c_typed_programs.specs.Scopes.Leaving.{FileLeads, Leading}
 use Rattle.c_typed_programs.specs.Scopes.Regular.{are_regular_block_items, is_regular_block, is_regular_block_item}
-use Rattle.c_typed_programs.specs.Scopes.Regular.{is_regular_declaration, is_regular_first, is_regular_if, is_regular_statement}
+use Rattle.c_typed_programs.specs.Scopes.Regular.{is_regular_declaration, is_regular_first, is_regular_if}
+use Rattle.c_typed_programs.specs.Scopes.Regular.{is_regular_statement}
 use Rattle.c_typed_programs.proofs.Scopes.Declarations.{declaration_leads}
 use Rattle.c_typed_programs.proofs.Scopes.Initializers.{IfBehind, ValueWalk, judged_walks}
 use Rattle.c_typed_programs.proofs.Scopes.Initializers.{then_state, values_walk, walks_then}
@@ -136,15 +136,17 @@ module _ (states : State → State → Type 0) (files : File → File → Type 0
   pub controlling_walks : (line : ℕ) (e : Expression) → is_regular e ≡ true → (s : State) → IsFormed s
       → IfBehind states s (controlling line e s)
   controlling_walks line e c s formed =
-      walks_then states walk.values true e c s formed (λ v. judged (controls line v)) (λ v u g. judged_walks states walk.values u g (controls line v))
+      walks_then states walk.values true e c s formed (λ v. judged (controls line v))
+      (λ v u g. judged_walks states walk.values u g (controls line v))
 
   pub switching_walks : (line : ℕ) (e : Expression) → is_regular e ≡ true → (s : State) → IsFormed s
       → IfBehind states s (switching_on line e s)
   switching_walks line e c s formed =
-      walks_then states walk.values true e c s formed (λ v. judged (switches line v)) (λ v u g. judged_walks states walk.values u g (switches line v))
+      walks_then states walk.values true e c s formed (λ v. judged (switches line v))
+      (λ v u g. judged_walks states walk.values u g (switches line v))
 
-  pub returned_walks : (line : ℕ) (result : List TypeWord) (e : Option Expression) → is_regular_if e ≡ true → (s : State)
-      → IsFormed s → IfBehind states s (returned line result e s)
+  pub returned_walks : (line : ℕ) (result : List TypeWord) (e : Option Expression) → is_regular_if e ≡ true
+      → (s : State) → IsFormed s → IfBehind states s (returned line result e s)
   returned_walks line result None c s formed = judged_walks states walk.values s formed (returned_nothing line result)
   returned_walks line result (Some e) c s formed =
       walks_then states walk.values true e c s formed (λ v. judged (returned_value line result v))
@@ -173,7 +175,8 @@ module _ (states : State → State → Type 0) (files : File → File → Type 0
       (λ step. judged (controls_if line v) >>> λ c. done (record { first = x; condition = c; step = step }))
       (evaluated_if_walks step d u g)
       (λ e w h. then_state states walk.values w (judged (controls_if line v) w)
-      (λ c. done (record { first = x; condition = c; step = e })) (judged_walks states walk.values w h (controls_if line v))
+      (λ c. done (record { first = x; condition = c; step = e }))
+      (judged_walks states walk.values w h (controls_if line v))
       (λ c z i. walk.values.same z i)))
 
   -- declarations
@@ -306,7 +309,8 @@ module _ (states : State → State → Type 0) (files : File → File → Type 0
         (λ new g h. statement_walks a new s (second _ _ c) g h) f formed
     statement_walks a ls (t.default at colon s) c f formed =
         chain (in_state (judged (default_label ls at.line))) (λ ls. statement a ls s)
-        (state_extending (judged (default_label ls at.line)) (λ s g. judged_walks states walk.values s g (default_label ls at.line)))
+        (state_extending (judged (default_label ls at.line))
+        (λ s g. judged_walks states walk.values s g (default_label ls at.line)))
         (λ new g h. statement_walks a new s c g h) f formed
     statement_walks a ls (t.break at end) c f formed =
         labelled_leads ls (in_state (judged (jump a.inside.may_break at.line tree.break)))
@@ -324,7 +328,8 @@ module _ (states : State → State → Type 0) (files : File → File → Type 0
         → IfFileBehind files f (block a b f)
     block_leads a (t.block l xs r) c f formed =
         chain (in_scope (block_items a xs)) (λ ss. finished (tree.block l.line ss))
-        (scoped (block_items a xs) (λ g h. items_walk a xs c g h)) (λ ss. finished_leads (tree.block l.line ss)) f formed
+        (scoped (block_items a xs) (λ g h. items_walk a xs c g h)) (λ ss. finished_leads (tree.block l.line ss)) f
+        formed
 
     pub items_walk : (a : Around) (xs : BlockItems) → are_regular_block_items xs ≡ true → (f : File) → IsFormed f.state
         → IfFileBehind files f (block_items a xs f)
@@ -344,7 +349,8 @@ module _ (states : State → State → Type 0) (files : File → File → Type 0
     switch_leads : (a : Around) (v : Value) (b : Block) → is_regular_block b ≡ true → (f : File) → IsFormed f.state
         → IfFileBehind files f (switch_block a v b f)
     switch_leads a v (t.block l xs r) c f formed =
-        chain (in_scope (switch_items a (type_of (kind_of v.tree)) [] xs)) (λ is. finished (tree.switch v.tree l.line is))
+        chain (in_scope (switch_items a (type_of (kind_of v.tree)) [] xs))
+        (λ is. finished (tree.switch v.tree l.line is))
         (scoped (switch_items a (type_of (kind_of v.tree)) [] xs)
         (λ g h. switch_items_walk a (type_of (kind_of v.tree)) [] xs c g h))
         (λ is. finished_leads (tree.switch v.tree l.line is)) f formed

@@ -20,11 +20,11 @@ use Rattle.c_typed_validity.specs.Regular.{is_regular_member, more_are_regular_d
 use Rattle.c_typed_validity.specs.Regular.{more_are_regular_enumerators}
 use Rattle.c_typed_programs.specs.Scopes.Defined.{define_functions, defines}
 use Rattle.c_typed_programs.specs.Scopes.Regular.{is_regular_designator, is_regular_designation, is_regular_initializer}
-use Rattle.c_typed_programs.specs.Scopes.Regular.{is_regular_item, are_regular_items, is_regular_initializer_if, is_regular_if}
-use Rattle.c_typed_programs.specs.Scopes.Regular.{is_regular_object, initializer_of, are_regular_declarators}
-use Rattle.c_typed_programs.specs.Scopes.Regular.{is_regular_declaration, is_regular_first, is_regular_statement}
-use Rattle.c_typed_programs.specs.Scopes.Regular.{is_regular_block, are_regular_block_items, is_regular_block_item}
-use Rattle.c_typed_programs.specs.Scopes.Regular.{is_regular_external, are_regular_externals}
+use Rattle.c_typed_programs.specs.Scopes.Regular.{is_regular_item, are_regular_items, is_regular_initializer_if}
+use Rattle.c_typed_programs.specs.Scopes.Regular.{is_regular_if, is_regular_object, initializer_of}
+use Rattle.c_typed_programs.specs.Scopes.Regular.{are_regular_declarators, is_regular_declaration, is_regular_first}
+use Rattle.c_typed_programs.specs.Scopes.Regular.{is_regular_statement, is_regular_block, are_regular_block_items}
+use Rattle.c_typed_programs.specs.Scopes.Regular.{is_regular_block_item, is_regular_external, are_regular_externals}
 
 both : {a b : Bool} → a ≡ true → b ≡ true → (a && b) ≡ true
 both {b = b} e f = ap (λ z. z && b) e ∙ f

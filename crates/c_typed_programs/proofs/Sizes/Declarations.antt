@@ -58,11 +58,13 @@ use Rattle.c_typed_programs.proofs.Scopes.Declarations.{specified_extends, stati
 use Rattle.c_typed_programs.proofs.Scopes.Initializers.{IfBehind, initialized_walks}
 use Rattle.c_typed_programs.proofs.Scopes.Leading.{file_on, file_same, leads_by, leads_same, state_leads}
 use Rattle.c_typed_programs.proofs.Types.Parameters.{judged_known}
-use Rattle.c_typed_programs.proofs.Sizes.Bodies.{BodiesKeep, Reaches, bodies_walk, reaching_walk}
-use Rattle.c_typed_programs.proofs.Sizes.Recursion.{IfKeeping, judged_keeps, shape_keeps, specification_keeps}
-use Rattle.c_typed_programs.proofs.Sizes.Recursion.{then_keeps}
+use Rattle.c_typed_programs.proofs.Sizes.Bodies.{Reaches, reaching_walk}
 use Rattle.c_typed_programs.proofs.Sizes.Steps.{Steps, declarator_steps, reached_steps, size_steps, steps_on}
 use Rattle.c_typed_programs.proofs.Sizes.Steps.{steps_same}
+use Rattle.c_typed_programs.proofs.Tags.Keeping.{KeepsTags}
+use Rattle.c_typed_programs.proofs.Tags.Walked.{tags_walk}
+use Rattle.c_typed_programs.proofs.Walks.Declarations.{stored_walks}
+use Rattle.c_typed_programs.proofs.Walks.Recursion.{shape_walks}
 use Rattle.c_typed_programs.proofs.Common.{filed, first, second, some_mapped, unless_large}
 
 -- states and files behind one another
@@ -111,12 +113,12 @@ state_steps f t h laid = record {
 }
 
 pub state_then : {A B : Type 0} (p q : State → A → Type 0) (f : File) (a : Answer (State × A)) (next : A → FileTyping B)
-    → IsLaidOut f.state → Extending false f.state p a → StateLaid q f.state a → IfKeeping BodiesKeep f.state a
+    → IsLaidOut f.state → Extending false f.state p a → StateLaid q f.state a → IfBehind KeepsTags f.state a
     → ((x : A) (g : File) → FileSteps f g → p g.state x → q g.state x → IfFileSteps g (next x g))
     → IfFileSteps f (a >>= filed f >>= λ r. next r.1 r.0)
 state_then p q f (Ok r) next laid h l b k =
     let g = record f { state = r.0 } in
-    let own = state_steps f r.0 (record { extends = h.0; bodies = b; laid = λ x. l.1 }) laid in
+    let own = state_steps f r.0 (record { extends = h.0; tags = b; laid = λ x. l.1 }) laid in
     from_file f g own (next r.1 g) (k r.1 g own h.1 l.2)
 state_then p q f (Err e) next laid h l b k = tt
 
@@ -331,7 +333,7 @@ declarator_file_steps in_head spec sized d c f formed laid arrays =
     (λ sh. named_by in_head spec (initializer_of d) sh sh.name) laid extends
     (both_laid (λ u sh. IsShapeOf u d.declarator sh) anything f.state (shape false d.declarator f.state) laid extends
     (shape_laid false d.declarator (first _ _ c) f.state formed laid))
-    (shape_keeps BodiesKeep bodies_walk false d.declarator f.state)
+    (shape_walks tags_walk false d.declarator f.state).by
     (λ sh g own is x. named_steps in_head spec sized (initializer_of d) (second _ _ c) sh is.counted sh.name g
     own.leads.state.formed own.laid (spec_kept spec f g own arrays))
 
@@ -370,13 +372,6 @@ specified_lays is_alone d c s formed laid =
     (λ u spec lists h. judged_laid u lists HasArrays (stored_once spec u)
     (stored_laid u spec h spec.has_two_storages))
 
-pub specified_stays : (is_alone : Bool) (d : t.Declaration) (s : State)
-    → IfKeeping BodiesKeep s (specified is_alone d s)
-specified_stays is_alone d s =
-    then_keeps BodiesKeep bodies_walk s (specification is_alone d.specifiers s) (λ spec. judged (stored_once spec))
-    (specification_keeps BodiesKeep bodies_walk is_alone d.specifiers s)
-    (λ spec u. judged_keeps BodiesKeep bodies_walk u (stored_once spec u))
-
 pub declaration_steps : (in_head : Bool) (d : t.Declaration) → is_regular_declaration d ≡ true → (f : File)
     → IsFormed f.state → IsLaidOut f.state → IfFileSteps f (declaration in_head d f)
 declaration_steps in_head d c f formed laid =
@@ -385,6 +380,6 @@ declaration_steps in_head d c f formed laid =
     (λ spec. with_declarators in_head spec d.declarators) laid extends
     (both_laid IsSpecified HasArrays f.state (specified (is_none d.declarators) d f.state) laid extends
     (specified_lays (is_none d.declarators) d c f.state formed laid))
-    (specified_stays (is_none d.declarators) d f.state)
+    (stored_walks tags_walk (is_none d.declarators) d.specifiers f.state).by
     (λ spec g own is arrays. declarators_steps in_head spec is d.declarators (second _ _ c) g own.leads.state.formed
     own.laid arrays)

@@ -1,7 +1,6 @@
 -- Definitions leave an object with linkage that is new among those that the file defines (C99 6.2.2, 6.9, 6.9.1).
 use Rattle.std.proofs.Common.{◌≡◌, ◌⊎◌, inl, inr, ℕ, Bool, true, false, ◌||◌, refl, sym, ap, ◌∙◌, subst, List, [], ◌∷◌}
-use Rattle.std.proofs.Common.{◌++◌}
-use Rattle.std.proofs.Common.{Option, Some, None, if◌then◌else◌}
+use Rattle.std.proofs.Common.{◌++◌, Option, Some, None, if◌then◌else◌}
 use Rattle.std.specs.Prelude.{Ok, Err, nat_lt, length}
 use Rattle.c_syntax.specs.Statements as t
 use Rattle.c_syntax.specs.Tree.{Declarator, Specifiers}
@@ -54,12 +53,15 @@ use Rattle.c_typed_programs.proofs.Scopes.Leading.{bound_leads, closed_leads, fi
 use Rattle.c_typed_programs.proofs.Scopes.Leading.{outer_is, state_leads}
 use Rattle.c_typed_programs.proofs.Scopes.Statements.{IfFileBehind, Walk, items_walk}
 use Rattle.c_typed_programs.specs.Sizes.Tags.{BodiesStay}
-use Rattle.c_typed_programs.proofs.Sizes.Bodies.{BodiesKeep, Reaches, bodies_walk, reaching_walk}
+use Rattle.c_typed_programs.proofs.Sizes.Bodies.{Reaches, reaching_walk}
 use Rattle.c_typed_programs.proofs.Sizes.Declarations.{IfFileSteps, IfSteps, answered_steps, declaration_steps}
-use Rattle.c_typed_programs.proofs.Sizes.Recursion.{IfKeeping, judged_keeps, shape_keeps, specification_keeps}
-use Rattle.c_typed_programs.proofs.Sizes.Recursion.{then_keeps}
 use Rattle.c_typed_programs.proofs.Sizes.Steps.{AreSound, IsOfFile, Steps, reached_steps, steps_on, steps_same}
 use Rattle.c_typed_programs.proofs.Sizes.Types.{EndsComplete}
+use Rattle.c_typed_programs.proofs.Scopes.Initializers.{IfBehind}
+use Rattle.c_typed_programs.proofs.Tags.Keeping.{KeepsTags}
+use Rattle.c_typed_programs.proofs.Tags.Walked.{tags_walk}
+use Rattle.c_typed_programs.proofs.Walks.Declarations.{stored_walks}
+use Rattle.c_typed_programs.proofs.Walks.Recursion.{shape_walks}
 use Rattle.c_typed_programs.proofs.Common.{filed, first, neither_left, second}
 
 -- A scope that is opened and closed again: what stands in it is not at file scope.
@@ -296,14 +298,14 @@ defined_steps spec sized sh counted b c (Some name) f formed laid arrays has =
 -- specifiers and a declarator before it
 
 state_then : {A B : Type 0} (p q : State → A → Type 0) (f : File) (a : Answer (State × A)) (next : A → FileTyping B)
-    → Extending false f.state p a → StateLaid q f.state a → IfKeeping BodiesKeep f.state a
+    → Extending false f.state p a → StateLaid q f.state a → IfBehind KeepsTags f.state a
     → ((x : A) (g : File) → Extends false f.state g.state → IsLaidOut g.state → p g.state x → q g.state x
     → IfDefinitionSteps g (next x g))
     → IfDefinitionSteps f (a >>= filed f >>= λ r. next r.1 r.0)
 state_then p q f (Ok r) next h l b k =
     let g = record f { state = r.0 } in
     from_definition f g
-    (reached_steps f.state r.0 (record { extends = h.0; bodies = b; laid = λ x. l.1 })) (next r.1 g)
+    (reached_steps f.state r.0 (record { extends = h.0; tags = b; laid = λ x. l.1 })) (next r.1 g)
     (k r.1 g h.0 l.1 h.1 l.2)
 state_then p q f (Err e) next h l b k = tt
 
@@ -314,13 +316,6 @@ stored_lays specs s h =
     (λ u spec lists is. judged_laid u lists HasArrays (stored_once spec u)
     (stored_laid u spec is spec.has_two_storages))
 
-stored_stays : (specs : Specifiers) (s : State)
-    → IfKeeping BodiesKeep s ((specification false specs >>> λ spec. judged (stored_once spec)) s)
-stored_stays specs s =
-    then_keeps BodiesKeep bodies_walk s (specification false specs s) (λ spec. judged (stored_once spec))
-    (specification_keeps BodiesKeep bodies_walk false specs s)
-    (λ spec u. judged_keeps BodiesKeep bodies_walk u (stored_once spec u))
-
 pub definition_steps : (specs : Specifiers) (d : Declarator) (b : t.Block)
     → is_regular_external (t.definition specs d b) ≡ true → (f : File) → IsFormed f.state → IsLaidOut f.state
     → IfDefinitionSteps f (external (t.definition specs d b) f)
@@ -330,13 +325,13 @@ definition_steps specs d b c f formed laid =
     (λ spec. in_state (shape true d) ~> λ sh. defined_by spec sh b sh.name) stored
     (both_laid IsSpecified HasArrays f.state _ laid stored
     (stored_lays specs f.state (specification_laid false specs (first _ _ (first _ _ c)) f.state formed laid)))
-    (stored_stays specs f.state)
+    (stored_walks tags_walk false specs f.state).by
     (λ spec g own laid is arrays.
     let shaped = shape_extends true d (second _ _ (first _ _ c)) g.state own.formed in
     state_then (λ u sh. IsShapeOf u d sh) anything g (shape true d g.state)
     (λ sh. defined_by spec sh b sh.name) shaped
     (both_laid (λ u sh. IsShapeOf u d sh) anything g.state (shape true d g.state) laid shaped
     (shape_laid true d (second _ _ (first _ _ c)) g.state own.formed laid))
-    (shape_keeps BodiesKeep bodies_walk true d g.state)
+    (shape_walks tags_walk true d g.state).by
     (λ sh k next laid has x. defined_steps spec is sh has.counted b (second _ _ c) sh.name k next.formed laid
     (arrays_kept (extents g.state) (extents k.state) next.more spec.type arrays) has.scope))

@@ -1,5 +1,5 @@
 -- In a file that is accepted each object with linkage has the size of an object (C99 6.9.2).
-use Rattle.std.proofs.Common.{◌≡◌, ◌⊎◌, inl, inr, ℕ, ◌≤◌, Bool, true, false, refl, sym, ap, ◌∙◌, subst, List, []}
+use Rattle.std.proofs.Common.{◌≡◌, ◌⊎◌, inl, inr, ℕ, Bool, true, false, refl, sym, ap, ◌∙◌, subst, List, []}
 use Rattle.std.proofs.Common.{◌∷◌, Option, Some, None}
 use Rattle.std.specs.Prelude.{Ok, Err, codes}
 use Rattle.c_syntax.specs.Formed as syntax
@@ -7,7 +7,7 @@ use Rattle.c_syntax.specs.Statements as t
 use Rattle.c_tree.specs.declared.c_type.TypeWord.{TypeWord}
 use Rattle.c_tree.specs.declared.expression.Routine.{Routine}
 use Rattle.c_tree.specs.declared.expression.Routine.TheVariants as routine
-use Rattle.c_tree.specs.Kinds.{has_size, size_of_kind}
+use Rattle.c_tree.specs.Kinds.{has_size}
 use Rattle.c_call_rules.specs.Routines.{routine_words}
 use Rattle.c_facts.specs.Facts.{Found, facts_in, found_in, nothing_found, with_external}
 use Rattle.c_facts.specs.Facts as facts
@@ -27,7 +27,6 @@ use Rattle.c_unit_typing.specs.Files.{File, FileTyping, finished}
 use Rattle.c_unit_typing.specs.Programs.{final_type}
 use Rattle.c_unit_typing.specs.Units.{external, externals, file_before, file_with}
 use Rattle.c_typed_validity.specs.Sound.{IsFormed, is_sized_array}
-use Rattle.c_typed_declarators.proofs.Types.{size_low}
 use Rattle.c_typed_programs.proofs.Files.Ends.{answer, behind_all, same_ok}
 use Rattle.c_typed_programs.proofs.Functions.Entities.{bound_either, conflict, some_is}
 use Rattle.c_typed_programs.specs.Functions.Entities.{is_library}
@@ -240,11 +239,3 @@ file_sizes objects end es f c is =
     (externals_grow es c before (file_formed objects (facts_in es)))
     (externals_all es c before (file_formed objects (facts_in es)) (file_laid objects (facts_in es))
     (start_place (facts_in es)) nothing_found (start_ending (facts_in es))) e) is
-
-pub file_sizes_low : (objects : Option (List (List Bool))) (end : ℕ) (es : List t.External) (f : File)
-    → are_regular_externals es ≡ true → file_with objects end es ≡ Ok f → TagsAreComplete f
-    → (name : Name) (x : Entity) (n : ℕ) → declared name f.state.environment.entities ≡ Some x
-    → x.what ≡ what.Object n → 1 ≤ size_of_kind (kind_in f.state (final_type (extents f.state) x.c_type))
-file_sizes_low objects end es f c is tags name x n there w =
-    size_low (size_of_kind (kind_in f.state (final_type (extents f.state) x.c_type)))
-    (file_sizes objects end es f c is tags name x n there w)

@@ -1,6 +1,6 @@
 -- The objects that c_facts finds in the declarations of a file are of types that are complete at its end (C99 6.9.2).
-use Rattle.std.proofs.Common.{◌≡◌, ◌⊎◌, inl, inr, ℕ, Bool, true, false, ◌&&◌, ◌||◌, refl, sym, ap, ◌∙◌, subst, List}
-use Rattle.std.proofs.Common.{[], ◌∷◌, ◌++◌, Option, Some, None, if◌then◌else◌}
+use Rattle.std.proofs.Common.{◌≡◌, ◌⊎◌, inl, inr, ℕ, Bool, true, false, ◌&&◌, ◌||◌, refl, sym, ap, ◌∙◌, subst, List, []}
+use Rattle.std.proofs.Common.{◌∷◌, ◌++◌, Option, Some, None, if◌then◌else◌}
 use Rattle.std.specs.Prelude.{Ok, Err, is_none, is_some, not, option_map}
 use Rattle.std.specs.List.{list_all}
 use Rattle.c_syntax.specs.declared.position.Position.{Position}
@@ -39,15 +39,16 @@ use Rattle.c_typed_programs.specs.Scopes.Regular.{is_regular_initializer_if, is_
 use Rattle.c_typed_programs.proofs.Scopes.Declarations.{StateLeads, declares_leads, specified_extends}
 use Rattle.c_typed_programs.proofs.Functions.Entities.{bound_either}
 use Rattle.c_typed_programs.proofs.Types.Parameters.{judged_known}
-use Rattle.c_typed_programs.proofs.Sizes.Bodies.{BodiesKeep, bodies_walk}
-use Rattle.c_typed_programs.proofs.Sizes.Declarations.{FileSteps, IfFileSteps, declarator_file_steps}
-use Rattle.c_typed_programs.proofs.Sizes.Declarations.{declared_steps, named_steps}
-use Rattle.c_typed_programs.proofs.Sizes.Declarations.{spec_kept, specified_lays, specified_stays}
-use Rattle.c_typed_programs.proofs.Sizes.Declarations.{state_steps}
-use Rattle.c_typed_programs.proofs.Sizes.Recursion.{IfKeeping, shape_keeps}
+use Rattle.c_typed_programs.proofs.Sizes.Declarations.{FileSteps, IfFileSteps, declarator_file_steps, declared_steps}
+use Rattle.c_typed_programs.proofs.Sizes.Declarations.{named_steps, spec_kept, specified_lays, state_steps}
 use Rattle.c_typed_programs.proofs.Sizes.Steps.{AreEnding, AreSound, IsEnding, all_behind, declared_ending}
 use Rattle.c_typed_programs.proofs.Sizes.Steps.{ending_behind}
 use Rattle.c_typed_programs.proofs.Sizes.Storage.{IfNamed, IfStored, IsStored, named_as, shape_named, specified_stored}
+use Rattle.c_typed_programs.proofs.Scopes.Initializers.{IfBehind}
+use Rattle.c_typed_programs.proofs.Tags.Keeping.{KeepsTags}
+use Rattle.c_typed_programs.proofs.Tags.Walked.{tags_walk}
+use Rattle.c_typed_programs.proofs.Walks.Declarations.{stored_walks}
+use Rattle.c_typed_programs.proofs.Walks.Recursion.{shape_walks}
 use Rattle.c_typed_programs.proofs.Common.{filed, first, second, some_mapped}
 
 -- one more object that the file defines
@@ -110,13 +111,13 @@ IfPlain n (Err e) = Unit {0}
 
 state_all : {A B : Type 0} (objects more : Names Bool) (p q : State → A → Type 0) (n : A → Type 0) (f : File)
     (a : Answer (State × A)) (next : A → FileTyping B) → IsLaidOut f.state → Extending false f.state p a
-    → StateLaid q f.state a → IfKeeping BodiesKeep f.state a → IfPlain n a → AreEnding objects f.state.environment
+    → StateLaid q f.state a → IfBehind KeepsTags f.state a → IfPlain n a → AreEnding objects f.state.environment
     → ((x : A) (g : File) → FileSteps f g → p g.state x → q g.state x → n x → AreEnding objects g.state.environment
     → IfAll more (next x g))
     → IfAll more (a >>= filed f >>= λ r. next r.1 r.0)
 state_all objects more p q n f (Ok r) next laid h l b m is k =
     let g = record f { state = r.0 } in
-    let own = state_steps f r.0 (record { extends = h.0; bodies = b; laid = λ x. l.1 }) laid in
+    let own = state_steps f r.0 (record { extends = h.0; tags = b; laid = λ x. l.1 }) laid in
     k r.1 g own h.1 l.2 m (all_behind objects f.state.environment g.state.environment own.steps is)
 state_all objects more p q n f (Err e) next laid h l b m is k = tt
 
@@ -236,7 +237,7 @@ declarator_all spec sized d c f formed laid arrays file h stored q is =
     (λ sh. named_by false spec (initializer_of d) sh sh.name) laid extends
     (both_laid (λ u sh. IsShapeOf u d.declarator sh) anything f.state (shape false d.declarator f.state) laid extends
     (shape_laid false d.declarator (first _ _ c) f.state formed laid))
-    (shape_keeps BodiesKeep bodies_walk false d.declarator f.state)
+    (shape_walks tags_walk false d.declarator f.state).by
     (named_plain d (shape false d.declarator f.state) (shape_named false d.declarator f.state)) is
     (λ sh g own shaped x named is.
     subst (λ i. IfAll (facts.with_name h b i (syntax.declared d.declarator) q).facts.objects
@@ -299,7 +300,7 @@ declaration_all d c f formed laid file q is =
     (specified (is_none d.declarators) d f.state) (λ spec. with_declarators false spec d.declarators) laid extends
     (both_laid IsSpecified HasArrays f.state (specified (is_none d.declarators) d f.state) laid extends
     (specified_lays (is_none d.declarators) d c f.state formed laid))
-    (specified_stays (is_none d.declarators) d f.state)
+    (stored_walks tags_walk (is_none d.declarators) d.specifiers f.state).by
     (stored_plain d (specified (is_none d.declarators) d f.state) (specified_stored (is_none d.declarators) d f.state))
     is
     (λ spec g own sized arrays stored is. declarators_all spec sized d.declarators (second _ _ c) g

@@ -7,10 +7,9 @@ use Rattle.c_scope.specs.declared.meaning.Designated.{Designated}
 use Rattle.c_scope.specs.declared.meaning.Designated.TheVariants as what
 use Rattle.c_scope.specs.declared.meaning.Entity.{Entity}
 use Rattle.c_scope.specs.Composite.{composite}
-use Rattle.c_scope.specs.Declaring.{Declaration, has_linkage, is_extern, is_function, is_typedef}
-use Rattle.c_scope.specs.Declaring.{sized_by_initializer}
-use Rattle.c_scope.specs.Environment.{Environment, Facts, entity_with, in_file, linked, surroundings}
-use Rattle.c_scope.specs.Environment.{type_or, with_declarator, without_linkage}
+use Rattle.c_scope.specs.Declaring.{Declaration, has_linkage, is_extern, is_function, is_typedef, sized_by_initializer}
+use Rattle.c_scope.specs.Environment.{Environment, Facts, entity_with, in_file, linked, surroundings, type_or}
+use Rattle.c_scope.specs.Environment.{with_declarator, without_linkage}
 use Rattle.c_scope.specs.Names.{Name, Names, bound, declared, is_empty}
 use Rattle.c_typing.specs.State.{State}
 use Rattle.c_unit_typing.specs.Declarations.{entity_with_type, is_of_type, is_same_object, with_entity, with_size}
@@ -28,6 +27,7 @@ use Rattle.c_typed_programs.proofs.Functions.Entities.{known_old, none_some, siz
 use Rattle.c_typed_programs.proofs.Types.Parameters.{IsJudged}
 use Rattle.c_typed_programs.specs.Sizes.Tags.{BodiesStay}
 use Rattle.c_typed_programs.proofs.Sizes.Bodies.{Reaches, bodies_on, bodies_same}
+use Rattle.c_typed_programs.proofs.Tags.Keeping.{bodies_stay}
 use Rattle.c_typed_programs.proofs.Sizes.Types.{EndsComplete, ends_kept, filled_ends, joined_sized, judged_ends}
 
 -- whether the file defines an object of a name
@@ -94,7 +94,8 @@ steps_same env =
 
 pub reached_steps : (s t : State) → Reaches s t → Steps s.environment t.environment
 reached_steps s t h =
-    standing_steps s.environment t.environment (ap is_empty h.extends.outer) h.extends.facts h.extends.more h.bodies
+    standing_steps s.environment t.environment (ap is_empty h.extends.outer) h.extends.facts h.extends.more
+    (bodies_stay s t h.tags)
     h.extends.entities
 
 pub steps_on : (env mid behind : Environment) → Steps env mid → Steps mid behind → Steps env behind

@@ -1,29 +1,30 @@
 -- Tags that are declared, begun and completed (C99 6.7.2.1, 6.7.2.3).
-use Rattle.std.proofs.Common.{◌≡◌, ◌⊎◌, inl, inr, ℕ, zero, suc, ◌<◌, ◌^◌, Bool, true, false, ◌&&◌, refl, sym, ap}
-use Rattle.std.proofs.Common.{subst, ◌∙◌, List, [], ◌∷◌, ◌++◌, length, Option, Some, None, if◌then◌else◌, arith}
+use Rattle.std.proofs.Common.{◌≡◌, ◌⊎◌, inl, inr, ℕ, zero, suc, ◌<◌, ◌^◌, Bool, true, false, ◌&&◌, refl, sym, ap, subst}
+use Rattle.std.proofs.Common.{◌∙◌, List, [], ◌∷◌, ◌++◌, length, Option, Some, None, if◌then◌else◌, arith}
 use Rattle.std.specs.Prelude.{Ok, Err, nat_lt, not, slice_get}
 use Rattle.c_tree.specs.Extents.{TypeExtent}
-use Rattle.c_rules.specs.declared.fault.Rule.TheVariants.{LargeType, MistakenTag}
+use Rattle.c_rules.specs.declared.fault.Rule.TheVariants.{LargeType}
 use Rattle.c_rules.specs.Answer.{Answer, violates, ◌>>=◌}
 use Rattle.c_scope.specs.declared.meaning.Tag.{Tag}
 use Rattle.c_scope.specs.declared.meaning.Tag.TheVariants as tag
 use Rattle.c_scope.specs.declared.tags.TagKind.{TagKind}
 use Rattle.c_scope.specs.declared.tags.TagKind.TheVariants as kind
-use Rattle.c_scope.specs.Environment.{Environment, in_file}
-use Rattle.c_scope.specs.Names.{Name, Names, bound, declared, found, is_empty, meaning, or_else}
-use Rattle.c_scope.specs.Structures.{Body, Structures, changed, declared_structure, is_known}
-use Rattle.c_scope.specs.Tags.{added, begins_in, has_begun, if_file, is_enumeration, is_of, marked, next_tag, referred}
-use Rattle.c_scope.specs.Tags.{tag_found}
+use Rattle.c_scope.specs.Environment.{in_file}
+use Rattle.c_scope.specs.Names.{Name, Names, bound, declared, is_empty}
+use Rattle.c_scope.specs.Structures.{Body, Structures, begun, changed, declared_structure, is_known}
+use Rattle.c_scope.specs.Tags.{added, begins_in, has_begun, if_file, is_enumeration, is_of, marked, next_tag}
 use Rattle.c_typing.specs.Members.{Entries, Entry, extent_with, members_at, offsets_in, tag_completed, with_structure}
 use Rattle.c_typing.specs.State.{State, extents}
-use Rattle.c_expression_typing.specs.Constructs.{begun_as, tagged_as}
+use Rattle.c_expression_typing.specs.Constructs.{begun_as}
 use Rattle.c_typed_declarators.proofs.Lists.{added_length, changed_length, read_added, there_changed}
 use Rattle.c_typed_programs.proofs.Common.{no_value, the_same}
 use Rattle.c_typed_programs.proofs.Declarations.Bound.{bound_here}
 use Rattle.c_typed_programs.proofs.Functions.Entities.{bound_either}
-use Rattle.c_typed_programs.proofs.Tags.Keeping.{HaveFileTags, IfKeeps, KeepsTags, changes_keep, file_tags}
-use Rattle.c_typed_programs.proofs.Tags.Keeping.{in_file_scope, keeps_on, keeps_same, number_of, numbered_tag}
-use Rattle.c_typed_programs.proofs.Tags.Keeping.{outermost, stands_keep, tags_changed}
+use Rattle.c_typed_programs.proofs.Tags.Keeping.{HaveFileTags, KeepsTags, changes_keep, file_tags, in_file_scope}
+use Rattle.c_typed_programs.proofs.Tags.Keeping.{keeps_same, number_of, numbered_tag, outermost, stands_keep}
+use Rattle.c_typed_programs.proofs.Tags.Keeping.{tags_changed}
+use Rattle.c_typed_programs.proofs.Walks.Specifiers.{in_environment, unless_mistaken}
+use Rattle.c_typed_programs.proofs.Walks.States.{IsFresh}
 
 -- lists
 
@@ -197,10 +198,6 @@ own_tag s x t name true is e h =
     (the_same e) (bound_outermost s.environment.tags.outer (h.nested is) s.environment.tags.current x t)
 own_tag s x t name false is e h = absurd cc
 
-abbrev IsFresh : Option Name → State → Type 0
-IsFresh None s = Unit {0}
-IsFresh (Some x) s = declared x s.environment.tags.current ≡ None
-
 nameless_keeps : (s : State) (t : Tag) → number_of (Some t) ≡ Some (length (extents s))
     → KeepsTags s (retagged s (declared_structure (if_file (in_file s.environment) None) s.environment.structures)
     s.environment.tags.current s.environment.enumerations)
@@ -216,7 +213,7 @@ named_keeps s x t next fresh =
     structure_keeps s (if_file (in_file s.environment) (Some x)) (bound x t s.environment.tags.current) t next
     (grows_by s x t fresh) (λ name e h. own_tag s x t name (in_file s.environment) refl e h)
 
-added_keeps : (s : State) (k : TagKind) (name : Option Name) → IsFresh name s
+pub added_keeps : (s : State) (k : TagKind) (name : Option Name) → IsFresh name s
     → KeepsTags s (record s { environment = added k name s.environment })
 added_keeps s kind.Structure None fresh = nameless_keeps s (tag.Structure (length (extents s))) refl
 added_keeps s kind.Structure (Some x) fresh = named_keeps s x (tag.Structure (length (extents s))) refl fresh
@@ -230,48 +227,13 @@ added_keeps s kind.Enumeration (Some x) fresh =
     enumeration_keeps s (bound x t s.environment.tags.current) (s.environment.enumerations ++ false ∷ []) t refl
     (grows_by s x t fresh)
 
--- a tag without a list
-
-abbrev in_environment : State → Environment × Tag → Answer (State × Tag)
-in_environment s r = Ok (record s { environment = r.0 }, r.1)
-
-abbrev unless_mistaken : (is : Bool) → (line : ℕ) → Environment × Tag → Answer (Environment × Tag)
-unless_mistaken is line r = if is then Ok r else violates MistakenTag line
-
-referred_by : (s : State) (line : ℕ) (t : Tag) (is : Bool)
-    → IfKeeps s (unless_mistaken is line (s.environment, t) >>= in_environment s)
-referred_by s line t true = keeps_same s
-referred_by s line t false = tt
-
-tagged_by : (s : State) (k : TagKind) (name : Name) (line : ℕ) (o : Option Tag)
-    → (o ≡ None → declared name s.environment.tags.current ≡ None)
-    → IfKeeps s (referred k name line s.environment o >>= in_environment s)
-tagged_by s k name line None fresh = added_keeps s k (Some name) (fresh refl)
-tagged_by s k name line (Some t) fresh = referred_by s line t (is_of k t)
-
-first_none : {A : Type 0} (a b : Option A) → or_else a b ≡ None → a ≡ None
-first_none None b e = refl
-first_none (Some x) b e = absurd cc
-
-none_found : (name : Name) (s : State) (b : Bool)
-    → (if b then declared name s.environment.tags.current else meaning name s.environment.tags) ≡ None
-    → declared name s.environment.tags.current ≡ None
-none_found name s true e = e
-none_found name s false e =
-    first_none (declared name s.environment.tags.current) (found name s.environment.tags.outer) e
-
-pub tagged_keeps : (is_alone : Bool) (k : TagKind) (name : Name) (line : ℕ) (s : State)
-    → IfKeeps s (tagged_as is_alone k name line s)
-tagged_keeps is_alone k name line s =
-    tagged_by s k name line (tag_found is_alone k name s.environment)
-    (λ e. none_found name s (is_alone && not (is_enumeration k)) e)
-
 -- a tag with a list
 
-body_keeps : (n : ℕ) (s : State) → KeepsTags s (record s { environment = marked (tag.Structure n) s.environment })
-body_keeps n s =
+begins_keep : (n : ℕ) (s : State)
+    → KeepsTags s (record s { environment = record s.environment { structures = begun n s.environment.structures } })
+begins_keep n s =
     let begin = λ (b : Body). record b { is_begun = true } in
-    changes_keep s (record s { environment = marked (tag.Structure n) s.environment }) (record {
+    changes_keep s _ (record {
       tags = tags_changed n begin (λ b. refl) s.environment.structures.bodies;
       count = refl;
       bodies = changed_length n begin s.environment.structures.bodies;
@@ -280,34 +242,12 @@ body_keeps n s =
       outer = refl;
     })
 
-marked_keeps : (t : Tag) (s : State) → KeepsTags s (record s { environment = marked t s.environment })
-marked_keeps (tag.Structure n) s = body_keeps n s
-marked_keeps (tag.Union n) s = body_keeps n s
+pub marked_keeps : (t : Tag) (s : State) → KeepsTags s (record s { environment = marked t s.environment })
+marked_keeps (tag.Structure n) s = begins_keep n s
+marked_keeps (tag.Union n) s = begins_keep n s
 marked_keeps (tag.Enumeration n) s =
     stands_keep s (record s { environment = marked (tag.Enumeration n) s.environment })
-    (record { structures = refl; scopes = refl; outer = refl })
-
-begun_new : (s : State) (k : TagKind) (name : Option Name) → IsFresh name s
-    → KeepsTags s (record s { environment = marked (next_tag k s.environment) (added k name s.environment) })
-begun_new s k name fresh =
-    let u = record s { environment = added k name s.environment } in
-    let t = next_tag k s.environment in
-    keeps_on s u (record u { environment = marked t u.environment }) (added_keeps s k name fresh) (marked_keeps t u)
-
-begun_old : (s : State) (line : ℕ) (t : Tag) (is : Bool)
-    → IfKeeps s (unless_mistaken is line (marked t s.environment, t) >>= in_environment s)
-begun_old s line t true = marked_keeps t s
-begun_old s line t false = tt
-
-begun_in : (s : State) (k : TagKind) (name : Name) (line : ℕ) (o : Option Tag)
-    → declared name s.environment.tags.current ≡ o
-    → IfKeeps s (begins_in k name line s.environment o >>= in_environment s)
-begun_in s k name line None e = begun_new s k (Some name) e
-begun_in s k name line (Some t) e = begun_old s line t (is_of k t && not (has_begun s.environment t))
-
-pub begun_keeps : (k : TagKind) (name : Option Name) (line : ℕ) (s : State) → IfKeeps s (begun_as k name line s)
-begun_keeps k None line s = begun_new s k None tt
-begun_keeps k (Some x) line s = begun_in s k x line (declared x s.environment.tags.current) refl
+    (record { structures = refl; tags = refl; outer = refl; literals = refl; function = refl })
 
 -- what it stands for at file scope
 
@@ -378,7 +318,7 @@ known_changed zero extent (e ∷ es) (suc m) k = k
 known_changed (suc n) extent (e ∷ es) zero k = k
 known_changed (suc n) extent (e ∷ es) (suc m) k = known_changed n extent es m k
 
-structure_completes : (is_union : Bool) (n : ℕ) (entries : List Entry) (s : State)
+pub structure_completes : (is_union : Bool) (n : ℕ) (entries : List Entry) (s : State)
     → KeepsTags s (with_structure is_union n entries s)
 structure_completes is_union n entries s =
     let extent = extent_with is_union entries in
@@ -391,20 +331,6 @@ structure_completes is_union n entries s =
       scopes = refl;
       outer = refl;
     })
-
-completed_by : (is_union : Bool) (line n : ℕ) (entries : List Entry) (t : Tag) (s : State) (large : Bool)
-    → IfKeeps s ((if large then violates LargeType line else Ok (with_structure is_union n entries s))
-    >>= λ v. Ok (v, t))
-completed_by is_union line n entries t s true = tt
-completed_by is_union line n entries t s false = structure_completes is_union n entries s
-
-pub completed_keeps : (line : ℕ) (t : Tag) (es : Entries) (s : State) → IfKeeps s (tag_completed line t es s)
-completed_keeps line (tag.Structure n) es s =
-    completed_by false line n es.entries (tag.Structure n) s
-    (nat_lt (2 ^ 32) (extent_with false es.entries).size)
-completed_keeps line (tag.Union n) es s =
-    completed_by true line n es.entries (tag.Union n) s (nat_lt (2 ^ 32) (extent_with true es.entries).size)
-completed_keeps line (tag.Enumeration n) es s = keeps_same s
 
 abbrev pub IfKnown : ℕ → Answer (State × Tag) → Type 0
 IfKnown n (Ok r) = is_known (slice_get (extents r.0) n) ≡ true

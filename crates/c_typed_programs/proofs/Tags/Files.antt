@@ -1,7 +1,7 @@
 -- The tags whose members a file lists at file scope stand for complete structures and unions at its end (C99 6.7.2.1,
 -- 6.9.2).
-use Rattle.std.proofs.Common.{◌≡◌, ◌⊎◌, inl, inr, ℕ, Bool, true, false, refl, sym, ap, subst, ◌∙◌}
-use Rattle.std.proofs.Common.{List, [], ◌∷◌, Option, Some, None, if◌then◌else◌}
+use Rattle.std.proofs.Common.{◌≡◌, ◌⊎◌, inl, inr, ℕ, Bool, true, false, refl, sym, ap, subst, ◌∙◌, List, []}
+use Rattle.std.proofs.Common.{◌∷◌, Option, Some, None, if◌then◌else◌}
 use Rattle.std.specs.Prelude.{Ok, Err, is_none, is_some, slice_get}
 use Rattle.c_syntax.specs.Formed as formed
 use Rattle.c_syntax.specs.Statements as t
@@ -26,7 +26,7 @@ use Rattle.c_typing.specs.Specifications.{Specification}
 use Rattle.c_typing.specs.State.{State, extents, judged, ◌>>>◌}
 use Rattle.c_expression_typing.specs.Typed.{shape, specification}
 use Rattle.c_unit_typing.specs.Declarations.{declaration, specified, stored_once, with_declarators}
-use Rattle.c_unit_typing.specs.Files.{File, FileTyping, finished, in_state, ◌~>◌}
+use Rattle.c_unit_typing.specs.Files.{File, FileTyping, in_state, ◌~>◌}
 use Rattle.c_unit_typing.specs.Statements.{block_items}
 use Rattle.c_unit_typing.specs.Units.{around_body, defined_as, defined_by, definition_of, entered, external, externals}
 use Rattle.c_unit_typing.specs.Units.{file_before, file_with, left, parameters_in, scope_or_none, with_body}
@@ -36,7 +36,7 @@ use Rattle.c_typed_declarators.specs.Given.{AreCounted, HasScope, IsParameterSco
 use Rattle.c_typed_declarators.proofs.Recursion.{scope_kept, shape_extends}
 use Rattle.c_typed_programs.specs.Declarations.Binding.{IfDeclared, bound_meaning}
 use Rattle.c_typed_programs.proofs.Declarations.Facts.{declarators_keep_facts}
-use Rattle.c_typed_programs.specs.Scopes.Leaving.{Growing}
+use Rattle.c_typed_programs.specs.Scopes.Leaving.{FileLeads, Growing}
 use Rattle.c_typed_programs.specs.Scopes.Regular.{are_regular_externals, is_regular_block, is_regular_external}
 use Rattle.c_typed_programs.proofs.Scopes.Declarations.{specified_extends}
 use Rattle.c_typed_programs.proofs.Scopes.Files.{defined_as_declares, entered_leads, external_grows, externals_grow}
@@ -47,30 +47,26 @@ use Rattle.c_typed_programs.proofs.Scopes.Statements.{IfFileBehind}
 use Rattle.c_typed_programs.specs.Sizes.Tags.{IfBodiesStay, TagsAreComplete}
 use Rattle.c_typed_programs.proofs.Common.{filed, first, no_value, second, the_same}
 use Rattle.c_typed_programs.proofs.Files.Ends.{behind_all, same_ok}
-use Rattle.c_typed_programs.proofs.Tags.Declarations.{IfFileKeeps, declaration_keeps, declarators_keep, stored_keeps}
-use Rattle.c_typed_programs.proofs.Tags.Declarations.{then_file}
-use Rattle.c_typed_programs.proofs.Tags.Keeping.{HaveFileTags, IfKeeps, Inside, bodies_stay}
-use Rattle.c_typed_programs.proofs.Tags.Keeping.{left_outside}
-use Rattle.c_typed_programs.proofs.Tags.Keeping.{in_file_scope, inner_keeps, keeps_on, keeps_same, number_of}
-use Rattle.c_typed_programs.proofs.Tags.Keeping.{rule_keeps, stands_keep, tag_at, then_keeps}
-use Rattle.c_typed_programs.proofs.Tags.Members.{Completed, Completes, Does, IfDoes, Ready, does_by, does_on}
-use Rattle.c_typed_programs.proofs.Tags.Members.{does_same, kept_does, ready_kept, specification_does, then_does}
-use Rattle.c_typed_programs.proofs.Tags.Recursion.{shape_keeps}
-use Rattle.c_typed_programs.proofs.Tags.Standing.{declaring_keeps, type_stands}
-use Rattle.c_typed_programs.proofs.Tags.Statements.{KeepsFile, items_keep}
+use Rattle.c_typed_programs.proofs.Scopes.Initializers.{IfBehind}
+use Rattle.c_typed_programs.proofs.Tags.Keeping.{HaveFileTags, Inside, KeepsTags, bodies_stay, in_file_scope}
+use Rattle.c_typed_programs.proofs.Tags.Keeping.{inner_keeps, keeps_on, keeps_same, number_of, stands_keep, tag_at}
+use Rattle.c_typed_programs.proofs.Tags.Members.{Completed, Completes, Does, IfDoes, Ready, does_by, does_on, does_same}
+use Rattle.c_typed_programs.proofs.Tags.Members.{kept_does, ready_kept, specification_does, then_does}
+use Rattle.c_typed_programs.proofs.Tags.Walked.{items_keep, tags_walk}
+use Rattle.c_typed_programs.proofs.Walks.Declarations.{declaration_walks, declarators_walk, found_walks, stored_walks}
+use Rattle.c_typed_programs.proofs.Walks.Recursion.{shape_walks}
+use Rattle.c_typed_programs.proofs.Walks.States.{IfFileWalks, file_done, file_more, file_then, judged_walks}
+use Rattle.c_typed_programs.proofs.Walks.Statements.{BothFiles}
+use Rattle.c_typed_programs.proofs.Walks.Steps.{type_stands}
 
 -- what is typed in the state, and gives something on which what follows depends
 
 pub then_state : {A B : Type 0} (f : File) (p : State → A → Type 0) (a : Answer (State × A)) (next : A → FileTyping B)
-    → Extending false f.state p a → IfKeeps f.state a
-    → ((x : A) (g : File) → IsFormed g.state → p g.state x → IfFileKeeps g (next x g))
-    → IfFileKeeps f (a >>= filed f >>= λ r. next r.1 r.0)
+    → Extending false f.state p a → IfBehind KeepsTags f.state a
+    → ((x : A) (g : File) → IsFormed g.state → p g.state x → IfFileWalks KeepsTags g (next x g))
+    → IfFileWalks KeepsTags f (a >>= filed f >>= λ r. next r.1 r.0)
 then_state f p (Ok r) next is h k =
-    by (next r.1 (record f { state = r.0 })) (k r.1 (record f { state = r.0 }) is.0.formed is.1)
-  where
-    by : {B : Type 0} (b : Answer (File × B)) → IfFileKeeps (record f { state = r.0 }) b → IfFileKeeps f b
-    by (Ok q) g = keeps_on f.state r.0 q.0.state h g
-    by (Err e) g = tt
+    let g = record f { state = r.0 } in file_more tags_walk f g h (next r.1 g) (k r.1 g is.0.formed is.1)
 then_state f p (Err e) next is h k = tt
 
 -- the block of a function stands in the scope of its parameters
@@ -80,20 +76,19 @@ module _ (f : File) (is_formed : IsFormed f.state) (n : ℕ) (p : ParameterScope
   inside_is : Inside f.state (inside n p f)
   inside_is = record { structures = refl; outer = refl; outer_tags = refl }
 
-  left_keeps : (a : Answer (File × Statements)) → IfFileBehind KeepsFile (entered n type p f) a
-      → IfFileKeeps f (a >>= λ r. Ok (left line type (parameters_in (entered n type p f).state p.names) r, tt {0}))
+  left_keeps : (a : Answer (File × Statements)) → IfFileBehind (BothFiles FileLeads KeepsTags) (entered n type p f) a
+      → IfFileWalks KeepsTags f
+      (a >>= λ r. Ok (left line type (parameters_in (entered n type p f).state p.names) r, tt {0}))
   left_keeps (Ok r) h =
       let all = keeps_on (inside n p f) (entered n type p f).state r.0.state
       (stands_keep (inside n p f) (entered n type p f).state (type_stands type (inside n p f))) h.keeps in
       inner_keeps f.state (inside n p f) r.0.state
       (left line type (parameters_in (entered n type p f).state p.names) r).state inside_is all
-      (left_outside f.state r.0.state
-      (left line type (parameters_in (entered n type p f).state p.names) r).state refl refl refl refl all.outer
-      all.outer_tags)
+      (record { structures = refl; outer = refl; outer_tags = refl; file = _; current = refl })
   left_keeps (Err e) h = tt
 
 body_keeps : (line : ℕ) (o : Option ParameterScope) (b : t.Block) → is_regular_block b ≡ true → (m : Option Meaning)
-    (f : File) → IsFormed f.state → HasScope f.state o → IfFileKeeps f (with_body line o b m f)
+    (f : File) → IsFormed f.state → HasScope f.state o → IfFileWalks KeepsTags f (with_body line o b m f)
 body_keeps line o (t.block l xs r) c (Some (meaning.Named (what.Function n) type)) f is_formed has =
     let p = scope_or_none o in
     let is = scope_is f.state o has in
@@ -111,31 +106,26 @@ body_keeps line o b c (Some (meaning.Named (what.Variable n) type)) f is_formed 
 
 named_keeps : (f : File) (d : Declaration) (o : Option ParameterScope) (line : ℕ) (b : t.Block)
     → is_regular_block b ≡ true → HasScope f.state o → (a : Answer (State × Option Meaning)) → IfDeclared d f.state a
-    → IfKeeps f.state a → IfFileKeeps f (a >>= filed f >>= λ r. with_body line o b r.1 r.0)
+    → IfBehind KeepsTags f.state a → IfFileWalks KeepsTags f (a >>= filed f >>= λ r. with_body line o b r.1 r.0)
 named_keeps f d o line b c has (Ok r) h k =
     let g = record f { state = r.0 } in
     let leads = bound_leads d.name (bound_meaning f.state.environment d) f.state r.0 h.0.binds h.0.formed in
-    by (with_body line o b r.1 g)
+    file_more tags_walk f g k (with_body line o b r.1 g)
     (body_keeps line o b c r.1 g h.0.formed (scope_kept f.state r.0 leads.longer o has))
-  where
-    by : {B : Type 0} (b : Answer (File × B)) → IfFileKeeps (record f { state = r.0 }) b → IfFileKeeps f b
-    by (Ok q) g = keeps_on f.state r.0 q.0.state k g
-    by (Err e) g = tt
 named_keeps f d o line b c has (Err e) h k = tt
 
 defined_as_keeps : (spec : Specification) (sh : Shape) (name : Name × ℕ) (s : State) (b : Bool)
-    → IfKeeps s (if b then violates MisplacedStorage spec.line
+    → IfBehind KeepsTags s (if b then violates MisplacedStorage spec.line
     else (declaring name (definition_of (extents s) spec (built_in s spec sh) name) >>>
     λ name. judged (λ s. Ok (declared name.0 s.environment.names.current))) s)
 defined_as_keeps spec sh name s true = tt
 defined_as_keeps spec sh name s false =
     let d = definition_of (extents s) spec (built_in s spec sh) name in
-    then_keeps s (declaring name d s) (λ name. judged (λ s. Ok (declared name.0 s.environment.names.current)))
-    (declaring_keeps name d s) (λ u name. keeps_same u)
+    (found_walks tags_walk d name s).by
 
 defined_keeps : (spec : Specification) → is_sized_array spec.type ≡ true → (sh : Shape) → AreCounted sh.derivations
     → (b : t.Block) → is_regular_block b ≡ true → (name : Option (Name × ℕ)) (f : File) → IsFormed f.state
-    → HasScope f.state sh.parameters → IfFileKeeps f (defined_by spec sh b name f)
+    → HasScope f.state sh.parameters → IfFileWalks KeepsTags f (defined_by spec sh b name f)
 defined_keeps spec sized sh counted b c None f is_formed has = keeps_same f.state
 defined_keeps spec sized sh counted b c (Some name) f is_formed has =
     named_keeps f (definition_of (extents f.state) spec (built_in f.state spec sh) name) sh.parameters name.1 b c has
@@ -147,34 +137,30 @@ defined_keeps spec sized sh counted b c (Some name) f is_formed has =
 function_keeps : (d : Declarator) (b : t.Block) (specs : Specifiers)
     → is_regular_external (t.definition specs d b) ≡ true → (spec : Specification) (g : File) → IsFormed g.state
     → IsSpecified g.state spec
-    → IfFileKeeps g ((in_state (shape true d) ~> λ sh. defined_by spec sh b sh.name) g)
+    → IfFileWalks KeepsTags g ((in_state (shape true d) ~> λ sh. defined_by spec sh b sh.name) g)
 function_keeps d b specs c spec g is_formed is =
     then_state g (λ u sh. IsShapeOf u d sh) (shape true d g.state) (λ sh. defined_by spec sh b sh.name)
-    (shape_extends true d (second _ _ (first _ _ c)) g.state is_formed) (shape_keeps true d g.state)
+    (shape_extends true d (second _ _ (first _ _ c)) g.state is_formed) (shape_walks tags_walk true d g.state).by
     (λ sh k j has. defined_keeps spec is sh has.counted b (second _ _ c) sh.name k j has.scope)
 
 pub external_keeps : (e : t.External) → is_regular_external e ≡ true → (f : File) → IsFormed f.state
-    → IfFileKeeps f (external e f)
+    → IfFileWalks KeepsTags f (external e f)
 external_keeps (t.definition specs d b) c f is_formed =
     then_state f IsSpecified ((specification false specs >>> λ spec. judged (stored_once spec)) f.state)
     (λ spec. in_state (shape true d) ~> λ sh. defined_by spec sh b sh.name)
-    (stored_extends specs (first _ _ (first _ _ c)) f.state is_formed) (stored_keeps false specs f.state)
+    (stored_extends specs (first _ _ (first _ _ c)) f.state is_formed) (stored_walks tags_walk false specs f.state).by
     (λ spec g h is. function_keeps d b specs c spec g h is)
 external_keeps (t.declaration d) c f is_formed =
-    then_file f (declaration false d f) (λ vs. finished tt) (declaration_keeps false d f) (λ g vs. keeps_same g.state)
+    (file_then (declaration_walks tags_walk false d f) (λ r. file_done)).by
 
 then_grown : {A B : Type 0} (f : File) (a : Answer (File × A)) (next : A → FileTyping B) → Growing f a
-    → IfFileKeeps f a → ((g : File) (x : A) → IsFormed g.state → IfFileKeeps g (next x g))
-    → IfFileKeeps f (a >>= λ r. next r.1 r.0)
-then_grown f (Ok r) next l h k = by (next r.1 r.0) (k r.0 r.1 l.formed)
-  where
-    by : {B : Type 0} (b : Answer (File × B)) → IfFileKeeps r.0 b → IfFileKeeps f b
-    by (Ok q) g = keeps_on f.state r.0.state q.0.state h g
-    by (Err e) g = tt
+    → IfFileWalks KeepsTags f a → ((g : File) (x : A) → IsFormed g.state → IfFileWalks KeepsTags g (next x g))
+    → IfFileWalks KeepsTags f (a >>= λ r. next r.1 r.0)
+then_grown f (Ok r) next l h k = file_more tags_walk f r.0 h (next r.1 r.0) (k r.0 r.1 l.formed)
 then_grown f (Err e) next l h k = tt
 
 pub externals_keep : (es : List t.External) → are_regular_externals es ≡ true → (f : File) → IsFormed f.state
-    → IfFileKeeps f (externals es f)
+    → IfFileWalks KeepsTags f (externals es f)
 externals_keep [] c f is_formed = keeps_same f.state
 externals_keep (e ∷ es) c f is_formed =
     then_grown f (external e f) (λ done. externals es) (external_grows e (first _ _ c) f is_formed)
@@ -182,7 +168,8 @@ externals_keep (e ∷ es) c f is_formed =
 
 -- structures and unions keep their numbers and tags behind definitions and declarations
 
-pub if_bodies_stay : {A : Type 0} (f : File) (a : Answer (File × A)) → IfFileKeeps f a → IfBodiesStay f.state a
+if_bodies_stay : {A : Type 0} (f : File) (a : Answer (File × A)) → IfFileWalks KeepsTags f a
+    → IfBodiesStay f.state a
 if_bodies_stay f (Ok r) h = bodies_stay f.state r.0.state h
 if_bodies_stay f (Err e) h = tt
 
@@ -191,7 +178,7 @@ pub externals_stay : (es : List t.External) → are_regular_externals es ≡ tru
 externals_stay es c f is_formed = if_bodies_stay f (externals es f) (externals_keep es c f is_formed)
 
 pub declaration_stays : (in_head : Bool) (d : t.Declaration) (f : File) → IfBodiesStay f.state (declaration in_head d f)
-declaration_stays in_head d f = if_bodies_stay f (declaration in_head d f) (declaration_keeps in_head d f)
+declaration_stays in_head d f = if_bodies_stay f (declaration in_head d f) (declaration_walks tags_walk in_head d f).by
 
 -- which tags are complete behind a definition or a declaration
 
@@ -201,12 +188,12 @@ IfFileDoes before behind f (Err e) = Unit {0}
 
 state_does : {A B : Type 0} (tags behind : Names Bool) (f : File) (p : State → A → Type 0) (a : Answer (State × A))
     (next : A → FileTyping B) → Extending false f.state p a → IfDoes tags behind f.state a
-    → ((x : A) (g : File) → IsFormed g.state → p g.state x → IfFileKeeps g (next x g))
+    → ((x : A) (g : File) → IsFormed g.state → p g.state x → IfFileWalks KeepsTags g (next x g))
     → IfFileDoes tags behind f (a >>= filed f >>= λ r. next r.1 r.0)
 state_does tags behind f p (Ok r) next is h k =
     by (next r.1 (record f { state = r.0 })) (k r.1 (record f { state = r.0 }) is.0.formed is.1)
   where
-    by : {B : Type 0} (b : Answer (File × B)) → IfFileKeeps (record f { state = r.0 }) b
+    by : {B : Type 0} (b : Answer (File × B)) → IfFileWalks KeepsTags (record f { state = r.0 }) b
         → IfFileDoes tags behind f b
     by (Ok q) g = does_on tags behind behind f.state r.0 q.0.state h (does_by behind r.0 q.0.state g)
     by (Err e) g = tt
@@ -217,7 +204,7 @@ stored_does : (is_alone : Bool) (specs : Specifiers) (tags : Names Bool) (s : St
 stored_does is_alone specs tags s ready =
     then_does s ready tags (tags_in specs tags) (tags_in specs tags) (specification is_alone specs s)
     (λ spec. judged (stored_once spec)) (specification_does is_alone specs tags s ready)
-    (λ u spec now. kept_does (tags_in specs tags) u (judged (stored_once spec) u) (rule_keeps u (stored_once spec u)))
+    (λ u spec now. kept_does (tags_in specs tags) u (judged (stored_once spec) u) (judged_walks u (stored_once spec u)))
 
 end_does : {A : Type 0} (tags behind : Names Bool) (f : File) (a : Answer (File × A)) → IfFileDoes tags behind f a
     → IfFileDoes tags behind f (a >>= λ r. Ok (r.0, tt {0}))
@@ -244,7 +231,7 @@ external_does (t.declaration d) c tags f is_formed ready =
     (λ spec. with_declarators false spec d.declarators)
     (specified_extends (is_none d.declarators) d c f.state is_formed)
     (stored_does (is_none d.declarators) d.specifiers tags f.state ready)
-    (λ spec g h is. declarators_keep false spec d.declarators g))
+    (λ spec g h is. (declarators_walk tags_walk false spec d.declarators g).by))
 
 defined_tags : (o : Option Name) (x : Facts) → (facts.defined o x).tags ≡ x.tags
 defined_tags None x = refl

@@ -1,19 +1,19 @@
 -- Structures and unions that were declared at file scope by a tag: the tag stands for them from then on (C99 6.2.1,
 -- 6.7.2.3).
-use Rattle.std.proofs.Common.{◌≡◌, ℕ, zero, suc, ◌<◌, true, refl, sym, ap, subst, ◌∙◌}
-use Rattle.std.proofs.Common.{List, [], ◌∷◌, ◌++◌, length, Option, Some, None}
-use Rattle.std.specs.Prelude.{Ok, Err, map, slice_get}
+use Rattle.std.proofs.Common.{◌≡◌, ℕ, zero, suc, ◌<◌, true, refl, sym, ap, subst, ◌∙◌, List, [], ◌∷◌, ◌++◌, length}
+use Rattle.std.proofs.Common.{Option, Some, None}
+use Rattle.std.specs.Prelude.{map, slice_get}
 use Rattle.std.proofs.lemmas.List.{append-nil}
-use Rattle.c_rules.specs.Answer.{Answer, ◌>>=◌}
 use Rattle.c_scope.specs.declared.meaning.Tag.{Tag}
 use Rattle.c_scope.specs.declared.meaning.Tag.TheVariants as tag
-use Rattle.c_scope.specs.Names.{Name, Names, declared, is_empty, around, innermost}
+use Rattle.c_scope.specs.Names.{Name, Names, around, declared, innermost, is_empty}
 use Rattle.c_scope.specs.Structures.{Body, changed, file_tag_of, is_known}
-use Rattle.c_typing.specs.State.{State, Typing, extents}
+use Rattle.c_typing.specs.State.{State, extents}
 use Rattle.c_typed_validity.specs.Sound.{Extended}
 use Rattle.c_typed_validity.proofs.Sound.{get_extended, longer_list, same_list}
 use Rattle.c_typed_programs.specs.Sizes.Tags.{BodiesStay}
 use Rattle.c_typed_declarators.proofs.Parameters.{around_last, innermost_last}
+use Rattle.c_typed_programs.proofs.Walks.States.{Leaves, Stands}
 use Rattle.c_typed_programs.proofs.Common.{the_same}
 
 -- the tags by which structures and unions were declared at file scope, in the order of their numbers
@@ -144,12 +144,6 @@ changes_keep s t c = record {
   };
 }
 
--- where nothing of them is changed
-pub record Stands (s t : State) : Type 0 where
-  pub structures : t.environment.structures ≡ s.environment.structures
-  pub scopes : t.environment.tags ≡ s.environment.tags
-  pub outer : t.environment.names.outer ≡ s.environment.names.outer
-
 pub stands_keep : (s t : State) → Stands s t → KeepsTags s t
 stands_keep s t h =
     changes_keep s t (record {
@@ -157,7 +151,7 @@ stands_keep s t h =
       count = ap (λ z. length z.extents) h.structures;
       bodies = ap (λ z. length z.bodies) h.structures;
       known = λ n k. ap (λ z. is_known (slice_get z.extents n)) h.structures ∙ k;
-      scopes = h.scopes;
+      scopes = h.tags;
       outer = h.outer;
     })
 
@@ -184,29 +178,23 @@ pub record Inside (s v : State) : Type 0 where
   pub outer : v.environment.names.outer ≡ s.environment.names.outer ++ s.environment.names.current ∷ []
   pub outer_tags : v.environment.tags.outer ≡ s.environment.tags.outer ++ s.environment.tags.current ∷ []
 
--- a state behind the inner scope, which stands in the scopes of the one before it
-pub record Outside (s t u : State) : Type 0 where
-  pub structures : u.environment.structures ≡ t.environment.structures
-  pub outer : u.environment.names.outer ≡ s.environment.names.outer
-  pub outer_tags : u.environment.tags.outer ≡ s.environment.tags.outer
-  pub current : u.environment.tags.current ≡ s.environment.tags.current
+module _ (s v t u : State) (i : Inside s v) (h : KeepsTags v t) (o : Leaves t u) where
+  -- behind the inner scope stand those before it
+  outer_is : u.environment.names.outer ≡ s.environment.names.outer
+  outer_is =
+      o.outer ∙ ap around (h.outer ∙ i.outer)
+      ∙ around_last s.environment.names.outer s.environment.names.current
 
--- the innermost scope is left
-pub left_outside : (s t u : State) → u.environment.structures ≡ t.environment.structures
-    → u.environment.names.outer ≡ around t.environment.names.outer
-    → u.environment.tags.outer ≡ around t.environment.tags.outer
-    → u.environment.tags.current ≡ innermost t.environment.tags.current t.environment.tags.outer
-    → t.environment.names.outer ≡ s.environment.names.outer ++ s.environment.names.current ∷ []
-    → t.environment.tags.outer ≡ s.environment.tags.outer ++ s.environment.tags.current ∷ [] → Outside s t u
-left_outside s t u structures outer outer_tags current names tags = record {
-  structures = structures;
-  outer = outer ∙ ap around names ∙ around_last s.environment.names.outer s.environment.names.current;
-  outer_tags = outer_tags ∙ ap around tags ∙ around_last s.environment.tags.outer s.environment.tags.current;
-  current = current ∙ ap (innermost t.environment.tags.current) tags
-      ∙ innermost_last t.environment.tags.current s.environment.tags.outer s.environment.tags.current;
-}
+  outer_tags_is : u.environment.tags.outer ≡ s.environment.tags.outer
+  outer_tags_is =
+      o.outer_tags ∙ ap around (h.outer_tags ∙ i.outer_tags)
+      ∙ around_last s.environment.tags.outer s.environment.tags.current
 
-module _ (s v t u : State) (i : Inside s v) (h : KeepsTags v t) (o : Outside s t u) where
+  current_is : u.environment.tags.current ≡ s.environment.tags.current
+  current_is =
+      o.current ∙ ap (innermost o.file) (h.outer_tags ∙ i.outer_tags)
+      ∙ innermost_last o.file s.environment.tags.outer s.environment.tags.current
+
   -- the scope of the file is the same in all four
   inside_is : (name : Name) → in_file_scope name v ≡ in_file_scope name s
   inside_is name =
@@ -222,8 +210,8 @@ module _ (s v t u : State) (i : Inside s v) (h : KeepsTags v t) (o : Outside s t
 
   outside_is : (name : Name) → in_file_scope name u ≡ in_file_scope name s
   outside_is name =
-      ap (λ z. declared name (outermost z u.environment.tags.current)) o.outer_tags
-      ∙ ap (λ z. declared name (outermost s.environment.tags.outer z)) o.current
+      ap (λ z. declared name (outermost z u.environment.tags.current)) outer_tags_is
+      ∙ ap (λ z. declared name (outermost s.environment.tags.outer z)) current_is
 
   inside_has : HaveFileTags s → HaveFileTags v
   inside_has k = record {
@@ -241,7 +229,7 @@ module _ (s v t u : State) (i : Inside s v) (h : KeepsTags v t) (o : Outside s t
   outside_has : HaveFileTags s → HaveFileTags t → HaveFileTags u
   outside_has before k = record {
     same = ap (λ z. length z.extents) o.structures ∙ k.same ∙ ap (λ z. length z.bodies) (sym o.structures);
-    nested = λ e. ap is_empty o.outer_tags ∙ before.nested (ap is_empty (sym o.outer) ∙ e);
+    nested = λ e. ap is_empty outer_tags_is ∙ before.nested (ap is_empty (sym outer_is) ∙ e);
     numbered = λ name n e.
         subst (λ z. n < length z.extents) (sym o.structures)
         (k.numbered name n (ap number_of (behind_is name ∙ sym (outside_is name)) ∙ e));
@@ -259,27 +247,7 @@ module _ (s v t u : State) (i : Inside s v) (h : KeepsTags v t) (o : Outside s t
         ap (λ z. is_known (slice_get z.extents n)) o.structures
         ∙ h.known n (ap (λ z. is_known (slice_get z.extents n)) i.structures ∙ k);
     scope = λ name x e. outside_is name ∙ e;
-    outer = o.outer;
-    outer_tags = o.outer_tags;
+    outer = outer_is;
+    outer_tags = outer_tags_is;
     have = λ k. outside_has k (h.have (inside_has k));
   }
-
--- constructs that are typed one behind the other
-
-abbrev pub IfKeeps : {A : Type 0} → State → Answer (State × A) → Type 0
-IfKeeps s (Ok r) = KeepsTags s r.0
-IfKeeps s (Err f) = Unit {0}
-
-from_kept : {A : Type 0} (s t : State) → KeepsTags s t → (a : Answer (State × A)) → IfKeeps t a → IfKeeps s a
-from_kept s t h (Ok r) is = keeps_on s t r.0 h is
-from_kept s t h (Err f) is = tt
-
-pub then_keeps : {A B : Type 0} (s : State) (a : Answer (State × A)) (next : A → Typing B) → IfKeeps s a
-    → ((u : State) (x : A) → IfKeeps u (next x u)) → IfKeeps s (a >>= λ r. next r.1 r.0)
-then_keeps s (Ok r) next h g = from_kept s r.0 h (next r.1 r.0) (g r.0 r.1)
-then_keeps s (Err f) next h g = tt
-
--- what is judged in a state
-pub rule_keeps : {A : Type 0} (s : State) (a : Answer A) → IfKeeps s (a >>= λ x. Ok (s, x))
-rule_keeps s (Ok x) = keeps_same s
-rule_keeps s (Err f) = tt

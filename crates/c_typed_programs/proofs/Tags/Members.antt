@@ -1,6 +1,5 @@
 -- Specifiers at file scope complete the structures and unions whose members they list (C99 6.7.2.1, 6.7.2.3).
-use Rattle.std.proofs.Common.{◌≡◌, ◌⊎◌, inl, inr, ℕ, Bool, true, false, refl, sym, ap, subst, ◌∙◌}
-use Rattle.std.proofs.Common.{Some, None}
+use Rattle.std.proofs.Common.{◌≡◌, ◌⊎◌, inl, inr, ℕ, Bool, true, false, refl, sym, ap, subst, ◌∙◌, Some, None}
 use Rattle.std.specs.Prelude.{Ok, Err, is_some, slice_get}
 use Rattle.c_lexer.specs.declared.keyword.Keyword.{Keyword}
 use Rattle.c_lexer.specs.declared.keyword.Keyword.TheVariants as keyword
@@ -20,11 +19,14 @@ use Rattle.c_expression_typing.specs.Lines.{first_line, name_of}
 use Rattle.c_expression_typing.specs.Typed.{gathered, shape, specification, with_member, with_members}
 use Rattle.c_expression_typing.specs.Typed.{with_more_declared, with_specifier}
 use Rattle.c_typed_programs.proofs.Functions.Entities.{bound_either}
-use Rattle.c_typed_programs.proofs.Tags.Keeping.{HaveFileTags, IfKeeps, KeepsTags, in_file_scope, keeps_on, keeps_same}
-use Rattle.c_typed_programs.proofs.Tags.Keeping.{number_kept, number_of, then_keeps}
-use Rattle.c_typed_programs.proofs.Tags.Declaring.{IfBegun, IfKnown, begun_binds, begun_keeps, completed_keeps}
-use Rattle.c_typed_programs.proofs.Tags.Declaring.{completed_known}
-use Rattle.c_typed_programs.proofs.Tags.Recursion.{declared_keeps, specifier_keeps}
+use Rattle.c_typed_programs.proofs.Scopes.Initializers.{IfBehind}
+use Rattle.c_typed_programs.proofs.Tags.Declaring.{IfBegun, IfKnown, begun_binds, completed_known}
+use Rattle.c_typed_programs.proofs.Tags.Keeping.{HaveFileTags, KeepsTags, in_file_scope, keeps_on, keeps_same}
+use Rattle.c_typed_programs.proofs.Tags.Keeping.{number_kept, number_of}
+use Rattle.c_typed_programs.proofs.Tags.Walked.{tags_walk}
+use Rattle.c_typed_programs.proofs.Walks.Recursion.{declared_walk, specifier_walks}
+use Rattle.c_typed_programs.proofs.Walks.Specifiers.{begun_walks, completed_walks}
+use Rattle.c_typed_programs.proofs.Walks.States.{Walking, done_walks, then_walks}
 
 -- a tag that stands for a complete structure or union at file scope
 pub record Completes (name : Name) (s : State) : Type 0 where
@@ -87,9 +89,9 @@ abbrev pub IfDoes : {A : Type 0} → (before behind : Names Bool) → State → 
 IfDoes before behind s (Ok r) = Does before behind s r.0
 IfDoes before behind s (Err f) = Unit {0}
 
-pub kept_does : {A : Type 0} (tags : Names Bool) (s : State) (a : Answer (State × A)) → IfKeeps s a
+pub kept_does : {A : Type 0} (tags : Names Bool) (s : State) (a : Answer (State × A)) → Walking tags_walk s a
     → IfDoes tags tags s a
-kept_does tags s (Ok r) h = does_by tags s r.0 h
+kept_does tags s (Ok r) h = does_by tags s r.0 h.by
 kept_does tags s (Err f) h = tt
 
 from_done : {A : Type 0} (a b c : Names Bool) (s t : State) → Does a b s t → (x : Answer (State × A)) → IfDoes b c t x
@@ -135,7 +137,7 @@ module _ (name : Name) (tags behind : Names Bool) (g : Gathered) (line : ℕ) wh
 
   -- behind its members
   completed_does : (s v : State) (x : Tag) (n : ℕ) → StandsFor name x n v → KeepsTags s v
-      → Completed (bound name true tags) behind v → (a : Answer (State × Tag)) → IfKeeps v a → IfKnown n a
+      → Completed (bound name true tags) behind v → (a : Answer (State × Tag)) → IfBehind KeepsTags v a → IfKnown n a
       → IfDoes tags behind s (a >>= λ r. done (with_named (tag_type r.1) g) r.0)
   completed_does s v x n is k c (Ok r) h known = record {
     keeps = keeps_on s v r.0 k h;
@@ -155,12 +157,13 @@ module _ (name : Name) (tags behind : Names Bool) (g : Gathered) (line : ℕ) wh
       let there = h.keeps.scope name x is.there in
       let have = h.keeps.have ready.have in
       completed_does s r.0 x n (record { there = there; number = is.number }) (keeps_on s u r.0 k h.keeps) h.completes
-      (tag_completed line x r.1 r.0) (completed_keeps line x r.1 r.0)
+      (tag_completed line x r.1 r.0) (completed_walks {walk = tags_walk} line x r.1 r.0).by
       (completed_known line x r.1 r.0 n is.number (have.numbered name n (ap number_of there ∙ is.number)))
   members_then s u ready x n is k (Err f) h = tt
 
   -- from its tag on
-  begun_does : (s : State) → Ready s → (ms : t.Members) (a : Answer (State × Tag)) → IfKeeps s a → IfBegun name a
+  begun_does : (s : State) → Ready s → (ms : t.Members) (a : Answer (State × Tag)) → IfBehind KeepsTags s a
+      → IfBegun name a
       → ((u : State) → Ready u → IfDoes (bound name true tags) behind u (with_members ms no_entries u))
       → IfDoes tags behind s
       (a >>= λ r. (with_members ms no_entries >>> λ es. tag_completed line r.1 es >>> λ tag.
@@ -189,36 +192,36 @@ mutual
       → Ready s → IfDoes tags (tags_of x tags) s (with_specifier is_alone line x g s)
   specifier_does is_alone line (t.keyword w at) g tags s ready =
       kept_does tags s (with_specifier is_alone line (t.keyword w at) g s)
-      (specifier_keeps is_alone line (t.keyword w at) g s)
+      (specifier_walks tags_walk is_alone line (t.keyword w at) g s)
   specifier_does is_alone line (t.typedef_name x) g tags s ready =
       kept_does tags s (with_specifier is_alone line (t.typedef_name x) g s)
-      (specifier_keeps is_alone line (t.typedef_name x) g s)
+      (specifier_walks tags_walk is_alone line (t.typedef_name x) g s)
   specifier_does is_alone line (t.structure w at x) g tags s ready =
       kept_does tags s (with_specifier is_alone line (t.structure w at x) g s)
-      (specifier_keeps is_alone line (t.structure w at x) g s)
+      (specifier_walks tags_walk is_alone line (t.structure w at x) g s)
   specifier_does is_alone line (t.structure_body w at None l ms r) g tags s ready =
       then_does s ready tags tags (tags_in_members ms tags) (begun_as (tag_kind w) None line s)
       (λ tag. with_members ms no_entries >>> λ es. tag_completed line tag es >>> λ tag.
       done (with_named (tag_type tag) g))
-      (kept_does tags s (begun_as (tag_kind w) None line s) (begun_keeps (tag_kind w) None line s))
+      (kept_does tags s (begun_as (tag_kind w) None line s) (begun_walks (tag_kind w) None line s))
       (λ u tag now. then_does u now tags (tags_in_members ms tags) (tags_in_members ms tags)
       (with_members ms no_entries u) (λ es. tag_completed line tag es >>> λ tag. done (with_named (tag_type tag) g))
       (members_do ms no_entries tags u now)
       (λ v es later. kept_does (tags_in_members ms tags) v
       ((tag_completed line tag es >>> λ tag. done (with_named (tag_type tag) g)) v)
-      (then_keeps v (tag_completed line tag es v) (λ tag. done (with_named (tag_type tag) g))
-      (completed_keeps line tag es v) (λ w tag. keeps_same w))))
+      (then_walks (completed_walks line tag es v) (λ r. done_walks))))
   specifier_does is_alone line (t.structure_body w at (Some x) l ms r) g tags s ready =
       begun_does (name_of x) tags (tags_in_members ms (bound (name_of x) true tags)) g line s ready ms
-      (begun_as (tag_kind w) (Some (name_of x)) line s) (begun_keeps (tag_kind w) (Some (name_of x)) line s)
+      (begun_as (tag_kind w) (Some (name_of x)) line s)
+      (begun_walks {walk = tags_walk} (tag_kind w) (Some (name_of x)) line s).by
       (begun_binds s ready.file (tag_kind w) (plain_kind w) (name_of x) line)
       (λ u now. members_do ms no_entries (bound (name_of x) true tags) u now)
   specifier_does is_alone line (t.enumeration at x) g tags s ready =
       kept_does tags s (with_specifier is_alone line (t.enumeration at x) g s)
-      (specifier_keeps is_alone line (t.enumeration at x) g s)
+      (specifier_walks tags_walk is_alone line (t.enumeration at x) g s)
   specifier_does is_alone line (t.enumeration_body at x l e more comma r) g tags s ready =
       kept_does tags s (with_specifier is_alone line (t.enumeration_body at x l e more comma r) g s)
-      (specifier_keeps is_alone line (t.enumeration_body at x l e more comma r) g s)
+      (specifier_walks tags_walk is_alone line (t.enumeration_body at x l e more comma r) g s)
 
   members_do : (ms : t.Members) (es : Entries) (tags : Names Bool) (s : State) → Ready s
       → IfDoes tags (tags_in_members ms tags) s (with_members ms es s)
@@ -233,7 +236,7 @@ mutual
       (specified_does s ready tags (tags_in specs tags) specs
       (gathered false (first_line specs) specs nothing_gathered)
       (gathered_does false (first_line specs) specs nothing_gathered tags s ready))
-      (λ u spec now. kept_does (tags_in specs tags) u _ (declared_keeps spec d rest es u)))
+      (λ u spec now. kept_does (tags_in specs tags) u _ (declared_walk tags_walk spec d rest es u)))
       (λ u es now. members_do more es (tags_in specs tags) u now)
 
 pub specification_does : (is_alone : Bool) (specs : Specifiers) (tags : Names Bool) (s : State) → Ready s

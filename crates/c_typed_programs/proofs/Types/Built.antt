@@ -24,7 +24,8 @@ use Rattle.c_typing.specs.Specifications.{Gathered, specified, type_or_basic}
 use Rattle.c_typed_declarators.proofs.Types.{NoFaults, element_known, first_faultless, second_faultless}
 use Rattle.c_typed_programs.specs.SpelledTypes.Spelled.{fits, is_spelled}
 use Rattle.c_typed_programs.proofs.SpelledTypes.Words.{qualified_spelled, spelled_append}
-use Rattle.c_typed_programs.specs.Types.Typed.{AreSpelled, Each, IsDerived, IsSpelled, IsSpelledIf, OfSpecification, Structures}
+use Rattle.c_typed_programs.specs.Types.Typed.{AreSpelled, Each, IsDerived, IsSpelled, IsSpelledIf, OfSpecification}
+use Rattle.c_typed_programs.specs.Types.Typed.{Structures}
 use Rattle.c_typed_programs.proofs.Common.{both, second as right}
 
 pointer_spelled : (es : Structures) (b : Bool) (type : List TypeWord) → IsSpelled es type

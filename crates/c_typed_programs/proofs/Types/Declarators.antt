@@ -28,8 +28,8 @@ use Rattle.c_typed_declarators.proofs.Chained.{IfAnswer}
 use Rattle.c_typed_declarators.proofs.Parameters.{within}
 use Rattle.c_typed_declarators.proofs.Types.{NoFaults, first_faultless, without_faults}
 use Rattle.c_typed_programs.specs.SpelledTypes.Spelled.{IsValueType}
-use Rattle.c_typed_programs.specs.Types.Typed.{AreNamed, AreSpelled, Each, IsDerived, IsSpelled, OfEntries, OfParameters, OfShape}
-use Rattle.c_typed_programs.specs.Types.Typed.{OfSpecification, Structures, Typed}
+use Rattle.c_typed_programs.specs.Types.Typed.{AreNamed, AreSpelled, Each, IsDerived, IsSpelled, OfEntries}
+use Rattle.c_typed_programs.specs.Types.Typed.{OfParameters, OfShape, OfSpecification, Structures, Typed}
 use Rattle.c_typed_programs.proofs.Types.Built.{built_spelled}
 use Rattle.c_typed_programs.proofs.Types.Kept.{each_append, each_map, kinded_kept, names_kept, spelled_kept, value_kept}
 use Rattle.c_typed_programs.proofs.Types.Operators.{complete_readable}

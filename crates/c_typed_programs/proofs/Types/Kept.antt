@@ -20,8 +20,8 @@ use Rattle.c_typed_validity.specs.More.{AreMore}
 use Rattle.c_typed_validity.proofs.Kept.{extent_kept, kind_kept}
 use Rattle.c_typed_programs.specs.SpelledTypes.Spelled.{IsFunctionType, IsValueType, fits, has_parameters, is_readable}
 use Rattle.c_typed_programs.specs.SpelledTypes.Spelled.{is_spelled}
-use Rattle.c_typed_programs.specs.Types.Typed.{AreMembers, AreNamed, Each, HasType, HaveTypes, IsEntity, IsNamed, IsSpelled}
-use Rattle.c_typed_programs.specs.Types.Typed.{OfType, Structures}
+use Rattle.c_typed_programs.specs.Types.Typed.{AreMembers, AreNamed, Each, HasType, HaveTypes, IsEntity, IsNamed}
+use Rattle.c_typed_programs.specs.Types.Typed.{IsSpelled, OfType, Structures}
 use Rattle.c_typed_programs.proofs.SpelledTypes.Composites.{bytes_same}
 use Rattle.c_typed_programs.proofs.Common.{both, first as left, second as right, the_same}
 

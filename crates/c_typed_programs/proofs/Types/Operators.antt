@@ -71,8 +71,8 @@ IfValue es a = IfAnswer (OfValueType es) a
 abbrev pub IfOperand : Structures → Answer Operand → Type 0
 IfOperand es a = IfAnswer (OfType es) a
 
-pub then_value : {A : Type 0} (es : Structures) (a : Answer A) (next : A → Answer Value) → ((x : A) → IfValue es (next x))
-    → IfValue es (a >>= next)
+pub then_value : {A : Type 0} (es : Structures) (a : Answer A) (next : A → Answer Value)
+    → ((x : A) → IfValue es (next x)) → IfValue es (a >>= next)
 then_value es (Ok x) next h = h x
 then_value es (Err f) next h = tt
 

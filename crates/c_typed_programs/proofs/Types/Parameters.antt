@@ -37,7 +37,8 @@ use Rattle.c_typed_programs.proofs.Types.Kept.{each_append, each_around, each_in
 use Rattle.c_typed_programs.proofs.Types.States.{declarator_extents, declarator_types}
 use Rattle.c_typed_programs.proofs.Declarations.Judged.{complete_by, first_false}
 use Rattle.c_typed_programs.proofs.Types.Calls.{kind_by}
-use Rattle.c_typed_programs.proofs.Common.{first as left_true, neither_right as second_false, passed, passed_some, second as right}
+use Rattle.c_typed_programs.proofs.Common.{first as left_true, neither_right as second_false, passed, passed_some}
+use Rattle.c_typed_programs.proofs.Common.{second as right}
 
 -- the scope of a list of parameters
 

@@ -55,25 +55,28 @@ use Rattle.c_typed_declarators.proofs.Members.{Members, members_kept}
 use Rattle.c_typed_declarators.proofs.Parameters.{within, within_block, within_formed}
 use Rattle.c_typed_declarators.proofs.Recursion.{after, also, arguments_extend, begun_stays, enumerator_extend, first}
 use Rattle.c_typed_declarators.proofs.Recursion.{gathered_extends, less, member_by, member_extend, members_extend}
-use Rattle.c_typed_declarators.proofs.Recursion.{more_enumerators_extend, more_extend, name_extends}
-use Rattle.c_typed_declarators.proofs.Recursion.{parameter_extend, parameters_extend, printed_extend, second, shape_extends}
-use Rattle.c_typed_declarators.proofs.Recursion.{shape_then, specified_extends, specifier_extends, typed_extends}
+use Rattle.c_typed_declarators.proofs.Recursion.{more_enumerators_extend, more_extend, name_extends, parameter_extend}
+use Rattle.c_typed_declarators.proofs.Recursion.{parameters_extend, printed_extend, second, shape_extends, shape_then}
+use Rattle.c_typed_declarators.proofs.Recursion.{specified_extends, specifier_extends, typed_extends}
 use Rattle.c_typed_declarators.proofs.Steps.{called_extends, format_extends, valued_extends}
 use Rattle.c_typed_declarators.proofs.Tags.{BegunFrom, begun_extends}
 use Rattle.c_typed_declarators.proofs.Words.{int_word}
 use Rattle.c_typed_programs.specs.SpelledTypes.Spelled.{IsValueType}
 use Rattle.c_typed_programs.specs.Types.Typed.{AreSpelled, Each, IsCalled, IsSpelled, IsSpelledIf, OfGathered, OfType}
-use Rattle.c_typed_programs.specs.Types.Typed.{OfSpecification, OfValueType, OfValueTypes, Structures, Typed, Types, nothing}
+use Rattle.c_typed_programs.specs.Types.Typed.{OfSpecification, OfValueType, OfValueTypes, Structures, Typed, Types}
+use Rattle.c_typed_programs.specs.Types.Typed.{nothing}
 use Rattle.c_typed_programs.proofs.Types.Built.{specified_spelled}
 use Rattle.c_typed_programs.proofs.Types.Declarators.{AreEntriesOf, GivesTypes, IsDeclared, declared_kept, entries_kept}
 use Rattle.c_typed_programs.proofs.Types.Declarators.{function_typed, shaped_entries, with_one}
-use Rattle.c_typed_programs.proofs.Types.Kept.{each_append, each_map, kinded_kept, operand_kept, spelled_kept, value_kept}
-use Rattle.c_typed_programs.proofs.Types.Operators.{assigned_type, cast_to_type, chosen_type, combined_type, enclosed_type}
-use Rattle.c_typed_programs.proofs.Types.Operators.{indexed_type, sized_type, stepped_by_type}
-use Rattle.c_typed_programs.proofs.Types.Parameters.{GivesParameter, IsKinded, parameter_typed, type_named_spelled, within_types}
-use Rattle.c_typed_programs.proofs.Types.Steps.{accessed_typed, applied_to_typed, called_typed, enumerated_typed, format_typed}
-use Rattle.c_typed_programs.proofs.Types.Steps.{judged_typed, literal_typed, named_typed, prefixed_typed, then_typed}
-use Rattle.c_typed_programs.proofs.Types.Steps.{typedef_spelled, valued_typed, values_kept, weaker_typed}
+use Rattle.c_typed_programs.proofs.Types.Kept.{each_append, each_map, kinded_kept, operand_kept, spelled_kept}
+use Rattle.c_typed_programs.proofs.Types.Kept.{value_kept}
+use Rattle.c_typed_programs.proofs.Types.Operators.{assigned_type, cast_to_type, chosen_type, combined_type}
+use Rattle.c_typed_programs.proofs.Types.Operators.{enclosed_type, indexed_type, sized_type, stepped_by_type}
+use Rattle.c_typed_programs.proofs.Types.Parameters.{GivesParameter, IsKinded, parameter_typed, type_named_spelled}
+use Rattle.c_typed_programs.proofs.Types.Parameters.{within_types}
+use Rattle.c_typed_programs.proofs.Types.Steps.{accessed_typed, applied_to_typed, called_typed, enumerated_typed}
+use Rattle.c_typed_programs.proofs.Types.Steps.{format_typed, judged_typed, literal_typed, named_typed, prefixed_typed}
+use Rattle.c_typed_programs.proofs.Types.Steps.{then_typed, typedef_spelled, valued_typed, values_kept, weaker_typed}
 use Rattle.c_typed_programs.proofs.Types.Tags.{begun_types, completed_types, tagged_types}
 use Rattle.c_typed_programs.proofs.Common.{both}
 
@@ -325,7 +328,8 @@ mutual
       (λ w v g' hv types k'. (
         types,
         with_one in_definition d (t.array d l e r) (extents w) sh
-            (declared_kept in_definition d (extents u) (extents w) g'.more sh k) (λ g. g) refl (to_array (count_in v)) tt,
+            (declared_kept in_definition d (extents u) (extents w) g'.more sh k) (λ g. g) refl (to_array (count_in v))
+            tt,
       )))
   shape_typed in_definition (t.function d l ps r) c s formed types =
       then_typed false s (λ u sh. IsShapeOf u d sh) (IsDeclared in_definition d)

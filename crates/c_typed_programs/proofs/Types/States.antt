@@ -1,6 +1,6 @@
 -- What each step of typing does to a state whose types are spelled.
-use Rattle.std.proofs.Common.{◌≡◌, ◌⊎◌, inl, inr, ℕ, suc, ◌==◌, Bool, true, false, ◌&&◌, ◌||◌, arith, refl, sym, ap, ◌∙◌, subst, List, []}
-use Rattle.std.proofs.Common.{◌∷◌, ◌++◌, ◌+◌, length, Option, Some, None, if◌then◌else◌}
+use Rattle.std.proofs.Common.{◌≡◌, ◌⊎◌, inl, inr, ℕ, suc, ◌==◌, Bool, true, false, ◌&&◌, ◌||◌, arith, refl, sym, ap}
+use Rattle.std.proofs.Common.{◌∙◌, subst, List, [], ◌∷◌, ◌++◌, ◌+◌, length, Option, Some, None, if◌then◌else◌}
 use Rattle.std.specs.Prelude.{nat_lt, not}
 use Rattle.std.specs.List.{list_any}
 use Rattle.std.proofs.lemmas.Bool.{eq-eqb, le-ltb, ltb-false}
@@ -336,8 +336,9 @@ pub declarator_types : (s : State) (d : Declaration) → Types s → IsSpelled (
 declarator_types s d h is = declared_by s d (has_linkage (in_file s.environment) d) h is
 
 linked_extents : (s : State) (d : Declaration) (b : Bool)
-    → extents (record s { environment = if b then linked s.environment d else without_linkage d.storage s.environment d })
-    ≡ extents s
+    → extents (record s {
+      environment = if b then linked s.environment d else without_linkage d.storage s.environment d;
+    }) ≡ extents s
 linked_extents s d true = refl
 linked_extents s d false = by d.storage
   where

@@ -59,14 +59,15 @@ use Rattle.c_typed_declarators.specs.Given.{OperandHasWords, anything}
 use Rattle.c_typed_declarators.proofs.Chained.{IfAnswer}
 use Rattle.c_typed_programs.specs.SpelledTypes.Spelled.{IsFunctionType, IsValueType, is_readable}
 use Rattle.c_typed_programs.proofs.SpelledTypes.Words.{callee_spelled, qualified_spelled}
-use Rattle.c_typed_programs.specs.Types.Typed.{AreMembers, Each, HasType, IsCalled, IsNamed, IsSpelled, OfType, OfValueType}
-use Rattle.c_typed_programs.specs.Types.Typed.{OfValueTypes, Structures, Typed, Types, nothing}
+use Rattle.c_typed_programs.specs.Types.Typed.{AreMembers, Each, HasType, IsCalled, IsNamed, IsSpelled, OfType}
+use Rattle.c_typed_programs.specs.Types.Typed.{OfValueType, OfValueTypes, Structures, Typed, Types, nothing}
 use Rattle.c_typed_programs.proofs.Types.Calls.{called_kinded, called_type, formatted_type, routine_spelled}
 use Rattle.c_typed_validity.specs.More.{AreMore}
 use Rattle.c_typed_programs.proofs.Types.Kept.{each_declared, each_map, each_meaning, spelled_kept, value_kept}
 use Rattle.c_typed_programs.proofs.Types.Operators.{IfOperand, IfValue, address_type, among_type, operand_of_type}
 use Rattle.c_typed_programs.proofs.Types.Operators.{object_type, stepped_by_type, unary_value_type}
-use Rattle.c_typed_programs.proofs.Types.States.{Stays, address_stays, literal_stays, name_types, type_stays, used_stays}
+use Rattle.c_typed_programs.proofs.Types.States.{Stays, address_stays, literal_stays, name_types, type_stays}
+use Rattle.c_typed_programs.proofs.Types.States.{used_stays}
 use Rattle.c_typed_programs.proofs.Common.{both}
 
 -- one behind the other
@@ -311,7 +312,8 @@ selected_typed es line (Some m) h (a_variable x) = tt
 selected_typed es line (Some m) h (a_function f) = tt
 
 arrow_typed : (es : Structures) (line : ℕ) (m : Option places.Member)
-    → ((x : places.Member) → m ≡ Some x → IsValueType es x.type) → (v : Value) → IfOperand es (as_place (arrow line m v))
+    → ((x : places.Member) → m ≡ Some x → IsValueType es x.type) → (v : Value)
+    → IfOperand es (as_place (arrow line m v))
 arrow_typed es line None h v = tt
 arrow_typed es line (Some m) h v =
     object_type es (qualified (is_const (pointee_of v.type)) m.type) m.size line (arrow_node v.tree m.offset m.size)

@@ -7,7 +7,8 @@ use Rattle.c_unit_typing.specs.Files.{File}
 use Rattle.c_typed_validity.specs.Steps.{Structures}
 use Rattle.c_typed_programs.specs.Scopes.Leaving.{FileLeads}
 use Rattle.c_typed_programs.specs.Layouts.Listed.{IsLaidOut}
-use Rattle.c_typed_programs.specs.Bodies.Standing.{AreLinked, AreOpen, AreVariables, Ends, EntitiesLead, Numbers, Stands}
+use Rattle.c_typed_programs.specs.Bodies.Standing.{AreLinked, AreOpen, AreVariables, Ends, EntitiesLead, Numbers}
+use Rattle.c_typed_programs.specs.Bodies.Standing.{Stands}
 
 -- It makes variables, some of them in the innermost block. Where names stand for something of the kind of their type
 -- before it, and the scope of the function has what the file has behind it and these variables of the block, what it is

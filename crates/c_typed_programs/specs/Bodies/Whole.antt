@@ -1,5 +1,5 @@
 -- Files whose functions have valid bodies (C99 6.9).
-use Rattle.std.specs.Prelude.{◌≡◌, ℕ, List, [], ◌∷◌, ◌++◌, Ok, Err}
+use Rattle.std.specs.Prelude.{◌≡◌, ℕ, List, [], ◌∷◌, Ok, Err}
 use Rattle.c_tree.specs.Programs.{StaticObject}
 use Rattle.c_rules.specs.Answer.{Answer}
 use Rattle.c_unit_typing.specs.Files.{Definition, File}
@@ -42,20 +42,6 @@ abbrev pub AreInTurn : File → List Definition → (before behind : List (ℕ �
 AreInTurn end [] before behind = behind ≡ before
 AreInTurn end (d ∷ ds) before behind =
     (h : BeginsWith end d before) × AreInTurn end ds h.is.defines.end.statics behind
-
--- a file outside of functions, behind declarations and definitions that stand behind another
-pub record IsFurther (f behind : File) : Type 0 where
-  pub outside : IsOutside behind.state
-  pub entities : EntitiesLead f.state.environment behind.state.environment
-  pub grows : Grows f behind
-  pub rest : List Definition
-  pub is : behind.definitions ≡ f.definitions ++ rest
-  pub defined : (end : File) → Grows behind end
-      → EntitiesLead behind.state.environment end.state.environment → AreInTurn end rest f.statics behind.statics
-
-abbrev pub IfFurther : {A : Type 0} → File → Answer (File × A) → Type 0
-IfFurther f (Ok r) = IsFurther f r.0
-IfFurther f (Err e) = Unit {0}
 
 -- a file that is accepted
 

@@ -26,8 +26,8 @@ pub fn static_objects_are_in_order()
         → are_regular_externals es ≡ true → file_with objects end es ≡ Ok f → AreInOrder f }
 {}
 
-/// The types of functions that a typed program defines or calls are all different, and each agrees with the kinds of its
-/// parameters and result, with the structures that are complete at the end (C99 6.7.5.3).
+/// The types of functions that a typed program defines or calls are all different, and each agrees with the kinds of
+/// its parameters and result, with the structures that are complete at the end (C99 6.7.5.3).
 pub fn function_types_are_valid()
     ensures { (objects : Option (List (List Bool))) (end : ℕ) (es : List External) (f : File)
         → are_regular_externals es ≡ true → define_functions es ≡ true → file_with objects end es ≡ Ok f

@@ -23,7 +23,8 @@ ghost use Rattle.c_typed_validity.specs.Sound.{IsTypeOf};
 ghost use Rattle.c_unit_typing.specs.Files.{File};
 ghost use Rattle.c_unit_typing.specs.Programs.{program_of};
 ghost use Rattle.c_unit_typing.specs.Units.{externals, file_with};
-ghost use Rattle.c_typed_programs.specs.Scopes.Regular.{are_regular_externals, are_regular_block_items, is_regular_declaration};
+ghost use Rattle.c_typed_programs.specs.Scopes.Regular.{are_regular_externals, are_regular_block_items};
+ghost use Rattle.c_typed_programs.specs.Scopes.Regular.{is_regular_declaration};
 ghost use Rattle.c_tree.specs.Programs.{Function};
 ghost use Rattle.c_typed_programs.specs.Scopes.Defined.{define_functions};
 ghost use Rattle.c_typed_programs.specs.Functions.Entities.{Fills, IfContinues, without_sizes};
@@ -37,8 +38,8 @@ pub fn main_is_defined()
 {}
 
 /// The functions that a file defines stand in the order of their definitions: the number of a name is that of its
-/// definition, whose type is that of all declarations of the function but for sizes of arrays, and is among the types of
-/// functions (C99 6.2.7, 6.9.1).
+/// definition, whose type is that of all declarations of the function but for sizes of arrays, and is among the types
+/// of functions (C99 6.2.7, 6.9.1).
 pub fn functions_are_numbered()
     ensures { (objects : Option (List (List Bool))) (end : ℕ) (es : List External) (f : File)
         → are_regular_externals es ≡ true → define_functions es ≡ true → file_with objects end es ≡ Ok f
@@ -62,12 +63,14 @@ pub fn function_types_have_signatures()
         → slice_get f.state.function_types n ≡ Some type → IsTypeOf scope (extents f.state) n type }
 {}
 
-/// A name of a function that the file defines stands, wherever its type is that of the function but for sizes of arrays,
-/// for the function of its number in the program, whose signature that type spells at the end (C99 6.2.7, 6.9.1).
+/// A name of a function that the file defines stands, wherever its type is that of the function but for sizes of
+/// arrays, for the function of its number in the program, whose signature that type spells at the end (C99 6.2.7,
+/// 6.9.1).
 pub fn defined_functions_are_designated()
     ensures { (objects : Option (List (List Bool))) (end : ℕ) (es : List External) (f : File)
         → are_regular_externals es ≡ true → define_functions es ≡ true → file_with objects end es ≡ Ok f
-        → (scope : Scope) → scope.functions ≡ map (λ g. signature_at (program_of f) g.type_number) (program_of f).functions
+        → (scope : Scope)
+        → scope.functions ≡ map (λ g. signature_at (program_of f) g.type_number) (program_of f).functions
         → (name : Name) (x : Entity) (n : ℕ) → declared name f.state.environment.entities ≡ Some x
         → x.what ≡ what.Function n → (type : List TypeWord) → without_sizes type ≡ without_sizes x.c_type
         → is_undefined n f.state ≡ false → IsFunctionOf scope (extents f.state) n type }
@@ -80,12 +83,12 @@ pub fn linked_names_continue()
         → IfContinues f (externals es f) }
     ensures declarations { (in_head : Bool) (d : Declaration) → is_regular_declaration d ≡ true → (f : File)
         → IsFormed f.state → IfContinues f (declaration in_head d f) }
-    ensures items { (around : Around) (xs : BlockItems) → are_regular_block_items xs ≡ true → (f : File) → IsFormed f.state
-        → IfContinues f (block_items around xs f) }
+    ensures items { (around : Around) (xs : BlockItems) → are_regular_block_items xs ≡ true → (f : File)
+        → IsFormed f.state → IfContinues f (block_items around xs f) }
 {}
 
-/// A declarator with linkage binds its name to the object or function of that name, with its type but for sizes of arrays,
-/// of which it has no other, where the declaration that is visible there has no other (C99 6.2.7 paragraph 4).
+/// A declarator with linkage binds its name to the object or function of that name, with its type but for sizes of
+/// arrays, of which it has no other, where the declaration that is visible there has no other (C99 6.2.7 paragraph 4).
 pub fn linked_names_have_types()
     ensures words { (env : Environment) (d : Declarator) (u : Unit {0}) → judged (surroundings env d) d ≡ Ok u
         → has_linkage (in_file env) d ≡ true

@@ -13,8 +13,8 @@ ghost use Rattle.c_typed_validity.specs.Sound.{IsFormed};
 ghost use Rattle.c_typed_declarators.specs.Given.{IsParameterScope};
 ghost use Rattle.c_typed_programs.specs.Layouts.Listed.{IsLaidOut};
 ghost use Rattle.c_typed_programs.specs.Scopes.Leaving.{FileLeads};
-ghost use Rattle.c_typed_programs.specs.Scopes.Regular.{are_regular_block_items, are_regular_externals, is_regular_declaration};
-ghost use Rattle.c_typed_programs.specs.Scopes.Regular.{is_regular_statement};
+ghost use Rattle.c_typed_programs.specs.Scopes.Regular.{are_regular_block_items, are_regular_externals};
+ghost use Rattle.c_typed_programs.specs.Scopes.Regular.{is_regular_declaration, is_regular_statement};
 ghost use Rattle.c_typed_programs.specs.LaidOut.Behind.{IfLaid, IsLaidIf};
 
 /// Behind declarations and statements the state is laid out, as it is in a scope that is opened or closed (C99 6.2.1).

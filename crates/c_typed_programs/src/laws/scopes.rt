@@ -19,8 +19,9 @@ ghost use Rattle.c_typed_declarators.specs.Extending.{Extending};
 ghost use Rattle.c_typed_declarators.specs.Given.{anything};
 ghost use Rattle.c_typed_programs.specs.Scopes.Defined.{define_functions};
 ghost use Rattle.c_typed_programs.specs.Scopes.Leaving.{IfEnds, Leading};
-ghost use Rattle.c_typed_programs.specs.Scopes.Regular.{are_regular_block_items, are_regular_externals, is_regular_declaration};
-ghost use Rattle.c_typed_programs.specs.Scopes.Regular.{is_regular_initializer, is_regular_statement};
+ghost use Rattle.c_typed_programs.specs.Scopes.Regular.{are_regular_block_items, are_regular_externals};
+ghost use Rattle.c_typed_programs.specs.Scopes.Regular.{is_regular_declaration, is_regular_initializer};
+ghost use Rattle.c_typed_programs.specs.Scopes.Regular.{is_regular_statement};
 
 /// Behind a file that is accepted, tags stand for structures and unions that are declared, complete ones have from 1 to
 /// 2^32 bytes, and their members lie in them (C99 6.7.2.1).
@@ -47,8 +48,8 @@ pub fn typing_leaves_scopes()
         → IsFormed f.state → Leading f (block_items a xs f) }
 {}
 
-/// A well-formed file is regular: its structures and unions have members, each with a name (C99 6.7.2.1). Its definitions
-/// are of functions whose parameters have names (6.9.1).
+/// A well-formed file is regular: its structures and unions have members, each with a name (C99 6.7.2.1). Its
+/// definitions are of functions whose parameters have names (6.9.1).
 pub fn well_formed_files_are_regular()
     ensures regular { (u : Unit) → IsWellFormed u → are_regular_externals u.externals ≡ true }
     ensures defined { (u : Unit) → IsWellFormed u → define_functions u.externals ≡ true }

@@ -1,4 +1,4 @@
-use Rattle.c_typed_programs.proofs.Bodies.Whole.{file_whole}
+use Rattle.c_typed_programs.proofs.Names.Files.{file_whole}
 use Rattle.c_typed_programs.proofs.laws.bodies.files_have_valid_definitions.Goals as goal
 
 pub returns : goal.returns

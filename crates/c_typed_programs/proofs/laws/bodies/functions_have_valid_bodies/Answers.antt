@@ -1,4 +1,5 @@
-use Rattle.c_typed_programs.proofs.Bodies.Bodies.{function_body, function_declares, function_parameters, function_variables}
+use Rattle.c_typed_programs.proofs.Bodies.Bodies.{function_body, function_declares, function_parameters}
+use Rattle.c_typed_programs.proofs.Bodies.Bodies.{function_variables}
 use Rattle.c_typed_programs.proofs.laws.bodies.functions_have_valid_bodies.Goals as goal
 
 pub returns : goal.returns

@@ -59,9 +59,9 @@ impl RefusedWord {
 }
 
 /// Why a source is refused. First comes `TooLarge` of the source's bytes; then a lexical fault, a fault of a directive,
-/// an unsupported word, `Syntax` or `Nesting`; then a violated rule of typing (or `RoomTooLarge`), an initializer that
-/// is not constant, `TooLarge` of functions, parameters, members or globals, in this order; then `Uncompiled`, and last
-/// what is too large to be built.
+/// an unsupported word, `Syntax` or `Nesting`; then a violated rule of typing; where all initializers of static objects
+/// are constant, `TooLarge` of functions, parameters, members or globals, in this order; then `RoomTooLarge`, and an
+/// initializer that is not constant; then `Uncompiled`, and last what is too large to be built.
 #[derive(Debug, Drop, Error)]
 pub enum SourceRefusal {
     /// The first place where no token stands.
@@ -104,7 +104,7 @@ pub enum SourceRefusal {
         which: Counted,
         count: u128,
     },
-    /// The source is typed, but no valid program of integers alone: it has an object, a pointer, a structure or a
+    /// The source is typed, but no program of integers alone: it has an object, a pointer, a structure or a
     /// library function other than `putchar`, `getchar`, `exit` and `abort`. The text ends on this line.
     #[error("the program of the source is not compiled yet")]
     Uncompiled(Line),

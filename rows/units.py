@@ -84,6 +84,8 @@ ROWS = {
         ("whole_structure", ("struct P{int a,b;};struct Q{struct P p;int c;};int main(void){struct P p={1,2};struct Q q={p,3};"
                              "return q.c;}",
                              ok([], [fun(1, 0, [], [(8, True), (12, True)], [1, 2, "other", 3, "other"])])), True),
+    ]),
+    "InitializerFaults": ("Initializers that violate a rule (C99 6.7.8).", [
         ("too_many", fault("int a[1]={\n1,2};", "MisplacedItem", 1), True),
         ("too_many_and_undeclared", fault("int a[1]={1,2,\ny};", "Undeclared", 2), True),
         ("too_many_and_designator", fault("int a[1]={1,2,\n[5]=3};", "MisplacedItem", 2), True),
@@ -99,9 +101,9 @@ ROWS = {
         ("own_size", fault("int a[]={\nsizeof a};", "Incomplete", 2), True),
         ("too_large", fault("int a[]={\n[4294967295]=1};", "LargeType", 1), None),
         ("size_of_another_block", fault("void f(void){extern int a[3];}\nint a[]={1,2};" + END, "Redeclared", 2), None),
-        ("size_of_the_visible", static("extern int a[3];int a[]={1,2};", obj(12, [(0, 1), (4, 2)])), True),
     ]),
     "Declarations": ("Declarations: linkage, tentative definitions, storage classes, tags, functions (C99 6.7, 6.9).", [
+        ("size_of_the_visible", static("extern int a[3];int a[]={1,2};", obj(12, [(0, 1), (4, 2)])), True),
         ("tentative", ("int x;int x=3;int x;int main(void){return x;}",
                        ok([obj(4, [(0, 3)])], [fun(1, 0, contents=["other"])])), True),
         ("one_element", static("int a[];", obj(4)), True),
@@ -306,9 +308,10 @@ def rows_of(subject):
     about, rows = ROWS[subject]
     out = [f"-- {about}"]
     compared = [name for name, _, gcc in rows if gcc]
-    out.append(wrapped("-- gcc 12.2.0 (-std=c99 -pedantic-errors -fsyntax-only) accepts or refuses the texts of all rows but of these as they do, "
-                       "which have a rule or limit that gcc has not: " + ", ".join(n for n, _, g in rows if not g) + ".", 0)
-               .replace("\n", "\n-- "))
+    others = ", ".join(n for n, _, g in rows if not g)
+    told = ("accepts or refuses the texts of all rows but of these as they do, which have a rule or limit that gcc has not: " + others
+            if others else "accepts the texts of all rows, as they do")
+    out.append(wrapped(f"-- gcc 12.2.0 (-std=c99 -pedantic-errors -fsyntax-only) {told}.", 0).replace("\n", "\n-- "))
     body = []
     for name, (text, expected), _ in rows:
         shown = text if len(text) < 400 else text[:100] + " .. " + text[-60:]

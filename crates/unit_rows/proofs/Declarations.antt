@@ -38,6 +38,31 @@ use Rattle.c_unit_typing.specs.Typed.{typed_unit}
 use Rattle.unit_rows.proofs.Sources.{accepted, at, bytes, declaration, declarators, function, init_declarator}
 use Rattle.unit_rows.proofs.Sources.{number, other, source, spelled, word}
 
+-- extern int a[3];int a[]={1,2};int main(void){return 0;}
+size_of_the_visible :
+    (source ((s.declaration (declaration (t.specifiers (word keyword.Extern 1) (t.specifiers (word keyword.Int 1)
+    t.no_specifiers)) (Some (declarators (init_declarator (t.array (t.named (spelled (codes "a") 1)) (at 1) (t.integer
+    (spelled (codes "3") 1)) (at 1)) None) [])) (at 1))) ∷ (s.declaration (declaration (t.specifiers (word keyword.Int
+    1) t.no_specifiers) (Some (declarators (init_declarator (t.open_array (t.named (spelled (codes "a") 1)) (at 1) (at
+    1)) (Some (
+      (at 1),
+      (t.braced (at 1) (t.item None (t.value (t.integer (spelled (codes "1") 1)))) (t.more_items (at
+          1) (t.item None (t.value (t.integer (spelled (codes "2") 1)))) t.end_of_items) None (at 1)),
+    ))) [])) (at 1))) ∷
+    (s.definition (t.specifiers (word keyword.Int 1) t.no_specifiers) (t.function (t.named (spelled (codes "main") 1))
+    (at 1) (t.void_parameters (at 1)) (at 1)) (s.block (at 1) (s.items (s.inner (s.return (at 1) (Some (t.integer
+    (spelled (codes "0") 1))) (at 1))) s.no_items) (at 1))) ∷ []) 1)
+    ≡ accepted true ((12, (None, ((0, number 1) ∷ (4, number 2) ∷ []))) ∷ []) (function 1 0 [] [] (number 0 ∷ []) ∷
+    [])
+unfolding balanced_type common_type fit is_signed mixed_type promoted rank size_of unsigned_of binary_value
+    shift_amount unary_value constant_in constant_of greatest_of suffix_of typed types_of bytes_of_literal
+    character_value characters_of escaped literal_step next_character extent_of array_size member_offsets structure_of
+    union_of room is_valid_program constant_word binary assigned cast row_of comma combined unary dereferenced indexed
+    size_of_words assignment compound stepped condition conditional switch_value called called_through routine_words
+    composite judged start reached reached_by reached_in element_number member_number number_behind part closed opened
+    with_literal with_value without typed_unit
+size_of_the_visible = refl
+
 -- int x;int x=3;int x;int main(void){return x;}
 tentative :
     (source ((s.declaration (declaration (t.specifiers (word keyword.Int 1) t.no_specifiers) (Some (declarators

@@ -1,4 +1,5 @@
 pub mod Sources
+mod InitializerFaults
 mod Initializers
 mod Declarations
 mod DeclarationFaults

@@ -36,7 +36,7 @@ use Rattle.c_current_object.specs.Subobjects.{element_number, member_number, num
 use Rattle.c_initializer_rules.specs.Initializing.{closed, opened, with_literal, with_value}
 use Rattle.c_initializer_rules.specs.Placed.{without}
 use Rattle.c_unit_typing.specs.Typed.{typed_unit}
-use Rattle.unit_rows.proofs.Sources.{at, declaration, declarators, function, init_declarator}
+use Rattle.unit_rows.proofs.Sources.{at, declaration, declarators, init_declarator}
 use Rattle.unit_rows.proofs.Sources.{refused, source, spelled, word}
 
 -- static int a[];int main(void){return 0;}

@@ -19,8 +19,8 @@ use Rattle.sbcets_core.specs.Outcomes.{max_source}
 use Rattle.c_tree.specs.Programs.{Program}
 use Rattle.c_typer.specs.Rooms.{first_without_room}
 use Rattle.c_unit_typing.specs.Typed.{TypedUnit, a_program, a_fault, too_large, typed_unit}
-use Rattle.sbcets_core.specs.Programs.{Judged, constant_fault, is_compiled, unless_large, unless_fault, judged_program}
-use Rattle.sbcets_core.specs.Programs.{judged_unit}
+use Rattle.integer_programs.specs.Programs.{is_integer_program}
+use Rattle.sbcets_core.specs.Programs.{Judged, constant_fault, judged_program, judged_unit, unless_fault, unless_large}
 use Rattle.sbcets_core.specs.Accepted.{Readable, RefusesTokens, IsTyped, expanded_tokens, supported_tokens}
 use Rattle.sbcets_core.specs.Accepted.{with_support}
 use Rattle.sbcets_core.specs.Accepted.{unless_unsupported, of_readable, of_expanded, of_tokens, JudgesTokens}
@@ -84,7 +84,7 @@ early source =
 -- no tree is typed as the parser refuses
 typed_late : (end : ℕ) (t : TypedUnit) → IsUnparsed (judged_unit end t) → ⊥
 unfolding judged_program
-typed_late end (a_program p) i = by (first_without_room 0 p.functions) (constant_fault p) (is_compiled p) i
+typed_late end (a_program p) i = by (first_without_room 0 p.functions) (constant_fault p) (is_integer_program p) i
   where
     by : (room fault : Option ℕ) (b : Bool)
         → IsUnparsed (unless_large room (unless_fault fault (if b then Ok p else Err (Uncompiled end)))) → ⊥

@@ -38,8 +38,8 @@ use Rattle.c_rules.proofs.FineUnary.{same_kind}
 use Rattle.c_rules.proofs.FineConversions.{unqualified_kind, assigned_fine}
 use Rattle.c_place_rules.specs.Targets.{object_kind}
 use Rattle.c_place_rules.specs.Operands.{Place, Variable, Operand, a_value, a_place, a_variable, a_function}
-use Rattle.c_place_laws.specs.FinePlaces.{IsEarlierPlace, IsFineVariable, IsEarlierOperand, WasSized, complete_as, unsized_as}
-use Rattle.c_place_laws.specs.FinePlaces.{is_unsized_kind}
+use Rattle.c_place_laws.specs.FinePlaces.{IsEarlierPlace, IsFineVariable, IsEarlierOperand, WasSized, complete_as}
+use Rattle.c_place_laws.specs.FinePlaces.{is_unsized_kind, unsized_as}
 use Rattle.c_place_laws.proofs.Sizes.{Complete, complete}
 use Rattle.c_assignment_rules.specs.declared.operators.Change.{Change}
 use Rattle.c_assignment_rules.specs.declared.operators.StepOperator.{StepOperator}
@@ -209,7 +209,8 @@ module _ (scope : Scope) (structures : List (Option TypeExtent)) where
         let v : Converts scope (integer u) a.tree = integer_converts scope structures u j a fa ha in (
           v.valid,
           all (all (ap is_integer hk) (promotes i))
-              (ap (λ x. is_right_of x t (kind_of (converted (integer u) a.tree))) c ∙ ap is_promoted v.kind ∙ promotes j),
+              (ap (λ x. is_right_of x t (kind_of (converted (integer u) a.tree))) c ∙ ap is_promoted v.kind
+              ∙ promotes j),
         )
 
     moves : (size : ℕ) (j : IntType) → k ≡ pointer → is_size size ≡ true → kind_of a.tree ≡ integer j

@@ -36,7 +36,8 @@ one_more found d (Some ps) = ap Some (append_assoc found (d ∷ []) (directives 
 -- a piece behind `%` or `%l`
 piece_scans : (o : Option Piece) (bytes : List ℕ) (found : List Directive)
     → ((found' : List Directive) → scanned place.Text found' bytes ≡ behind found' (pieces bytes))
-    → continued (behind_piece o) found (λ q found'. scanned q found' bytes) ≡ behind found (piece_before o (pieces bytes))
+    → continued (behind_piece o) found (λ q found'. scanned q found' bytes)
+    ≡ behind found (piece_before o (pieces bytes))
 piece_scans None bytes found h = refl
 piece_scans (Some (piece.Byte b)) bytes found h = h found ∙ sym (plain found b (pieces bytes))
 piece_scans (Some (piece.Directive d)) bytes found h = h (found ++ d ∷ []) ∙ one_more found d (pieces bytes)

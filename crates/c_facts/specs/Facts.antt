@@ -84,7 +84,8 @@ has_extern (t.specifiers x more) = is_extern x || has_extern more
 -- functions are numbered in the order of their definitions (6.9.1)
 
 abbrev pub numbered : Name → Names ℕ → Names ℕ
-numbered name functions = if is_some (declared name functions) then functions else bound name (length functions) functions
+numbered name functions =
+    if is_some (declared name functions) then functions else bound name (length functions) functions
 
 abbrev pub defined : Option Name → Facts → Facts
 defined None facts = facts

@@ -14,7 +14,7 @@ pub fn words_have_one_tree()
 
 /// The reader of files is exact: what it reads is well formed, has exactly these words, and leaves none; each
 /// well-formed file is read from its words; and of words that it refuses there is no well-formed file.
-#[tactic(auto, using(crate::proofs::Exact::what_is_read, crate::proofs::CompleteUnits::unit_complete, crate::proofs::Refused::none_where_refused))]
+#[tactic(auto, using(crate::proofs::Refused::reading))]
 pub fn reading_is_exact()
     ensures sound { (i : Words) (u : Unit) (r : Words) → unit_from i ≡ Ok (u, r)
         → (r ≡ []) × IsWellFormed u × (unit_words u ≡ i) }

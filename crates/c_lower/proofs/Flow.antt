@@ -33,7 +33,7 @@ use Rattle.c_lower.specs.Statements.{Exits, LowersEntry, LowersLeaving, in_loop,
 use Rattle.c_lower.proofs.Comes.{Goes, goes_from, goes_spare, goes_frame, goes_steps, goes_step, goes_done, goes_at}
 use Rattle.c_lower.proofs.Comes.{goes_less, goes_after, goes_sure, goes_came, goes_turn, goes_pause}
 use Rattle.c_lower.proofs.KeyStays.{pointer_kept}
-use Rattle.c_lower.proofs.Values.{placed}
+use Rattle.c_lower.proofs.Temporaries.{placed}
 
 abbrev pub exit_of : Exits → Completion → ℕ
 exit_of x Normal = x.next

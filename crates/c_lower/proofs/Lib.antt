@@ -2,6 +2,7 @@ pub mod Comes
 pub mod KeyValues
 pub mod KeyStays
 pub mod Accesses
+pub mod Temporaries
 pub mod Values
 pub mod Flow
 pub mod Statements

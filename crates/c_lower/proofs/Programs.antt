@@ -54,7 +54,8 @@ use Rattle.tac_ir.specs.Meaning.{step, first_stage, tac_meaning}
 use Rattle.c_lower.specs.Programs.{function_exits, LowersBody, LowersFunction, result_in, height_in, LowersAt}
 use Rattle.c_lower.specs.Programs.{IsLowered}
 use Rattle.c_lower.proofs.Comes.{Reached, Goes, reached_from}
-use Rattle.c_lower.proofs.Values.{loops_in, placed, put_same, Called, CallsRun}
+use Rattle.c_lower.proofs.Temporaries.{loops_in, placed, put_same}
+use Rattle.c_lower.proofs.Values.{Called, CallsRun}
 use Rattle.c_lower.proofs.Flow.{exit_of, LeftBy, AllSized, sized_opened}
 use Rattle.c_lower.proofs.Statements.{statements_run}
 

@@ -60,8 +60,8 @@ use Rattle.c_lower.proofs.Comes.{Goes, goes_from, goes_counted, goes_counted_as,
 use Rattle.c_lower.proofs.Comes.{goes_step, goes_done, goes_at, goes_less, goes_after, goes_then, goes_sure, goes_came}
 use Rattle.c_lower.proofs.Comes.{goes_last}
 use Rattle.c_lower.proofs.Accesses.{store_cost, direct_is_live, value_moves}
-use Rattle.c_lower.proofs.Values.{placed, put_same, ValueIn, CallsRun, two_left, text_at, false_by, expression_runs}
-use Rattle.c_lower.proofs.Values.{argument_at}
+use Rattle.c_lower.proofs.Temporaries.{placed, put_same, ValueIn}
+use Rattle.c_lower.proofs.Values.{CallsRun, two_left, text_at, false_by, expression_runs, argument_at}
 use Rattle.c_lower.proofs.Flow.{exit_of, LeftBy, Anyhow, home_kept, AllSized, sized_opened, next_goes, test_goes}
 use Rattle.c_lower.proofs.Flow.{switch_left, choose_goes, labels_go, default_goes, turns_run, turns_before_run}
 use Rattle.c_lower.proofs.Flow.{scoped_goes}

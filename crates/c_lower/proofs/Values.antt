@@ -1,7 +1,7 @@
 -- The code of expressions and lvalues does what they mean.
-use Rattle.std.proofs.Common.{◌≡◌, ◌≢◌, ℕ, ◌+◌, ◌<◌, ◌≤◌, List, [], ◌∷◌, Option, Some, None, Bool, true, false, refl}
-use Rattle.std.proofs.Common.{sym, ap, ◌∙◌, subst, arith, eq-eqb, ne_eqb}
-use Rattle.std.specs.Prelude.{◌&&◌, not, cond, ◌==◌, if◌then◌else◌}
+use Rattle.std.proofs.Common.{◌≡◌, ℕ, ◌+◌, ◌<◌, ◌≤◌, List, [], ◌∷◌, Option, Some, None, Bool, true, false, refl}
+use Rattle.std.proofs.Common.{sym, ap, ◌∙◌, subst, arith}
+use Rattle.std.specs.Prelude.{◌&&◌, not, cond, ◌==◌}
 use Rattle.addr_map.specs.Places.{function_address}
 use Rattle.sb_base.specs.declared.ending.Ending.TheVariants.{BadCall}
 use Rattle.obj_memory.specs.declared.value.Tag.{Tag}
@@ -54,16 +54,14 @@ use Rattle.source_meaning.proofs.ActionsAct.{acts_take_value, acts_read_rvalue, 
 use Rattle.source_meaning.proofs.LibraryActs.{acts_routine, acts_print}
 use Rattle.tac_ir.specs.declared.instruction.Instruction.TheVariants as tac
 use Rattle.tac_ir.specs.declared.key.Key.{Key}
-use Rattle.tac_ir.specs.declared.function.CodeFunction.{CodeFunction}
-use Rattle.tac_ir.specs.declared.function.CountedLoop.{CountedLoop}
 use Rattle.tac_ir.specs.declared.function.Tac.{Tac}
 use Rattle.tac_ir.specs.Stage.{Temps, with_temp, gathered, Frame, Waits, Stage, Stands, Over, came, seen}
 use Rattle.tac_ir.specs.Accesses.{admitted, moved_from, is_through}
 use Rattle.tac_ir.specs.Costs.{entries_of, checks_of}
-use Rattle.tac_ir.specs.Meaning.{code_of, keys_of, blocks_in, function_in, if_there, text_in, at_node, keyed, given_in}
+use Rattle.tac_ir.specs.Meaning.{keys_of, function_in, if_there, text_in, at_node, keyed, given_in}
 use Rattle.tac_ir.specs.Meaning.{given_to, called, act_at, step as advance}
 use Rattle.tac_ir.proofs.Turns.{acts_as}
-use Rattle.c_lower.specs.Placed.{Placed, HasAt}
+use Rattle.c_lower.specs.Placed.{HasAt}
 use Rattle.c_lower.specs.Keys.{place_key, key_after, key_if, read_key, write_key}
 use Rattle.c_lower.specs.Values.{mode_for, LowersTaking, count, LowersExpression, LowersNode, LowersLvalue, LowersPlace}
 use Rattle.c_lower.specs.Values.{LowersArguments}
@@ -74,58 +72,8 @@ use Rattle.c_lower.proofs.KeyValues.{Right, key_opens, place_right}
 use Rattle.c_lower.proofs.KeyStays.{right_after}
 use Rattle.c_lower.proofs.Accesses.{through_is, access_cost, access_opens, value_moves, reach_later, reach_scalar}
 use Rattle.c_lower.proofs.Accesses.{updates_scalar, plain_is_no_structure, plain_contents, reach_contents}
-
-abbrev pub loops_in : Option CodeFunction → List CountedLoop
-loops_in None = []
-loops_in (Some c) = c.loops
-
--- the code of a function, by its number, over variables
-abbrev pub placed : Tac → (function : ℕ) → List Variable → Placed
-placed t u variables = record {
-  code = code_of (function_in t u);
-  keys = keys_of (function_in t u);
-  blocks = blocks_in (function_in t u);
-  loops = loops_in (function_in t u);
-  texts = t.texts;
-  variables = variables;
-}
-
--- temporaries
-
-pub put_same : (t : Temps) (d : ℕ) (v : Rvalue) → with_temp t d v d ≡ v
-put_same t d v = ap (λ b. if b then v else t d) (eq-eqb d d refl)
-
-pub put_other : (t : Temps) (d : ℕ) (v : Rvalue) (i : ℕ) → i ≢ d → with_temp t d v i ≡ t i
-put_other t d v i ne = ap (λ b. if b then v else t i) (ne_eqb i d ne)
-
-abbrev pub KeepsBelow : ℕ → (before after : Temps) → Type 0
-KeepsBelow d before after = (i : ℕ) → i < d → after i ≡ before i
-
--- temporary d has the value, and those below it are as before
-pub record ValueIn (d : ℕ) (before : Temps) (v : Rvalue) (temps : Temps) (s : State) : Type 0 where
-  pub value : temps d ≡ v
-  pub below : KeepsBelow d before temps
-
--- the values of arguments stand in the temporaries from d on
-pub record ValuesIn (d : ℕ) (before : Temps) (n : ℕ) (vs : List Rvalue) (temps : Temps) (s : State) : Type 0 where
-  pub values : gathered temps d n ≡ vs
-  pub below : KeepsBelow d before temps
-
-pub put_value : (d : ℕ) (v v' : Rvalue) (before t : Temps) (s : State) → v' ≡ v → KeepsBelow d before t
-    → ValueIn d before v (with_temp t d v') s
-put_value d v v' before t s e h = record {
-  value = put_same t d v' ∙ e;
-  below = λ i lt. put_other t d v' i (omega arith) ∙ h i lt;
-}
-
--- another value in the same temporary
-turned : {d : ℕ} {before : Temps} {v w : Rvalue} {t : Temps} {s s' : State} → v ≡ w → ValueIn d before v t s
-    → ValueIn d before w t s'
-turned e p = record { value = p.value ∙ e; below = p.below }
-
-over : {d : ℕ} {before : Temps} {v w : Rvalue} {t t' : Temps} {s s' : State} → ValueIn d before v t s
-    → ValueIn d t w t' s' → ValueIn d before w t' s'
-over p q = record { value = q.value; below = λ i l. q.below i l ∙ p.below i l }
+use Rattle.c_lower.proofs.Temporaries.{placed, KeepsBelow, ValueIn, ValuesIn, put_value}
+use Rattle.c_lower.proofs.Temporaries.{turned, over}
 
 -- what is kept
 

@@ -1,7 +1,7 @@
 -- What the operators on lvalues and functions give is valid where their operands are.
-use Rattle.std.proofs.Common.{◌≡◌, ℕ, ◌+◌, ◌^◌, Bool, true, false, Option, Some, None, List, [], ◌∷◌, refl, ap, sym}
+use Rattle.std.proofs.Common.{◌≡◌, ℕ, ◌+◌, Bool, true, false, Option, Some, None, List, [], ◌∷◌, refl, ap, sym}
 use Rattle.std.proofs.Common.{◌∙◌, subst}
-use Rattle.std.specs.Prelude.{◌&&◌, ◌==◌, not, nat_le, if◌then◌else◌, is_none, Ok}
+use Rattle.std.specs.Prelude.{not, nat_le, if◌then◌else◌, is_none, Ok}
 use Rattle.std.proofs.lemmas.Bool.{eq-eqb}
 use Rattle.c_tree.specs.declared.c_type.TypeWord.{TypeWord}
 use Rattle.c_tree.specs.declared.c_type.TypeWord.TheVariants as word
@@ -13,7 +13,7 @@ use Rattle.c_tree.specs.Kinds.{integer, pointer, is_kind, is_size, is_array, is_
 use Rattle.c_tree.specs.Kinds.{are_offset}
 use Rattle.c_tree.specs.Tree.{kind_of, lvalue_kind, lvalue_line, deref, LvalueNode}
 use Rattle.c_tree.specs.TypesAgree.{kind_of_type, structure_kind}
-use Rattle.c_tree.specs.Valid.{Scope, is_valid, is_lvalue, is_valid_lvalue, is_valid_lvalue_node, is_member}
+use Rattle.c_tree.specs.Valid.{Scope, is_lvalue, is_valid_lvalue_node, is_member}
 use Rattle.c_rules.specs.declared.class.Class.{Class}
 use Rattle.c_rules.specs.declared.class.Class.TheVariants as class
 use Rattle.c_rules.specs.declared.class.Target.{Target}
@@ -28,16 +28,16 @@ use Rattle.c_rules.proofs.FineBinary.{all}
 use Rattle.c_rules.proofs.FineUnary.{same_kind}
 use Rattle.c_rules.proofs.FineConversions.{unqualified_kind}
 use Rattle.c_place_rules.specs.Targets.{pointee_of, object_kind, is_const, qualified}
-use Rattle.c_place_rules.specs.Operands.{Place, Variable, Operand, a_value, a_place, a_variable, a_function, element_of}
+use Rattle.c_place_rules.specs.Operands.{Place, Operand, a_value, a_place, a_variable, a_function, element_of}
 use Rattle.c_place_rules.specs.Operands.{decayed_to, loaded_as, read_value, value_in, enclosed}
 use Rattle.c_place_rules.specs.Places.{object_at, dereferenced, dereferenced_as, address, address_to, subscript}
 use Rattle.c_place_rules.specs.Places.{element_as, element_at, indexed, Member, structure_of, type_in, selected}
 use Rattle.c_place_rules.specs.Places.{member_of_value, member_of_place, member_behind, arrow, size_in, size_of}
-use Rattle.c_place_laws.specs.FinePlaces.{IsFinePlace, IsFineVariable, IsFineFunction, IsFineOperand, IfFinePlace}
-use Rattle.c_place_laws.specs.FinePlaces.{IfFineOperand, IsMemberOf, IsFound, IsFoundBehind, IsReadable, IsSized, complete, unsized}
-use Rattle.c_place_laws.specs.FinePlaces.{is_incomplete_structure, is_unsized}
-use Rattle.c_place_laws.proofs.Sizes.{Complete, complete as completes, target_size, kind_bytes, qualified_target, pointee_target}
-use Rattle.c_place_laws.proofs.Sizes.{structure_kind_at, structure_target, structure_object, size_fits}
+use Rattle.c_place_laws.specs.FinePlaces.{IsFinePlace, IsFineOperand, IfFinePlace}
+use Rattle.c_place_laws.specs.FinePlaces.{IfFineOperand, IsMemberOf, IsFound, IsFoundBehind, IsReadable, IsSized}
+use Rattle.c_place_laws.specs.FinePlaces.{complete, unsized, is_incomplete_structure, is_unsized}
+use Rattle.c_place_laws.proofs.Sizes.{Complete, complete as completes, target_size, kind_bytes, qualified_target}
+use Rattle.c_place_laws.proofs.Sizes.{pointee_target, structure_kind_at, structure_target, structure_object, size_fits}
 
 some_kind : (j k : Kind) → Some j ≡ Some k → k ≡ j
 some_kind j k e = cc

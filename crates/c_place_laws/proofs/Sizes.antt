@@ -1,23 +1,20 @@
 -- Types, their sizes, and the kinds of objects of them.
-use Rattle.std.proofs.Common.{◌≡◌, ℕ, ◌%◌, ◌^◌, Bool, true, false, Option, Some, None, List, [], ◌∷◌, refl, ap, sym}
-use Rattle.std.proofs.Common.{◌∙◌, subst, arith}
-use Rattle.std.specs.Prelude.{if◌then◌else◌, ◌==◌, nat_le, ◌&&◌, option_map}
+use Rattle.std.proofs.Common.{◌≡◌, ℕ, ◌%◌, ◌^◌, Bool, true, false, Option, Some, None, List, [], ◌∷◌, refl, ap}
+use Rattle.std.proofs.Common.{subst, arith}
+use Rattle.std.specs.Prelude.{if◌then◌else◌, ◌==◌, nat_le, option_map}
 use Rattle.std.proofs.lemmas.Bool.{eq-eqb}
-use Rattle.obj_memory.specs.declared.int_type.IntType.{IntType}
 use Rattle.obj_memory.specs.declared.int_type.IntType.TheVariants.{Int, UnsignedLong}
 use Rattle.obj_memory.specs.Integers.{fit, size_of}
 use Rattle.c_tree.specs.declared.c_type.TypeWord.{TypeWord}
 use Rattle.c_tree.specs.declared.c_type.TypeWord.TheVariants as word
-use Rattle.c_tree.specs.declared.expression.Kind.{Kind}
 use Rattle.c_tree.specs.declared.expression.Kind.TheVariants as kind
 use Rattle.c_tree.specs.Extents.{TypeExtent, extent_of, structure_extent, array_extent}
-use Rattle.c_tree.specs.Kinds.{integer, pointer, is_size, size_of_kind, is_value, is_array}
+use Rattle.c_tree.specs.Kinds.{pointer, is_size, size_of_kind}
 use Rattle.c_tree.specs.TypesAgree.{kind_of_type, structure_kind}
-use Rattle.c_rules.specs.declared.class.Class.{Class}
 use Rattle.c_rules.specs.declared.class.Class.TheVariants as class
 use Rattle.c_rules.specs.declared.class.Target.{Target}
 use Rattle.c_rules.specs.declared.class.Target.TheVariants as target
-use Rattle.c_rules.specs.Types.{class_of, object_of, target_of, unqualified}
+use Rattle.c_rules.specs.Types.{class_of, object_of, target_of}
 use Rattle.c_rules.proofs.TypeKinds.{HasSize, class_kind}
 use Rattle.c_rules.proofs.SameTypes.{both_true}
 use Rattle.c_place_rules.specs.Targets.{pointee_of, object_kind, constant, qualified}

@@ -1,5 +1,6 @@
 -- Operands that are valid, of the kind that their type has (C99 6.2.5, 6.3.2.1).
-use Rattle.std.specs.Prelude.{◌≡◌, ◌==◌, ℕ, ◌+◌, ◌^◌, Bool, true, false, nat_le, List, ◌∷◌, Option, Some, None, is_none, Ok, Err}
+use Rattle.std.specs.Prelude.{◌≡◌, ◌==◌, ℕ, ◌+◌, ◌^◌, Bool, true, false, nat_le, List, ◌∷◌, Option, Some, None}
+use Rattle.std.specs.Prelude.{is_none, Ok, Err}
 use Rattle.c_tree.specs.declared.c_type.TypeWord.{TypeWord}
 use Rattle.c_tree.specs.declared.c_type.TypeWord.TheVariants as word
 use Rattle.c_tree.specs.declared.expression.Kind.{Kind}

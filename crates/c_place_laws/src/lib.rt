@@ -11,7 +11,8 @@ ghost use Rattle.c_rules.specs.Values.{Value};
 ghost use Rattle.c_place_rules.specs.Operands.{Operand, enclosed, value_in};
 ghost use Rattle.c_place_rules.specs.Places.{Member, address, arrow, dereferenced, indexed, selected, size_of};
 ghost use Rattle.c_place_rules.specs.Places.{structure_of, type_in};
-ghost use Rattle.c_place_laws.specs.FinePlaces.{IfFineOperand, IfFinePlace, IsFineOperand, IsFound, IsFoundBehind, IsReadable};
+ghost use Rattle.c_place_laws.specs.FinePlaces.{IfFineOperand, IfFinePlace, IsFineOperand, IsFound, IsFoundBehind};
+ghost use Rattle.c_place_laws.specs.FinePlaces.{IsReadable};
 
 /// The value of a valid operand is valid: what an lvalue of a complete type holds, the pointer to the first element of
 /// an array, the pointer to a function; and a valid operand stays one in parentheses.

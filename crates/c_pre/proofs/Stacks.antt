@@ -102,3 +102,5 @@ finished-onto (x ∷ xs) inner section = finished-onto xs (x ∷ inner) section
 pub first_is_outermost : (section : IfSection) (more : List IfSection)
     → finished (inner_first (section ∷ more)) ≡ fails section.line Unclosed
 first_is_outermost section more = finished-onto more [] section
+
+pub ruleset put_in = (last_is_inner, last_name, name_added)

@@ -20,7 +20,8 @@ new_last : {A : Type 0} (name : Name) (x : A) (es : Names A) → length es < len
 new_last name x [] is = refl
 new_last name x (e ∷ es) is = with_first name x e es (is_name name e.0) (new_last name x es) is
 
-taken_more : {A : Type 0} (n : ℕ) (es : List A) (e : A) → slice_get es n ≡ Some e → take n es ++ e ∷ [] ≡ take (suc n) es
+taken_more : {A : Type 0} (n : ℕ) (es : List A) (e : A) → slice_get es n ≡ Some e
+    → take n es ++ e ∷ [] ≡ take (suc n) es
 taken_more n [] e is = cc
 taken_more zero (x ∷ xs) e is = ap (λ o. unwrapped e o ∷ []) (sym is)
 taken_more (suc n) (x ∷ xs) e is = ap (λ l. x ∷ l) (taken_more n xs e is)
@@ -48,5 +49,6 @@ next_copied es n k x y before new count is inside same begun made counted longer
     let is_new = made ∙ ap (λ z. bound k.now z before) same ∙ ap (bound k.now x) begun in
     let long = subst (λ m. n < m) (counted ∙ ap length is_new) longer in
     is_new ∙ new_last k.now x (take n (map row es))
-    (subst (λ m. m < length (bound k.now x (take n (map row es)))) (sym (length_take n (map row es) (omega (arith, inside)))) long)
+    (subst (λ m. m < length (bound k.now x (take n (map row es))))
+    (sym (length_take n (map row es) (omega (arith, inside)))) long)
     ∙ taken_more n (map row es) (k.now, x) (row_at es n k x is)

@@ -7,19 +7,6 @@ ghost use Rattle.c_syntax.specs.View as view;
 use crate::tree::Declarator;
 use c_lexer::Spelling;
 
-/// Whether a spelling is among typedef names.
-#[tactic(auto, unfolding(crate::specs::Formed::is_among))]
-pub fn is_among(names: &[Spelling], name: &Spelling) -> bool
-    ensures { result ≡ formed.is_among name.now names.now }
-{
-    for other in names {
-        if other.is(name) {
-            return true;
-        }
-    }
-    false
-}
-
 /// The name of a declarator, or `None` where it is abstract.
 pub fn declared_name<'t, 'a>(declarator: &'t Declarator<'a>) -> Option<Spelling<'a>>
     ensures { result ≡ formed.declared (view.declarator_of declarator.now) }

@@ -1,7 +1,7 @@
 -- What makes an expression valid: each node has the kind that C99 6.5 gives it, and each name stands for something of
 -- that kind that can be named there.
-use Rattle.std.specs.Prelude.{ℕ, ◌+◌, ◌^◌, Bool, true, false, not, ◌&&◌, ◌||◌, ◌==◌, nat_lt, nat_le, List, [], length, Option}
-use Rattle.std.specs.Prelude.{Some, None, get_or}
+use Rattle.std.specs.Prelude.{ℕ, ◌+◌, ◌^◌, Bool, true, false, not, ◌&&◌, ◌||◌, ◌==◌, nat_lt, nat_le, List, [], length}
+use Rattle.std.specs.Prelude.{Option, Some, None, get_or}
 use Rattle.obj_memory.specs.declared.int_type.IntType.{IntType}
 use Rattle.obj_memory.specs.declared.int_type.IntType.TheVariants.{Int, Long}
 use Rattle.obj_memory.specs.declared.operator.UnaryOperator.{UnaryOperator}

@@ -130,7 +130,8 @@ literal_extends : (b : Bool) (bytes : List ℕ) (s : State) → IsFormed s → E
 literal_extends b bytes s formed =
     extends_marks b s formed s.taken s.undefined (with_literal bytes s).literals s.function_types
     (s.environment.statics + 1) (λ e. e) (record { rest = _; is = refl }) (same_list s.function_types) (omega arith)
-    (λ n. literal_numbers n s.literals (record { number = s.environment.statics; function = s.function; bytes = bytes }))
+    (λ n. literal_numbers n s.literals
+    (record { number = s.environment.statics; function = s.function; bytes = bytes }))
 
 pub literal_by : (b : Bool) (is : Bool) (bytes : List ℕ) (s : State) → IsFormed s
     → Extends b s (if is then with_literal bytes s else s)

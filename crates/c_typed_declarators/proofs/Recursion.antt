@@ -174,7 +174,8 @@ shape_kept s t low d sh is =
 
 -- what a list of parameters declares is new in its scope
 
-pub new_there : (behind : Option Meaning) (m : Meaning) → IsSameOr (IsNew true) None behind → behind ≡ Some m → IsNew true m
+pub new_there : (behind : Option Meaning) (m : Meaning) → IsSameOr (IsNew true) None behind → behind ≡ Some m
+    → IsNew true m
 new_there behind m (same e) is = none_new (sym e ∙ is)
   where
     none_new : None ≡ Some m → IsNew true m

@@ -319,8 +319,8 @@ none_is : {A : Type 0} (o : Option A) → is_some o ≡ false → o ≡ None
 none_is None e = refl
 none_is (Some x) e = absurd cc
 
-pub declared_by : (b : Bool) (s : State) → IsFormed s → (name : Name) (line : ℕ) (o : Option ℕ) → IsIntIf o → (is : Bool)
-    → is_some (declared name s.environment.names.current) ≡ is → Extending b s IntNext
+pub declared_by : (b : Bool) (s : State) → IsFormed s → (name : Name) (line : ℕ) (o : Option ℕ) → IsIntIf o
+    → (is : Bool) → is_some (declared name s.environment.names.current) ≡ is → Extending b s IntNext
     (unless_declared is line (with_value name line o s.environment)
     >>= λ env. Ok (record s { environment = env }, next_value o))
 declared_by b s formed name line o h true e = tt

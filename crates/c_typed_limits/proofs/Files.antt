@@ -14,9 +14,9 @@ use Rattle.c_tree.specs.Programs.{Program, StaticObject}
 use Rattle.c_tree.specs.Statements.{Statements}
 use Rattle.c_rules.specs.declared.fault.Rule.TheVariants.{NoMain}
 use Rattle.c_rules.specs.Answer.{Answer, violates, ◌>>=◌}
-use Rattle.c_counts.specs.Counts.{Count, counts_of}
+use Rattle.c_counts.specs.Counts.{counts_of}
 use Rattle.c_counts.specs.Counts as counts
-use Rattle.c_counts.specs.Excess.{first_above, members_among, most_members, most_parameters, parameters_among}
+use Rattle.c_counts.specs.Excess.{most_parameters}
 use Rattle.c_facts.specs.Facts.{facts_in}
 use Rattle.c_scope.specs.declared.meaning.Designated.TheVariants as what
 use Rattle.c_scope.specs.declared.meaning.Meaning.{Meaning}
@@ -27,16 +27,14 @@ use Rattle.c_typing.specs.Declarators.{Shape}
 use Rattle.c_typing.specs.Specifications.{Specification}
 use Rattle.c_typing.specs.State.{State, judged, ◌>>>◌}
 use Rattle.c_expression_typing.specs.Typed.{shape, specification}
-use Rattle.c_unit_typing.specs.declared.limits.Limited.{Limited}
-use Rattle.c_unit_typing.specs.declared.limits.Limited.TheVariants as limited
 use Rattle.c_unit_typing.specs.Declarations.{declaration, stored_once}
 use Rattle.c_unit_typing.specs.Files.{Definition, File, in_state, ◌~>◌}
 use Rattle.c_unit_typing.specs.Programs.{functions_from, program_of, static_objects}
-use Rattle.c_unit_typing.specs.Typed.{TypedUnit, a_program, are_constant, global_bytes, limited_program}
-use Rattle.c_unit_typing.specs.Typed.{most_bytes, most_functions, typed_as, typed_unit, when_large}
-use Rattle.c_unit_typing.specs.Units.{all_defined, around_body, body, body_of, defined_as, defined_by, definition, ended}
-use Rattle.c_unit_typing.specs.Units.{entered, external, externals, file_before, file_in, file_with, is_main, left}
-use Rattle.c_unit_typing.specs.Units.{parameter_in, parameters_in, scope_or_none, with_body}
+use Rattle.c_unit_typing.specs.Typed.{a_program, are_constant, typed_as, typed_unit}
+use Rattle.c_unit_typing.specs.Units.{all_defined, around_body, body, body_of, defined_as, defined_by, definition}
+use Rattle.c_unit_typing.specs.Units.{ended, entered, external, externals, file_before, file_in, file_with, is_main}
+use Rattle.c_unit_typing.specs.Units.{left, parameter_in, parameters_in, scope_or_none, with_body}
+use Rattle.c_unit_typing.proofs.Limits.{constant_within}
 use Rattle.c_typed_limits.specs.Variables.{variable_count, variables_among}
 use Rattle.c_typed_limits.proofs.Counted.{AreWithin, external_within, specifiers_within}
 use Rattle.c_typed_limits.proofs.Kept.{IfKept, Keeping, declaration_keeps, items_keep, state_keeps}
@@ -218,42 +216,13 @@ functions_bounded m f os n (d ∷ ds) h =
 
 -- within the limits
 
-large_none : (which : Limited) (o : Option ℕ) (x : TypedUnit) (p : Program) → when_large which o x ≡ a_program p
-    → (o ≡ None) × (x ≡ a_program p)
-large_none which None x p e = (refl, e)
-large_none which (Some n) x p e = absurd cc
-
-same_program : (p q : Program) → a_program p ≡ a_program q → p ≡ q
-same_program p q e = cc
-
-limited_within : (cs : List Count) (p q : Program) → limited_program cs p ≡ a_program q
-    → AreWithin most_parameters cs × (p ≡ q)
-limited_within cs p q e =
-    let functions = large_none limited.Functions (first_above most_functions (length p.functions ∷ [])) _ q e in
-    let parameters = large_none limited.Parameters (first_above most_parameters (parameters_among cs)) _ q functions.1 in
-    let members = large_none limited.Members (first_above most_members (members_among cs)) _ q parameters.1 in
-    let globals = large_none limited.Globals (first_above most_bytes (global_bytes p ∷ [])) _ q members.1 in
-    (parameters.0, same_program p q globals.1)
-
-no_constants : {A : Type 0} (p q : Program) → p ≡ q → are_constant p ≡ false → are_constant q ≡ true → A
-no_constants p q e other is = conflict (sym other ∙ ap are_constant e ∙ is)
-  where
-    conflict : {A : Type 0} → false ≡ true → A
-    conflict e = absurd cc
-
-constant_within : (b : Bool) (cs : List Count) (p q : Program) → are_constant p ≡ b
-    → (if b then limited_program cs p else a_program p) ≡ a_program q → are_constant q ≡ true
-    → AreWithin most_parameters cs × (p ≡ q)
-constant_within true cs p q c e is = limited_within cs p q e
-constant_within false cs p q c e is = no_constants p q (same_program p q e) c is
-
 typed_bounded : (xs : List t.External) (a : Answer File) (p : Program)
     → (AreWithin most_parameters (counts_of xs) → IfFile most_parameters a) → typed_as xs a ≡ a_program p
     → are_constant p ≡ true → HasAtMost most_parameters p
 typed_bounded xs (Ok f) p bounded e is =
-    let within = constant_within (are_constant (program_of f)) (counts_of xs) (program_of f) p refl e is in
-    subst (HasAtMost most_parameters) within.1
-    (functions_bounded most_parameters f (static_objects f) 0 f.definitions (bounded within.0))
+    let within = constant_within xs (program_of f) p e is in
+    subst (HasAtMost most_parameters) within.same
+    (functions_bounded most_parameters f (static_objects f) 0 f.definitions (bounded within.parameters))
 typed_bounded xs (Err x) p bounded e is = absurd cc
 
 pub unit_bounded : (end : ℕ) (u : t.Unit) (p : Program) → typed_unit end u ≡ a_program p → are_constant p ≡ true

@@ -28,9 +28,9 @@ use Rattle.c_expression_typing.specs.Typed.{shape, typed}
 use Rattle.c_unit_typing.specs.Constructs.{Around, Labelled, Labels, behind_first, case_label, controlled, controlling}
 use Rattle.c_unit_typing.specs.Constructs.{controls, declaration_typed, default_label, do_behind, do_typed, evaluated}
 use Rattle.c_unit_typing.specs.Constructs.{expression_typed, fault_before, fault_or, first_typed, for_typed}
-use Rattle.c_unit_typing.specs.Constructs.{head_typed, if_else_typed, if_typed, in_scope, jump, labelled, labels_on, scope_closed}
-use Rattle.c_unit_typing.specs.Constructs.{looping, no_labels, returned, scope_opened, switch_typed, switching}
-use Rattle.c_unit_typing.specs.Constructs.{switching_on, while_typed, without_labels}
+use Rattle.c_unit_typing.specs.Constructs.{head_typed, if_else_typed, if_typed, in_scope, jump, labelled, labels_on}
+use Rattle.c_unit_typing.specs.Constructs.{looping, no_labels, returned, scope_closed, scope_opened, switch_typed}
+use Rattle.c_unit_typing.specs.Constructs.{switching, switching_on, while_typed, without_labels}
 use Rattle.c_unit_typing.specs.Declarations.{alone_in, declaration, declared_as, declared_with, initialized_if}
 use Rattle.c_unit_typing.specs.Declarations.{initializer_in, named_by, specified, with_declarator, with_declarators}
 use Rattle.c_unit_typing.specs.Declarations.{with_others, with_parts, with_static, with_variable}

@@ -22,8 +22,8 @@ use Rattle.c_scope.specs.Enumerators.{enumerated, with_value}
 use Rattle.c_scope.specs.Environment.{Environment, in_file, linked, surroundings}
 use Rattle.c_scope.specs.Environment.{with_declarator, with_name, without_linkage}
 use Rattle.c_scope.specs.Names.{Name, Names, around, bound, declared, innermost, is_name}
-use Rattle.c_scope.specs.Tags.{added, begins, begins_in, has_begun, is_of, marked, next_tag, referred, tag_found, tagged}
-use Rattle.c_scope.specs.Tags.{with_declaration, with_tag}
+use Rattle.c_scope.specs.Tags.{added, begins, begins_in, has_begun, is_of, marked, next_tag, referred, tag_found}
+use Rattle.c_scope.specs.Tags.{tagged, with_declaration, with_tag}
 use Rattle.c_typing.specs.Declarators.{Shape, built_in, declaring, is_misplaced, nameless_parameter, parameter}
 use Rattle.c_typing.specs.Declarators.{parameter_built, parameter_declaration}
 use Rattle.c_typing.specs.Members.{Entries, Entry, tag_completed, with_structure}
@@ -93,7 +93,8 @@ declarator_by true s d = one_adds s d.name _ _ refl
 declarator_by false s d = unlinked_adds d.storage s d
 
 declared_by : {A : Type 0} (x : A) (s : State) (d : Declaration) (a : Answer (Unit {0}))
-    → IfAdds 1 s (a >>= (λ done. Ok (with_declarator s.environment d)) >>= λ env. Ok (record s { environment = env }, x))
+    → IfAdds 1 s
+    (a >>= (λ done. Ok (with_declarator s.environment d)) >>= λ env. Ok (record s { environment = env }, x))
 declared_by x s d (Ok done) = declarator_by (has_linkage (in_file s.environment) d) s d
 declared_by x s d (Err f) = tt
 
@@ -234,7 +235,8 @@ abbrev IfAddsTo : State → Answer Environment → Type 0
 IfAddsTo s (Ok env) = AddsTo 0 s env
 IfAddsTo s (Err f) = Unit {0}
 
-value_adds : (name : Name) (line : ℕ) (value : Option ℕ) (s : State) → IfAddsTo s (with_value name line value s.environment)
+value_adds : (name : Name) (line : ℕ) (value : Option ℕ) (s : State)
+    → IfAddsTo s (with_value name line value s.environment)
 value_adds name line None s = tt
 value_adds name line (Some w) s = name_adds 0 s name (meaning.Constant w) (omega arith) s.environment refl
 

@@ -28,6 +28,8 @@ placed_past n x [] past = refl
 placed_past zero x (s ∷ ss) past = absurd (omega arith)
 placed_past (suc n) x (s ∷ ss) past = ap (λ z. s ∷ z) (placed_past n x ss (omega arith))
 
+pub ruleset placing = (placed_empty, placed_full, placed_past)
+
 pub one_more : {A : Type 0} (n : ℕ) (xs ys : List (Option A)) → xs ≡ replicate n None → ys ≡ xs ++ None ∷ []
     → ys ≡ replicate (n + 1) None
 one_more {A} n xs ys e more =

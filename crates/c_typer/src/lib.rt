@@ -1,5 +1,5 @@
-//! The typing of whole files (C99 6.7 to 6.9) in code: initializers, declarations, statements, function definitions, and
-//! of a file to its typed program, or why there is none; exact against the definitions of `c_unit_typing`.
+//! The typing of whole files (C99 6.7 to 6.9) in code: initializers, declarations, statements, function definitions,
+//! and of a file to its typed program, or why there is none; exact against the definitions of `c_unit_typing`.
 #![tactic(auto)]
 
 pub mod declarations;

@@ -129,7 +129,8 @@ nameless_parameter spec b =
     nameless spec.line (record b.faults { incomplete = b.faults.incomplete || is_void b.type }) (is_misplaced spec)
     (unqualified (adjusted b.type))
 
-abbrev pub parameter_built : (in_definition : Bool) → Specification → BuiltType → Option (Name × ℕ) → Typing (List TypeWord)
+abbrev pub parameter_built : (in_definition : Bool) → Specification → BuiltType → Option (Name × ℕ)
+    → Typing (List TypeWord)
 parameter_built in_definition spec b None s = judged (λ s. nameless_parameter spec b) s
 parameter_built in_definition spec b (Some name) s =
     if is_misplaced spec then violates rule.MisplacedStorage spec.line

@@ -114,8 +114,8 @@ pub puts_more : (body : List FlatInstruction) (old mid new : List (Vec ℕ Globa
 puts_more body old mid new y s t both is a b = record {
   size = b.size ∙ a.size;
   rows = λ pc h. b.rows pc h
-      ∙ by (s pc) (t pc) (items_of (slice_get old (calls_before body pc))) (items_of (slice_get mid (calls_before body pc)))
-      (a.rows pc h)
+      ∙ by (s pc) (t pc) (items_of (slice_get old (calls_before body pc)))
+      (items_of (slice_get mid (calls_before body pc))) (a.rows pc h)
       ∙ ap (λ x. if x then with_last (items_of (slice_get old (calls_before body pc))) y
       else items_of (slice_get old (calls_before body pc))) (sym (is pc));
 }
@@ -217,7 +217,8 @@ puts_between body old new y from to a b start end ea eb low high size rows = rec
       let high' : nat_lt (calls_before body pc) to ≡ (nat_lt (pc + 1) (length body) && nat_lt (pc + 1) end)
       = ap (nat_lt (calls_before body pc)) eb ∙ high_same body pc b h ∙ high pc in
       rows (calls_before body pc)
-      ∙ ap (λ x. if x && nat_lt (calls_before body pc) to then with_last (items_of (slice_get old (calls_before body pc))) y
+      ∙ ap (λ x. if x && nat_lt (calls_before body pc) to
+      then with_last (items_of (slice_get old (calls_before body pc))) y
       else items_of (slice_get old (calls_before body pc))) low'
       ∙ ap (λ x. if nat_le start (pc + 1) && x then with_last (items_of (slice_get old (calls_before body pc))) y
       else items_of (slice_get old (calls_before body pc))) high'

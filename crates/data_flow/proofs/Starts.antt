@@ -28,7 +28,8 @@ starts_more edges starts starts' node start size e old run = record {
         let l = slice_get_within (starts ++ start ∷ []) v s h in
         let n : length (starts ++ start ∷ []) ≡ length starts + 1 = length-append starts (start ∷ []) in
         let same : node ≡ v = omega (arith, l, n, high, size) in
-        let q : Some start ≡ Some s = sym (at_end starts start) ∙ ap (slice_get (starts ++ start ∷ [])) (size ∙ same) ∙ h in
+        let q : Some start ≡ Some s =
+        sym (at_end starts start) ∙ ap (slice_get (starts ++ start ∷ [])) (size ∙ same) ∙ h in
         let e : start ≡ s = cc in
         subst (λ x. IsRun edges x v) e (subst (λ x. IsRun edges start x) same run)
 

@@ -29,7 +29,8 @@ pub fn is_kind(left: Kind, right: Kind) -> bool
     }
 }
 
-// Whether both are arrays, or both are structures, and the second has no bytes: it is named where its size is not known.
+// Whether both are arrays, or both are structures, and the second has no bytes: it is named where its size is not
+// known.
 fn is_unsized(declared: Kind, named: Kind) -> bool
     ensures { result ≡ is_unsized declared named }
 {
@@ -40,8 +41,8 @@ fn is_unsized(declared: Kind, named: Kind) -> bool
     }
 }
 
-/// Whether the name of an object of a kind may stand as an lvalue of another: of the same, or, where the size of an array
-/// or a structure is not known yet, of one without bytes (C99 6.2.5 paragraph 22).
+/// Whether the name of an object of a kind may stand as an lvalue of another: of the same, or, where the size of an
+/// array or a structure is not known yet, of one without bytes (C99 6.2.5 paragraph 22).
 pub fn is_named_as(declared: Kind, named: Kind) -> bool
     ensures { result ≡ is_named_as declared named }
 {

@@ -49,3 +49,5 @@ pub behind_two : {A : Type 0} (xs ys : List A) (a b : A) → ((xs ++ ys) ++ a �
 behind_two [] [] a b = refl
 behind_two [] (y ∷ ys) a b = ap (λ zs. y ∷ zs) (behind_two [] ys a b)
 behind_two (x ∷ xs) ys a b = ap (λ zs. x ∷ zs) (behind_two xs ys a b)
+
+pub ruleset one_digit = (last_digit, more_digits)

@@ -44,7 +44,7 @@ pub(crate) fn put_wide(code: &mut Vec<Instr>, rd: Reg, number: u128) -> Result<(
 }
 
 // Puts a number into a register eleven bits at a time, the highest first.
-#[tactic(auto, using(crate::proofs::Lists::last_digit, crate::proofs::Lists::more_digits), unfolding(rv_blocks::specs::Blocks::digits))]
+#[tactic(auto, using(crate::proofs::Lists::one_digit), unfolding(rv_blocks::specs::Blocks::digits))]
 fn put_digits(code: &mut Vec<Instr>, count: u32, rd: Reg, number: u64) -> Result<(), AllocError>
     ensures { OnOk result (code.new.items ≡ code.old.items ++ digits count rd number) }
 {

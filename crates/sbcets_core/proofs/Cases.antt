@@ -241,3 +241,8 @@ ran_counts stops.OutputFault limit before after r w c =
 ran_counts stops.Limit limit before after r w c = ran_quiet before after r w c.0 c.1 c.2
 ran_counts (stops.Exited code) limit before after r w c = ran_quiet before after r w c.0 c.1 c.2
 ran_counts (stops.Trap kind pc) limit before after r w c = ran_quiet before after r w c.0 c.1 c.2
+
+-- the cases of `go`, and of `run`
+pub ruleset going = (unbuilt_goes, went_goes, unbuilt_counts, ran_counts)
+
+pub ruleset running = (unread_runs, ran_runs, unread_counts, ran_counts)

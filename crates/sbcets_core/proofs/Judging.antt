@@ -249,3 +249,5 @@ some_judgement source = some_readable (supported_tokens source)
 pub not_both : (source : List ℕ) (program : Program) (refusal : SourceRefusal) → Judges source (Ok program)
     → Judges source (Err refusal) → ⊥
 not_both source program refusal a r = let same = judged_once source (Ok program) (Err refusal) a r in cc same
+
+pub ruleset judging = (source_judged, source_refused, refused_early)

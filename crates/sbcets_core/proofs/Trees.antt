@@ -127,3 +127,5 @@ unparsed_tokens list judged none j = by_judgement list judged IsUnparsed j (λ t
 
 pub unparsed : (source : List ℕ) (judged : Judged) → HasTokensAlone source → Judges source judged → IsUnparsed judged
 unparsed source judged a j = unparsed_tokens a.list judged a.no_tree (subst (λ r. JudgesReadable r judged) a.expands j)
+
+pub ruleset trees = (alone_of_syntax, alone_of_nesting, unparsed, one_of_accepted)

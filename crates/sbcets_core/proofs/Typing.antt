@@ -2,30 +2,25 @@
 use Rattle.std.proofs.Common.{◌≡◌, ◌≤◌, ℕ, suc, zero, Bool, true, false, List, [], ◌∷◌, length, Option, Some, None}
 use Rattle.std.proofs.Common.{Ok, Err}
 use Rattle.std.proofs.Common.{refl, sym, ap, ◌∙◌, subst, arith}
-use Rattle.std.specs.Prelude.{◌&&◌, nat_le, nat_lt, if◌then◌else◌}
+use Rattle.std.specs.Prelude.{◌&&◌, nat_le}
 use Rattle.std.specs.List.{list_all}
 use Rattle.std.proofs.lemmas.Bool.Decides.{nat_tests}
 use Rattle.c_syntax.specs.Formed.{IsWellFormed}
 use Rattle.c_syntax.specs.Statements.{Unit as Tree, External}
-use Rattle.c_counts.specs.Counts.{Count, counts_of}
-use Rattle.c_counts.specs.Excess.{first_above, parameters_among, members_among, most_parameters as most_listed}
-use Rattle.c_counts.specs.Excess.{most_members}
+use Rattle.c_counts.specs.Excess.{most_parameters as most_listed}
 use Rattle.c_tree.specs.Programs.{Function, Program, StaticObject}
 use Rattle.c_tree.specs.Statements.{Content, Part, value_content, literal_content}
 use Rattle.c_tree.specs.Tree.{line_of}
 use Rattle.c_tree.specs.ValidProgram.{is_valid_program}
 use Rattle.c_const.specs.Addresses.{Pointers}
 use Rattle.c_rules.specs.Answer.{Answer}
-use Rattle.c_unit_typing.specs.declared.limits.Limited.{Limited}
-use Rattle.c_unit_typing.specs.declared.limits.Limited.TheVariants as limited
 use Rattle.c_unit_typing.specs.Files.{File}
 use Rattle.c_unit_typing.specs.Units.{file_in}
 use Rattle.c_unit_typing.specs.Programs.{program_of}
 use Rattle.c_unit_typing.specs.Typed.{TypedUnit, a_program, a_fault, too_large, any_pointers, is_constant}
 use Rattle.c_unit_typing.specs.Typed.{has_constants}
-use Rattle.c_unit_typing.specs.Typed.{are_constant, most_functions, most_bytes, global_bytes, when_large}
-use Rattle.c_unit_typing.specs.Typed.{limited_program}
-use Rattle.c_unit_typing.specs.Typed.{typed_as, typed_unit}
+use Rattle.c_unit_typing.specs.Typed.{are_constant, most_functions, typed_as, typed_unit}
+use Rattle.c_unit_typing.proofs.Limits.{constant_within}
 use Rattle.c_typer.specs.Rooms.{first_without_room}
 use Rattle.c_typed_limits.proofs.Files.{unit_bounded}
 use Rattle.c_typed_programs.proofs.Programs.Units.{unit_valid}
@@ -86,60 +81,12 @@ constant p none = statics_constant (any_pointers p) p.statics none
 
 -- a file that is typed has no more functions than the limit, where its initializers are constant
 
-not_large : (which : Limited) (count : Option ℕ) (t : TypedUnit) (p : Program) → when_large which count t ≡ a_program p
-    → count ≡ None
-not_large which None t p e = refl
-not_large which (Some n) t p e = absurd (cc e)
-
-few_of_none : (most n : ℕ) → first_above most (n ∷ []) ≡ None → n ≤ most
-few_of_none most n e = by (nat_lt most n) refl e
-  where
-    by : (b : Bool) → nat_lt most n ≡ b → (if b then Some n else None) ≡ None → n ≤ most
-    by true t e = absurd (cc e)
-    by false t e = grind (arith, nat_tests)
-
-same_program : (p q : Program) → a_program p ≡ a_program q → p ≡ q
-same_program p q e = cc
-
-record IsWithin (q p : Program) : Type 0 where
-  same : q ≡ p
-  few : length p.functions ≤ most_functions
-
-limits_kept : (counts : List Count) (q p : Program) → limited_program counts q ≡ a_program p → IsWithin q p
-limits_kept counts q p e = by (first_above most_functions (length q.functions ∷ []))
-    (first_above most_listed (parameters_among counts)) (first_above most_members (members_among counts))
-    (first_above most_bytes (global_bytes q ∷ [])) refl e
-  where
-    by : (functions parameters members bytes : Option ℕ)
-        → first_above most_functions (length q.functions ∷ []) ≡ functions
-        → when_large limited.Functions functions (when_large limited.Parameters parameters
-        (when_large limited.Members members (when_large limited.Globals bytes (a_program q)))) ≡ a_program p
-        → IsWithin q p
-    by None None None None few e =
-        let same = same_program q p e in
-        record {
-          same = same;
-          few = subst (λ x. length x.functions ≤ most_functions) same
-              (few_of_none most_functions (length q.functions) few);
-        }
-    by (Some n) b c d few e = absurd (cc e)
-    by None (Some n) c d few e = absurd (cc e)
-    by None None (Some n) d few e = absurd (cc e)
-    by None None None (Some n) few e = absurd (cc e)
-
--- a program whose initializers are constant is given within the limits
-few_if : (es : List External) (q p : Program) (b : Bool) → are_constant q ≡ b → are_constant p ≡ true
-    → (if b then limited_program (counts_of es) q else a_program q) ≡ a_program p → length p.functions ≤ most_functions
-few_if es q p true t c e = let kept = limits_kept (counts_of es) q p e in kept.few
-few_if es q p false t c e =
-    let same = same_program q p e in
-    let none : are_constant p ≡ false = subst (λ x. are_constant x ≡ false) same t in
-    absurd (cc (none, c))
-
 few_typed : (es : List External) (f : Answer File) (p : Program) → typed_as es f ≡ a_program p → are_constant p ≡ true
     → length p.functions ≤ most_functions
 few_typed es (Err fault) p e c = absurd (cc e)
-few_typed es (Ok file) p e c = few_if es (program_of file) p (are_constant (program_of file)) refl c e
+few_typed es (Ok file) p e c =
+    let within = constant_within es (program_of file) p e c in
+    subst (λ x. length x.functions ≤ most_functions) within.same within.functions
 
 few_functions : (end : ℕ) (u : Tree) (p : Program) → typed_unit end u ≡ a_program p → constant_fault p ≡ None
     → length p.functions ≤ most_functions

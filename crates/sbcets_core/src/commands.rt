@@ -25,7 +25,7 @@ use std::alloc::Global;
 const MAX_IMAGE: u64 = 67_108_864;
 
 /// `go`: reads a source, compiles it with these budgets, and runs the image, at most `limit` instructions of it.
-#[tactic(auto, using(crate::proofs::Cases::unbuilt_goes, crate::proofs::Cases::went_goes, crate::proofs::Cases::unbuilt_counts, crate::proofs::Cases::ran_counts))]
+#[tactic(auto, using(crate::proofs::Cases::going))]
 pub fn go<F: Files, I: Source, O: Sink, E: Sink>(
     alloc: Global,
     name: &str,
@@ -59,7 +59,7 @@ pub fn go<F: Files, I: Source, O: Sink, E: Sink>(
 }
 
 /// `run`: reads an image and runs it, at most `limit` instructions of it.
-#[tactic(auto, using(crate::proofs::Cases::unread_runs, crate::proofs::Cases::ran_runs, crate::proofs::Cases::unread_counts, crate::proofs::Cases::ran_counts))]
+#[tactic(auto, using(crate::proofs::Cases::running))]
 pub fn run<F: Files, I: Source, O: Sink, E: Sink>(
     alloc: Global,
     name: &str,

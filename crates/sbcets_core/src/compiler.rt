@@ -59,7 +59,7 @@ fn size_refusal(error: CompileError) -> SourceRefusal
 }
 
 // The program of a source that is accepted.
-#[tactic(auto, using(crate::proofs::Judging::source_judged, crate::proofs::Judging::source_refused, crate::proofs::Judging::refused_early))]
+#[tactic(auto, using(crate::proofs::Judging::judging))]
 fn accepted(alloc: Global, source: &[u8]) -> Result<Program, SourceRefusal>
     ensures ok { IfOk result (λ program. Judges source.now (Ok (program_of program))) }
     ensures err { IfErr result (λ refusal. UnlessMemory refusal (Judges source.now (Err refusal))) }

@@ -57,7 +57,7 @@ pub fn a_source_is_judged_once()
 /// A source is refused with `Syntax` or `Nesting` just where it has expanded tokens, none of them unsupported, and no
 /// well-formed tree
 /// of at most 200 levels has their words (C99 6.9). An accepted source has exactly one tree.
-#[tactic(auto, using(crate::proofs::Trees::alone_of_syntax, crate::proofs::Trees::alone_of_nesting, crate::proofs::Trees::unparsed, crate::proofs::Trees::one_of_accepted))]
+#[tactic(auto, using(crate::proofs::Trees::trees))]
 pub fn a_source_without_a_tree_is_refused()
     ensures syntax { (source : List ℕ) (at line : ℕ) → Judges source (Err (Syntax at line)) → HasTokensAlone source }
     ensures nesting { (source : List ℕ) (at line : ℕ) → Judges source (Err (Nesting at line)) → HasTokensAlone source }

@@ -166,7 +166,8 @@ module _ {sc : Context} {P : Objects → Type 0} where
   -- bytes set where as many were judged, and the pointer given
   sure_set_judged : IsStable P → (size : ℕ) (d : Value) (items : List ℕ) (line : ℕ) → IsKnown (function_count sc) P d
       → IsKnownWord (function_count sc) P d → AreBytes items → (size ≡ length items)
-      → Sure sc P (do place ← located true size d line; set_bytes items place; done d) (IsGiven (function_count sc) (OfScalar Pointer))
+      → Sure sc P (do place ← located true size d line; set_bytes items place; done d)
+      (IsGiven (function_count sc) (OfScalar Pointer))
   sure_set_judged st size d items line h w all long =
       sure_on (sure_judged size d line h) (λ place.
       sure_on (sure_weak (λ o x. (subst (IsPlace o place) long x.1.0.place, x.0)) (sure_set_bytes st items place all))
@@ -270,9 +271,14 @@ module _ {sc : Context} {P : Objects → Type 0} where
       (sure_on (sure_scan_within size.word (done []) (sure_done {a = []} (λ o x. (no_bytes 0, x))) q line hq)
       (λ bs. record { by = λ s good x. (written bs x.0).by s good x.1 }))
     where
-      written : (bs : List ℕ) → AreAtMost size.word bs → Sure sc P (do place ← located true size.word d line; set_bytes (bs ++ replicate (size.word - length bs) 0) place; done d) (IsGiven (function_count sc) (OfScalar Pointer))
+      padded : List ℕ → List ℕ
+      padded bs = bs ++ replicate (size.word - length bs) 0
+
+      written : (bs : List ℕ) → AreAtMost size.word bs
+          → Sure sc P (do place ← located true size.word d line; set_bytes (padded bs) place; done d)
+          (IsGiven (function_count sc) (OfScalar Pointer))
       written bs few =
-          sure_set_judged st size.word d (bs ++ replicate (size.word - length bs) 0) line hd wd
+          sure_set_judged st size.word d (padded bs) line hd wd
           (every_append (λ b. b < 256) 0 bs (replicate (size.word - length bs) 0) few.bytes
           (every_replicate (λ b. b < 256) 0 (size.word - length bs) 0 (omega arith) (omega arith)))
           (padded_length size.word bs few.few)

@@ -120,8 +120,13 @@ fresh_direct size n objects h = record {
   end = omega (arith, h.size);
 }
 
+-- a state with one more block of the heap
+abbrev with_block_at : (address size : ℕ) → State → State
+with_block_at address size s = record s { objects = with_new Allocated address size s.objects }
+
 made : {sc : Context} (address size : ℕ)
-    → Sure sc (IsAt sc.sizes address size) (do number ← read_state (λ s. length s.objects); change (λ s. record s { objects = with_new Allocated address size s.objects }); done number) (IsFresh size)
+    → Sure sc (IsAt sc.sizes address size)
+    (do number ← read_state (λ s. length s.objects); change (with_block_at address size); done number) (IsFresh size)
 made address size = record
     { by = λ s good p. (with_block address size s good p, fresh_new Allocated address size s.objects) }
 

@@ -1,21 +1,17 @@
 -- The programs of typed files are valid, where the initializers of their static objects are constant (C99 6.7.8, 6.9).
-use Rattle.std.proofs.Common.{◌≡◌, ℕ, ◌≤◌, Bool, true, false, refl, subst, List, [], ◌∷◌, Option, Some, None}
-use Rattle.std.proofs.Common.{length, arith, if◌then◌else◌}
-use Rattle.std.specs.Prelude.{nat_lt, Ok, Err}
-use Rattle.std.proofs.lemmas.Bool.Decides.{nat_tests}
+use Rattle.std.proofs.Common.{◌≡◌, ℕ, ◌≤◌, Bool, true, refl, subst, List, Option, Some, None}
+use Rattle.std.specs.Prelude.{Ok, Err}
 use Rattle.c_syntax.specs.Formed.{IsWellFormed}
 use Rattle.c_syntax.specs.Statements.{External, Unit as TextUnit}
 use Rattle.c_tree.specs.Programs.{Program}
 use Rattle.c_tree.specs.ValidProgram.{is_valid_program}
 use Rattle.c_rules.specs.Answer.{Answer, ◌>>=◌}
-use Rattle.c_counts.specs.Counts.{Count, counts_of}
-use Rattle.c_counts.specs.Excess.{first_above, members_among, most_members, most_parameters, parameters_among}
-use Rattle.c_unit_typing.specs.declared.limits.Limited.TheVariants as limited
+use Rattle.c_counts.specs.Counts.{counts_of}
 use Rattle.c_unit_typing.specs.Files.{File}
 use Rattle.c_unit_typing.specs.Programs.{program_of}
-use Rattle.c_unit_typing.specs.Typed.{a_program, are_constant, global_bytes, limited_program, most_bytes}
-use Rattle.c_unit_typing.specs.Typed.{most_functions, typed_as, typed_unit, when_large}
+use Rattle.c_unit_typing.specs.Typed.{a_program, are_constant, global_bytes, most_bytes, typed_as, typed_unit}
 use Rattle.c_unit_typing.specs.Units.{file_in, file_with}
+use Rattle.c_unit_typing.proofs.Limits.{IsWithin, constant_within}
 use Rattle.c_typed_programs.specs.Names.Linked.{HaveSizes}
 use Rattle.c_typed_programs.specs.Scopes.Defined.{define_functions}
 use Rattle.c_typed_programs.specs.Scopes.Regular.{are_regular_externals}
@@ -32,56 +28,17 @@ use Rattle.c_typed_programs.proofs.Statics.Initialized.{linked_initialized}
 use Rattle.c_typed_programs.proofs.Statics.Turns.{file_functions}
 use Rattle.c_typed_programs.proofs.Tags.Files.{tags_complete}
 
--- a program that is given within the limits
-
-record IsWithin (q p : Program) : Type 0 where
-  same : q ≡ p
-  low : global_bytes q ≤ most_bytes
-
-program_is : (p q : Program) → a_program p ≡ a_program q → p ≡ q
-program_is p q e = cc
-
-low_by : (n : ℕ) → first_above most_bytes (n ∷ []) ≡ None → n ≤ most_bytes
-low_by n e = by (nat_lt most_bytes n) refl e
-  where
-    by : (b : Bool) → nat_lt most_bytes n ≡ b → (if b then Some n else None) ≡ None → n ≤ most_bytes
-    by true t e = absurd (cc e)
-    by false t e = grind (arith, nat_tests)
-
-within_by : (q p : Program) (functions parameters members bytes : Option ℕ)
-    → first_above most_bytes (global_bytes q ∷ []) ≡ bytes
-    → when_large limited.Functions functions (when_large limited.Parameters parameters
-    (when_large limited.Members members (when_large limited.Globals bytes (a_program q)))) ≡ a_program p → IsWithin q p
-within_by q p None None None None low e = record { same = program_is q p e; low = low_by (global_bytes q) low }
-within_by q p (Some n) b c d low e = absurd (cc e)
-within_by q p None (Some n) c d low e = absurd (cc e)
-within_by q p None None (Some n) d low e = absurd (cc e)
-within_by q p None None None (Some n) low e = absurd (cc e)
-
-within : (counts : List Count) (q p : Program) → limited_program counts q ≡ a_program p → IsWithin q p
-within counts q p e =
-    within_by q p (first_above most_functions (length q.functions ∷ []))
-    (first_above most_parameters (parameters_among counts)) (first_above most_members (members_among counts))
-    (first_above most_bytes (global_bytes q ∷ [])) refl e
-
-constant_by : (es : List External) (q p : Program) (b : Bool) → are_constant q ≡ b → are_constant p ≡ true
-    → (if b then limited_program (counts_of es) q else a_program q) ≡ a_program p → IsWithin q p
-constant_by es q p true t c e = within (counts_of es) q p e
-constant_by es q p false t c e =
-    let same = program_is q p e in
-    let none : are_constant p ≡ false = subst (λ x. are_constant x ≡ false) same t in
-    absurd (cc (none, c))
-
 -- the file that a program is of
 
 record IsOfFile (es : List External) (end : ℕ) (p : Program) : Type 0 where
   objects : Option (List (List Bool))
   file : File
   is : file_with objects end es ≡ Ok file
-  program : IsWithin (program_of file) p
+  program : IsWithin (counts_of es) (program_of file) p
 
 with_objects : (es : List External) (end : ℕ) (p : Program) (first : Answer File) (f : File)
-    → (first >>= λ g. file_with (Some g.taken) end es) ≡ Ok f → IsWithin (program_of f) p → IsOfFile es end p
+    → (first >>= λ g. file_with (Some g.taken) end es) ≡ Ok f
+    → IsWithin (counts_of es) (program_of f) p → IsOfFile es end p
 with_objects es end p (Ok g) f e h = record { objects = Some g.taken; file = f; is = e; program = h }
 with_objects es end p (Err fault) f e h = absurd (cc e)
 
@@ -89,7 +46,7 @@ file_by : (es : List External) (end : ℕ) (p : Program) (a : Answer File) → f
     → are_constant p ≡ true → typed_as es a ≡ a_program p → IsOfFile es end p
 file_by es end p (Ok f) is c e =
     with_objects es end p (file_with None end es) f is
-    (constant_by es (program_of f) p (are_constant (program_of f)) refl c e)
+    (constant_within es (program_of f) p e c)
 file_by es end p (Err fault) is c e = absurd (cc e)
 
 file_of : (end : ℕ) (u : TextUnit) (p : Program) → typed_unit end u ≡ a_program p → are_constant p ≡ true
@@ -133,4 +90,4 @@ unit_valid end u p formed e c =
     let defined = well_formed_defines u formed in
     subst (λ z. is_valid_program z ≡ true) f.program.same
     (file_valid f.objects end u.externals f.file regular defined f.is
-    (sizes_within f.objects end u.externals f.file regular defined f.is f.program.low))
+    (sizes_within f.objects end u.externals f.file regular defined f.is f.program.bytes))

@@ -18,7 +18,7 @@ pub(crate) fn empty<T: Drop>(alloc: Global, count: usize) -> Result<Vec<Option<T
 }
 
 /// Puts a thing at the place with its number, where that is there and empty.
-#[tactic(auto, using(crate::proofs::Placing::placed_empty, crate::proofs::Placing::placed_full, crate::proofs::Placing::placed_past))]
+#[tactic(auto, using(crate::proofs::Placing::placing))]
 pub(crate) fn put<T: Drop>(slots: &mut Vec<Option<T>>, number: usize, item: T)
     ensures { slots.new.items ≡ placed number item slots.old.items }
 {

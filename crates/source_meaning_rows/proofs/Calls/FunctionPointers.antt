@@ -1,7 +1,8 @@
 -- The text is rows/function_pointers.c; gcc 12.2.0 gives the same output and status.
 --     int add(int a,int b){return a+b;}int(*pick(int n))(int,int){return n?add:0;}
 --     int
--- main(void){int(*f)(int,int)=add;putchar(48+f(1,2));putchar(48+(*f)(2,2));putchar(48+(**&add)(2,3));putchar(48+(add)(3,3));putchar(48+pick(1)(3,4));return
+-- main(void){int(*f)(int,int)=add;putchar(48+f(1,2));putchar(48+(*f)(2,2));putchar(48+(**&add)(2,3));
+-- putchar(48+(add)(3,3));putchar(48+pick(1)(3,4));return
 -- (f==&add)+(pick(0)==0);}
 use Rattle.c_tree.specs.Programs.{Program, Function}
 use Rattle.c_tree.specs.Statements.{Statement, expression_statement, declaration, return}

@@ -1,6 +1,7 @@
 -- A block takes the least place where it has room; a block of no bytes takes 16. The text is rows/least_place.c.
 --     int
--- main(void){char*a=malloc(0);char*b=malloc(17);char*c=malloc(16);char*d;free(b);d=malloc(33);putchar(48+(b-a)/16);putchar(48+(c-b)/16);putchar(48+(d-c)/16);d=malloc(32);putchar(48+(d==b));return
+-- main(void){char*a=malloc(0);char*b=malloc(17);char*c=malloc(16);char*d;free(b);d=malloc(33);putchar(48+(b-a)/16);
+-- putchar(48+(c-b)/16);putchar(48+(d-c)/16);d=malloc(32);putchar(48+(d==b));return
 -- 0;}
 use Rattle.c_tree.specs.Programs.{Program}
 use Rattle.c_tree.specs.Statements.{Statement, expression_statement, declaration, return}

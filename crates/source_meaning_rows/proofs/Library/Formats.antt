@@ -20,7 +20,7 @@ use Rattle.sb_base.specs.Budgets.{default_sizes}
 use Rattle.source_meaning.specs.Meaning.{meaning}
 use Rattle.source_meaning_rows.proofs.LibrarySamples.{array, perform, printf, program_of, zero_chars}
 use Rattle.source_meaning_rows.proofs.Samples.{at, computing, convert, five, four, int, none, number, one, three, two}
-use Rattle.std.proofs.Common.{◌≡◌, ℕ, [], refl, true, Some}
+use Rattle.std.proofs.Common.{◌≡◌, ℕ, [], ◌++◌, refl, true, Some}
 use Rattle.std.specs.Prelude.{codes}
 
 long : Kind
@@ -46,7 +46,8 @@ program = program_of
     (return (Some (printf (codes "%s|%d%u|\n") (three (array 0 1) (number 1 7) (number 1 0))))))
 
 output : (meaning program default_sizes [] 1).shown.output ≡
-    codes "-2147483648 0 2147483647\n4294967295 ffffffff ff 0\nAA%\n-9223372036854775808 9223372036854775807 18446744073709551615\n|70|\n"
+    codes "-2147483648 0 2147483647\n4294967295 ffffffff ff 0\nAA%\n-9223372036854775808 "
+    ++ codes "9223372036854775807 18446744073709551615\n|70|\n"
 unfolding program least negative long computing
 output = refl
 

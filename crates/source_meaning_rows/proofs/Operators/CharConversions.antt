@@ -19,7 +19,7 @@ use Rattle.source_meaning.specs.Meaning.{meaning}
 use Rattle.source_meaning_rows.proofs.Hexadecimal.{hex_digits, put_digits, put_number, put_type}
 use Rattle.source_meaning_rows.proofs.Samples.{call, cast, computing, convert, defined, exited, integer_kind, main_type}
 use Rattle.source_meaning_rows.proofs.Samples.{none, number, one, program_of, seen, three, two, unary}
-use Rattle.std.proofs.Common.{Some, [], refl, true, ◌∷◌, ◌≡◌}
+use Rattle.std.proofs.Common.{Some, [], refl, true, ◌∷◌, ◌++◌, ◌≡◌}
 use Rattle.std.specs.Prelude.{codes}
 
 statement_1 : Statement
@@ -106,7 +106,8 @@ program : Program
 program = program_of (one hex_digits) (two main_type put_type) (three put_digits put_number function_main) 2
 
 run : seen (meaning program default_sizes [] 400) ≡
-    exited (codes "7f ffffffffffffff80 ffffffffffffffff 0 ff 0 ff ff 7fff ffffffffffff8000 ffffffffffffffff 0 ffff 0 ffff ") 0
+    exited (codes "7f ffffffffffffff80 ffffffffffffffff 0 ff 0 ff ff 7fff ffffffffffff8000 "
+    ++ codes "ffffffffffffffff 0 ffff 0 ffff ") 0
 unfolding program put_digits put_number function_main statement_1 statement_2 statement_3 statement_4 statement_5
     statement_6 statement_7 statement_8 statement_9 statement_10 statement_11 statement_12 statement_13 statement_14
     statement_15 hex_digits put_type computing

@@ -24,7 +24,7 @@ use Rattle.source_meaning_rows.proofs.Samples.{decay, defined, deref, exited, in
 use Rattle.source_meaning_rows.proofs.Samples.{main_type, none, number, object_variable, one, parenthesized_lvalue}
 use Rattle.source_meaning_rows.proofs.Samples.{part, plain, plain_variable, pointer, program_of, read, seen, six, three}
 use Rattle.source_meaning_rows.proofs.Samples.{two, unary, with_parts, with_value}
-use Rattle.std.proofs.Common.{Some, [], refl, true, ◌∷◌, ◌≡◌}
+use Rattle.std.proofs.Common.{Some, [], refl, true, ◌∷◌, ◌++◌, ◌≡◌}
 use Rattle.std.specs.Prelude.{codes}
 
 statement_1 : Statement
@@ -219,7 +219,10 @@ program : Program
 program = program_of (one hex_digits) (two main_type put_type) (three put_digits put_number function_main) 2
 
 run : seen (meaning program default_sizes [] 2000) ≡
-    exited (codes "69 ffffffffffffffa1 fffffffffffffee3 ffffffffffffffb9 ffffffffffffffff fffffffffffffff0 fffffffffffffffc fc 1fc 3 ffffffff 7fffffff 80000005 2c 90 48 60 fffffffffffffff2 fffffffffffffffe ffffffffffffffc0 fffffffffffffe20 ffffffffffffff10 0 6 ") 0
+    exited (codes "69 ffffffffffffffa1 fffffffffffffee3 ffffffffffffffb9 ffffffffffffffff "
+    ++ codes "fffffffffffffff0 fffffffffffffffc fc 1fc 3 ffffffff 7fffffff 80000005 2c 90 48 60 "
+    ++ codes "fffffffffffffff2 fffffffffffffffe ffffffffffffffc0 fffffffffffffe20 ffffffffffffff10 0 "
+    ++ codes "6 ") 0
 unfolding program put_digits put_number function_main statement_1 statement_2 statement_3 statement_4 statement_5
     statement_6 statement_7 statement_8 statement_9 statement_10 statement_11 statement_12 statement_13 statement_14
     statement_15 statement_16 statement_17 statement_18 statement_19 statement_20 statement_21 statement_22 statement_23

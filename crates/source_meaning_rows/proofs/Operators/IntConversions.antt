@@ -20,7 +20,7 @@ use Rattle.source_meaning_rows.proofs.Hexadecimal.{hex_digits, put_digits, put_n
 use Rattle.source_meaning_rows.proofs.Samples.{call, cast, computing, constant, convert, defined, exited, int}
 use Rattle.source_meaning_rows.proofs.Samples.{integer_kind, main_type, none, number, one, program_of, seen, three, two}
 use Rattle.source_meaning_rows.proofs.Samples.{unary}
-use Rattle.std.proofs.Common.{Some, [], refl, true, ◌∷◌, ◌≡◌}
+use Rattle.std.proofs.Common.{Some, [], refl, true, ◌∷◌, ◌++◌, ◌≡◌}
 use Rattle.std.specs.Prelude.{codes}
 
 statement_1 : Statement
@@ -88,7 +88,8 @@ program : Program
 program = program_of (one hex_digits) (two main_type put_type) (three put_digits put_number function_main) 2
 
 run : seen (meaning program default_sizes [] 400) ≡
-    exited (codes "7fffffff ffffffff80000000 ffffffffffffffff 0 ffffffff 0 ffffffff ffffffffffffffff ffffffffffffffff ffffffff80000000 ffffffffffffffff ffffffff ffff ") 0
+    exited (codes "7fffffff ffffffff80000000 ffffffffffffffff 0 ffffffff 0 ffffffff ffffffffffffffff "
+    ++ codes "ffffffffffffffff ffffffff80000000 ffffffffffffffff ffffffff ffff ") 0
 unfolding program put_digits put_number function_main statement_1 statement_2 statement_3 statement_4 statement_5
     statement_6 statement_7 statement_8 hex_digits put_type computing
 run = refl

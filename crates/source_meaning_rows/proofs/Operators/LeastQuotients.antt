@@ -3,7 +3,8 @@
 --     void h(unsigned long v){if(v>15)h(v>>4);putchar("0123456789abcdef"[v&15]);}
 --     void p(unsigned long v){h(v);putchar(32);}
 --     int main(void){int i=-2147483647-1;long l=-9223372036854775807L-1;int d=-1;
--- p(i/d);p(i%d);p(l/d);p(l%d);p(-i);p(-l);p(i*d);p(l*d);p(-7/2);p(-7%2);p(7/-2);p(7%-2);p(-1U/2);p(i-1);p(i/=d);p(l%=d);return
+-- p(i/d);p(i%d);p(l/d);p(l%d);p(-i);p(-l);p(i*d);p(l*d);p(-7/2);p(-7%2);p(7/-2);p(7%-2);p(-1U/2);p(i-1);p(i/=d);
+-- p(l%=d);return
 -- 0;}
 use Rattle.c_tree.specs.Programs.{Program, Function}
 use Rattle.c_tree.specs.Statements.{Statement, expression_statement, declaration, return}
@@ -19,7 +20,7 @@ use Rattle.source_meaning_rows.proofs.Hexadecimal.{hex_digits, put_digits, put_n
 use Rattle.source_meaning_rows.proofs.Samples.{binary, call, change_plain, computing, constant, convert, defined}
 use Rattle.source_meaning_rows.proofs.Samples.{exited, int, integer_kind, main_type, none, number, one, plain}
 use Rattle.source_meaning_rows.proofs.Samples.{plain_variable, program_of, seen, three, two, unary, with_value}
-use Rattle.std.proofs.Common.{Some, [], refl, true, ◌∷◌, ◌≡◌}
+use Rattle.std.proofs.Common.{Some, [], refl, true, ◌∷◌, ◌++◌, ◌≡◌}
 use Rattle.std.specs.Prelude.{codes}
 
 statement_1 : Statement
@@ -126,7 +127,9 @@ program : Program
 program = program_of (one hex_digits) (two main_type put_type) (three put_digits put_number function_main) 2
 
 run : seen (meaning program default_sizes [] 600) ≡
-    exited (codes "ffffffff80000000 0 8000000000000000 0 ffffffff80000000 8000000000000000 ffffffff80000000 8000000000000000 fffffffffffffffd ffffffffffffffff fffffffffffffffd 1 7fffffff 7fffffff ffffffff80000000 0 ") 0
+    exited (codes "ffffffff80000000 0 8000000000000000 0 ffffffff80000000 8000000000000000 "
+    ++ codes "ffffffff80000000 8000000000000000 fffffffffffffffd ffffffffffffffff fffffffffffffffd 1 "
+    ++ codes "7fffffff 7fffffff ffffffff80000000 0 ") 0
 unfolding program put_digits put_number function_main statement_1 statement_2 statement_3 statement_4 statement_5
     statement_6 statement_7 statement_8 statement_9 statement_10 statement_11 statement_12 statement_13 statement_14
     statement_15 statement_16 hex_digits put_type computing

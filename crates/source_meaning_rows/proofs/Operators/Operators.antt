@@ -4,7 +4,8 @@
 --     int main(void){int i=-10;int j=3;unsigned u=4000000000U;unsigned v=7;long l=-10000000000L;unsigned long
 -- m=18446744073709551615UL;
 --     p(i+j);p(i-j);p(i*j);p(i/j);p(i%j);p(i&j);p(i|j);p(i^j);p(~j);p(-u);p(u+u);p(u*v);p(u/v);p(u%v);p(u-v-u);
--- p(l+i);p(l*l);p(l/i);p(l%j);p(l^m);p(m*m);p(m/u);p(m%v);p(i<j);p(i<u);p(l<=m);p(l>=i);p(i==-10);p(m!=-1);p(!l);p(+u);return
+-- p(l+i);p(l*l);p(l/i);p(l%j);p(l^m);p(m*m);p(m/u);p(m%v);p(i<j);p(i<u);p(l<=m);p(l>=i);p(i==-10);p(m!=-1);p(!l);p(+u);
+-- return
 -- 0;}
 use Rattle.c_tree.specs.Programs.{Program, Function}
 use Rattle.c_tree.specs.Statements.{Statement, expression_statement, declaration, return}
@@ -21,7 +22,7 @@ use Rattle.source_meaning_rows.proofs.Hexadecimal.{hex_digits, put_digits, put_n
 use Rattle.source_meaning_rows.proofs.Samples.{binary, call, compare, computing, constant, convert, defined, exited}
 use Rattle.source_meaning_rows.proofs.Samples.{int, integer_kind, logical_not, main_type, none, number, one, plain}
 use Rattle.source_meaning_rows.proofs.Samples.{plain_variable, program_of, seen, six, three, two, unary, with_value}
-use Rattle.std.proofs.Common.{Some, [], refl, true, ◌∷◌, ◌≡◌}
+use Rattle.std.proofs.Common.{Some, [], refl, true, ◌∷◌, ◌++◌, ◌≡◌}
 use Rattle.std.specs.Prelude.{codes}
 
 statement_1 : Statement
@@ -220,7 +221,10 @@ program : Program
 program = program_of (one hex_digits) (two main_type put_type) (three put_digits put_number function_main) 2
 
 run : seen (meaning program default_sizes [] 2000) ≡
-    exited (codes "fffffffffffffff9 fffffffffffffff3 ffffffffffffffe2 fffffffffffffffd ffffffffffffffff 2 fffffffffffffff7 fffffffffffffff5 fffffffffffffffc 1194d800 dcd65000 84ee1800 220f4edb 3 fffffff9 fffffffdabf41bf6 6bc75e2d63100000 3b9aca00 ffffffffffffffff 2540be3ff 1 112e0be82 1 1 0 1 0 1 0 0 ee6b2800 ") 0
+    exited (codes "fffffffffffffff9 fffffffffffffff3 ffffffffffffffe2 fffffffffffffffd ffffffffffffffff 2 "
+    ++ codes "fffffffffffffff7 fffffffffffffff5 fffffffffffffffc 1194d800 dcd65000 84ee1800 220f4edb "
+    ++ codes "3 fffffff9 fffffffdabf41bf6 6bc75e2d63100000 3b9aca00 ffffffffffffffff 2540be3ff 1 "
+    ++ codes "112e0be82 1 1 0 1 0 1 0 0 ee6b2800 ") 0
 unfolding program put_digits put_number function_main statement_1 statement_2 statement_3 statement_4 statement_5
     statement_6 statement_7 statement_8 statement_9 statement_10 statement_11 statement_12 statement_13 statement_14
     statement_15 statement_16 statement_17 statement_18 statement_19 statement_20 statement_21 statement_22 statement_23

@@ -17,7 +17,7 @@ use Rattle.source_meaning_rows.proofs.Hexadecimal.{hex_digits, put_digits, put_n
 use Rattle.source_meaning_rows.proofs.Samples.{binary, call, computing, constant, convert, defined, exited, five, int}
 use Rattle.source_meaning_rows.proofs.Samples.{integer_kind, main_type, none, number, one, plain, plain_variable}
 use Rattle.source_meaning_rows.proofs.Samples.{program_of, seen, set_plain, three, two, unary, with_value}
-use Rattle.std.proofs.Common.{Some, [], refl, true, ◌∷◌, ◌≡◌}
+use Rattle.std.proofs.Common.{Some, [], refl, true, ◌∷◌, ◌++◌, ◌≡◌}
 use Rattle.std.specs.Prelude.{codes}
 
 statement_1 : Statement
@@ -120,7 +120,9 @@ program : Program
 program = program_of (one hex_digits) (two main_type put_type) (three put_digits put_number function_main) 2
 
 run : seen (meaning program default_sizes [] 600) ≡
-    exited (codes "ffffffff80000000 ffffffffffffffff 1 80000000 1 fffffffffffffff8 80000001 80000001 100000000 80000000 8000000000000000 1 ffffffffffffffff 8000000000000000 8000000000000001 8000000000000001 fffffffffffffff8 80000001 ") 0
+    exited (codes "ffffffff80000000 ffffffffffffffff 1 80000000 1 fffffffffffffff8 80000001 80000001 "
+    ++ codes "100000000 80000000 8000000000000000 1 ffffffffffffffff 8000000000000000 "
+    ++ codes "8000000000000001 8000000000000001 fffffffffffffff8 80000001 ") 0
 unfolding program put_digits put_number function_main statement_1 statement_2 statement_3 statement_4 statement_5
     statement_6 statement_7 statement_8 statement_9 statement_10 statement_11 statement_12 hex_digits put_type computing
 run = refl

@@ -6,5 +6,6 @@ use Rattle.c_counts.specs.Excess.{with_counts}
 use Rattle.c_counts.proofs.declarations.designators.Given as goal
 
 abbrev pub invariant-loop-tree : goal.invariant-loop-tree
-invariant-loop-tree l = (cs : List Count) → with_counts (counts.designators (views.designators_in (drop l.tree-index l.trees)) cs) l.so_far
+invariant-loop-tree l =
+    (cs : List Count) → with_counts (counts.designators (views.designators_in (drop l.tree-index l.trees)) cs) l.so_far
     ≡ with_counts (counts.designators (views.designators_in l.fn.trees) cs) l.fn.so_far

@@ -6,5 +6,7 @@ use Rattle.c_counts.specs.Excess.{with_counts}
 use Rattle.c_counts.proofs.declarations.more_init_declarators.Given as goal
 
 abbrev pub invariant-loop-tree : goal.invariant-loop-tree
-invariant-loop-tree l = (cs : List Count) → with_counts (counts.more_init_declarators (views.more_init_declarators_in (drop l.tree-index l.others)) cs) l.so_far
+invariant-loop-tree l =
+    (cs : List Count) → with_counts
+    (counts.more_init_declarators (views.more_init_declarators_in (drop l.tree-index l.others)) cs) l.so_far
     ≡ with_counts (counts.more_init_declarators (views.more_init_declarators_in l.fn.others) cs) l.fn.so_far

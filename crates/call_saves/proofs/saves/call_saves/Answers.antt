@@ -14,4 +14,5 @@ returns c =
     (c.index-as_slice-number.is ∙ ap (λ xs. get_or xs c.args.number f) c.as_slice.ensures))
     (slice_get_read c.args.plans.now (length c.args.plans.now) c.args.number plan refl c.requires.plan
     c.index-plans-number.is)
-    (subst (λ xs. Counts c.in_ok-before.before.items xs) c.as_slice-2.ensures c.in_ok-before.ensures) c.in_ok-rows.ensures
+    (subst (λ xs. Counts c.in_ok-before.before.items xs) c.as_slice-2.ensures c.in_ok-before.ensures)
+    c.in_ok-rows.ensures

@@ -22,5 +22,6 @@ loop-register-preserved c =
     let puts = c.in_ok-put_register.ensures in
     record {
       size = puts.size ∙ c.loop-register.invariant.size;
-      rows = λ pc h. saved_more f plan pc c.loop-register.register _ _ (c.loop-register.invariant.rows pc h) (puts.rows pc h);
+      rows = λ pc h.
+          saved_more f plan pc c.loop-register.register _ _ (c.loop-register.invariant.rows pc h) (puts.rows pc h);
     }

@@ -8,5 +8,5 @@ returns-in-None c =
 
 pub returns-in-Some : goal.returns-in-Some
 returns-in-Some c =
-    static_there c.args.scope.now c.as_slice.result.now c.args.number c.in-Some.object.now c.args.kind c.is_named_as.result
-    c.as_slice.ensures c.in-Some.ensures.lookup.0 c.in-Some.ensures.lookup.1 c.is_named_as.ensures
+    static_there c.args.scope.now c.as_slice.result.now c.args.number c.in-Some.object.now c.args.kind
+    c.is_named_as.result c.as_slice.ensures c.in-Some.ensures.lookup.0 c.in-Some.ensures.lookup.1 c.is_named_as.ensures

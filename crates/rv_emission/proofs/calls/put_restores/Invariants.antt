@@ -7,6 +7,7 @@ use Rattle.rv_emission.proofs.calls.put_restores.Given as goal
 abbrev pub invariant-loop-register : goal.invariant-loop-register
 invariant-loop-register l =
     l.code.items
-    ++ flat_map (restore_unless (kept_by l.function l.plan) l.results.into l.results.count) (drop l.register-index l.saved)
+    ++ flat_map (restore_unless (kept_by l.function l.plan) l.results.into l.results.count)
+    (drop l.register-index l.saved)
     ≡ l.initial.code.items
     ++ flat_map (restore_unless (kept_by l.function l.plan) l.results.into l.results.count) l.saved

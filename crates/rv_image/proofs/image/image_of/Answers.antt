@@ -14,7 +14,8 @@ write-requires c =
     let is = c.in_ok-parts.ensures
     ∙ written_is m p plans c.in_ok-code.code.start c.in_ok-code.code.table.items c.in_ok-code.code.compiled.items
     c.args.objects.items c.args.spaces.items g in
-    subst SegmentsFit (sym is) (c.segments_in_order_fit.ensures (written m p plans c.args.objects.items c.args.spaces.items)
+    subst SegmentsFit (sym is)
+    (c.segments_in_order_fit.ensures (written m p plans c.args.objects.items c.args.spaces.items)
     (in_order m p plans c.args.objects.items c.args.spaces.items c.sizes_are_in_range.ensures g.fits c.requires.objects
     c.requires.spaces))
 

@@ -103,4 +103,4 @@ pub first_is_outermost : (section : IfSection) (more : List IfSection)
     → finished (inner_first (section ∷ more)) ≡ fails section.line Unclosed
 first_is_outermost section more = finished-onto more [] section
 
-pub ruleset put_in = (last_is_inner, last_name, name_added)
+pub ruleset put_in_named = (last_is_inner, last_name, name_added)

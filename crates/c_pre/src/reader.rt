@@ -89,7 +89,7 @@ impl<'t, 'a> Reader<'t, 'a> {
 
     /// Reads the replacement list of a macro that is used on this line, before all else. None of its name is being
     /// read.
-    #[tactic(auto, using(crate::proofs::Stacks::put_in))]
+    #[tactic(auto, using(crate::proofs::Stacks::put_in_named))]
     pub fn put_in(&mut self, definition: Definition<'t, 'a>, line: Line) -> Result<(), AllocError>
         requires kept { spec.HasNames self.old }
         requires fresh { names.member definition.name (spec.names_of (spec.inner_first self.old.lists.items)) ≡ false }

@@ -10,9 +10,10 @@ use Rattle.c_place_rules.specs.Operands.{operand_of}
 use Rattle.c_typing.specs.declared.members.Entries as code_entries
 use Rattle.c_typing.specs.declared.shape.Shape as code_shape
 use Rattle.c_typing.specs.declared.specification.Gathered as code_gathered
+use Rattle.c_typing.specs.declared.specification.Specification as code_specification
 use Rattle.c_typing.specs.Declarators.{Shape, shape_of}
 use Rattle.c_typing.specs.Members.{Entries, entries_of, member_added, member_specified}
-use Rattle.c_typing.specs.Specifications.{Gathered, Specification, gathered_of}
+use Rattle.c_typing.specs.Specifications.{Gathered, Specification, gathered_of, specification_of}
 use Rattle.c_typing.specs.State.{State, Types, Typing, judged, ◌>>>◌}
 use Rattle.c_expression_typing.specs.Constructs.{with_shape}
 use Rattle.c_expression_typing.specs.Typed.{shape, specification, typed, with_member, with_more_declared}
@@ -31,6 +32,13 @@ pub declarator_typed : (x y : Declarator) (in_definition : Bool) (s new : State)
     → Types shape_of new result (shape in_definition y s)
 declarator_typed x y in_definition s new result same types =
     subst (λ z. Types shape_of new result (shape in_definition z s)) same types
+
+pub specifiers_typed : (x y : Specifiers) (is_alone : Bool) (s new : State)
+    (result : Result code_specification.Specification Refusal) → x ≡ y
+    → Types specification_of new result (specification is_alone x s)
+    → Types specification_of new result (specification is_alone y s)
+specifiers_typed x y is_alone s new result same types =
+    subst (λ z. Types specification_of new result (specification is_alone z s)) same types
 
 pub specifier_typed : (x y : Specifier) (is_alone : Bool) (line : ℕ) (before : Gathered) (s new : State)
     (result : Result code_gathered.Gathered Refusal) → x ≡ y

@@ -5,6 +5,7 @@ ghost use Rattle.c_typing.specs.Declarators.{plain_shape, shape_of};
 ghost use Rattle.c_expression_typing.specs.Constructs.{has_words};
 ghost use Rattle.c_expression_typing.specs.Lines.{name_of};
 
+use crate::dropped::without;
 use crate::nested::Nested;
 use c_declarators::Derivation;
 use c_place_rules::operand::Operand;
@@ -107,7 +108,9 @@ impl<
     {
         let shape = self.shape(typer, in_definition, inner)?;
         let (shape, size) = beside(shape, self.value(typer, false, size))?;
-        let shape = shape.with_derivation(Derivation::Array(count_in(&size)))?;
+        let count = count_in(&size);
+        let count = without(size, count);
+        let shape = shape.with_derivation(Derivation::Array(count))?;
         Ok(shape)
     }
 

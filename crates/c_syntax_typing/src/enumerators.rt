@@ -1,5 +1,6 @@
 //! Enumerators (C99 6.7.2.2).
 
+use crate::dropped::without;
 use crate::nested::Nested;
 use c_expression_typing::constructs::enumerated_as;
 use c_place_rules::operand::Operand;
@@ -38,6 +39,7 @@ impl<
     {
         let value = self.value(typer, false, value)?;
         let word = enumeration_value(&value);
+        let word = without(value, word);
         enumerated_as(typer, name.spelling.bytes(), name.position.line, word)
     }
 

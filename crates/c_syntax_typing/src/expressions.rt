@@ -1,5 +1,6 @@
 //! Expressions (C99 6.5), calls aside.
 
+use crate::dropped::without;
 use crate::nested::Nested;
 use c_expression_typing::constructs::{
     accessed, cast_to, character, chosen, integer, prefixed, sized, strings,
@@ -142,7 +143,8 @@ impl<
             (tree.sizeof_expression at (expression_of inner.now)) (state_of typer.old)) }
     {
         let operand = self.operand(typer, false, inner)?;
-        sized(typer, at.line, type_in(&operand))
+        let size = sized(typer, at.line, type_in(&operand));
+        without(operand, size)
     }
 
     /// `sizeof ( type-name )` (6.5.3.4).

@@ -5,6 +5,7 @@
 
 pub mod calls;
 pub mod declarators;
+pub mod dropped;
 pub mod enumerators;
 pub mod expressions;
 pub mod lists;

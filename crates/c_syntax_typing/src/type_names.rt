@@ -1,5 +1,6 @@
 //! Type names (C99 6.7.6) and parameters (6.7.5.3).
 
+use crate::dropped::without;
 use crate::lists::{only, with_item};
 use crate::nested::Nested;
 use c_place_rules::operand::Operand;
@@ -38,7 +39,8 @@ impl<
         let specification = self.specification(typer, name.specifiers.as_slice())?;
         let shape = self.shape(typer, false, name.declarator.get());
         let (specification, shape) = beside(specification, shape)?;
-        typer.type_named(&specification, &shape)
+        let named = typer.type_named(&specification, &shape);
+        without((specification, shape), named)
     }
 
     // The type of a parameter.

@@ -1,10 +1,11 @@
 -- What a function that reads with levels ensures: what the reader gives, and how many levels that has, or that memory
 -- failed.
-use Rattle.std.specs.Prelude.{◌≡◌, ℕ, ◌<◌, Bool, Result, Ok, Err, List, Option}
+use Rattle.std.specs.Prelude.{◌≡◌, ℕ, ◌+◌, ◌<◌, Bool, Result, Ok, Err, List, Option}
 use Rattle.std.specs.declared.alloc.Global.{Global}
 use denote.Ref.{MutBor, Bor}
 use Rattle.c_syntax.specs.Words.{Words}
 use Rattle.c_grammar.specs.declared.cursor.Fault.{Fault}
+use Rattle.c_grammar.specs.declared.cursor.Fault.TheVariants.{Memory}
 use Rattle.c_grammar.specs.declared.cursor.Cursor.{Cursor}
 use Rattle.c_grammar.specs.declared.declarator_kind.DeclaratorKind.{DeclaratorKind}
 use Rattle.c_grammar.specs.Reader.{Outcome}
@@ -15,6 +16,7 @@ use Rattle.c_syntax.specs.declared.position.Position.{Position}
 use Rattle.c_syntax.specs.declared.tree.Expression.{Expression}
 use Rattle.c_syntax.specs.declared.tree.Specifier.{Specifier}
 use Rattle.c_syntax.specs.declared.tree.Declarator.{Declarator}
+use Rattle.c_syntax.specs.Tree as t
 use Rattle.c_syntax.specs.View.{expression_of, specifiers_in, declarator_of}
 use Rattle.c_syntax.specs.Levels.{expression_levels, specifiers_levels, declarator_levels}
 
@@ -28,6 +30,34 @@ abbrev pub ReadsLeveled : {A B : Type 0} → (A → B) → (B → ℕ) → ℕ �
 ReadsLeveled view levels n o (Ok a) new = (o ≡ Ok (view a.tree, new)) × Below n a.levels (levels (view a.tree))
 ReadsLeveled view levels n o (Err e) new = Fails o e new
 
+-- this tree, one level above this number of levels, or the answer that there is no memory for it
+abbrev pub IsAbove : {A : Type 0} → A → ℕ → Result (Leveled A) Fault → Type 0
+IsAbove t l (Ok a) = (a.tree ≡ t) × (l < 18446744073709551615 → a.levels ≡ l + 1)
+IsAbove t l (Err e) = e ≡ Memory
+
+-- this tree, without levels, or the answer that there is no memory for it
+abbrev pub IsAlone : {A : Type 0} → A → Result (Leveled A) Fault → Type 0
+IsAlone t (Ok a) = (a.tree ≡ t) × (a.levels ≡ 0)
+IsAlone t (Err e) = e ≡ Memory
+
+-- a number of levels that a `usize` can be
+abbrev pub IsSize : ℕ → Type 0
+IsSize n = n < 18446744073709551616
+
+-- a reader of the code with its levels, for expressions and for declarators
+abbrev pub ReadsExpression : ℕ → Outcome t.Expression → Result (Leveled Expression) Fault → Words → Type 0
+ReadsExpression n o r i = ReadsLeveled expression_of expression_levels n o r i
+
+abbrev pub ReadsDeclarator : ℕ → Outcome t.Declarator → Result (Leveled Declarator) Fault → Words → Type 0
+ReadsDeclarator n o r i = ReadsLeveled declarator_of declarator_levels n o r i
+
+-- the levels of an expression or declarator are the real ones, and below n
+abbrev pub BelowExpression : ℕ → Leveled Expression → Type 0
+BelowExpression n e = Below n e.levels (expression_levels (expression_of e.tree))
+
+abbrev pub BelowDeclarator : ℕ → Leveled Declarator → Type 0
+BelowDeclarator n d = Below n d.levels (declarator_levels (declarator_of d.tree))
+
 -- function values that read what has fewer levels than n
 pub record Deeper (n : ℕ)
     (expression_pre : Global → Bor (List (List ℕ)) → MutBor Cursor → ℕ → Option Position → ℕ → Type 0)
@@ -39,6 +69,7 @@ pub record Deeper (n : ℕ)
     (declarator_pre : Global → Bor (List (List ℕ)) → MutBor Cursor → ℕ → DeclaratorKind → Type 0)
     (declarator_post : Global → Bor (List (List ℕ)) → MutBor Cursor → ℕ → DeclaratorKind
     → Result (Leveled Declarator) Fault → MutBor Cursor → Type 0) : Type 0 where
+  pub fits : n < 18446744073709551616
   pub reads_expression : (alloc : Global) (names : Bor (List (List ℕ))) (old : MutBor Cursor) (opened : Option Position)
       (m : ℕ) → expression_pre alloc names old n opened m
   pub expressions : (alloc : Global) (names : Bor (List (List ℕ))) (old new : MutBor Cursor) (opened : Option Position)

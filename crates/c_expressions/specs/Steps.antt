@@ -2,6 +2,7 @@
 use Rattle.std.specs.Prelude.{ℕ, Bool, ◌&&◌, nat_le, nat_lt, List, [], ◌∷◌, map, Ok, Err, Option, Some, None}
 use Rattle.c_lexer.specs.declared.keyword.Keyword.TheVariants as k
 use Rattle.c_lexer.specs.declared.punctuator.Punctuator.{Punctuator}
+use Rattle.c_lexer.specs.declared.punctuator.Punctuator.TheVariants as p
 use Rattle.c_syntax.specs.declared.position.Position.{Position}
 use Rattle.c_syntax.specs.declared.tree.Declarator as rd
 use Rattle.c_syntax.specs.declared.tree.Enumerator as re
@@ -17,9 +18,10 @@ use Rattle.c_syntax.specs.View.{expression_of, specifier_of, typed_of, declarato
 use Rattle.c_syntax.specs.View.{more_arguments_of, more_parameters_of, more_declarators_of, more_enumerators_of}
 use Rattle.c_syntax.specs.Words.{Words}
 use Rattle.c_syntax.specs.Formed.{operand_precedence, precedence}
-use Rattle.c_grammar.specs.Reader.{Outcome, ◌>>=◌, next_is}
+use Rattle.c_grammar.specs.Reader.{Outcome, ◌>>=◌, next_is, expect}
 use Rattle.c_grammar.specs.ExpressionReader.{binds, needs, operation_by}
-use Rattle.c_grammar.specs.Readers.{Readers}
+use Rattle.c_grammar.specs.Readers.{Readers, typed_from}
+use Rattle.c_grammar.specs.declared.declarator_kind.DeclaratorKind.TheVariants as kind
 use Rattle.c_grammar.specs.DeclaratorReader.{suffix_from}
 use Rattle.c_grammar.specs.SpecifierReader.{specifier_by}
 
@@ -27,13 +29,10 @@ use Rattle.c_grammar.specs.SpecifierReader.{specifier_by}
 abbrev pub unary_from : Readers → Punctuator → Position → Words → Outcome Expression
 unary_from deeper x at i = deeper.expression None (operand_precedence x) i >>= λ e i. Ok (t.unary x at e, i)
 
--- a postfix operator on this operand (C99 6.5.2.4)
-abbrev pub postfix_at : Expression → Punctuator → Position → Words → Outcome Expression
-postfix_at l x at i = Ok (t.postfix l x at, i)
-
--- the conditional expression of these operands (C99 6.5.15)
-abbrev pub conditional_at : Expression → Position → Expression → Position → Expression → Words → Outcome Expression
-conditional_at l at a colon b i = Ok (t.conditional l at a colon b, i)
+-- behind `sizeof (`, where it is a type name (C99 6.5.3.4)
+abbrev pub sizeof_type_from : Readers → Position → Position → Words → Outcome Expression
+sizeof_type_from deeper at l i = typed_from deeper kind.Abstract i >>= λ x i. expect p.RightParenthesis i
+    >>= λ r i. Ok (t.sizeof_type at l x r, i)
 
 -- an operation on this operand, whose first word is next
 abbrev pub operation_next : List (List ℕ) → Readers → ℕ → Expression → Words → Outcome Expression

@@ -8,18 +8,20 @@ ghost use Rattle.c_grammar.specs.Readers as common;
 ghost use Rattle.c_grammar.specs.DeclaratorReader as spec;
 ghost use Rattle.c_grammar.specs.Nested.{readers};
 ghost use Rattle.c_expressions.specs.LeveledReads.{ReadsLeveled, Below, Deeper};
-ghost use Rattle.c_syntax.specs.Tree as t;
 ghost use Rattle.c_syntax.specs.View.{declarator_of};
 ghost use Rattle.c_syntax.specs.Levels.{declarator_levels};
 
+use crate::declarator_tree::{
+    array, function, named, nameless, open_array, parenthesized, pointer,
+};
 use crate::grammar::Grammar;
-use crate::leveled::{Leveled, beside, leaf};
+use crate::leveled::{Leveled, beside};
 use crate::specifier::begins_specifiers;
-use c_grammar::cursor::{Cursor, Fault, is_punctuator, is_same, next_is, spelled};
+use c_grammar::cursor::{Cursor, Fault, is_punctuator, is_same, next_is};
 use c_grammar::declarator_kind::DeclaratorKind;
 use c_grammar::typedef_names::TypedefNames;
 use c_lexer::{Punctuator, TokenKind};
-use c_syntax::{Boxed, Declarator, Expression, Items, Position, Positioned, Specifier, Spelled};
+use c_syntax::{Boxed, Declarator, Expression, Items, Position, Positioned, Specifier};
 use std::alloc::Global;
 
 /// Whether a declarator of this kind may have a name.
@@ -47,15 +49,7 @@ fn unnamed<'a>(
     if must_have_name(kind) {
         return Err(Fault::Refused);
     }
-    Ok(leaf(Declarator::Unnamed).boxed(alloc)?)
-}
-
-/// A name as a declarator.
-fn named<'a>(name: Spelled<'a>) -> Leveled<Declarator<'a>>
-    ensures tree { declarator_of result.tree ≡ t.named name.entry }
-    ensures levels { result.levels ≡ 0 }
-{
-    leaf(Declarator::Named(name))
+    nameless(alloc)
 }
 
 /// Whether the next word begins or ends parameters.
@@ -115,14 +109,9 @@ impl<
             (spec.function_from self.now.names.now (readers self.now.names.now self.now.levels) self.now.levels
             (declarator_of left.entry.tree) position tokens.old.rest.now) result tokens.new.rest.now }
     {
-        let called = beside(left, self.parameters(tokens))?;
-        let (called, right) = beside(called, tokens.expect(Punctuator::RightParenthesis))?;
-        let (left, parameters) = called;
-        let tree = Leveled {
-            levels: left.levels.max(parameters.levels) + 1,
-            tree: Declarator::Function(left.tree, position, parameters.tree, right),
-        };
-        Ok(tree.boxed(self.alloc)?)
+        let (left, parameters) = beside(left, self.parameters(tokens))?;
+        let right = tokens.expect(Punctuator::RightParenthesis);
+        function(self.alloc, left, position, parameters, right)
     }
 
     /// Reads what follows a first `(`: the parameters of a function without a name, or a declarator in parentheses (C99
@@ -147,12 +136,8 @@ impl<
             return self.function(tokens, nameless, position);
         }
         let inner = self.declarator(tokens, kind)?;
-        let (inner, right) = beside(inner, tokens.expect(Punctuator::RightParenthesis))?;
-        let tree = Leveled {
-            tree: Declarator::Parenthesized(position, inner.tree, right),
-            levels: inner.levels + 1,
-        };
-        Ok(tree.boxed(self.alloc)?)
+        let right = tokens.expect(Punctuator::RightParenthesis);
+        parenthesized(self.alloc, position, inner, right)
     }
 
     /// Reads what is no pointer, without its suffixes.
@@ -178,7 +163,7 @@ impl<
                     return unnamed(self.alloc, kind, tokens.rest);
                 }
                 tokens.rest = rest;
-                Ok(named(spelled(spelling, first.position)).boxed(self.alloc)?)
+                named(self.alloc, spelling, first.position)
             }
             TokenKind::Punctuator(punctuator) => {
                 if !is_same(Punctuator::LeftParenthesis, *punctuator) || self.levels < 1 {
@@ -208,21 +193,12 @@ impl<
             (declarator_of left.entry.tree) position tokens.old.rest.now) result tokens.new.rest.now }
     {
         if next_is(tokens.rest, Punctuator::RightBracket) {
-            let (left, right) = beside(left, tokens.expect(Punctuator::RightBracket))?;
-            let tree = Leveled {
-                levels: left.levels + 1,
-                tree: Declarator::OpenArray(left.tree, position, right),
-            };
-            return Ok(tree.boxed(self.alloc)?);
+            let right = tokens.expect(Punctuator::RightBracket);
+            return open_array(self.alloc, left, position, right);
         }
-        let array = beside(left, self.expression(tokens, None, 3))?;
-        let (array, right) = beside(array, tokens.expect(Punctuator::RightBracket))?;
-        let (left, size) = array;
-        let tree = Leveled {
-            levels: left.levels.max(size.levels) + 1,
-            tree: Declarator::Array(left.tree, position, size.tree, right),
-        };
-        Ok(tree.boxed(self.alloc)?)
+        let (left, size) = beside(left, self.expression(tokens, None, 3))?;
+        let right = tokens.expect(Punctuator::RightBracket);
+        array(self.alloc, left, position, size, right)
     }
 
     /// Reads a suffix by its first word, which is `[` or `(`.
@@ -308,12 +284,8 @@ impl<
             position tokens.old.rest.now) result tokens.new.rest.now }
     {
         let consts = tokens.consts(self.alloc)?;
-        let (consts, inner) = beside(consts, self.declarator(tokens, kind))?;
-        let tree = Leveled {
-            tree: Declarator::Pointer(position, consts, inner.tree),
-            levels: inner.levels + 1,
-        };
-        Ok(tree.boxed(self.alloc)?)
+        let inner = self.declarator(tokens, kind);
+        pointer(self.alloc, position, consts, inner)
     }
 
     /// Reads a declarator with at most the rules' number of levels (C99 6.7.5, 6.7.6).

@@ -11,6 +11,7 @@ ghost use Rattle.c_syntax.specs.Levels.{specifier_levels, enumerator_levels};
 
 use crate::grammar::Grammar;
 use crate::leveled::{Leveled, before_comma, beside, leaf, no_trees, with_next};
+use crate::specifier_tree::{plain, valued};
 use crate::structure::begins_body;
 use c_grammar::cursor::{Cursor, Fault, next_is};
 use c_grammar::declarator_kind::DeclaratorKind;
@@ -58,14 +59,11 @@ impl<
     {
         let name = tokens.ordinary(self.names)?;
         if !next_is(tokens.rest, Punctuator::Assign) {
-            return Ok(leaf(Enumerator::Plain(name)));
+            return Ok(plain(name));
         }
         let position = tokens.expect(Punctuator::Assign)?;
-        let (name, value) = beside(name, self.expression(tokens, None, 3))?;
-        Ok(Leveled {
-            levels: value.levels,
-            tree: Enumerator::Valued(name, position, value.tree),
-        })
+        let value = self.expression(tokens, None, 3);
+        valued(name, position, value)
     }
 
     /// Reads enumerators behind the first, each behind its comma, and a last comma before `}`.

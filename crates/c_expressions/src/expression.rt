@@ -5,14 +5,14 @@ ghost use Rattle.c_grammar.specs.ExpressionReader as spec;
 ghost use Rattle.c_grammar.specs.Reader.{behind_commas};
 ghost use Rattle.c_grammar.specs.Nested.{readers};
 ghost use Rattle.c_expressions.specs.Steps.{arguments_behind, arguments_behind_levels, operation_next};
-ghost use Rattle.c_expressions.specs.Steps.{operation_is_next, postfix_at, conditional_at};
+ghost use Rattle.c_expressions.specs.Steps.{operation_is_next};
 ghost use Rattle.c_expressions.specs.LeveledReads.{ReadsLeveled, Below, Deeper};
 ghost use Rattle.c_grammar.specs.declared.operation.Operation.TheVariants as op;
 ghost use Rattle.c_lexer.specs.declared.punctuator.Punctuator.TheVariants as punctuators;
-ghost use Rattle.c_syntax.specs.Words.{Words};
 ghost use Rattle.c_syntax.specs.View.{expression_of, arguments_of};
 ghost use Rattle.c_syntax.specs.Levels.{expression_levels, arguments_levels};
 
+use crate::expression_tree::{assignment, binary, call, conditional, member, postfix, subscript};
 use crate::grammar::Grammar;
 use crate::leveled::{Leveled, as_items, beside, leaf, no_trees, with_next};
 use c_grammar::cursor::{Cursor, Fault, next_is};
@@ -124,12 +124,7 @@ impl<
             tokens.new.rest.now }
     {
         let right = self.expression(tokens, None, binary_precedence(punctuator) + 1);
-        let (left, right) = beside(left, right)?;
-        let tree = Leveled {
-            levels: left.levels.max(right.levels) + 1,
-            tree: Expression::Binary(left.tree, punctuator, position, right.tree),
-        };
-        Ok(tree.boxed(self.alloc)?)
+        binary(self.alloc, left, punctuator, position, right)
     }
 
     /// Reads what follows an assignment operator (C99 6.5.16).
@@ -151,39 +146,7 @@ impl<
             tokens.new.rest.now }
     {
         let right = self.expression(tokens, None, 2);
-        let (left, right) = beside(left, right)?;
-        let tree = Leveled {
-            levels: left.levels.max(right.levels) + 1,
-            tree: Expression::Assignment(left.tree, punctuator, position, right.tree),
-        };
-        Ok(tree.boxed(self.alloc)?)
-    }
-
-    /// The conditional expression of the condition and the second operand, and the third (C99 6.5.15).
-    fn conditional_of(
-        &self,
-        operands: (
-            Leveled<Boxed<Expression<'a>>>,
-            Leveled<Boxed<Expression<'a>>>,
-        ),
-        position: Position,
-        colon: Position,
-        third: Leveled<Boxed<Expression<'a>>>,
-    ) -> Result<Leveled<Boxed<Expression<'a>>>, Fault>
-        requires known { Below self.now.levels operands.0.levels (expression_levels (expression_of operands.0.tree)) }
-        requires known_second { Below self.now.levels operands.1.levels
-            (expression_levels (expression_of operands.1.tree)) }
-        requires known_third { Below self.now.levels third.levels (expression_levels (expression_of third.tree)) }
-        ensures { (i : Words) → ReadsLeveled expression_of expression_levels (suc self.now.levels)
-            (conditional_at (expression_of operands.entry.0.tree) position (expression_of operands.entry.1.tree) colon
-            (expression_of third.entry.tree) i) result i }
-    {
-        let (condition, second) = operands;
-        let tree = Leveled {
-            levels: condition.levels.max(second.levels.max(third.levels)) + 1,
-            tree: Expression::Conditional(condition.tree, position, second.tree, colon, third.tree),
-        };
-        Ok(tree.boxed(self.alloc)?)
+        assignment(self.alloc, left, punctuator, position, right)
     }
 
     /// Reads what follows `?` (C99 6.5.15).
@@ -205,8 +168,9 @@ impl<
     {
         let operands = beside(left, self.expression(tokens, None, 1))?;
         let (operands, colon) = beside(operands, tokens.expect(Punctuator::Colon))?;
-        let (operands, second) = beside(operands, self.expression(tokens, None, 3))?;
-        self.conditional_of(operands, position, colon, second)
+        let (condition, second) = operands;
+        let third = self.expression(tokens, None, 3);
+        conditional(self.alloc, condition, position, second, colon, third)
     }
 
     /// Reads what follows `[` (C99 6.5.2.1).
@@ -226,14 +190,9 @@ impl<
             (expression_of left.entry.tree) punctuators.Question position (Some op.Subscript) tokens.old.rest.now)
             result tokens.new.rest.now }
     {
-        let operands = beside(left, self.expression(tokens, None, 1))?;
-        let (operands, right) = beside(operands, tokens.expect(Punctuator::RightBracket))?;
-        let (left, index) = operands;
-        let tree = Leveled {
-            levels: left.levels.max(index.levels) + 1,
-            tree: Expression::Subscript(left.tree, position, index.tree, right),
-        };
-        Ok(tree.boxed(self.alloc)?)
+        let (left, index) = beside(left, self.expression(tokens, None, 1))?;
+        let right = tokens.expect(Punctuator::RightBracket);
+        subscript(self.alloc, left, position, index, right)
     }
 
     /// Reads what follows the `(` of a call (C99 6.5.2.2).
@@ -253,14 +212,9 @@ impl<
             (expression_of left.entry.tree) punctuators.Question position (Some op.Call) tokens.old.rest.now) result
             tokens.new.rest.now }
     {
-        let called = beside(left, self.arguments(tokens))?;
-        let (called, right) = beside(called, tokens.expect(Punctuator::RightParenthesis))?;
-        let (left, arguments) = called;
-        let tree = Leveled {
-            levels: left.levels.max(arguments.levels) + 1,
-            tree: Expression::Call(left.tree, position, arguments.tree, right),
-        };
-        Ok(tree.boxed(self.alloc)?)
+        let (left, arguments) = beside(left, self.arguments(tokens))?;
+        let right = tokens.expect(Punctuator::RightParenthesis);
+        call(self.alloc, left, position, arguments, right)
     }
 
     /// Reads what follows `.` or `->` (C99 6.5.2.3).
@@ -281,31 +235,7 @@ impl<
             (expression_of left.entry.tree) punctuator position (Some op.Member) tokens.old.rest.now) result
             tokens.new.rest.now }
     {
-        let (left, name) = beside(left, tokens.identifier())?;
-        let tree = Leveled {
-            levels: left.levels + 1,
-            tree: Expression::Member(left.tree, punctuator, position, name),
-        };
-        Ok(tree.boxed(self.alloc)?)
-    }
-
-    /// A postfix operator on this operand (C99 6.5.2.4).
-    #[tactic(auto, unfolding(c_grammar::specs::ExpressionReader::operation_from))]
-    fn postfix(
-        &self,
-        left: Leveled<Boxed<Expression<'a>>>,
-        position: Position,
-        punctuator: Punctuator,
-    ) -> Result<Leveled<Boxed<Expression<'a>>>, Fault>
-        requires known { Below self.now.levels left.levels (expression_levels (expression_of left.tree)) }
-        ensures { (i : Words) → ReadsLeveled expression_of expression_levels (suc self.now.levels)
-            (postfix_at (expression_of left.entry.tree) punctuator position i) result i }
-    {
-        let tree = Leveled {
-            levels: left.levels + 1,
-            tree: Expression::Postfix(left.tree, punctuator, position),
-        };
-        Ok(tree.boxed(self.alloc)?)
+        member(self.alloc, left, punctuator, position, tokens.identifier())
     }
 
     /// Reads an operation on this operand, behind its punctuator.
@@ -334,7 +264,7 @@ impl<
             Operation::Subscript => self.subscript(tokens, left, position),
             Operation::Call => self.call(tokens, left, position),
             Operation::Member => self.member(tokens, left, position, punctuator),
-            Operation::Postfix => self.postfix(left, position, punctuator),
+            Operation::Postfix => postfix(self.alloc, left, punctuator, position),
         }
     }
 

@@ -2,6 +2,7 @@
 //! an owned tree drops it, and the proof of a drop writes out the whole type unless the type is a parameter.
 
 ghost use Rattle.std.specs.Prelude.{◌≡◌, ◌++◌, ◌∷◌, [], max, IfOk, Ok, Err, true, false};
+ghost use Rattle.c_expressions.specs.LeveledReads.{IsAbove, IsAlone};
 ghost use Rattle.c_grammar.specs.declared.cursor.Fault.TheVariants.{Refused};
 ghost use Rattle.c_grammar.specs.declared.cursor.Fault.{Fault};
 
@@ -59,6 +60,30 @@ impl<T: Drop> Leveled<T> {
             tree: Boxed::new(alloc, tree)?,
             levels,
         })
+    }
+}
+
+/// The tree in a block of its own, one level above this number of levels, or the answer that there is no memory for it.
+pub fn above<T: Drop>(alloc: Global, levels: usize, tree: T) -> Result<Leveled<Boxed<T>>, Fault>
+    ensures { IsAbove tree levels result }
+{
+    match Boxed::new(alloc, tree) {
+        Ok(tree) => Ok(Leveled {
+            tree,
+            // Levels are below a number that a `usize` can be, so that the sum is exact.
+            levels: levels.saturating_add(1),
+        }),
+        Err(_) => Err(Fault::Memory),
+    }
+}
+
+/// The tree in a block of its own, without levels, or the answer that there is no memory for it.
+pub fn alone<T: Drop>(alloc: Global, tree: T) -> Result<Leveled<Boxed<T>>, Fault>
+    ensures { IsAlone tree result }
+{
+    match Boxed::new(alloc, tree) {
+        Ok(tree) => Ok(leaf(tree)),
+        Err(_) => Err(Fault::Memory),
     }
 }
 

@@ -2,12 +2,15 @@
 #![tactic(auto)]
 
 mod declarator;
+mod declarator_tree;
 mod enumeration;
 mod expression;
+mod expression_tree;
 pub mod grammar;
 pub mod leveled;
 pub mod nested;
 mod operand;
 pub mod specifier;
+mod specifier_tree;
 mod structure;
 pub mod typed;

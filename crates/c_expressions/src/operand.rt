@@ -1,62 +1,48 @@
 //! Reading operands: names, constants, parentheses, unary operators, casts and `sizeof` (C99 6.5.1, 6.5.3, 6.5.4).
 
-ghost use Rattle.std.specs.Prelude.{◌≡◌, suc, ◌∷◌};
+ghost use Rattle.std.specs.Prelude.{◌≡◌, ℕ, suc, ◌∷◌};
 ghost use Rattle.c_lexer.specs.declared.token.TokenKind.TheVariants as kinds;
 ghost use Rattle.c_grammar.specs.ExpressionReader as spec;
 ghost use Rattle.c_grammar.specs.Nested.{readers};
-ghost use Rattle.c_expressions.specs.Steps.{unary_from};
-ghost use Rattle.c_expressions.specs.LeveledReads.{ReadsLeveled, Deeper};
-ghost use Rattle.c_syntax.specs.Tree as t;
+ghost use Rattle.c_grammar.specs.Readers as common;
+ghost use Rattle.c_grammar.specs.Reader.{strings_from};
+ghost use Rattle.c_grammar.specs.declared.declarator_kind.DeclaratorKind.TheVariants as kind;
+ghost use Rattle.c_expressions.specs.Built as built;
+ghost use Rattle.c_expressions.specs.Steps.{unary_from, sizeof_type_from};
+ghost use Rattle.c_expressions.specs.LeveledReads.{ReadsExpression, ReadsLeveled, Deeper};
 ghost use Rattle.c_syntax.specs.Words.{word_at};
-ghost use Rattle.c_syntax.specs.View.{expression_of};
-ghost use Rattle.c_syntax.specs.Levels.{expression_levels};
+ghost use Rattle.c_syntax.specs.View.{expression_of, typed_of};
+ghost use Rattle.c_syntax.specs.Levels.{expression_levels, typed_levels};
 
+use crate::expression_tree::{
+    cast, character, identifier, integer, parenthesized, sizeof_expression, sizeof_type, strings,
+    unary,
+};
 use crate::grammar::Grammar;
-use crate::leveled::{Leveled, beside, leaf};
+use crate::leveled::{Leveled, beside};
 use crate::specifier::begins_specifiers;
-use c_grammar::cursor::{Cursor, Fault, is_punctuator, is_same, spelled};
+use c_grammar::cursor::{Cursor, Fault, is_punctuator, is_same};
 use c_grammar::declarator_kind::DeclaratorKind;
 use c_grammar::typedef_names::TypedefNames;
 use c_lexer::{Keyword, Punctuator, Spelling, TokenKind};
 use c_syntax::operators::operand_precedence;
-use c_syntax::{Boxed, Declarator, Expression, Items, Position, Positioned, Specifier, Spelled};
+use c_syntax::{
+    Boxed, Declarator, Expression, Items, Position, Positioned, Specifier, TypedDeclarator,
+};
 use std::alloc::Global;
 
-/// An identifier as an expression.
-fn identifier<'a>(spelling: &Spelling<'a>, position: Position) -> Leveled<Expression<'a>>
-    ensures tree { expression_of result.tree ≡ t.identifier (record { spelling = spelling.now; position = position }) }
-    ensures levels { result.levels ≡ 0 }
-{
-    leaf(Expression::Identifier(spelled(spelling, position)))
-}
-
-/// An integer constant as an expression.
-fn integer<'a>(spelling: &Spelling<'a>, position: Position) -> Leveled<Expression<'a>>
-    ensures tree { expression_of result.tree ≡ t.integer (record { spelling = spelling.now; position = position }) }
-    ensures levels { result.levels ≡ 0 }
-{
-    leaf(Expression::Integer(spelled(spelling, position)))
-}
-
-/// A character constant as an expression.
-fn character<'a>(spelling: &Spelling<'a>, position: Position) -> Leveled<Expression<'a>>
-    ensures tree { expression_of result.tree ≡ t.character (record { spelling = spelling.now; position = position }) }
-    ensures levels { result.levels ≡ 0 }
-{
-    leaf(Expression::Character(spelled(spelling, position)))
-}
-
-/// String literals that stand side by side as an expression.
-fn strings<'a>(
+/// Reads string literals, of which the first was taken (C99 6.5.1).
+fn string_literals<'a>(
+    alloc: Global,
+    tokens: &mut Cursor<'_, 'a>,
     spelling: &Spelling<'a>,
     position: Position,
-    others: Items<Spelled<'a>>,
-) -> Leveled<Expression<'a>>
-    ensures tree { expression_of result.tree ≡ t.strings (record { spelling = spelling.now; position = position })
-        others.entry }
-    ensures levels { result.levels ≡ 0 }
+) -> Result<Leveled<Boxed<Expression<'a>>>, Fault>
+    ensures { (n : ℕ) → ReadsExpression (suc n) (built.strings (record { spelling = spelling.now; position = position })
+        (strings_from tokens.old.rest.now)) result tokens.new.rest.now }
 {
-    leaf(Expression::Strings(spelled(spelling, position), others))
+    let others = tokens.strings(alloc);
+    strings(alloc, spelling, position, others)
 }
 
 impl<
@@ -100,12 +86,24 @@ impl<
             position tokens.old.rest.now) result tokens.new.rest.now }
     {
         let inner = self.expression(tokens, None, 1)?;
-        let (inner, right) = beside(inner, tokens.expect(Punctuator::RightParenthesis))?;
-        let tree = Leveled {
-            tree: Expression::Parenthesized(position, inner.tree, right),
-            levels: inner.levels + 1,
-        };
-        Ok(tree.boxed(self.alloc)?)
+        let right = tokens.expect(Punctuator::RightParenthesis);
+        parenthesized(self.alloc, position, inner, right)
+    }
+
+    /// Reads a type name (C99 6.7.6).
+    fn type_name(
+        &self,
+        tokens: &mut Cursor<'_, 'a>,
+    ) -> Result<Leveled<Boxed<TypedDeclarator<'a>>>, Fault>
+        requires deeper { Deeper self.now.levels (E.pre self.now.expression) (E.post self.now.expression)
+            (S.pre self.now.specifiers) (S.post self.now.specifiers) (D.pre self.now.declarator)
+            (D.post self.now.declarator) }
+        ensures { ReadsLeveled typed_of typed_levels self.now.levels
+            (common.typed_from (readers self.now.names.now self.now.levels) kind.Abstract tokens.old.rest.now) result
+            tokens.new.rest.now }
+    {
+        let name = self.typed(tokens, DeclaratorKind::Abstract)?;
+        Ok(name.boxed(self.alloc)?)
     }
 
     /// Reads what follows the `(` of a cast (C99 6.5.4).
@@ -122,16 +120,10 @@ impl<
             (spec.cast_from self.now.names.now (readers self.now.names.now self.now.levels) self.now.levels position
             tokens.old.rest.now) result tokens.new.rest.now }
     {
-        let name = self
-            .typed(tokens, DeclaratorKind::Abstract)?
-            .boxed(self.alloc)?;
+        let name = self.type_name(tokens)?;
         let (name, right) = beside(name, tokens.expect(Punctuator::RightParenthesis))?;
-        let (name, operand) = beside(name, self.expression(tokens, None, 14))?;
-        let tree = Leveled {
-            tree: Expression::Cast(position, name.tree, right, operand.tree),
-            levels: name.levels.max(operand.levels) + 1,
-        };
-        Ok(tree.boxed(self.alloc)?)
+        let operand = self.expression(tokens, None, 14);
+        cast(self.alloc, position, name, right, operand)
     }
 
     /// Reads what follows a `(` that begins a cast or an expression in parentheses.
@@ -159,6 +151,25 @@ impl<
         }
     }
 
+    /// Reads what follows `sizeof (`, where it is a type name (C99 6.5.3.4).
+    fn sizeof_type(
+        &self,
+        tokens: &mut Cursor<'_, 'a>,
+        position: Position,
+        left: Position,
+    ) -> Result<Leveled<Boxed<Expression<'a>>>, Fault>
+        requires deeper { Deeper self.now.levels (E.pre self.now.expression) (E.post self.now.expression)
+            (S.pre self.now.specifiers) (S.post self.now.specifiers) (D.pre self.now.declarator)
+            (D.post self.now.declarator) }
+        ensures { ReadsExpression (suc self.now.levels)
+            (sizeof_type_from (readers self.now.names.now self.now.levels) position left tokens.old.rest.now) result
+            tokens.new.rest.now }
+    {
+        let name = self.type_name(tokens)?;
+        let right = tokens.expect(Punctuator::RightParenthesis);
+        sizeof_type(self.alloc, position, left, name, right)
+    }
+
     /// Reads what follows `sizeof (` (C99 6.5.3.4).
     #[tactic(auto, unfolding(c_grammar::specs::ExpressionReader::sizeof_parenthesis_from))]
     fn sizeof_parenthesis(
@@ -175,22 +186,10 @@ impl<
             self.now.levels position left tokens.old.rest.now) result tokens.new.rest.now }
     {
         if begins_specifiers(self.names, tokens.rest) {
-            let name = self
-                .typed(tokens, DeclaratorKind::Abstract)?
-                .boxed(self.alloc)?;
-            let (name, right) = beside(name, tokens.expect(Punctuator::RightParenthesis))?;
-            let tree = Leveled {
-                tree: Expression::SizeofType(position, left, name.tree, right),
-                levels: name.levels + 1,
-            };
-            return Ok(tree.boxed(self.alloc)?);
+            return self.sizeof_type(tokens, position, left);
         }
-        let operand = self.expression(tokens, Some(left), 15)?;
-        let tree = Leveled {
-            tree: Expression::SizeofExpression(position, operand.tree),
-            levels: operand.levels + 1,
-        };
-        Ok(tree.boxed(self.alloc)?)
+        let operand = self.expression(tokens, Some(left), 15);
+        sizeof_expression(self.alloc, position, operand)
     }
 
     /// Reads what follows `sizeof` (C99 6.5.3.4).
@@ -214,12 +213,8 @@ impl<
             tokens.rest = rest;
             return self.sizeof_parenthesis(tokens, position, first.position);
         }
-        let operand = self.expression(tokens, None, 15)?;
-        let tree = Leveled {
-            tree: Expression::SizeofExpression(position, operand.tree),
-            levels: operand.levels + 1,
-        };
-        Ok(tree.boxed(self.alloc)?)
+        let operand = self.expression(tokens, None, 15);
+        sizeof_expression(self.alloc, position, operand)
     }
 
     /// Reads what follows a unary operator (C99 6.5.3).
@@ -236,12 +231,8 @@ impl<
             (unary_from (readers self.now.names.now self.now.levels) operator position tokens.old.rest.now) result
             tokens.new.rest.now }
     {
-        let operand = self.expression(tokens, None, operand_precedence(operator))?;
-        let tree = Leveled {
-            tree: Expression::Unary(operator, position, operand.tree),
-            levels: operand.levels + 1,
-        };
-        Ok(tree.boxed(self.alloc)?)
+        let operand = self.expression(tokens, None, operand_precedence(operator));
+        unary(self.alloc, operator, position, operand)
     }
 
     /// Reads an operand that begins with a punctuator, which is next, before the rest.
@@ -297,20 +288,19 @@ impl<
                     return Err(Fault::Refused);
                 }
                 tokens.rest = rest;
-                Ok(identifier(spelling, position).boxed(self.alloc)?)
+                identifier(self.alloc, spelling, position)
             }
             TokenKind::Integer(spelling) => {
                 tokens.rest = rest;
-                Ok(integer(spelling, position).boxed(self.alloc)?)
+                integer(self.alloc, spelling, position)
             }
             TokenKind::Character(spelling) => {
                 tokens.rest = rest;
-                Ok(character(spelling, position).boxed(self.alloc)?)
+                character(self.alloc, spelling, position)
             }
             TokenKind::StringLiteral(spelling) => {
                 tokens.rest = rest;
-                let others = tokens.strings(self.alloc)?;
-                Ok(strings(spelling, position, others).boxed(self.alloc)?)
+                string_literals(self.alloc, tokens, spelling, position)
             }
             TokenKind::Punctuator(punctuator) => {
                 self.operand_by_punctuator(tokens, least, *punctuator, position, rest)

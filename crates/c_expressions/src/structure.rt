@@ -1,6 +1,6 @@
 //! Reading structures and unions (C99 6.7.2.1).
 
-ghost use Rattle.std.specs.Prelude.{◌≡◌, ◌<◌, ◌&&◌, suc, length, max, nat_le};
+ghost use Rattle.std.specs.Prelude.{◌≡◌, ◌<◌, ◌&&◌, suc, length, nat_le};
 ghost use Rattle.c_lexer.specs.declared.punctuator.Punctuator.TheVariants as p;
 ghost use Rattle.c_grammar.specs.Reader.{behind_commas, next_is_punctuator};
 ghost use Rattle.c_grammar.specs.SpecifierReader as spec;
@@ -8,13 +8,13 @@ ghost use Rattle.c_grammar.specs.Nested.{readers};
 ghost use Rattle.c_expressions.specs.Steps.{declarators_behind, declarators_behind_levels};
 ghost use Rattle.c_expressions.specs.LeveledReads.{ReadsLeveled, Deeper};
 ghost use Rattle.c_grammar.specs.declared.declarator_kind.DeclaratorKind.TheVariants as kind;
-ghost use Rattle.c_syntax.specs.View.{specifiers_in, specifier_of, declarator_of, more_declarators_in, member_of};
+ghost use Rattle.c_syntax.specs.View.{specifier_of, member_of};
 ghost use Rattle.c_syntax.specs.View.{members_in};
 ghost use Rattle.c_syntax.specs.Levels.{specifier_levels, member_levels, members_levels};
-ghost use Rattle.c_syntax.specs.Tree as t;
 
 use crate::grammar::Grammar;
 use crate::leveled::{Leveled, as_items, beside, leaf, no_trees, with_next, with_tree};
+use crate::specifier_tree::{member_declaration, structure_body};
 use c_grammar::cursor::{Cursor, Fault, next_is};
 use c_grammar::declarator_kind::DeclaratorKind;
 use c_grammar::typedef_names::TypedefNames;
@@ -29,40 +29,6 @@ pub(crate) fn begins_body(levels: usize, rest: &[Positioned]) -> bool
     ensures { result ≡ nat_le 1 levels && next_is_punctuator p.LeftBrace rest.now }
 {
     levels >= 1 && next_is(rest, Punctuator::LeftBrace)
-}
-
-/// A declaration of members with its levels.
-fn member_with<'a>(
-    specifiers: Leveled<Items<Specifier<'a>>>,
-    first: Leveled<Boxed<Declarator<'a>>>,
-    others: Leveled<Items<(Position, Boxed<Declarator<'a>>)>>,
-    semicolon: Position,
-) -> Leveled<Member<'a>>
-    ensures tree { member_of result.tree ≡ t.member_declaration (specifiers_in specifiers.entry.tree)
-        (declarator_of first.entry.tree) (more_declarators_in others.entry.tree) semicolon }
-    ensures levels { result.levels ≡ max specifiers.entry.levels (max first.entry.levels others.entry.levels) }
-{
-    let Leveled {
-        tree: specifiers,
-        levels: of_specifiers,
-    } = specifiers;
-    let Leveled {
-        tree: first,
-        levels: of_first,
-    } = first;
-    let Leveled {
-        tree: others,
-        levels: of_others,
-    } = others;
-    Leveled {
-        tree: Member {
-            specifiers,
-            first,
-            others,
-            semicolon,
-        },
-        levels: of_specifiers.max(of_first.max(of_others)),
-    }
 }
 
 impl<
@@ -132,9 +98,9 @@ impl<
         let specifiers = self.specifiers(tokens, false)?;
         let member = beside(specifiers, self.declarator(tokens, DeclaratorKind::Named))?;
         let member = beside(member, self.more_declarators(tokens))?;
-        let (member, semicolon) = beside(member, tokens.expect(Punctuator::Semicolon))?;
         let ((specifiers, first), others) = member;
-        Ok(member_with(specifiers, first, others, semicolon))
+        let semicolon = tokens.expect(Punctuator::Semicolon);
+        member_declaration(specifiers, first, others, semicolon)
     }
 
     /// Reads declarations of members up to `}`, at least one (C99 6.7.2.1).
@@ -179,11 +145,8 @@ impl<
     {
         let left = tokens.expect(Punctuator::LeftBrace)?;
         let members = self.members(tokens)?;
-        let (members, right) = beside(members, tokens.expect(Punctuator::RightBrace))?;
-        Ok(Leveled {
-            tree: Specifier::StructureBody(keyword, position, tag, left, members.tree, right),
-            levels: members.levels + 1,
-        })
+        let right = tokens.expect(Punctuator::RightBrace);
+        structure_body(keyword, position, tag, left, members, right)
     }
 
     /// Reads what follows `struct` or `union` (C99 6.7.2.1).

@@ -1,5 +1,6 @@
 //! Calls and their arguments (C99 6.5.2.2).
 
+use crate::dropped::without;
 use crate::lists::{only, with_item};
 use crate::nested::Nested;
 use c_call_rules::printing::Format;
@@ -173,8 +174,8 @@ impl<
             (printed_values is_evaluated (arguments_of arguments.now)) (called_of called) (state_of typer.old)) }
     {
         if is_printf(&called) {
-            let (_, printing) = beside(called, self.printing(typer, is_evaluated, arguments))?;
-            let Printing { format, values } = printing;
+            let printing = without(called, self.printing(typer, is_evaluated, arguments));
+            let Printing { format, values } = printing?;
             typer.printed(line, format, values)
         } else {
             let values = self.argument_values(typer, is_evaluated, arguments);

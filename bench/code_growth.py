@@ -1,7 +1,7 @@
 #!/usr/bin/env python3
 """How the time and the memory of the back end's passes grow with a function: processor seconds (the best of three) and
 the greatest resident memory of `registers` and `generate`, by crates/code_generation_vectors, which does each behind
-those before it, and of `assemble`, by crates/rv_asm_vectors, over lists of as many items. Shapes: operators on few
+those before it, and of `assemble`, by crates/rv_vectors, over lists of as many items. Shapes: operators on few
 values; a name for each three instructions, which is used at once; a name for each three instructions, all of them
 needed to the end; calls with few values; as many calls as names that wait; and a name and a call for each four
 instructions. No memory below this script's own, some 17000 kB, is seen.
@@ -15,7 +15,7 @@ import tempfile
 
 TOP = os.path.join(os.path.dirname(os.path.realpath(__file__)), "..")
 GENERATOR = f"{TOP}/crates/code_generation_vectors/out/code_generation_vectors"
-ASSEMBLER = f"{TOP}/crates/rv_asm_vectors/out/rv_asm_vectors"
+ASSEMBLER = f"{TOP}/crates/rv_vectors/out/rv_vectors"
 CALLEE = ["function 1 0 2 program", "return 0"]
 
 
@@ -53,7 +53,7 @@ def short_lived_and_calls(count):
 
 def items(count):
     jumps = f"nops {count // 4 - 1}\njump 0\n" * 2
-    return f"label 0\n{jumps}nops {count // 2 - 2}\nlabel 1\nbeq 1 2 0\nbne 1 2 1\n"
+    return f"lists\nlabel 0\n{jumps}nops {count // 2 - 2}\nlabel 1\nbeq 1 2 0\nbne 1 2 1\n"
 
 
 def measured(words, path):

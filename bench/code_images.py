@@ -1,6 +1,6 @@
 #!/usr/bin/env python3
 """Makes the images of the programs of crates/code_generation_vectors under both plans, and disassembles their two
-segments of code by riscv64-linux-gnu-objdump (Debian's binutils-riscv64-linux-gnu) and by crates/rv_isa_vectors: it
+segments of code by riscv64-linux-gnu-objdump (Debian's binutils-riscv64-linux-gnu) and by crates/rv_vectors: it
 prints how many instructions there are, of how many the texts agree, and the first that do not.
 
 usage: python3 bench/code_images.py     (both programs must be built: `rt run` in their folders)
@@ -16,7 +16,7 @@ import tempfile
 TOP = os.path.join(os.path.dirname(os.path.realpath(__file__)), "..")
 ROWS = f"{TOP}/crates/code_generation_vectors"
 GENERATOR = f"{ROWS}/out/code_generation_vectors"
-LISTER = f"{TOP}/crates/rv_isa_vectors/out/rv_isa_vectors"
+LISTER = f"{TOP}/crates/rv_vectors/out/rv_vectors"
 OBJDUMP = "riscv64-linux-gnu-objdump -D -z -b binary -m riscv:rv64 -M numeric,no-aliases".split()
 
 
@@ -41,7 +41,7 @@ def code_of(image):
 
 
 def listed_by_objdump(code):
-    """A line for each word, as crates/rv_isa_vectors writes it."""
+    """A line for each word, as crates/rv_vectors writes it."""
     with tempfile.NamedTemporaryFile() as raw:
         raw.write(code)
         raw.flush()
@@ -53,7 +53,7 @@ def listed_by_objdump(code):
 
 
 def listed_by_ours(code):
-    words = "".join(f"{word:08x}\n" for word, in struct.iter_unpack("<I", code))
+    words = "words\n" + "".join(f"{word:08x}\n" for word, in struct.iter_unpack("<I", code))
     return subprocess.run([LISTER], input=words, capture_output=True, check=True, text=True).stdout.split("\n")[:-1]
 
 

@@ -1,5 +1,5 @@
 #!/usr/bin/env python3
-"""Makes stdin and stdout of this program by Debian's binutils-riscv64-linux-gnu, by hand, and by nothing of this repository.
+"""The part `words` of stdin, and what it must print, by Debian's binutils-riscv64-linux-gnu and by hand.
 
 The words come from the assembler, `riscv64-linux-gnu-as -march=rv64im`, from an instruction list with each immediate at
 its edges; words that are no instruction of RV64IM are listed below. The texts come from the disassembler,
@@ -8,15 +8,11 @@ its edges; words that are no instruction of RV64IM are listed below. The texts c
 after the name. A word that objdump takes for an instruction outside RV64IM, as one of 16 bits, gives `unknown`.
 
 Behind these rows come those of `written`: what the manual's table gives, by hand.
-
-usage: python3 crates/rv_isa_vectors/vectors.py make
 """
 
 import os
 import re
 import subprocess
-import sys
-import tempfile
 
 TOOL = "riscv64-linux-gnu-"
 LOADS = "lb lh lw ld lbu lhu lwu".split()
@@ -138,21 +134,10 @@ def text_of(folder, word, line):
     return f"{code} {text}" if known else "unknown"
 
 
-def main():
-    if sys.argv[1:] != ["make"]:
-        sys.exit(__doc__)
-    here = os.path.dirname(os.path.abspath(__file__))
-    with tempfile.TemporaryDirectory() as folder:
-        words = assembled(folder, list(instructions())) + [int(w, 16) for w in OTHERS]
-        others = list(written(len(words)))
-        with open(os.path.join(here, "stdin"), "w") as f:
-            f.writelines(f"{w:08x}\n" for w in words)
-            f.writelines(row + "\n" for row, _ in others)
-        with open(os.path.join(here, "stdout"), "w") as f:
-            f.writelines(text_of(folder, w, k) + "\n" for k, w in enumerate(words))
-            f.writelines(line + "\n" for _, line in others)
-    print(len(words), "words,", len(others), "written;", run(TOOL + "objdump", "--version").splitlines()[0], file=sys.stderr)
-
-
-if __name__ == "__main__":
-    sys.exit(main())
+def rows(folder):
+    """The rows of the part, and what they must print."""
+    words = assembled(folder, list(instructions())) + [int(w, 16) for w in OTHERS]
+    others = list(written(len(words)))
+    given = "".join(f"{w:08x}\n" for w in words) + "".join(row + "\n" for row, _ in others)
+    printed = "".join(text_of(folder, w, k) + "\n" for k, w in enumerate(words)) + "".join(line + "\n" for _, line in others)
+    return given, printed

@@ -1,19 +1,13 @@
-//! The image in which operations and tests run, a run of it, and the numbers of rows.
+//! The image in which operations and tests run, and a run of it.
 
 ghost use Rattle.std.specs.Prelude.{◌≤◌, length, IfOk};
 ghost use Rattle.elf_image.specs.Writing.{SegmentsFit};
 
-use anyhow::{Context, Result, bail};
-use elf_image::{Image, NewImage, NewSegment, ReadError};
+use anyhow::{Result, bail};
+use elf_image::{Image, NewImage, NewSegment};
 use rv_sim::{Machine, Stop};
 use sb_outside::{MemSink, MemSource};
 use std::alloc::{AllocError, Global};
-
-/// The number that a field of a row has in hexadecimal digits.
-pub fn number(digits: Option<&str>) -> Result<u64> {
-    let digits = digits.context("a number")?;
-    u64::from_str_radix(digits, 16).context("hexadecimal digits")
-}
 
 /// Rows at 0x10000, of 32 bytes, and code at 0x100000, of one ECALL, which may be executed alone; objects at
 /// 0x10000000, of 0x2000 bytes, and runtime at 0x40000000, of 0x1000 bytes, which may be read and written. The run
@@ -53,16 +47,18 @@ pub fn machine_of(alloc: Global, parts: &NewImage) -> Result<Machine>
     requires { SegmentsFit parts.now }
 {
     let file = Image::write(alloc, parts)?;
-    match loaded(alloc, &file) {
-        Ok(machine) => Ok(machine),
+    loaded(alloc, &file)
+}
+
+fn loaded(alloc: Global, file: &[u8]) -> Result<Machine> {
+    match Image::read(alloc, file) {
+        Ok(image) => started(alloc, &image),
         Err(error) => bail!("no image: {error:?}"),
     }
 }
 
-fn loaded(alloc: Global, file: &[u8]) -> Result<Machine, ReadError> {
-    let image = Image::read(alloc, file)?;
-    let machine = Machine::load(alloc, &image)?;
-    Ok(machine)
+fn started(alloc: Global, image: &Image) -> Result<Machine> {
+    Ok(Machine::load(alloc, image)?)
 }
 
 /// Runs a machine with no input for at most so many instructions.

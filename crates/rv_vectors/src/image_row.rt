@@ -1,13 +1,17 @@
 //! The tests of an image.
 
-use crate::sample::{number, parts};
+use crate::number::{byte, number};
+use crate::sample::parts;
 use anyhow::{Result, bail};
 use elf_image::{Image, ImageFault, ReadError};
 use std::alloc::{AllocError, Global};
 
+const ROWS: [u8; 4] = [0x6f, 0, 0, 0];
+
 fn sample(alloc: Global) -> Result<Vec<u8>, AllocError> {
-    let rows = vec![in alloc; 0x6f, 0, 0, 0]?;
-    Image::write(alloc, &parts(alloc, rows, vec![in alloc; 1, 2, 3]?)?)
+    let rows = Vec::from_slice(alloc, &ROWS)?;
+    let objects = Vec::from_slice(alloc, &[1, 2, 3])?;
+    Image::write(alloc, &parts(alloc, rows, objects)?)
 }
 
 // The fault of these bytes.
@@ -30,40 +34,68 @@ fn put_answer(rt: &HostRuntime, fault: Option<ImageFault>) -> Result<()> {
 /// `image CHANGES`: prints the fault of the sample with these changes, each a length to which it is cut, or a place, a
 /// `=` and the byte that is to stand there; a place behind the end is passed over.
 pub fn put(rt: &HostRuntime, row: &str) -> Result<()> {
-    let mut bytes = sample(rt.alloc())?;
-    for change in row.split(' ').skip(1) {
-        apply(&mut bytes, change)?;
+    match changed(rt.alloc(), row) {
+        Ok(bytes) => put_fault(rt, &bytes),
+        Err(error) => Err(error),
     }
-    put_answer(rt, fault_of(rt.alloc(), &bytes)?)
 }
 
-fn apply(bytes: &mut Vec<u8>, change: &str) -> Result<()> {
-    let mut parts = change.split('=');
-    let place = usize::try_from(number(parts.next())?)?;
-    match parts.next() {
-        None => bytes.truncate(place),
-        value => {
-            let value = u8::try_from(number(value)?)?;
-            if let Some(byte) = bytes.get_mut(place) {
-                *byte = value;
-            }
-        }
+fn put_fault(rt: &HostRuntime, bytes: &[u8]) -> Result<()> {
+    put_answer(rt, fault_of(rt.alloc(), bytes)?)
+}
+
+fn changed(alloc: Global, row: &str) -> Result<Vec<u8>> {
+    let mut bytes = sample(alloc)?;
+    match apply_all(&mut bytes, row) {
+        Ok(()) => Ok(bytes),
+        Err(error) => Err(error),
+    }
+}
+
+fn apply_all(bytes: &mut Vec<u8>, row: &str) -> Result<()> {
+    for change in row.split(' ').skip(1) {
+        apply(bytes, change)?;
     }
     Ok(())
 }
 
+fn apply(bytes: &mut Vec<u8>, change: &str) -> Result<()> {
+    let mut parts = change.split('=');
+    let place = number(parts.next())? as usize;
+    match parts.next() {
+        None => bytes.truncate(place),
+        value => put_byte(bytes, place, byte(value)?),
+    }
+    Ok(())
+}
+
+fn put_byte(bytes: &mut [u8], place: usize, value: u8) {
+    if let Some(byte) = bytes.get_mut(place) {
+        *byte = value;
+    }
+}
+
 /// Prints the fault of the sample cut to each length, with each length at which it is another one.
 pub fn put_cuts(rt: &HostRuntime) -> Result<()> {
-    let file = sample(rt.alloc())?;
+    match sample(rt.alloc()) {
+        Ok(file) => put_cuts_of(rt, &file),
+        Err(_) => bail!("out of memory"),
+    }
+}
+
+fn put_cuts_of(rt: &HostRuntime, file: &[u8]) -> Result<()> {
     let mut last = None;
     for length in 0..file.len() {
         let fault = fault_of(rt.alloc(), &file[..length])?;
         if fault != last {
-            print!(rt; "{length:x} ")?;
-            put_answer(rt, fault)?;
+            put_cut(rt, length, fault)?;
         }
         last = fault;
     }
-    print!(rt; "{:x} ", file.len())?;
-    put_answer(rt, fault_of(rt.alloc(), &file)?)
+    put_cut(rt, file.len(), fault_of(rt.alloc(), file)?)
+}
+
+fn put_cut(rt: &HostRuntime, length: usize, fault: Option<ImageFault>) -> Result<()> {
+    print!(rt; "{length:x} ")?;
+    put_answer(rt, fault)
 }

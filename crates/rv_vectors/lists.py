@@ -1,19 +1,15 @@
 #!/usr/bin/env python3
-"""Makes stdin and stdout of this program by Debian's binutils-riscv64-linux-gnu, and by nothing of this repository.
+"""The part `lists` of stdin, and what it must print, by Debian's binutils-riscv64-linux-gnu.
 
 Each list is written in assembly language, with labels, `j` and `jal ra` for jumps and calls and branches by their names, and
 assembled by `riscv64-linux-gnu-as -march=rv64im -mno-relax`, which itself turns a branch that does not reach into the opposite
 branch over a jump. It knows no jump of more than 1 MiB: where a list is that long, the jumps, calls and branches that are
 marked `far` below are written as AUIPC and JALR over x31, by %pcrel_hi and %pcrel_lo, a branch as the opposite one over both.
 The last lists cannot be assembled: a label stands twice, or an item goes to one that stands nowhere.
-
-usage: python3 crates/rv_asm_vectors/vectors.py make
 """
 
 import os
 import subprocess
-import sys
-import tempfile
 
 TOOL = "riscv64-linux-gnu-"
 NOP = 0x13
@@ -78,19 +74,12 @@ def words_of(folder, items):
     return [int.from_bytes(data[k:k + 4], "little") for k in range(0, len(data), 4)]
 
 
-def main():
-    if sys.argv[1:] != ["make"]:
-        sys.exit(__doc__)
-    here = os.path.dirname(os.path.abspath(__file__))
-    with open(os.path.join(here, "stdin"), "w") as f:
-        f.write("%%\n".join("".join(i.removeprefix("far ") + "\n" for i in items) for items in LISTS + REFUSED))
-    with tempfile.TemporaryDirectory() as folder, open(os.path.join(here, "stdout"), "w") as f:
-        for items in LISTS:
-            words = words_of(folder, items)
-            f.writelines(f"{k} {w:08x}\n" for k, w in enumerate(words) if w != NOP)
-            f.write(f"{len(words)} words\n%%\n")
-        f.write("refused\n%%\n" * len(REFUSED))
-
-
-if __name__ == "__main__":
-    sys.exit(main())
+def rows(folder):
+    """The rows of the part, and what they must print."""
+    given = "%%\n".join("".join(i.removeprefix("far ") + "\n" for i in items) for items in LISTS + REFUSED)
+    printed = ""
+    for items in LISTS:
+        words = words_of(folder, items)
+        printed += "".join(f"{k} {w:08x}\n" for k, w in enumerate(words) if w != NOP)
+        printed += f"{len(words)} words\n%%\n"
+    return given, printed + "refused\n%%\n" * len(REFUSED)

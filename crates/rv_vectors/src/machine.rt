@@ -1,32 +1,20 @@
-//! Compares the machine's operations, the ends of its runs and the tests of an image with what others say of them. Each
-//! line of standard input is a row, whose numbers are in hexadecimal digits, and for each the program prints one line,
-//! but for `cuts`:
+//! The machine's operations, the ends of its runs and the tests of an image. Each row is a line, whose numbers are in
+//! hexadecimal digits, and for each the program prints one line, but for `cuts`:
 //! - the name of an operation, the word of `NAME a2,a0,a1` or `NAME a2,a0,IMMEDIATE`, and the values of a0 and a1: the
 //!   value of a2 that the operation gives. It is run in an image that loads the operands and does the operation.
 //! - `run WORDS`: how a run ends whose rows begin with these words (`run_row.rt`).
 //! - `copy INPUT FAILS LIMITS`: how a program that copies a byte ends, and what it has written (`copy_row.rt`).
 //! - `image CHANGES`: whether a file with these changes is an image, or its fault (`image_row.rt`).
 //! - `cuts`: the same of the file cut to each length, each length at which the answer is another one.
-//!
-//! The values of operations are made by the assembler of GNU Binutils for Debian 2.40 and by qemu-riscv64 7.2.22
-//! (Debian 12, binutils-riscv64-linux-gnu and qemu-user), as `vectors.py` beside it says. The other rows stand there
-//! with what is to be printed, by hand.
-#![tactic(auto)]
-
-mod case;
-mod copy_row;
-mod image_row;
-mod run_row;
-mod sample;
 
 use crate::case::Case;
+use crate::{copy_row, image_row, run_row};
 use anyhow::Result;
-use std::io::{BufRead, BufReader};
 
-fn main(rt: HostRuntime) -> Result<()> {
-    for line in BufReader::new(rt.alloc(), rt.reader())?.lines(rt.alloc()) {
-        let line = line?;
-        put_row(&rt, line.as_str())?;
+/// Prints what comes of each row.
+pub fn put_all(rt: &HostRuntime, rows: &str) -> Result<()> {
+    for row in rows.lines() {
+        put_row(rt, row)?;
     }
     Ok(())
 }

@@ -3,8 +3,9 @@
 ghost use Rattle.std.specs.Prelude.{◌≡◌, length, IfOk};
 ghost use Rattle.elf_image.specs.Writing.{SegmentsFit};
 
-use crate::sample::{machine_of, number};
-use anyhow::{Context, Result, bail};
+use crate::number::number;
+use crate::sample::machine_of;
+use anyhow::{Context, Result, ensure};
 use elf_image::{NewImage, NewSegment};
 use rv_sim::Machine;
 use sb_outside::{MemSink, MemSource};
@@ -69,18 +70,15 @@ struct Outside {
 }
 
 impl Outside {
-    // An input of these bytes, and the call that fails: `take`, `put` or `none`, the first of its kind.
-    fn new(alloc: Global, input: &[u8], failing: &str) -> Result<Outside> {
-        let (takes, puts): (&[u64], &[(u64, u64)]) = match failing {
-            "take" => (&[0], &[]),
-            "put" => (&[], &[(0, 0)]),
-            "none" => (&[], &[]),
-            _ => bail!("no call"),
-        };
+    // An input of these bytes, two digits a byte, and the call that fails.
+    fn new(alloc: Global, digits: &str, failing: &str) -> Result<Outside> {
+        let input = source(alloc, digits, failing)?;
+        let output = sink(alloc, failing)?;
+        let errors = sink(alloc, "none")?;
         Ok(Outside {
-            input: MemSource::new(alloc, input, takes)?,
-            output: MemSink::new(alloc, 16, puts)?,
-            errors: MemSink::new(alloc, 16, &[])?,
+            input,
+            output,
+            errors,
         })
     }
 
@@ -91,16 +89,49 @@ impl Outside {
         println!(rt; "{stop:?} {output:?} {errors:?}")?;
         Ok(())
     }
+
+    fn put_runs(&mut self, rt: &HostRuntime, mut machine: Machine, limits: [u64; 2]) -> Result<()> {
+        for limit in limits {
+            self.put_run(rt, &mut machine, limit)?;
+        }
+        Ok(())
+    }
 }
 
-/// `copy BYTES CALL LIMITS`: runs the program on this input, two digits a byte, where this call fails, for at most so
-/// many instructions and then once more, and prints for each run how it ends and what was written.
+// A source of these bytes, whose first take fails where `take` does.
+fn source(alloc: Global, digits: &str, failing: &str) -> Result<MemSource> {
+    let bytes = hex::decode(alloc, digits)?;
+    let takes: &[u64] = if failing == "take" { &[0] } else { &[] };
+    Ok(MemSource::new(alloc, &bytes, takes)?)
+}
+
+// A sink with room for 16 bytes, whose first put fails where `put` does.
+fn sink(alloc: Global, failing: &str) -> Result<MemSink, AllocError> {
+    let puts: &[(u64, u64)] = if failing == "put" { &[(0, 0)] } else { &[] };
+    MemSink::new(alloc, 16, puts)
+}
+
+fn outside_of(alloc: Global, input: Option<&str>, failing: Option<&str>) -> Result<Outside> {
+    let input = input.context("an input")?;
+    let failing = failing.context("a call")?;
+    ensure!(matches!(failing, "take" | "put" | "none"), "no call");
+    Outside::new(alloc, input, failing)
+}
+
+fn machine(alloc: Global) -> Result<Machine> {
+    machine_of(alloc, &program(alloc)?)
+}
+
+/// `copy BYTES CALL LIMITS`: runs the program on this input, two digits a byte, where this call fails, `take` or `put`,
+/// the first of its kind, or `none`, for at most so many instructions and then once more, and prints for each run how
+/// it ends and what was written.
 pub fn put(rt: &HostRuntime, row: &str) -> Result<()> {
-    let alloc = rt.alloc();
     let mut words = row.split(' ').skip(1);
-    let input = hex::decode(alloc, words.next().context("an input")?)?;
-    let mut outside = Outside::new(alloc, &input, words.next().context("a call")?)?;
-    let mut machine = machine_of(alloc, &program(alloc)?)?;
-    outside.put_run(rt, &mut machine, number(words.next())?)?;
-    outside.put_run(rt, &mut machine, number(words.next())?)
+    let (input, failing) = (words.next(), words.next());
+    let limits = [number(words.next())?, number(words.next())?];
+    let mut outside = outside_of(rt.alloc(), input, failing)?;
+    match machine(rt.alloc()) {
+        Ok(machine) => outside.put_runs(rt, machine, limits),
+        Err(error) => Err(error),
+    }
 }

@@ -3,11 +3,12 @@
 ghost use Rattle.std.specs.Prelude.{IfOk};
 ghost use Rattle.elf_image.specs.Writing.{SegmentsFit};
 
-use crate::sample::{machine_of, number, parts, run};
+use crate::number::{number, word};
+use crate::sample::{machine_of, parts, run};
 use anyhow::{Result, ensure};
 use elf_image::NewImage;
 use rv_isa::Reg;
-use rv_sim::Stop;
+use rv_sim::{Machine, Stop};
 use std::alloc::{AllocError, Global};
 
 /// A word that works on a0 and a1, and their values.
@@ -23,7 +24,7 @@ impl Case {
     pub fn parse(row: &str) -> Result<Case> {
         let mut fields = row.split(' ').skip(1);
         Ok(Case {
-            word: u32::try_from(number(fields.next())?)?,
+            word: word(fields.next())?,
             left: number(fields.next())?,
             right: number(fields.next())?,
         })
@@ -31,10 +32,10 @@ impl Case {
 
     /// What the machine leaves in a2.
     pub fn run(&self, alloc: Global) -> Result<u64> {
-        let mut machine = machine_of(alloc, &self.parts(alloc)?)?;
-        let stop = run(alloc, &mut machine, 4)?;
-        ensure!(stop == Stop::Limit, "the machine stopped: {stop:?}");
-        Ok(machine.register(Reg::A2))
+        match machine_of(alloc, &self.parts(alloc)?) {
+            Ok(mut machine) => result_of(alloc, &mut machine),
+            Err(error) => Err(error),
+        }
     }
 
     // The operands are the first objects. The code is `lui t0,0x10000`, `ld a0,0(t0)`, `ld a1,8(t0)` and the word.
@@ -48,4 +49,10 @@ impl Case {
         objects.extend_from_slice(&self.right.to_le_bytes())?;
         parts(alloc, code, objects)
     }
+}
+
+fn result_of(alloc: Global, machine: &mut Machine) -> Result<u64> {
+    let stop = run(alloc, machine, 4)?;
+    ensure!(stop == Stop::Limit, "the machine stopped: {stop:?}");
+    Ok(machine.register(Reg::A2))
 }

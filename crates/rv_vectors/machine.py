@@ -1,6 +1,5 @@
 #!/usr/bin/env python3
-"""Makes stdin and stdout of this program by Debian's binutils-riscv64-linux-gnu and qemu-user, by hand, and by nothing of
-this repository.
+"""The part `machine` of stdin, and what it must print, by Debian's binutils-riscv64-linux-gnu and qemu-user, and by hand.
 
 A program of every operation on registers and immediates, each on all the values or pairs of values below, is assembled
 by `riscv64-linux-gnu-as -march=rv64im`, linked, and run by `qemu-riscv64`; it writes its results. Each line has the
@@ -9,14 +8,10 @@ and a1, in hexadecimal digits; its result in a2 is what the program must print. 
 
 Behind these rows come those of `written`: how runs end, by the RISC-V unprivileged ISA manual and docs/FORMATS.md, and
 which test of an image its bytes fail first, by the order of the tests there. What they must print stands beside them.
-
-usage: python3 crates/rv_sim_vectors/vectors.py make
 """
 
 import os
 import subprocess
-import sys
-import tempfile
 
 TOOL = "riscv64-linux-gnu-"
 VALUES = [0, 1, 0x7fffffff, 0x80000000, 0xffffffff, 0x123456789abcdef1, 2 ** 63 - 1, 2 ** 63, 2 ** 63 + 1,
@@ -198,24 +193,13 @@ def results_of(folder):
     return [int.from_bytes(data[k:k + 8], "little") for k in range(0, len(data), 8)]
 
 
-def main():
-    if sys.argv[1:] != ["make"]:
-        sys.exit(__doc__)
-    here = os.path.dirname(os.path.abspath(__file__))
-    with tempfile.TemporaryDirectory() as folder:
-        words, results = words_of(folder), results_of(folder)
-    rows = list(cases())
-    assert len(rows) == len(results)
+def rows(folder):
+    """The rows of the part, and what they must print."""
+    words, results = words_of(folder), results_of(folder)
+    found = list(cases())
+    assert len(found) == len(results)
     others = list(written())
-    with open(os.path.join(here, "stdin"), "w") as f:
-        f.writelines(f"{text.split()[0]} {words[text]:08x} {a:016x} {b:016x}\n" for text, a, b in rows)
-        f.writelines(row + "\n" for row, _ in others)
-    with open(os.path.join(here, "stdout"), "w") as f:
-        f.writelines(f"{result:016x}\n" for result in results)
-        f.writelines(line + "\n" for _, lines in others for line in lines)
-    tools = run(TOOL + "as", "--version").splitlines()[0], run("qemu-riscv64", "--version").splitlines()[0]
-    print(len(rows), "cases,", len(others), "written;", *(t.decode() for t in tools), file=sys.stderr)
-
-
-if __name__ == "__main__":
-    sys.exit(main())
+    given = "".join(f"{text.split()[0]} {words[text]:08x} {a:016x} {b:016x}\n" for text, a, b in found)
+    given += "".join(row + "\n" for row, _ in others)
+    printed = "".join(f"{result:016x}\n" for result in results)
+    return given, printed + "".join(line + "\n" for _, lines in others for line in lines)

@@ -1,5 +1,5 @@
 -- When `void` between parentheses is the empty list of parameters (C99 6.7.5.3).
-use Rattle.std.proofs.Common.{◌≡◌, ℕ, max, Bool, true, false, List, ◌∷◌, length, Ok, Option, Some, None, refl, ap}
+use Rattle.std.proofs.Common.{◌≡◌, max, Bool, true, false, List, length, Ok, Option, Some, None, refl, ap}
 use Rattle.c_lexer.specs.declared.keyword.Keyword.TheVariants as k
 use Rattle.c_syntax.specs.declared.position.Position.{Position}
 use Rattle.c_syntax.specs.Tree.{TypedDeclarator, Specifier, Specifiers, Declarator, MoreParameters, Parameters}

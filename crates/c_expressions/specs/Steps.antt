@@ -10,7 +10,7 @@ use Rattle.c_syntax.specs.declared.tree.Expression as rx
 use Rattle.c_syntax.specs.declared.tree.Specifier as rs
 use Rattle.c_syntax.specs.declared.tree.TypedDeclarator as rt
 use Rattle.c_syntax.specs.Tree.{Expression, Specifiers, TypedDeclarator, MoreParameters, Declarator, Specifier}
-use Rattle.c_syntax.specs.Tree.{Enumerator, Member}
+use Rattle.c_syntax.specs.Tree.{Enumerator}
 use Rattle.c_syntax.specs.Tree as t
 use Rattle.c_syntax.specs.Levels.{more_arguments_levels, more_parameters_levels, more_declarators_levels}
 use Rattle.c_syntax.specs.Levels.{more_enumerators_levels}

@@ -1,4 +1,4 @@
-use Rattle.std.proofs.Common.{◌≡◌, ℕ, suc, ◌-◌, ap, subst, arith}
+use Rattle.std.proofs.Common.{◌≡◌, suc, ◌-◌, ap, subst, arith}
 use Rattle.c_syntax.specs.View.{expression_of, specifiers_in, declarator_of}
 use Rattle.c_syntax.specs.Levels.{expression_levels, specifiers_levels, declarator_levels}
 use Rattle.c_grammar.specs.Nested.{readers}

@@ -5,9 +5,9 @@ use Rattle.c_syntax.specs.Levels.{expression_levels}
 use Rattle.c_grammar.specs.Nested.{readers}
 use Rattle.c_grammar.specs.Reader.{behind_commas}
 use Rattle.c_expressions.specs.Steps.{arguments_behind, arguments_behind_levels}
-use Rattle.c_grammar.proofs.Extending.{extending, comma_turn, comma_fails, comma_end, comma_done, levels_turn}
+use Rattle.c_grammar.proofs.Extending.{extending, comma_turn, comma_fails, comma_end, levels_turn}
 use Rattle.c_expressions.proofs.Given.{given, failed}
-use Rattle.c_grammar.proofs.Turns.{one_more, no_more}
+use Rattle.c_grammar.proofs.Turns.{one_more}
 use Rattle.c_expressions.proofs.grammar.Grammar.more_arguments.Goals as goal
 
 pub returns-in_err-before : goal.returns-in_err-before

@@ -1,4 +1,4 @@
-use Rattle.std.proofs.Common.{rules, arith, ◌≡◌, ◌-◌, ◌+◌, ℕ, sym, ◌∙◌}
+use Rattle.std.proofs.Common.{rules, arith, ◌-◌, ◌+◌, sym, ◌∙◌}
 use Rattle.std.proofs.lemmas.Grind.{common_steps}
 use Rattle.c_syntax.specs.View.{expression_of}
 use Rattle.c_grammar.specs.ExpressionReader.{operations_from}

@@ -1,6 +1,6 @@
 -- No function that a file defines has more parameters than a limit that each list of parameters of the file keeps (C99
 -- 5.2.4.1, 6.9.1).
-use Rattle.std.proofs.Common.{◌≡◌, ℕ, suc, ◌≤◌, Bool, true, false, refl, sym, ap, ◌∙◌, subst, List, [], ◌∷◌}
+use Rattle.std.proofs.Common.{◌≡◌, ℕ, suc, ◌≤◌, Bool, true, false, refl, sym, subst, List, [], ◌∷◌}
 use Rattle.std.proofs.Common.{◌++◌, Option, Some, None, if◌then◌else◌, arith, length, nat_le}
 use Rattle.std.specs.Prelude.{Ok, Err, codes}
 use Rattle.std.specs.List.{list_all}
@@ -14,7 +14,7 @@ use Rattle.c_tree.specs.Programs.{Program, StaticObject}
 use Rattle.c_tree.specs.Statements.{Statements}
 use Rattle.c_rules.specs.declared.fault.Rule.TheVariants.{NoMain}
 use Rattle.c_rules.specs.Answer.{Answer, violates, ◌>>=◌}
-use Rattle.c_counts.specs.Counts.{counts_of}
+use Rattle.c_counts.specs.Counts.{Count, counts_of}
 use Rattle.c_counts.specs.Counts as counts
 use Rattle.c_counts.specs.Excess.{most_parameters}
 use Rattle.c_facts.specs.Facts.{facts_in}
@@ -34,7 +34,7 @@ use Rattle.c_unit_typing.specs.Typed.{a_program, are_constant, typed_as, typed_u
 use Rattle.c_unit_typing.specs.Units.{all_defined, around_body, body, body_of, defined_as, defined_by, definition}
 use Rattle.c_unit_typing.specs.Units.{ended, entered, external, externals, file_before, file_in, file_with, is_main}
 use Rattle.c_unit_typing.specs.Units.{left, parameter_in, parameters_in, scope_or_none, with_body}
-use Rattle.c_unit_typing.proofs.Limits.{constant_within}
+use Rattle.c_unit_typing.proofs.Within.{constant_within}
 use Rattle.c_typed_limits.specs.Variables.{variable_count, variables_among}
 use Rattle.c_typed_limits.proofs.Counted.{AreWithin, external_within, specifiers_within}
 use Rattle.c_typed_limits.proofs.Kept.{IfKept, Keeping, declaration_keeps, items_keep, state_keeps}

@@ -20,7 +20,7 @@ use Rattle.c_unit_typing.specs.Programs.{program_of}
 use Rattle.c_unit_typing.specs.Typed.{TypedUnit, a_program, a_fault, too_large, any_pointers, is_constant}
 use Rattle.c_unit_typing.specs.Typed.{has_constants}
 use Rattle.c_unit_typing.specs.Typed.{are_constant, most_functions, typed_as, typed_unit}
-use Rattle.c_unit_typing.proofs.Limits.{constant_within}
+use Rattle.c_unit_typing.proofs.Within.{constant_within}
 use Rattle.c_typer.specs.Rooms.{first_without_room}
 use Rattle.c_typed_limits.proofs.Files.{unit_bounded}
 use Rattle.c_typed_programs.proofs.Programs.Units.{unit_valid}

@@ -10,15 +10,8 @@ use Rattle.c_counts.specs.Counts.{Count, counts_of}
 use Rattle.c_counts.specs.Excess.{first_above, members_among, most_members, most_parameters, parameters_among}
 use Rattle.c_unit_typing.specs.declared.limits.Limited.{Limited}
 use Rattle.c_unit_typing.specs.declared.limits.Limited.TheVariants as limited
-use Rattle.c_unit_typing.specs.Typed.{TypedUnit, a_program, are_constant, global_bytes, limited_program, most_bytes}
-use Rattle.c_unit_typing.specs.Typed.{most_functions, when_large, within_limits}
-
--- the program that is given is the one that is typed, and within the limits
-pub record IsWithin (counts : List Count) (typed given : Program) : Type 0 where
-  pub same : typed ≡ given
-  pub functions : length typed.functions ≤ most_functions
-  pub parameters : first_above most_parameters (parameters_among counts) ≡ None
-  pub bytes : global_bytes typed ≤ most_bytes
+use Rattle.c_unit_typing.specs.Typed.{IsWithin, TypedUnit, a_program, are_constant, global_bytes, limited_program}
+use Rattle.c_unit_typing.specs.Typed.{most_bytes, most_functions, when_large, within_limits}
 
 program_is : (p q : Program) → a_program p ≡ a_program q → p ≡ q
 program_is p q e = cc

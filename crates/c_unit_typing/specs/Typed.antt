@@ -1,7 +1,7 @@
 -- What the typing of a file gives (C99 6.9): the typed program; the first rule that it violates; or, where it violates
 -- none and the initializer of each static object is constant (6.7.8 paragraph 4), what it has too much of and how
 -- much.
-use Rattle.std.specs.Prelude.{ℕ, ◌+◌, Bool, true, nat_lt, if◌then◌else◌, List, [], ◌∷◌, length}
+use Rattle.std.specs.Prelude.{◌≡◌, ◌≤◌, ℕ, ◌+◌, Bool, true, if◌then◌else◌, List, [], ◌∷◌, length}
 use Rattle.std.specs.Prelude.{replicate, Option, Some, None, is_some, Ok, Err}
 use Rattle.std.specs.List.{list_all}
 use Rattle.obj_memory.specs.Heap.{rounded_up}
@@ -75,6 +75,13 @@ limited_program counts p =
 -- that an initializer is not constant is said where the program is lowered
 abbrev pub within_limits : List External → Program → TypedUnit
 within_limits es p = if are_constant p then limited_program (counts_of es) p else a_program p
+
+-- the program that is given is the one that is typed, and within the limits, as no list of parameters is too long
+pub record IsWithin (counts : List Count) (typed given : Program) : Type 0 where
+  pub same : typed ≡ given
+  pub functions : length typed.functions ≤ most_functions
+  pub parameters : first_above most_parameters (parameters_among counts) ≡ None
+  pub bytes : global_bytes typed ≤ most_bytes
 
 abbrev pub typed_as : List External → Answer File → TypedUnit
 typed_as es (Err f) = a_fault f

@@ -3,5 +3,6 @@
 //! or what there is too much of.
 #![tactic(auto)]
 
+pub mod laws;
 pub mod limits;
 pub mod lines;

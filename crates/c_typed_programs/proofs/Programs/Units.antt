@@ -9,9 +9,10 @@ use Rattle.c_rules.specs.Answer.{Answer, ◌>>=◌}
 use Rattle.c_counts.specs.Counts.{counts_of}
 use Rattle.c_unit_typing.specs.Files.{File}
 use Rattle.c_unit_typing.specs.Programs.{program_of}
-use Rattle.c_unit_typing.specs.Typed.{a_program, are_constant, global_bytes, most_bytes, typed_as, typed_unit}
+use Rattle.c_unit_typing.specs.Typed.{IsWithin, a_program, are_constant, global_bytes, most_bytes, typed_as}
+use Rattle.c_unit_typing.specs.Typed.{typed_unit}
 use Rattle.c_unit_typing.specs.Units.{file_in, file_with}
-use Rattle.c_unit_typing.proofs.Within.{IsWithin, constant_within}
+use Rattle.c_unit_typing.proofs.Within.{constant_within}
 use Rattle.c_typed_programs.specs.Names.Linked.{HaveSizes}
 use Rattle.c_typed_programs.specs.Scopes.Defined.{define_functions}
 use Rattle.c_typed_programs.specs.Scopes.Regular.{are_regular_externals}

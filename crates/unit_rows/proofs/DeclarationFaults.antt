@@ -134,11 +134,14 @@ written_before_its_members :
     t.no_specifiers) (Some (declarators (init_declarator (t.named (spelled (codes "n") 1)) (Some (
       (at 1),
       (t.value
-          (t.parenthesized (at 1) (t.binary (t.assignment (t.identifier (spelled (codes "s") 1)) sign.Assign (at 2) (t.unary
+          (t.parenthesized (at 1) (t.binary (t.assignment (t.identifier (spelled (codes "s") 1)) sign.Assign (at 2)
+          (t.unary
           sign.Star (at 2) (t.cast (at 2) (t.typed (t.specifiers (t.structure_body keyword.Struct (at 2) (Some (spelled
           (codes "S") 2)) (at 2) (t.members (t.member_declaration (t.specifiers (word keyword.Int 2) t.no_specifiers)
-          (t.named (spelled (codes "a") 2)) t.end_of_declarators (at 2)) t.no_members) (at 2)) t.no_specifiers) (t.pointer
-          (at 2) [] t.unnamed)) (at 2) (t.integer (spelled (codes "0") 2))))) sign.Comma (at 2) (t.integer (spelled (codes
+          (t.named (spelled (codes "a") 2)) t.end_of_declarators (at 2)) t.no_members) (at 2)) t.no_specifiers)
+          (t.pointer
+          (at 2) [] t.unnamed)) (at 2) (t.integer (spelled (codes "0") 2))))) sign.Comma (at 2) (t.integer (spelled
+          (codes
           "1") 2))) (at 2))),
     ))) [])) (at 2))) ∷ (s.declaration (declaration (t.specifiers (t.structure keyword.Struct (at 2)
     (spelled (codes "S") 2)) t.no_specifiers) (Some (declarators (init_declarator (t.named (spelled (codes "s") 2))

@@ -576,7 +576,8 @@ parameters :
     (t.more_parameters (at 1) (t.typed (t.specifiers (word keyword.Int 1) t.no_specifiers) t.unnamed)
     (t.more_parameters (at 1) (t.typed (t.specifiers (word keyword.Int 1) t.no_specifiers) t.unnamed)
     (t.more_parameters (at 1) (t.typed (t.specifiers (word keyword.Int 1) t.no_specifiers) t.unnamed)
-    t.end_of_parameters))))))))))))))))))))))))))))))))))))))))))))))))))))))))))))))))))))))))))))))))))))))))))))))))))))))))))))))))))))))))))))))))
+    t.end_of_parameters)))))))))))))))))))))))))))))))))))))))))))))))))))))))))))))))))))))))))))))))))))))))))))
+    )))))))))))))))))))))))))))))))))))))
     (at 1)) None) [])) (at 1))) ∷ (s.definition (t.specifiers (word keyword.Int 1) t.no_specifiers) (t.function
     (t.named (spelled (codes "main") 1)) (at 1) (t.void_parameters (at 1)) (at 1)) (s.block (at 1) (s.items (s.inner
     (s.return (at 1) (Some (t.integer (spelled (codes "0") 1))) (at 1))) s.no_items) (at 1))) ∷ []) 1)
@@ -725,7 +726,8 @@ parameters_before_globals :
     (t.more_parameters (at 1) (t.typed (t.specifiers (word keyword.Int 1) t.no_specifiers) t.unnamed)
     (t.more_parameters (at 1) (t.typed (t.specifiers (word keyword.Int 1) t.no_specifiers) t.unnamed)
     (t.more_parameters (at 1) (t.typed (t.specifiers (word keyword.Int 1) t.no_specifiers) t.unnamed)
-    t.end_of_parameters)))))))))))))))))))))))))))))))))))))))))))))))))))))))))))))))))))))))))))))))))))))))))))))))))))))))))))))))))))))))))))))))))
+    t.end_of_parameters)))))))))))))))))))))))))))))))))))))))))))))))))))))))))))))))))))))))))))))))))))))))))))
+    ))))))))))))))))))))))))))))))))))))))
     (at 1)) None) [])) (at 1))) ∷ (s.definition (t.specifiers (word keyword.Int 1) t.no_specifiers) (t.function
     (t.named (spelled (codes "main") 1)) (at 1) (t.void_parameters (at 1)) (at 1)) (s.block (at 1) (s.items (s.inner
     (s.return (at 1) (Some (t.integer (spelled (codes "0") 1))) (at 1))) s.no_items) (at 1))) ∷ []) 1)

@@ -19,6 +19,7 @@ use crate::leveled::{Leveled, beside};
 use crate::specifier::begins_specifiers;
 use c_grammar::cursor::{Cursor, Fault, is_punctuator, is_same, next_is};
 use c_grammar::declarator_kind::DeclaratorKind;
+use c_grammar::least_precedence;
 use c_grammar::typedef_names::TypedefNames;
 use c_lexer::{Punctuator, TokenKind};
 use c_syntax::{Boxed, Declarator, Expression, Items, Position, Positioned, Specifier};
@@ -196,7 +197,10 @@ impl<
             let right = tokens.expect(Punctuator::RightBracket);
             return open_array(self.alloc, left, position, right);
         }
-        let (left, size) = beside(left, self.expression(tokens, None, 3))?;
+        let (left, size) = beside(
+            left,
+            self.expression(tokens, None, least_precedence::CONDITIONAL),
+        )?;
         let right = tokens.expect(Punctuator::RightBracket);
         array(self.alloc, left, position, size, right)
     }

@@ -15,6 +15,7 @@ use crate::specifier_tree::{plain, valued};
 use crate::structure::begins_body;
 use c_grammar::cursor::{Cursor, Fault, next_is};
 use c_grammar::declarator_kind::DeclaratorKind;
+use c_grammar::least_precedence;
 use c_grammar::typedef_names::TypedefNames;
 use c_lexer::Punctuator;
 use c_syntax::{Boxed, Declarator, Enumerator, Expression, Items, Position, Specifier, Spelled};
@@ -62,7 +63,7 @@ impl<
             return Ok(plain(name));
         }
         let position = tokens.expect(Punctuator::Assign)?;
-        let value = self.expression(tokens, None, 3);
+        let value = self.expression(tokens, None, least_precedence::CONDITIONAL);
         valued(name, position, value)
     }
 

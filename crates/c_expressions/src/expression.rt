@@ -3,6 +3,7 @@
 ghost use Rattle.std.specs.Prelude.{◌≡◌, suc, ◌<◌, length, Option, None, Some};
 ghost use Rattle.c_grammar.specs.ExpressionReader as spec;
 ghost use Rattle.c_grammar.specs.Reader.{behind_commas};
+ghost use Rattle.c_grammar.specs.LeastPrecedence as least;
 ghost use Rattle.c_grammar.specs.Nested.{readers};
 ghost use Rattle.c_expressions.specs.Steps.{arguments_behind, arguments_behind_levels, operation_next};
 ghost use Rattle.c_expressions.specs.Steps.{operation_is_next};
@@ -17,6 +18,7 @@ use crate::grammar::Grammar;
 use crate::leveled::{Leveled, as_items, beside, leaf, no_trees, with_next};
 use c_grammar::cursor::{Cursor, Fault, next_is};
 use c_grammar::declarator_kind::DeclaratorKind;
+use c_grammar::least_precedence;
 use c_grammar::operation::{Operation, binds, needs, operation_of};
 use c_grammar::typedef_names::TypedefNames;
 use c_lexer::{Punctuator, TokenKind};
@@ -61,15 +63,18 @@ impl<
             (D.post self.now.declarator) }
         requires some { 0 < self.now.levels }
         ensures { ReadsLeveled arguments_behind arguments_behind_levels self.now.levels
-            (behind_commas ((readers self.now.names.now self.now.levels).expression None 2) (length tokens.old.rest.now)
-            tokens.old.rest.now) result tokens.new.rest.now }
+            (behind_commas ((readers self.now.names.now self.now.levels).expression None least.assignment)
+            (length tokens.old.rest.now) tokens.old.rest.now) result tokens.new.rest.now }
     {
         let mut others = no_trees(self.alloc);
         for _ in 0..tokens.rest.len() {
             let Some(position) = tokens.take(Punctuator::Comma) else {
                 return Ok(as_items(others));
             };
-            let (before, argument) = beside(others, self.expression(tokens, None, 2))?;
+            let (before, argument) = beside(
+                others,
+                self.expression(tokens, None, least_precedence::ASSIGNMENT),
+            )?;
             others = with_next(before, position, argument)?;
         }
         Ok(as_items(others))
@@ -89,7 +94,7 @@ impl<
         if next_is(tokens.rest, Punctuator::RightParenthesis) {
             return Ok(leaf(Arguments::Empty));
         }
-        let first = self.expression(tokens, None, 2)?;
+        let first = self.expression(tokens, None, least_precedence::ASSIGNMENT)?;
         let (first, others) = beside(first, self.more_arguments(tokens))?;
         let Leveled {
             tree: first,
@@ -145,7 +150,7 @@ impl<
             (expression_of left.entry.tree) punctuator position (Some op.Assignment) tokens.old.rest.now) result
             tokens.new.rest.now }
     {
-        let right = self.expression(tokens, None, 2);
+        let right = self.expression(tokens, None, least_precedence::ASSIGNMENT);
         assignment(self.alloc, left, punctuator, position, right)
     }
 
@@ -166,10 +171,10 @@ impl<
             (expression_of left.entry.tree) punctuators.Question position (Some op.Conditional) tokens.old.rest.now)
             result tokens.new.rest.now }
     {
-        let operands = beside(left, self.expression(tokens, None, 1))?;
+        let operands = beside(left, self.expression(tokens, None, least_precedence::COMMA))?;
         let (operands, colon) = beside(operands, tokens.expect(Punctuator::Colon))?;
         let (condition, second) = operands;
-        let third = self.expression(tokens, None, 3);
+        let third = self.expression(tokens, None, least_precedence::CONDITIONAL);
         conditional(self.alloc, condition, position, second, colon, third)
     }
 
@@ -190,7 +195,7 @@ impl<
             (expression_of left.entry.tree) punctuators.Question position (Some op.Subscript) tokens.old.rest.now)
             result tokens.new.rest.now }
     {
-        let (left, index) = beside(left, self.expression(tokens, None, 1))?;
+        let (left, index) = beside(left, self.expression(tokens, None, least_precedence::COMMA))?;
         let right = tokens.expect(Punctuator::RightBracket);
         subscript(self.alloc, left, position, index, right)
     }

@@ -23,6 +23,7 @@ use crate::leveled::{Leveled, beside};
 use crate::specifier::begins_specifiers;
 use c_grammar::cursor::{Cursor, Fault, is_punctuator, is_same};
 use c_grammar::declarator_kind::DeclaratorKind;
+use c_grammar::least_precedence;
 use c_grammar::typedef_names::TypedefNames;
 use c_lexer::{Keyword, Punctuator, Spelling, TokenKind};
 use c_syntax::operators::operand_precedence;
@@ -85,7 +86,7 @@ impl<
             (spec.parenthesized_from self.now.names.now (readers self.now.names.now self.now.levels) self.now.levels
             position tokens.old.rest.now) result tokens.new.rest.now }
     {
-        let inner = self.expression(tokens, None, 1)?;
+        let inner = self.expression(tokens, None, least_precedence::COMMA)?;
         let right = tokens.expect(Punctuator::RightParenthesis);
         parenthesized(self.alloc, position, inner, right)
     }
@@ -122,7 +123,7 @@ impl<
     {
         let name = self.type_name(tokens)?;
         let (name, right) = beside(name, tokens.expect(Punctuator::RightParenthesis))?;
-        let operand = self.expression(tokens, None, 14);
+        let operand = self.expression(tokens, None, least_precedence::CAST);
         cast(self.alloc, position, name, right, operand)
     }
 
@@ -144,7 +145,7 @@ impl<
         if !begins_specifiers(self.names, tokens.rest) {
             return self.parenthesized(tokens, position);
         }
-        if least <= 14 {
+        if least <= least_precedence::CAST {
             self.cast(tokens, position)
         } else {
             Err(Fault::Refused)
@@ -188,7 +189,7 @@ impl<
         if begins_specifiers(self.names, tokens.rest) {
             return self.sizeof_type(tokens, position, left);
         }
-        let operand = self.expression(tokens, Some(left), 15);
+        let operand = self.expression(tokens, Some(left), least_precedence::UNARY);
         sizeof_expression(self.alloc, position, operand)
     }
 
@@ -213,7 +214,7 @@ impl<
             tokens.rest = rest;
             return self.sizeof_parenthesis(tokens, position, first.position);
         }
-        let operand = self.expression(tokens, None, 15);
+        let operand = self.expression(tokens, None, least_precedence::UNARY);
         sizeof_expression(self.alloc, position, operand)
     }
 

@@ -26,6 +26,7 @@ use Rattle.c_grammar.specs.ExpressionReader.{operand_by_punctuator, operand_from
 use Rattle.c_grammar.specs.ExpressionReader.{goes_on, operations_from, expression_at}
 use Rattle.c_grammar.specs.declared.operation.Operation.{Operation}
 use Rattle.c_grammar.specs.declared.operation.Operation.TheVariants as op
+use Rattle.c_grammar.specs.LeastPrecedence as least
 use Rattle.c_grammar.proofs.Known.{CompleteReaders, word_binds, next_binds}
 use Rattle.c_grammar.proofs.Facts.{same, expected, precedence_below, precedence_apart, operand_least, operand_most}
 use Rattle.c_grammar.proofs.Facts.{binary_operation, assignment_operation, member_operation, postfix_operation}
@@ -153,14 +154,14 @@ module _ (names : List (List ℕ)) (d : ℕ) (deeper : Readers) (known : Complet
   more_again : (n : ℕ) (m : MoreArguments) (q : Position) (r : Words) → AreMoreArguments names m
       → more_arguments_levels m < d
       → length (more_arguments_words m (punctuator p.RightParenthesis q ∷ r)) ≤ n
-      → behind_commas (deeper.expression None 2) n (more_arguments_words m (punctuator p.RightParenthesis q ∷ r))
+      → behind_commas (deeper.expression None least.assignment) n (more_arguments_words m (punctuator p.RightParenthesis q ∷ r))
       ≡ Ok (arguments_list m, punctuator p.RightParenthesis q ∷ r)
   unfolding is_same punctuator_spelling
-  more_again n t.end_of_arguments q r h low room = comma_end (deeper.expression None 2) n
+  more_again n t.end_of_arguments q r h low room = comma_end (deeper.expression None least.assignment) n
       (punctuator p.RightParenthesis q ∷ r) refl
   more_again zero (t.more_arguments at e m) q r h low room = absurd (omega arith)
   more_again (suc n) (t.more_arguments at e m) q r h low room =
-      comma_turn (deeper.expression None 2) n at _ _ _ e (arguments_list m)
+      comma_turn (deeper.expression None least.assignment) n at _ _ _ e (arguments_list m)
       (known.expressions 2 e (more_arguments_words m (punctuator p.RightParenthesis q ∷ r)) h.1 (omega arith)
       (omega arith) h.0 (more_binds m q r))
       (more_again n m q r h.2 (omega arith) (omega (
@@ -229,7 +230,7 @@ module _ (names : List (List ℕ)) (d : ℕ) (deeper : Readers) (known : Complet
       rw (
         type_name_first names d deeper known x (punctuator p.RightParenthesis q ∷ expression_words e r) h.1,
         le-leb m 14 at,
-        type_name_again names d deeper known (λ x r i. deeper.expression None 14 i >>= λ e i. Ok (t.cast l x r e, i)) x
+        type_name_again names d deeper known (λ x r i. deeper.expression None least.cast i >>= λ e i. Ok (t.cast l x r e, i)) x
             q (expression_words e r) h.1 low,
         known.expressions 14 e r h.2 shallow (omega arith) h.0 (next_apart r f),
       ) refl
@@ -280,7 +281,7 @@ module _ (names : List (List ℕ)) (d : ℕ) (deeper : Readers) (known : Complet
 
   sizeof_by_punctuator : (x : Punctuator) (at l : Position) (i : Words) (e : Expression) (r : Words)
       → (is_same p.LeftParenthesis x && begins_specifiers names i) ≡ false
-      → deeper.expression None 15 (punctuator x l ∷ i) ≡ Ok (e, r)
+      → deeper.expression None least.unary (punctuator x l ∷ i) ≡ Ok (e, r)
       → sizeof_from names deeper d at (punctuator x l ∷ i) ≡ Ok (t.sizeof_expression at e, r)
   unfolding sizeof_from sizeof_parenthesis_from is_same punctuator_spelling
   sizeof_by_punctuator p.LeftParenthesis at l i e r h read = rw (h, known.opened l 15 i e r h read) refl
@@ -288,7 +289,7 @@ module _ (names : List (List ℕ)) (d : ℕ) (deeper : Readers) (known : Complet
 
   sizeof_by : (w : TokenKind) (at l : Position) (i : Words) (e : Expression) (r : Words)
       → (is_punctuator p.LeftParenthesis w && begins_specifiers names i) ≡ false
-      → deeper.expression None 15 (word_at w l ∷ i) ≡ Ok (e, r)
+      → deeper.expression None least.unary (word_at w l ∷ i) ≡ Ok (e, r)
       → sizeof_from names deeper d at (word_at w l ∷ i) ≡ Ok (t.sizeof_expression at e, r)
   unfolding sizeof_from
   sizeof_by (kinds.Punctuator x) at l i e r h read = sizeof_by_punctuator x at l i e r h read
@@ -296,7 +297,7 @@ module _ (names : List (List ℕ)) (d : ℕ) (deeper : Readers) (known : Complet
 
   sizeof_words : (at : Position) (i : Words) (e : Expression) (r : Words) → next_is (is_expression_word names) i ≡ true
       → opens_type i ≡ false
-      → deeper.expression None 15 i ≡ Ok (e, r) → sizeof_from names deeper d at i ≡ Ok (t.sizeof_expression at e, r)
+      → deeper.expression None least.unary i ≡ Ok (e, r) → sizeof_from names deeper d at i ≡ Ok (t.sizeof_expression at e, r)
   sizeof_words at [] e r some h read = cc
   sizeof_words at (first ∷ i) e r some h read = sizeof_by first.kind at first.position i e r h read
 

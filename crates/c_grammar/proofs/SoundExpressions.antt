@@ -26,6 +26,7 @@ use Rattle.c_grammar.specs.ExpressionReader.{operations_from, first_operand, exp
 use Rattle.c_grammar.specs.declared.declarator_kind.DeclaratorKind.TheVariants as kind
 use Rattle.c_grammar.specs.declared.operation.Operation.{Operation}
 use Rattle.c_grammar.specs.declared.operation.Operation.TheVariants as op
+use Rattle.c_grammar.specs.LeastPrecedence as least
 use Rattle.c_grammar.proofs.Known.{SoundReaders, FoundExpression, with_opened}
 use Rattle.c_grammar.proofs.Inversion.{Gives, gives_ok, gives_err, gives_bind, gives_map, gives_if, by_test}
 use Rattle.c_grammar.proofs.Inversion.{same_punctuator, same_positioned, expect_gives, identifier_gives}
@@ -240,7 +241,7 @@ module _ (names : List (List ℕ)) (levels : ℕ) (deeper : Readers) (known : So
   arguments_gives some i = gives_if
       (λ _. gives_ok t.no_arguments i (record { formed = tt; low = some; same = refl }))
       (λ _. gives_bind (part 2 i (omega arith)) λ e j f.
-      gives_bind (behind_commas_gives (FoundExpression names levels 2) (deeper.expression None 2)
+      gives_bind (behind_commas_gives (FoundExpression names levels 2) (deeper.expression None least.assignment)
       (λ i. part 2 i (omega arith)) (length j) j) λ z r g.
       let m = more_arguments_found some j z r g in
       gives_ok (t.arguments e (more_arguments_of z)) r

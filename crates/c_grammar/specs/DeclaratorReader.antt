@@ -13,6 +13,7 @@ use Rattle.c_syntax.specs.Formed.{is_among}
 use Rattle.c_grammar.specs.Reader.{Outcome, ◌>>=◌, is_punctuator, next_is_punctuator, expect, consts_from}
 use Rattle.c_grammar.specs.Readers.{Readers, may_have_name, must_have_name, begins_specifiers, parameters_from}
 use Rattle.c_grammar.specs.declared.declarator_kind.DeclaratorKind.{DeclaratorKind}
+use Rattle.c_grammar.specs.LeastPrecedence as least
 
 -- no word of a declarator
 abbrev pub unnamed_at : DeclaratorKind → Words → Outcome Declarator
@@ -56,7 +57,7 @@ module _ (names : List (List ℕ)) (deeper : Readers) (levels : ℕ) where
   array_from e at i =
       if next_is_punctuator p.RightBracket i
       then (expect p.RightBracket i >>= λ r i. Ok (t.open_array e at r, i))
-      else (deeper.expression None 3 i >>= λ x i. expect p.RightBracket i >>= λ r i. Ok (t.array e at x r, i))
+      else (deeper.expression None least.conditional i >>= λ x i. expect p.RightBracket i >>= λ r i. Ok (t.array e at x r, i))
 
   -- a declarator and a suffix that begins with this word
   abbrev pub suffix_from : Declarator → TokenKind → Position → Words → Outcome Declarator

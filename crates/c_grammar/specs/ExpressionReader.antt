@@ -21,6 +21,7 @@ use Rattle.c_grammar.specs.Readers.{Readers, begins_specifiers, typed_from}
 use Rattle.c_grammar.specs.declared.declarator_kind.DeclaratorKind.TheVariants as kind
 use Rattle.c_grammar.specs.declared.operation.Operation.{Operation}
 use Rattle.c_grammar.specs.declared.operation.Operation.TheVariants as op
+use Rattle.c_grammar.specs.LeastPrecedence as least
 
 -- of the punctuators that are no operators of one word between or behind operands
 abbrev pub bracket_operation : Punctuator → Option Operation
@@ -42,17 +43,17 @@ operation x =
 abbrev pub operation_binds : Punctuator → Option Operation → ℕ
 operation_binds x None = 0
 operation_binds x (Some op.Binary) = binary_precedence x
-operation_binds x (Some op.Assignment) = 2
-operation_binds x (Some op.Conditional) = 3
-operation_binds x (Some _) = 16
+operation_binds x (Some op.Assignment) = least.assignment
+operation_binds x (Some op.Conditional) = least.conditional
+operation_binds x (Some _) = least.postfix
 
 -- the least precedence of its first operand
 abbrev pub operation_needs : Punctuator → Option Operation → ℕ
 operation_needs x None = 0
 operation_needs x (Some op.Binary) = binary_precedence x
-operation_needs x (Some op.Assignment) = 15
-operation_needs x (Some op.Conditional) = 4
-operation_needs x (Some _) = 16
+operation_needs x (Some op.Assignment) = least.unary
+operation_needs x (Some op.Conditional) = least.logical_or
+operation_needs x (Some _) = least.postfix
 
 -- how tightly a word binds what stands before it; 0: no operation goes on with it
 abbrev pub binds : TokenKind → ℕ
@@ -71,16 +72,16 @@ module _ (names : List (List ℕ)) (deeper : Readers) (levels : ℕ) where
 
   -- behind the `(` of a cast (C99 6.5.4)
   unfoldable pub cast_from : Position → Words → Outcome Expression
-  cast_from l i = type_name_from (λ x r i. deeper.expression None 14 i >>= λ e i. Ok (t.cast l x r e, i)) i
+  cast_from l i = type_name_from (λ x r i. deeper.expression None least.cast i >>= λ e i. Ok (t.cast l x r e, i)) i
 
   -- behind the `(` of an expression in parentheses (C99 6.5.1)
   unfoldable pub parenthesized_from : Position → Words → Outcome Expression
-  parenthesized_from l i = deeper.expression None 1 i >>= λ e i. expect p.RightParenthesis i
+  parenthesized_from l i = deeper.expression None least.comma i >>= λ e i. expect p.RightParenthesis i
       >>= λ r i. Ok (t.parenthesized l e r, i)
 
   -- behind a `(` that begins a cast or an expression in parentheses
   unfoldable pub parenthesis_from : ℕ → Position → Words → Outcome Expression
-  parenthesis_from m l i = if begins_specifiers names i then (if nat_le m 14 then cast_from l i else Err i) else
+  parenthesis_from m l i = if begins_specifiers names i then (if nat_le m least.cast then cast_from l i else Err i) else
       parenthesized_from l i
 
   -- behind `sizeof (` (C99 6.5.3.4)
@@ -88,7 +89,7 @@ module _ (names : List (List ℕ)) (deeper : Readers) (levels : ℕ) where
   sizeof_parenthesis_from at l i =
       if begins_specifiers names i
       then type_name_from (λ x r i. Ok (t.sizeof_type at l x r, i)) i
-      else (deeper.expression (Some l) 15 i >>= λ e i. Ok (t.sizeof_expression at e, i))
+      else (deeper.expression (Some l) least.unary i >>= λ e i. Ok (t.sizeof_expression at e, i))
 
   -- behind `sizeof` (C99 6.5.3.4)
   unfoldable pub sizeof_from : Position → Words → Outcome Expression
@@ -96,7 +97,7 @@ module _ (names : List (List ℕ)) (deeper : Readers) (levels : ℕ) where
   sizeof_from at (first ∷ i) =
       if is_punctuator p.LeftParenthesis first.kind
       then sizeof_parenthesis_from at first.position i
-      else (deeper.expression None 15 (first ∷ i) >>= λ e i. Ok (t.sizeof_expression at e, i))
+      else (deeper.expression None least.unary (first ∷ i) >>= λ e i. Ok (t.sizeof_expression at e, i))
 
   -- behind a punctuator that begins an operand
   unfoldable pub operand_by_punctuator : ℕ → Punctuator → Position → Words → Outcome Expression
@@ -129,7 +130,7 @@ module _ (names : List (List ℕ)) (deeper : Readers) (levels : ℕ) where
   arguments_from i =
       if next_is_punctuator p.RightParenthesis i
       then Ok (t.no_arguments, i)
-      else (deeper.expression None 2 i >>= λ e i. behind_commas (deeper.expression None 2) (length i) i
+      else (deeper.expression None least.assignment i >>= λ e i. behind_commas (deeper.expression None least.assignment) (length i) i
       >>= λ z i. Ok (t.arguments e (more_arguments_of z), i))
 
   -- an operation on this first operand, behind its punctuator
@@ -137,11 +138,11 @@ module _ (names : List (List ℕ)) (deeper : Readers) (levels : ℕ) where
   operation_from l x at None i = Err i
   operation_from l x at (Some op.Binary) i = deeper.expression None (suc (binary_precedence x)) i
       >>= λ e i. Ok (t.binary l x at e, i)
-  operation_from l x at (Some op.Assignment) i = deeper.expression None 2 i >>= λ e i. Ok (t.assignment l x at e, i)
+  operation_from l x at (Some op.Assignment) i = deeper.expression None least.assignment i >>= λ e i. Ok (t.assignment l x at e, i)
   operation_from l x at (Some op.Conditional) i =
-      deeper.expression None 1 i >>= λ a i. expect p.Colon i >>= λ colon i. deeper.expression None 3 i
+      deeper.expression None least.comma i >>= λ a i. expect p.Colon i >>= λ colon i. deeper.expression None least.conditional i
       >>= λ b i. Ok (t.conditional l at a colon b, i)
-  operation_from l x at (Some op.Subscript) i = deeper.expression None 1 i >>= λ e i. expect p.RightBracket i
+  operation_from l x at (Some op.Subscript) i = deeper.expression None least.comma i >>= λ e i. expect p.RightBracket i
       >>= λ r i. Ok (t.subscript l at e r, i)
   operation_from l x at (Some op.Call) i = arguments_from i >>= λ a i. expect p.RightParenthesis i
       >>= λ r i. Ok (t.call l at a r, i)

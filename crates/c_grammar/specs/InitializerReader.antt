@@ -11,6 +11,7 @@ use Rattle.c_grammar.specs.Reader.{Outcome, Reader, ◌>>=◌, is_punctuator, ne
 use Rattle.c_grammar.specs.Reader.{identifier_from, behind_commas_to_brace}
 use Rattle.c_grammar.specs.Readers.{Readers}
 use Rattle.c_grammar.specs.Nested.{readers}
+use Rattle.c_grammar.specs.LeastPrecedence as least
 
 -- `[` or `.`
 abbrev pub begins_designator : TokenKind → Bool
@@ -19,7 +20,7 @@ begins_designator w = is_punctuator p.LeftBracket w || is_punctuator p.Dot w
 module _ (deeper : Readers) where
   -- `[ expression ]`
   unfoldable pub element_from : Words → Outcome Designator
-  element_from i = expect p.LeftBracket i >>= λ l i. deeper.expression None 3 i >>= λ e i. expect p.RightBracket i
+  element_from i = expect p.LeftBracket i >>= λ l i. deeper.expression None least.conditional i >>= λ e i. expect p.RightBracket i
       >>= λ r i. Ok (t.element l e r, i)
 
   -- `.` and the name of a member
@@ -58,7 +59,7 @@ braced_from item i =
 
 -- an expression as an initializer
 unfoldable pub value_from : Readers → Words → Outcome Initializer
-value_from same i = same.expression None 2 i >>= λ e i. Ok (t.value e, i)
+value_from same i = same.expression None least.assignment i >>= λ e i. Ok (t.value e, i)
 
 -- an initializer with at most this number of levels, from the reader of those with fewer
 unfoldable pub initializer_at : List (List ℕ) → Reader Initializer → ℕ → Words → Outcome Initializer

@@ -1,5 +1,6 @@
 pub mod Reader
 pub mod Readers
+pub mod LeastPrecedence
 pub mod ExpressionReader
 pub mod SpecifierReader
 pub mod DeclaratorReader

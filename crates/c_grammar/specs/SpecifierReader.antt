@@ -19,6 +19,7 @@ use Rattle.c_grammar.specs.Reader.{Outcome, ◌>>=◌, next_is_punctuator, expec
 use Rattle.c_grammar.specs.Reader.{behind_commas, behind_commas_to_brace, up_to_brace}
 use Rattle.c_grammar.specs.Readers.{Readers}
 use Rattle.c_grammar.specs.declared.declarator_kind.DeclaratorKind.TheVariants as kind
+use Rattle.c_grammar.specs.LeastPrecedence as least
 
 -- `struct`, `union` or `enum`
 abbrev pub is_tagged_keyword : Keyword → Bool
@@ -86,7 +87,7 @@ module _ (names : List (List ℕ)) (deeper : Readers) (levels : ℕ) where
   abbrev pub enumerator_behind : Spelled → Words → Outcome Enumerator
   enumerator_behind x i =
       if next_is_punctuator p.Assign i
-      then (expect p.Assign i >>= λ at i. deeper.expression None 3 i >>= λ e i. Ok (t.valued x at e, i))
+      then (expect p.Assign i >>= λ at i. deeper.expression None least.conditional i >>= λ e i. Ok (t.valued x at e, i))
       else Ok (t.plain x, i)
 
   -- C99 6.7.2.2

@@ -18,6 +18,7 @@ use Rattle.c_grammar.specs.Reader.{expect, up_to_brace}
 use Rattle.c_grammar.specs.Readers.{begins_specifiers}
 use Rattle.c_grammar.specs.Nested.{readers}
 use Rattle.c_grammar.specs.DeclarationReader.{local_from}
+use Rattle.c_grammar.specs.LeastPrecedence as least
 
 -- the readers of statements and blocks that have fewer levels than a number
 pub record StatementReaders : Type 0 where
@@ -70,7 +71,7 @@ holds_statement _ = false
 module _ (levels : ℕ) (names : List (List ℕ)) where
   -- an expression of a statement, measured by itself
   abbrev pub whole_from : Words → Outcome Expression
-  whole_from i = (readers names (suc levels)).expression None 1 i
+  whole_from i = (readers names (suc levels)).expression None least.comma i
 
   -- an expression, or none where this punctuator is next
   unfoldable pub optional_from : Punctuator → Words → Outcome (Option Expression)
@@ -113,7 +114,7 @@ module _ (levels : ℕ) (names : List (List ℕ)) where
   -- behind `case`, up to the `:` (C99 6.8.1)
   unfoldable pub case_label_from : Position → Words → Outcome LabelOfCase
   case_label_from at i =
-      (readers names (suc levels)).expression None 3 i >>= λ e i. expect p.Colon i >>= λ colon i.
+      (readers names (suc levels)).expression None least.conditional i >>= λ e i. expect p.Colon i >>= λ colon i.
       Ok (record { position = at; value = e; colon = colon }, i)
 
   -- C99 6.8.6.4

@@ -6,5 +6,6 @@
 pub mod cursor;
 pub mod declarator_kind;
 pub mod laws;
+pub mod least_precedence;
 pub mod operation;
 pub mod typedef_names;

@@ -3,6 +3,7 @@
 ghost use Rattle.std.specs.Prelude.{◌≡◌};
 ghost use Rattle.c_grammar.specs.ExpressionReader as spec;
 
+use crate::least_precedence;
 use c_lexer::{Punctuator, TokenKind};
 use c_syntax::operators::{
     binary_precedence, is_assignment, is_member_operator, is_postfix_operator,
@@ -69,9 +70,9 @@ pub fn binds(word: &TokenKind) -> u8
     match operation_of(*punctuator) {
         None => 0,
         Some(Operation::Binary) => binary_precedence(*punctuator),
-        Some(Operation::Assignment) => 2,
-        Some(Operation::Conditional) => 3,
-        Some(_) => 16,
+        Some(Operation::Assignment) => least_precedence::ASSIGNMENT,
+        Some(Operation::Conditional) => least_precedence::CONDITIONAL,
+        Some(_) => least_precedence::POSTFIX,
     }
 }
 
@@ -85,8 +86,8 @@ pub fn needs(word: &TokenKind) -> u8
     match operation_of(*punctuator) {
         None => 0,
         Some(Operation::Binary) => binary_precedence(*punctuator),
-        Some(Operation::Assignment) => 15,
-        Some(Operation::Conditional) => 4,
-        Some(_) => 16,
+        Some(Operation::Assignment) => least_precedence::UNARY,
+        Some(Operation::Conditional) => least_precedence::LOGICAL_OR,
+        Some(_) => least_precedence::POSTFIX,
     }
 }

@@ -13,6 +13,7 @@ ghost use Rattle.c_syntax.specs.StatementsView.{designator_of, designators_in, d
 use c_expressions::leveled::{beside, with_item};
 use c_expressions::nested::expression;
 use c_grammar::cursor::{Cursor, Fault, next_is};
+use c_grammar::least_precedence;
 use c_grammar::typedef_names::TypedefNames;
 use c_lexer::Punctuator;
 use c_syntax::{
@@ -40,7 +41,14 @@ fn element<'a>(
         tokens.new.rest.now }
 {
     let left = tokens.expect(Punctuator::LeftBracket)?;
-    let size = expression(alloc, names, tokens, levels, None, 3)?;
+    let size = expression(
+        alloc,
+        names,
+        tokens,
+        levels,
+        None,
+        least_precedence::CONDITIONAL,
+    )?;
     let (size, right) = beside(size, tokens.expect(Punctuator::RightBracket))?;
     Ok(Designator::Element(left, size.tree, right))
 }
@@ -132,7 +140,14 @@ pub(crate) fn value<'a>(
     ensures { Reads initializer_of (spec.value_from (readers names.now levels) tokens.old.rest.now) result
         tokens.new.rest.now }
 {
-    let value = expression(alloc, names, tokens, levels, None, 2)?;
+    let value = expression(
+        alloc,
+        names,
+        tokens,
+        levels,
+        None,
+        least_precedence::ASSIGNMENT,
+    )?;
     Ok(Initializer::Value(InitialValue {
         expression: value.tree,
     }))

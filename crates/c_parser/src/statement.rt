@@ -21,6 +21,7 @@ use crate::statement_tree::{
 use c_expressions::nested::expression;
 use c_expressions::specifier::begins_specifiers;
 use c_grammar::cursor::{Cursor, Fault, is_same, next_is};
+use c_grammar::least_precedence;
 use c_grammar::typedef_names::TypedefNames;
 use c_lexer::{Keyword, Punctuator, TokenKind};
 use c_syntax::{
@@ -106,7 +107,14 @@ fn whole<'a>(
 ) -> Result<Boxed<Expression<'a>>, Fault>
     ensures { Reads expression_of (spec.whole_from levels names.now tokens.old.rest.now) result tokens.new.rest.now }
 {
-    let whole = expression(alloc, names, tokens, levels as usize + 1, None, 1)?;
+    let whole = expression(
+        alloc,
+        names,
+        tokens,
+        levels as usize + 1,
+        None,
+        least_precedence::COMMA,
+    )?;
     Ok(whole.tree)
 }
 
@@ -250,7 +258,14 @@ fn case_label<'a>(
     ensures { Reads parts.case_label_of (spec.case_label_from levels names.now position tokens.old.rest.now)
         result tokens.new.rest.now }
 {
-    let value = expression(alloc, names, tokens, levels as usize + 1, None, 3)?;
+    let value = expression(
+        alloc,
+        names,
+        tokens,
+        levels as usize + 1,
+        None,
+        least_precedence::CONDITIONAL,
+    )?;
     let colon = tokens.expect(Punctuator::Colon)?;
     Ok(CaseLabel {
         position,

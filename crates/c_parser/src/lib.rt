@@ -12,5 +12,5 @@ mod unit;
 pub mod unsupported;
 
 pub use crate::fault::ParseFault;
-pub use crate::parser::parse;
+pub use crate::parser::{parse, release};
 pub use crate::unsupported::UnsupportedWord;

@@ -3,7 +3,7 @@
 use crate::verdict::tokens_of;
 use anyhow::Result;
 use c_lexer::Punctuator;
-use c_parser::parse;
+use c_parser::{parse, release};
 use c_syntax::{BlockItem, Expression, External, Statement, Unit};
 
 // The outermost operator of an expression: what it is, and its punctuator where several are that.
@@ -54,7 +54,11 @@ pub fn put(rt: &HostRuntime, statements: &str) -> Result<()> {
     let text = format!(in rt.alloc(); "typedef int T; void f(void) {{ {statements} }}")?;
     let tokens = tokens_of(rt.alloc(), text.as_bytes())?;
     let (name, operator) = match parse(rt.alloc(), &tokens) {
-        Ok(unit) => first_form(&unit),
+        Ok(unit) => {
+            let form = first_form(&unit);
+            release(unit);
+            form
+        }
         Err(_) => ("refused", None),
     };
     match operator {

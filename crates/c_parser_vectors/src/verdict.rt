@@ -2,7 +2,7 @@
 
 use anyhow::{Result, bail};
 use c_lexer::{LexError, Tokens, lex};
-use c_parser::{ParseFault, UnsupportedWord, parse};
+use c_parser::{ParseFault, UnsupportedWord, parse, release};
 use c_pre::{PreError, expand};
 use sb_base::Line;
 use std::alloc::Global;
@@ -74,7 +74,10 @@ fn refusal(fault: ParseFault) -> Result<Verdict> {
 pub fn verdict_of(alloc: Global, text: &[u8]) -> Result<Verdict> {
     let tokens = tokens_of(alloc, text)?;
     match parse(alloc, &tokens) {
-        Ok(_unit) => Ok(Verdict::Accepted),
+        Ok(unit) => {
+            release(unit);
+            Ok(Verdict::Accepted)
+        }
         Err(fault) => refusal(fault),
     }
 }

@@ -8,7 +8,7 @@ ghost use Rattle.source_meaning.specs.Meaning.{statics_end};
 
 use anyhow::{Result, bail};
 use c_lexer::{Tokens, lex};
-use c_parser::parse;
+use c_parser::{parse, release};
 use c_pre::expand;
 use c_tree::{Kind, Program, StaticObject};
 use c_typer::type_unit;
@@ -57,10 +57,14 @@ fn is_small(statics: &[StaticObject]) -> bool
 
 fn program_of(alloc: Global, tokens: &Tokens) -> Result<Program> {
     match parse(alloc, tokens) {
-        Ok(unit) => match type_unit(alloc, tokens.end(), &unit) {
-            Ok(program) => Ok(program),
-            Err(_) => bail!("a text is not typed"),
-        },
+        Ok(unit) => {
+            let typed = type_unit(alloc, tokens.end(), &unit);
+            release(unit);
+            match typed {
+                Ok(program) => Ok(program),
+                Err(_) => bail!("a text is not typed"),
+            }
+        }
         Err(_) => bail!("a text has no tree"),
     }
 }

@@ -14,7 +14,7 @@ ghost use Rattle.sbcets_core.specs.Programs.{counted_as, judged_unit};
 use crate::refusal::{Counted, RefusedWord, SourceRefusal};
 use crate::typed_program::test;
 use c_lexer::{LexError, Tokens, lex};
-use c_parser::{ParseFault, parse};
+use c_parser::{ParseFault, parse, release};
 use c_pre::{PreError, expand};
 use c_syntax::Unit;
 use c_tree::Program;
@@ -123,7 +123,9 @@ fn typed_of(alloc: Global, tokens: &Tokens) -> Result<Program, SourceRefusal>
         Ok(tree) => tree,
         Err(refusal) => return Err(refusal),
     };
-    match type_unit(alloc, tokens.end(), &tree) {
+    let typed = type_unit(alloc, tokens.end(), &tree);
+    release(tree);
+    match typed {
         Ok(program) => Ok(program),
         Err(refusal) => Err(typing_refusal(refusal)),
     }

@@ -3,7 +3,7 @@
 use crate::statics::put_statics;
 use anyhow::{Result, bail};
 use c_lexer::{LexError, Tokens, lex};
-use c_parser::{ParseFault, parse};
+use c_parser::{ParseFault, parse, release};
 use c_pre::{PreError, expand};
 use c_rules::Fault;
 use c_syntax::Unit;
@@ -103,7 +103,11 @@ fn unit_verdict(rt: &HostRuntime, question: Question, end: Line, unit: &Unit) ->
 
 fn tokens_verdict(rt: &HostRuntime, question: Question, tokens: &Tokens) -> Result<Verdict> {
     match parse(rt.alloc(), tokens) {
-        Ok(unit) => unit_verdict(rt, question, tokens.end(), &unit),
+        Ok(unit) => {
+            let verdict = unit_verdict(rt, question, tokens.end(), &unit);
+            release(unit);
+            verdict
+        }
         Err(fault) => parse_verdict(fault),
     }
 }

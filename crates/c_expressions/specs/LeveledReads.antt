@@ -1,24 +1,17 @@
 -- What a function that reads with levels ensures: what the reader gives, and how many levels that has, or that memory
 -- failed.
-use Rattle.std.specs.Prelude.{◌≡◌, ℕ, ◌+◌, ◌<◌, Bool, Result, Ok, Err, List, Option}
-use Rattle.std.specs.declared.alloc.Global.{Global}
-use denote.Ref.{MutBor, Bor}
+use Rattle.std.specs.Prelude.{◌≡◌, ℕ, ◌+◌, ◌<◌, Result, Ok, Err}
+use Rattle.c_syntax.specs.declared.tree.Expression.{Expression}
+use Rattle.c_syntax.specs.declared.tree.Declarator.{Declarator}
+use Rattle.c_syntax.specs.Tree as t
+use Rattle.c_syntax.specs.View.{expression_of, declarator_of}
+use Rattle.c_syntax.specs.Levels.{expression_levels, declarator_levels}
 use Rattle.c_syntax.specs.Words.{Words}
 use Rattle.c_grammar.specs.declared.cursor.Fault.{Fault}
 use Rattle.c_grammar.specs.declared.cursor.Fault.TheVariants.{Memory}
-use Rattle.c_grammar.specs.declared.cursor.Cursor.{Cursor}
-use Rattle.c_grammar.specs.declared.declarator_kind.DeclaratorKind.{DeclaratorKind}
 use Rattle.c_grammar.specs.Reader.{Outcome}
 use Rattle.c_grammar.specs.Reads.{Fails}
-use Rattle.c_grammar.specs.Nested.{readers}
 use Rattle.c_expressions.specs.declared.leveled.Leveled.{Leveled}
-use Rattle.c_syntax.specs.declared.position.Position.{Position}
-use Rattle.c_syntax.specs.declared.tree.Expression.{Expression}
-use Rattle.c_syntax.specs.declared.tree.Specifier.{Specifier}
-use Rattle.c_syntax.specs.declared.tree.Declarator.{Declarator}
-use Rattle.c_syntax.specs.Tree as t
-use Rattle.c_syntax.specs.View.{expression_of, specifiers_in, declarator_of}
-use Rattle.c_syntax.specs.Levels.{expression_levels, specifiers_levels, declarator_levels}
 
 -- the number of levels that is said is the real one, and below n
 pub record Below (n : ℕ) (said real : ℕ) : Type 0 where
@@ -57,37 +50,3 @@ BelowExpression n e = Below n e.levels (expression_levels (expression_of e.tree)
 
 abbrev pub BelowDeclarator : ℕ → Leveled Declarator → Type 0
 BelowDeclarator n d = Below n d.levels (declarator_levels (declarator_of d.tree))
-
--- function values that read what has fewer levels than n
-pub record Deeper (n : ℕ)
-    (expression_pre : Global → Bor (List (List ℕ)) → MutBor Cursor → ℕ → Option Position → ℕ → Type 0)
-    (expression_post : Global → Bor (List (List ℕ)) → MutBor Cursor → ℕ → Option Position → ℕ
-    → Result (Leveled Expression) Fault → MutBor Cursor → Type 0)
-    (specifiers_pre : Global → Bor (List (List ℕ)) → MutBor Cursor → ℕ → Bool → Type 0)
-    (specifiers_post : Global → Bor (List (List ℕ)) → MutBor Cursor → ℕ → Bool → Result (Leveled (List Specifier)) Fault
-    → MutBor Cursor → Type 0)
-    (declarator_pre : Global → Bor (List (List ℕ)) → MutBor Cursor → ℕ → DeclaratorKind → Type 0)
-    (declarator_post : Global → Bor (List (List ℕ)) → MutBor Cursor → ℕ → DeclaratorKind
-    → Result (Leveled Declarator) Fault → MutBor Cursor → Type 0) : Type 0 where
-  pub fits : n < 18446744073709551616
-  pub reads_expression : (alloc : Global) (names : Bor (List (List ℕ))) (old : MutBor Cursor) (opened : Option Position)
-      (m : ℕ) → expression_pre alloc names old n opened m
-  pub expressions : (alloc : Global) (names : Bor (List (List ℕ))) (old new : MutBor Cursor) (opened : Option Position)
-      (m : ℕ) (r : Result (Leveled Expression) Fault)
-      → expression_post alloc names old n opened m r new
-      → ReadsLeveled expression_of expression_levels n ((readers names.now n).expression opened m old.now.rest.now) r
-      new.now.rest.now
-  pub reads_specifiers : (alloc : Global) (names : Bor (List (List ℕ))) (old : MutBor Cursor) (allowed : Bool)
-      → specifiers_pre alloc names old n allowed
-  pub specifiers : (alloc : Global) (names : Bor (List (List ℕ))) (old new : MutBor Cursor) (allowed : Bool)
-      (r : Result (Leveled (List Specifier)) Fault)
-      → specifiers_post alloc names old n allowed r new
-      → ReadsLeveled specifiers_in specifiers_levels n ((readers names.now n).specifiers allowed old.now.rest.now) r
-      new.now.rest.now
-  pub reads_declarator : (alloc : Global) (names : Bor (List (List ℕ))) (old : MutBor Cursor) (d : DeclaratorKind)
-      → declarator_pre alloc names old n d
-  pub declarators : (alloc : Global) (names : Bor (List (List ℕ))) (old new : MutBor Cursor) (d : DeclaratorKind)
-      (r : Result (Leveled Declarator) Fault)
-      → declarator_post alloc names old n d r new
-      → ReadsLeveled declarator_of declarator_levels n ((readers names.now n).declarator d old.now.rest.now) r
-      new.now.rest.now

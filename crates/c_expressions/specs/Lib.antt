@@ -1,3 +1,4 @@
 pub mod Built
 pub mod LeveledReads
 pub mod Steps
+pub mod Deeper

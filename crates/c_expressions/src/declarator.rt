@@ -7,7 +7,8 @@ ghost use Rattle.c_expressions.specs.Steps.{suffix_next};
 ghost use Rattle.c_grammar.specs.Readers as common;
 ghost use Rattle.c_grammar.specs.DeclaratorReader as spec;
 ghost use Rattle.c_grammar.specs.Nested.{readers};
-ghost use Rattle.c_expressions.specs.LeveledReads.{ReadsLeveled, Below, Deeper};
+ghost use Rattle.c_expressions.specs.LeveledReads.{ReadsLeveled, Below};
+ghost use Rattle.c_expressions.specs.Deeper.{Deeper};
 ghost use Rattle.c_syntax.specs.View.{declarator_of};
 ghost use Rattle.c_syntax.specs.Levels.{declarator_levels};
 
@@ -102,9 +103,7 @@ impl<
         left: Leveled<Boxed<Declarator<'a>>>,
         position: Position,
     ) -> Result<Leveled<Boxed<Declarator<'a>>>, Fault>
-        requires deeper { Deeper self.now.levels (E.pre self.now.expression) (E.post self.now.expression)
-            (S.pre self.now.specifiers) (S.post self.now.specifiers) (D.pre self.now.declarator)
-            (D.post self.now.declarator) }
+        requires deeper { Deeper self.now E.Fn S.Fn D.Fn }
         requires known { Below self.now.levels left.levels (declarator_levels (declarator_of left.tree)) }
         ensures { ReadsLeveled declarator_of declarator_levels (suc self.now.levels)
             (spec.function_from self.now.names.now (readers self.now.names.now self.now.levels) self.now.levels
@@ -124,9 +123,7 @@ impl<
         kind: DeclaratorKind,
         position: Position,
     ) -> Result<Leveled<Boxed<Declarator<'a>>>, Fault>
-        requires deeper { Deeper self.now.levels (E.pre self.now.expression) (E.post self.now.expression)
-            (S.pre self.now.specifiers) (S.post self.now.specifiers) (D.pre self.now.declarator)
-            (D.post self.now.declarator) }
+        requires deeper { Deeper self.now E.Fn S.Fn D.Fn }
         requires some { 0 < self.now.levels }
         ensures { ReadsLeveled declarator_of declarator_levels (suc self.now.levels)
             (spec.parenthesis_from self.now.names.now (readers self.now.names.now self.now.levels) self.now.levels kind
@@ -148,9 +145,7 @@ impl<
         tokens: &mut Cursor<'_, 'a>,
         kind: DeclaratorKind,
     ) -> Result<Leveled<Boxed<Declarator<'a>>>, Fault>
-        requires deeper { Deeper self.now.levels (E.pre self.now.expression) (E.post self.now.expression)
-            (S.pre self.now.specifiers) (S.post self.now.specifiers) (D.pre self.now.declarator)
-            (D.post self.now.declarator) }
+        requires deeper { Deeper self.now E.Fn S.Fn D.Fn }
         ensures { ReadsLeveled declarator_of declarator_levels (suc self.now.levels)
             (spec.direct_from self.now.names.now (readers self.now.names.now self.now.levels) self.now.levels kind
             tokens.old.rest.now) result tokens.new.rest.now }
@@ -185,9 +180,7 @@ impl<
         left: Leveled<Boxed<Declarator<'a>>>,
         position: Position,
     ) -> Result<Leveled<Boxed<Declarator<'a>>>, Fault>
-        requires deeper { Deeper self.now.levels (E.pre self.now.expression) (E.post self.now.expression)
-            (S.pre self.now.specifiers) (S.post self.now.specifiers) (D.pre self.now.declarator)
-            (D.post self.now.declarator) }
+        requires deeper { Deeper self.now E.Fn S.Fn D.Fn }
         requires known { Below self.now.levels left.levels (declarator_levels (declarator_of left.tree)) }
         ensures { ReadsLeveled declarator_of declarator_levels (suc self.now.levels)
             (spec.array_from self.now.names.now (readers self.now.names.now self.now.levels) self.now.levels
@@ -211,9 +204,7 @@ impl<
         tokens: &mut Cursor<'_, 'a>,
         left: Leveled<Boxed<Declarator<'a>>>,
     ) -> Result<Leveled<Boxed<Declarator<'a>>>, Fault>
-        requires deeper { Deeper self.now.levels (E.pre self.now.expression) (E.post self.now.expression)
-            (S.pre self.now.specifiers) (S.post self.now.specifiers) (D.pre self.now.declarator)
-            (D.post self.now.declarator) }
+        requires deeper { Deeper self.now E.Fn S.Fn D.Fn }
         requires known { Below self.now.levels left.levels (declarator_levels (declarator_of left.tree)) }
         ensures { ReadsLeveled declarator_of declarator_levels (suc self.now.levels)
             (suffix_next self.now.names.now (readers self.now.names.now self.now.levels) self.now.levels
@@ -236,9 +227,7 @@ impl<
         tokens: &mut Cursor<'_, 'a>,
         first: Leveled<Boxed<Declarator<'a>>>,
     ) -> Result<Leveled<Boxed<Declarator<'a>>>, Fault>
-        requires deeper { Deeper self.now.levels (E.pre self.now.expression) (E.post self.now.expression)
-            (S.pre self.now.specifiers) (S.post self.now.specifiers) (D.pre self.now.declarator)
-            (D.post self.now.declarator) }
+        requires deeper { Deeper self.now E.Fn S.Fn D.Fn }
         requires known { Below (suc self.now.levels) first.levels (declarator_levels (declarator_of first.tree)) }
         ensures { ReadsLeveled declarator_of declarator_levels (suc self.now.levels)
             (spec.suffixes_from self.now.names.now (readers self.now.names.now self.now.levels) self.now.levels
@@ -261,9 +250,7 @@ impl<
         tokens: &mut Cursor<'_, 'a>,
         kind: DeclaratorKind,
     ) -> Result<Leveled<Boxed<Declarator<'a>>>, Fault>
-        requires deeper { Deeper self.now.levels (E.pre self.now.expression) (E.post self.now.expression)
-            (S.pre self.now.specifiers) (S.post self.now.specifiers) (D.pre self.now.declarator)
-            (D.post self.now.declarator) }
+        requires deeper { Deeper self.now E.Fn S.Fn D.Fn }
         ensures { ReadsLeveled declarator_of declarator_levels (suc self.now.levels)
             (spec.suffixed_from self.now.names.now (readers self.now.names.now self.now.levels) self.now.levels kind
             tokens.old.rest.now) result tokens.new.rest.now }
@@ -280,9 +267,7 @@ impl<
         kind: DeclaratorKind,
         position: Position,
     ) -> Result<Leveled<Boxed<Declarator<'a>>>, Fault>
-        requires deeper { Deeper self.now.levels (E.pre self.now.expression) (E.post self.now.expression)
-            (S.pre self.now.specifiers) (S.post self.now.specifiers) (D.pre self.now.declarator)
-            (D.post self.now.declarator) }
+        requires deeper { Deeper self.now E.Fn S.Fn D.Fn }
         ensures { ReadsLeveled declarator_of declarator_levels (suc self.now.levels)
             (spec.pointer_from self.now.names.now (readers self.now.names.now self.now.levels) self.now.levels kind
             position tokens.old.rest.now) result tokens.new.rest.now }
@@ -299,9 +284,7 @@ impl<
         tokens: &mut Cursor<'_, 'a>,
         kind: DeclaratorKind,
     ) -> Result<Leveled<Boxed<Declarator<'a>>>, Fault>
-        requires deeper { Deeper self.now.levels (E.pre self.now.expression) (E.post self.now.expression)
-            (S.pre self.now.specifiers) (S.post self.now.specifiers) (D.pre self.now.declarator)
-            (D.post self.now.declarator) }
+        requires deeper { Deeper self.now E.Fn S.Fn D.Fn }
         ensures { ReadsLeveled declarator_of declarator_levels (suc self.now.levels)
             (spec.declarator_at self.now.names.now (readers self.now.names.now self.now.levels) self.now.levels kind
             tokens.old.rest.now) result tokens.new.rest.now }

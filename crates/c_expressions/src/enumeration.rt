@@ -5,7 +5,8 @@ ghost use Rattle.c_grammar.specs.Reader.{behind_commas_to_brace};
 ghost use Rattle.c_grammar.specs.SpecifierReader as spec;
 ghost use Rattle.c_grammar.specs.Nested.{readers};
 ghost use Rattle.c_expressions.specs.Steps.{enumerators_behind, enumerators_behind_levels};
-ghost use Rattle.c_expressions.specs.LeveledReads.{ReadsLeveled, Deeper};
+ghost use Rattle.c_expressions.specs.LeveledReads.{ReadsLeveled};
+ghost use Rattle.c_expressions.specs.Deeper.{Deeper};
 ghost use Rattle.c_syntax.specs.View.{specifier_of, enumerator_of};
 ghost use Rattle.c_syntax.specs.Levels.{specifier_levels, enumerator_levels};
 
@@ -50,9 +51,7 @@ impl<
     /// Reads an enumerator (C99 6.7.2.2).
     #[tactic(auto, unfolding(c_grammar::specs::SpecifierReader::enumerator_from))]
     fn enumerator(&self, tokens: &mut Cursor<'_, 'a>) -> Result<Leveled<Enumerator<'a>>, Fault>
-        requires deeper { Deeper self.now.levels (E.pre self.now.expression) (E.post self.now.expression)
-            (S.pre self.now.specifiers) (S.post self.now.specifiers) (D.pre self.now.declarator)
-            (D.post self.now.declarator) }
+        requires deeper { Deeper self.now E.Fn S.Fn D.Fn }
         requires some { 0 < self.now.levels }
         ensures { ReadsLeveled enumerator_of enumerator_levels self.now.levels
             (spec.enumerator_from self.now.names.now (readers self.now.names.now self.now.levels) self.now.levels
@@ -72,9 +71,7 @@ impl<
         &self,
         tokens: &mut Cursor<'_, 'a>,
     ) -> Result<Leveled<(Items<(Position, Enumerator<'a>)>, Option<Position>)>, Fault>
-        requires deeper { Deeper self.now.levels (E.pre self.now.expression) (E.post self.now.expression)
-            (S.pre self.now.specifiers) (S.post self.now.specifiers) (D.pre self.now.declarator)
-            (D.post self.now.declarator) }
+        requires deeper { Deeper self.now E.Fn S.Fn D.Fn }
         requires some { 0 < self.now.levels }
         ensures { ReadsLeveled enumerators_behind enumerators_behind_levels self.now.levels
             (behind_commas_to_brace (spec.enumerator_from self.now.names.now
@@ -103,9 +100,7 @@ impl<
         position: Position,
         tag: Option<Spelled<'a>>,
     ) -> Result<Leveled<Specifier<'a>>, Fault>
-        requires deeper { Deeper self.now.levels (E.pre self.now.expression) (E.post self.now.expression)
-            (S.pre self.now.specifiers) (S.post self.now.specifiers) (D.pre self.now.declarator)
-            (D.post self.now.declarator) }
+        requires deeper { Deeper self.now E.Fn S.Fn D.Fn }
         requires some { 0 < self.now.levels }
         ensures { ReadsLeveled specifier_of specifier_levels (suc self.now.levels)
             (spec.enumeration_body_from self.now.names.now (readers self.now.names.now self.now.levels) self.now.levels
@@ -133,9 +128,7 @@ impl<
         tokens: &mut Cursor<'_, 'a>,
         position: Position,
     ) -> Result<Leveled<Specifier<'a>>, Fault>
-        requires deeper { Deeper self.now.levels (E.pre self.now.expression) (E.post self.now.expression)
-            (S.pre self.now.specifiers) (S.post self.now.specifiers) (D.pre self.now.declarator)
-            (D.post self.now.declarator) }
+        requires deeper { Deeper self.now E.Fn S.Fn D.Fn }
         ensures { ReadsLeveled specifier_of specifier_levels (suc self.now.levels)
             (spec.enumeration_from self.now.names.now (readers self.now.names.now self.now.levels) self.now.levels
             position tokens.old.rest.now) result tokens.new.rest.now }

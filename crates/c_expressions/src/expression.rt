@@ -7,7 +7,8 @@ ghost use Rattle.c_grammar.specs.LeastPrecedence as least;
 ghost use Rattle.c_grammar.specs.Nested.{readers};
 ghost use Rattle.c_expressions.specs.Steps.{arguments_behind, arguments_behind_levels, operation_next};
 ghost use Rattle.c_expressions.specs.Steps.{operation_is_next};
-ghost use Rattle.c_expressions.specs.LeveledReads.{ReadsLeveled, Below, Deeper};
+ghost use Rattle.c_expressions.specs.LeveledReads.{ReadsLeveled, Below};
+ghost use Rattle.c_expressions.specs.Deeper.{Deeper};
 ghost use Rattle.c_grammar.specs.declared.operation.Operation.TheVariants as op;
 ghost use Rattle.c_lexer.specs.declared.punctuator.Punctuator.TheVariants as punctuators;
 ghost use Rattle.c_syntax.specs.View.{expression_of, arguments_of};
@@ -58,9 +59,7 @@ impl<
         &self,
         tokens: &mut Cursor<'_, 'a>,
     ) -> Result<Leveled<Items<(Position, Boxed<Expression<'a>>)>>, Fault>
-        requires deeper { Deeper self.now.levels (E.pre self.now.expression) (E.post self.now.expression)
-            (S.pre self.now.specifiers) (S.post self.now.specifiers) (D.pre self.now.declarator)
-            (D.post self.now.declarator) }
+        requires deeper { Deeper self.now E.Fn S.Fn D.Fn }
         requires some { 0 < self.now.levels }
         ensures { ReadsLeveled arguments_behind arguments_behind_levels self.now.levels
             (behind_commas ((readers self.now.names.now self.now.levels).expression None least.assignment)
@@ -83,9 +82,7 @@ impl<
     /// Reads what stands between the parentheses of a call (C99 6.5.2.2).
     #[tactic(auto, unfolding(c_grammar::specs::ExpressionReader::arguments_from))]
     fn arguments(&self, tokens: &mut Cursor<'_, 'a>) -> Result<Leveled<Arguments<'a>>, Fault>
-        requires deeper { Deeper self.now.levels (E.pre self.now.expression) (E.post self.now.expression)
-            (S.pre self.now.specifiers) (S.post self.now.specifiers) (D.pre self.now.declarator)
-            (D.post self.now.declarator) }
+        requires deeper { Deeper self.now E.Fn S.Fn D.Fn }
         requires some { 0 < self.now.levels }
         ensures { ReadsLeveled arguments_of arguments_levels self.now.levels
             (spec.arguments_from self.now.names.now (readers self.now.names.now self.now.levels) self.now.levels
@@ -119,9 +116,7 @@ impl<
         position: Position,
         punctuator: Punctuator,
     ) -> Result<Leveled<Boxed<Expression<'a>>>, Fault>
-        requires deeper { Deeper self.now.levels (E.pre self.now.expression) (E.post self.now.expression)
-            (S.pre self.now.specifiers) (S.post self.now.specifiers) (D.pre self.now.declarator)
-            (D.post self.now.declarator) }
+        requires deeper { Deeper self.now E.Fn S.Fn D.Fn }
         requires known { Below self.now.levels left.levels (expression_levels (expression_of left.tree)) }
         ensures { ReadsLeveled expression_of expression_levels (suc self.now.levels)
             (spec.operation_from self.now.names.now (readers self.now.names.now self.now.levels) self.now.levels
@@ -141,9 +136,7 @@ impl<
         position: Position,
         punctuator: Punctuator,
     ) -> Result<Leveled<Boxed<Expression<'a>>>, Fault>
-        requires deeper { Deeper self.now.levels (E.pre self.now.expression) (E.post self.now.expression)
-            (S.pre self.now.specifiers) (S.post self.now.specifiers) (D.pre self.now.declarator)
-            (D.post self.now.declarator) }
+        requires deeper { Deeper self.now E.Fn S.Fn D.Fn }
         requires known { Below self.now.levels left.levels (expression_levels (expression_of left.tree)) }
         ensures { ReadsLeveled expression_of expression_levels (suc self.now.levels)
             (spec.operation_from self.now.names.now (readers self.now.names.now self.now.levels) self.now.levels
@@ -162,9 +155,7 @@ impl<
         left: Leveled<Boxed<Expression<'a>>>,
         position: Position,
     ) -> Result<Leveled<Boxed<Expression<'a>>>, Fault>
-        requires deeper { Deeper self.now.levels (E.pre self.now.expression) (E.post self.now.expression)
-            (S.pre self.now.specifiers) (S.post self.now.specifiers) (D.pre self.now.declarator)
-            (D.post self.now.declarator) }
+        requires deeper { Deeper self.now E.Fn S.Fn D.Fn }
         requires known { Below self.now.levels left.levels (expression_levels (expression_of left.tree)) }
         ensures { ReadsLeveled expression_of expression_levels (suc self.now.levels)
             (spec.operation_from self.now.names.now (readers self.now.names.now self.now.levels) self.now.levels
@@ -186,9 +177,7 @@ impl<
         left: Leveled<Boxed<Expression<'a>>>,
         position: Position,
     ) -> Result<Leveled<Boxed<Expression<'a>>>, Fault>
-        requires deeper { Deeper self.now.levels (E.pre self.now.expression) (E.post self.now.expression)
-            (S.pre self.now.specifiers) (S.post self.now.specifiers) (D.pre self.now.declarator)
-            (D.post self.now.declarator) }
+        requires deeper { Deeper self.now E.Fn S.Fn D.Fn }
         requires known { Below self.now.levels left.levels (expression_levels (expression_of left.tree)) }
         ensures { ReadsLeveled expression_of expression_levels (suc self.now.levels)
             (spec.operation_from self.now.names.now (readers self.now.names.now self.now.levels) self.now.levels
@@ -208,9 +197,7 @@ impl<
         left: Leveled<Boxed<Expression<'a>>>,
         position: Position,
     ) -> Result<Leveled<Boxed<Expression<'a>>>, Fault>
-        requires deeper { Deeper self.now.levels (E.pre self.now.expression) (E.post self.now.expression)
-            (S.pre self.now.specifiers) (S.post self.now.specifiers) (D.pre self.now.declarator)
-            (D.post self.now.declarator) }
+        requires deeper { Deeper self.now E.Fn S.Fn D.Fn }
         requires known { Below self.now.levels left.levels (expression_levels (expression_of left.tree)) }
         ensures { ReadsLeveled expression_of expression_levels (suc self.now.levels)
             (spec.operation_from self.now.names.now (readers self.now.names.now self.now.levels) self.now.levels
@@ -231,9 +218,7 @@ impl<
         position: Position,
         punctuator: Punctuator,
     ) -> Result<Leveled<Boxed<Expression<'a>>>, Fault>
-        requires deeper { Deeper self.now.levels (E.pre self.now.expression) (E.post self.now.expression)
-            (S.pre self.now.specifiers) (S.post self.now.specifiers) (D.pre self.now.declarator)
-            (D.post self.now.declarator) }
+        requires deeper { Deeper self.now E.Fn S.Fn D.Fn }
         requires known { Below self.now.levels left.levels (expression_levels (expression_of left.tree)) }
         ensures { ReadsLeveled expression_of expression_levels (suc self.now.levels)
             (spec.operation_from self.now.names.now (readers self.now.names.now self.now.levels) self.now.levels
@@ -253,9 +238,7 @@ impl<
         punctuator: Punctuator,
         operation: Operation,
     ) -> Result<Leveled<Boxed<Expression<'a>>>, Fault>
-        requires deeper { Deeper self.now.levels (E.pre self.now.expression) (E.post self.now.expression)
-            (S.pre self.now.specifiers) (S.post self.now.specifiers) (D.pre self.now.declarator)
-            (D.post self.now.declarator) }
+        requires deeper { Deeper self.now E.Fn S.Fn D.Fn }
         requires known { Below self.now.levels left.levels (expression_levels (expression_of left.tree)) }
         ensures { ReadsLeveled expression_of expression_levels (suc self.now.levels)
             (spec.operation_from self.now.names.now (readers self.now.names.now self.now.levels) self.now.levels
@@ -282,9 +265,7 @@ impl<
         position: Position,
         punctuator: Punctuator,
     ) -> Result<Leveled<Boxed<Expression<'a>>>, Fault>
-        requires deeper { Deeper self.now.levels (E.pre self.now.expression) (E.post self.now.expression)
-            (S.pre self.now.specifiers) (S.post self.now.specifiers) (D.pre self.now.declarator)
-            (D.post self.now.declarator) }
+        requires deeper { Deeper self.now E.Fn S.Fn D.Fn }
         requires known { Below self.now.levels left.levels (expression_levels (expression_of left.tree)) }
         ensures { ReadsLeveled expression_of expression_levels (suc self.now.levels)
             (spec.operation_from self.now.names.now (readers self.now.names.now self.now.levels) self.now.levels
@@ -303,9 +284,7 @@ impl<
         tokens: &mut Cursor<'_, 'a>,
         left: Leveled<Boxed<Expression<'a>>>,
     ) -> Result<Leveled<Boxed<Expression<'a>>>, Fault>
-        requires deeper { Deeper self.now.levels (E.pre self.now.expression) (E.post self.now.expression)
-            (S.pre self.now.specifiers) (S.post self.now.specifiers) (D.pre self.now.declarator)
-            (D.post self.now.declarator) }
+        requires deeper { Deeper self.now E.Fn S.Fn D.Fn }
         requires known { Below self.now.levels left.levels (expression_levels (expression_of left.tree)) }
         ensures { ReadsLeveled expression_of expression_levels (suc self.now.levels)
             (operation_next self.now.names.now (readers self.now.names.now self.now.levels) self.now.levels
@@ -348,9 +327,7 @@ impl<
         least: u8,
         first: Leveled<Boxed<Expression<'a>>>,
     ) -> Result<Leveled<Boxed<Expression<'a>>>, Fault>
-        requires deeper { Deeper self.now.levels (E.pre self.now.expression) (E.post self.now.expression)
-            (S.pre self.now.specifiers) (S.post self.now.specifiers) (D.pre self.now.declarator)
-            (D.post self.now.declarator) }
+        requires deeper { Deeper self.now E.Fn S.Fn D.Fn }
         requires known { Below (suc self.now.levels) first.levels (expression_levels (expression_of first.tree)) }
         ensures { ReadsLeveled expression_of expression_levels (suc self.now.levels)
             (spec.operations_from self.now.names.now (readers self.now.names.now self.now.levels) self.now.levels
@@ -373,9 +350,7 @@ impl<
         opened: Option<Position>,
         least: u8,
     ) -> Result<Leveled<Boxed<Expression<'a>>>, Fault>
-        requires deeper { Deeper self.now.levels (E.pre self.now.expression) (E.post self.now.expression)
-            (S.pre self.now.specifiers) (S.post self.now.specifiers) (D.pre self.now.declarator)
-            (D.post self.now.declarator) }
+        requires deeper { Deeper self.now E.Fn S.Fn D.Fn }
         ensures { ReadsLeveled expression_of expression_levels (suc self.now.levels)
             (spec.first_operand self.now.names.now (readers self.now.names.now self.now.levels) self.now.levels opened
             least tokens.old.rest.now) result tokens.new.rest.now }
@@ -395,9 +370,7 @@ impl<
         opened: Option<Position>,
         least: u8,
     ) -> Result<Leveled<Boxed<Expression<'a>>>, Fault>
-        requires deeper { Deeper self.now.levels (E.pre self.now.expression) (E.post self.now.expression)
-            (S.pre self.now.specifiers) (S.post self.now.specifiers) (D.pre self.now.declarator)
-            (D.post self.now.declarator) }
+        requires deeper { Deeper self.now E.Fn S.Fn D.Fn }
         ensures { ReadsLeveled expression_of expression_levels (suc self.now.levels)
             (spec.expression_at self.now.names.now (readers self.now.names.now self.now.levels) self.now.levels opened
             least tokens.old.rest.now) result tokens.new.rest.now }

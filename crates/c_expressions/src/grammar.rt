@@ -3,7 +3,7 @@
 
 ghost use Rattle.std.specs.Prelude.{◌≡◌};
 ghost use Rattle.c_grammar.specs.Nested.{readers};
-ghost use Rattle.c_expressions.specs.LeveledReads.{ReadsLeveled, Deeper};
+ghost use Rattle.c_expressions.specs.LeveledReads.{ReadsLeveled};
 ghost use Rattle.c_syntax.specs.View.{expression_of, specifiers_in, declarator_of};
 ghost use Rattle.c_syntax.specs.Levels.{expression_levels, specifiers_levels, declarator_levels};
 
@@ -57,6 +57,8 @@ impl<
         DeclaratorKind,
     ) -> Result<Leveled<Boxed<Declarator<'a>>>, Fault>,
 > Grammar<'t, 'a, E, S, D> {
+    ghost use Rattle.c_expressions.specs.Deeper.{Deeper};
+
     /// Reads an expression of at least this precedence with fewer levels; a position is that of the `(` that was taken.
     pub fn expression(
         &self,
@@ -64,9 +66,7 @@ impl<
         opened: Option<Position>,
         least: u8,
     ) -> Result<Leveled<Boxed<Expression<'a>>>, Fault>
-        requires { Deeper self.now.levels (E.pre self.now.expression) (E.post self.now.expression)
-            (S.pre self.now.specifiers) (S.post self.now.specifiers) (D.pre self.now.declarator)
-            (D.post self.now.declarator) }
+        requires { Deeper self.now E.Fn S.Fn D.Fn }
         ensures { ReadsLeveled expression_of expression_levels self.now.levels
             ((readers self.now.names.now self.now.levels).expression opened least tokens.old.rest.now) result
             tokens.new.rest.now }
@@ -80,9 +80,7 @@ impl<
         tokens: &mut Cursor<'_, 'a>,
         allowed: bool,
     ) -> Result<Leveled<Items<Specifier<'a>>>, Fault>
-        requires { Deeper self.now.levels (E.pre self.now.expression) (E.post self.now.expression)
-            (S.pre self.now.specifiers) (S.post self.now.specifiers) (D.pre self.now.declarator)
-            (D.post self.now.declarator) }
+        requires { Deeper self.now E.Fn S.Fn D.Fn }
         ensures { ReadsLeveled specifiers_in specifiers_levels self.now.levels
             ((readers self.now.names.now self.now.levels).specifiers allowed tokens.old.rest.now) result
             tokens.new.rest.now }
@@ -96,9 +94,7 @@ impl<
         tokens: &mut Cursor<'_, 'a>,
         kind: DeclaratorKind,
     ) -> Result<Leveled<Boxed<Declarator<'a>>>, Fault>
-        requires { Deeper self.now.levels (E.pre self.now.expression) (E.post self.now.expression)
-            (S.pre self.now.specifiers) (S.post self.now.specifiers) (D.pre self.now.declarator)
-            (D.post self.now.declarator) }
+        requires { Deeper self.now E.Fn S.Fn D.Fn }
         ensures { ReadsLeveled declarator_of declarator_levels self.now.levels
             ((readers self.now.names.now self.now.levels).declarator kind tokens.old.rest.now) result
             tokens.new.rest.now }

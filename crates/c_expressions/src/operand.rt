@@ -9,7 +9,8 @@ ghost use Rattle.c_grammar.specs.Reader.{strings_from};
 ghost use Rattle.c_grammar.specs.declared.declarator_kind.DeclaratorKind.TheVariants as kind;
 ghost use Rattle.c_expressions.specs.Built as built;
 ghost use Rattle.c_expressions.specs.Steps.{unary_from, sizeof_type_from};
-ghost use Rattle.c_expressions.specs.LeveledReads.{ReadsExpression, ReadsLeveled, Deeper};
+ghost use Rattle.c_expressions.specs.LeveledReads.{ReadsExpression, ReadsLeveled};
+ghost use Rattle.c_expressions.specs.Deeper.{Deeper};
 ghost use Rattle.c_syntax.specs.Words.{word_at};
 ghost use Rattle.c_syntax.specs.View.{expression_of, typed_of};
 ghost use Rattle.c_syntax.specs.Levels.{expression_levels, typed_levels};
@@ -79,9 +80,7 @@ impl<
         tokens: &mut Cursor<'_, 'a>,
         position: Position,
     ) -> Result<Leveled<Boxed<Expression<'a>>>, Fault>
-        requires deeper { Deeper self.now.levels (E.pre self.now.expression) (E.post self.now.expression)
-            (S.pre self.now.specifiers) (S.post self.now.specifiers) (D.pre self.now.declarator)
-            (D.post self.now.declarator) }
+        requires deeper { Deeper self.now E.Fn S.Fn D.Fn }
         ensures { ReadsLeveled expression_of expression_levels (suc self.now.levels)
             (spec.parenthesized_from self.now.names.now (readers self.now.names.now self.now.levels) self.now.levels
             position tokens.old.rest.now) result tokens.new.rest.now }
@@ -96,9 +95,7 @@ impl<
         &self,
         tokens: &mut Cursor<'_, 'a>,
     ) -> Result<Leveled<Boxed<TypedDeclarator<'a>>>, Fault>
-        requires deeper { Deeper self.now.levels (E.pre self.now.expression) (E.post self.now.expression)
-            (S.pre self.now.specifiers) (S.post self.now.specifiers) (D.pre self.now.declarator)
-            (D.post self.now.declarator) }
+        requires deeper { Deeper self.now E.Fn S.Fn D.Fn }
         ensures { ReadsLeveled typed_of typed_levels self.now.levels
             (common.typed_from (readers self.now.names.now self.now.levels) kind.Abstract tokens.old.rest.now) result
             tokens.new.rest.now }
@@ -114,9 +111,7 @@ impl<
         tokens: &mut Cursor<'_, 'a>,
         position: Position,
     ) -> Result<Leveled<Boxed<Expression<'a>>>, Fault>
-        requires deeper { Deeper self.now.levels (E.pre self.now.expression) (E.post self.now.expression)
-            (S.pre self.now.specifiers) (S.post self.now.specifiers) (D.pre self.now.declarator)
-            (D.post self.now.declarator) }
+        requires deeper { Deeper self.now E.Fn S.Fn D.Fn }
         ensures { ReadsLeveled expression_of expression_levels (suc self.now.levels)
             (spec.cast_from self.now.names.now (readers self.now.names.now self.now.levels) self.now.levels position
             tokens.old.rest.now) result tokens.new.rest.now }
@@ -135,9 +130,7 @@ impl<
         least: u8,
         position: Position,
     ) -> Result<Leveled<Boxed<Expression<'a>>>, Fault>
-        requires deeper { Deeper self.now.levels (E.pre self.now.expression) (E.post self.now.expression)
-            (S.pre self.now.specifiers) (S.post self.now.specifiers) (D.pre self.now.declarator)
-            (D.post self.now.declarator) }
+        requires deeper { Deeper self.now E.Fn S.Fn D.Fn }
         ensures { ReadsLeveled expression_of expression_levels (suc self.now.levels)
             (spec.parenthesis_from self.now.names.now (readers self.now.names.now self.now.levels) self.now.levels least
             position tokens.old.rest.now) result tokens.new.rest.now }
@@ -159,9 +152,7 @@ impl<
         position: Position,
         left: Position,
     ) -> Result<Leveled<Boxed<Expression<'a>>>, Fault>
-        requires deeper { Deeper self.now.levels (E.pre self.now.expression) (E.post self.now.expression)
-            (S.pre self.now.specifiers) (S.post self.now.specifiers) (D.pre self.now.declarator)
-            (D.post self.now.declarator) }
+        requires deeper { Deeper self.now E.Fn S.Fn D.Fn }
         ensures { ReadsExpression (suc self.now.levels)
             (sizeof_type_from (readers self.now.names.now self.now.levels) position left tokens.old.rest.now) result
             tokens.new.rest.now }
@@ -179,9 +170,7 @@ impl<
         position: Position,
         left: Position,
     ) -> Result<Leveled<Boxed<Expression<'a>>>, Fault>
-        requires deeper { Deeper self.now.levels (E.pre self.now.expression) (E.post self.now.expression)
-            (S.pre self.now.specifiers) (S.post self.now.specifiers) (D.pre self.now.declarator)
-            (D.post self.now.declarator) }
+        requires deeper { Deeper self.now E.Fn S.Fn D.Fn }
         ensures { ReadsLeveled expression_of expression_levels (suc self.now.levels)
             (spec.sizeof_parenthesis_from self.now.names.now (readers self.now.names.now self.now.levels)
             self.now.levels position left tokens.old.rest.now) result tokens.new.rest.now }
@@ -200,9 +189,7 @@ impl<
         tokens: &mut Cursor<'_, 'a>,
         position: Position,
     ) -> Result<Leveled<Boxed<Expression<'a>>>, Fault>
-        requires deeper { Deeper self.now.levels (E.pre self.now.expression) (E.post self.now.expression)
-            (S.pre self.now.specifiers) (S.post self.now.specifiers) (D.pre self.now.declarator)
-            (D.post self.now.declarator) }
+        requires deeper { Deeper self.now E.Fn S.Fn D.Fn }
         ensures { ReadsLeveled expression_of expression_levels (suc self.now.levels)
             (spec.sizeof_from self.now.names.now (readers self.now.names.now self.now.levels) self.now.levels position
             tokens.old.rest.now) result tokens.new.rest.now }
@@ -225,9 +212,7 @@ impl<
         operator: Punctuator,
         position: Position,
     ) -> Result<Leveled<Boxed<Expression<'a>>>, Fault>
-        requires deeper { Deeper self.now.levels (E.pre self.now.expression) (E.post self.now.expression)
-            (S.pre self.now.specifiers) (S.post self.now.specifiers) (D.pre self.now.declarator)
-            (D.post self.now.declarator) }
+        requires deeper { Deeper self.now E.Fn S.Fn D.Fn }
         ensures { ReadsLeveled expression_of expression_levels (suc self.now.levels)
             (unary_from (readers self.now.names.now self.now.levels) operator position tokens.old.rest.now) result
             tokens.new.rest.now }
@@ -246,9 +231,7 @@ impl<
         position: Position,
         rest: &'r [Positioned<'a>],
     ) -> Result<Leveled<Boxed<Expression<'a>>>, Fault>
-        requires deeper { Deeper self.now.levels (E.pre self.now.expression) (E.post self.now.expression)
-            (S.pre self.now.specifiers) (S.post self.now.specifiers) (D.pre self.now.declarator)
-            (D.post self.now.declarator) }
+        requires deeper { Deeper self.now E.Fn S.Fn D.Fn }
         requires next { tokens.old.rest.now ≡ word_at (kinds.Punctuator punctuator) position ∷ rest.now }
         ensures { ReadsLeveled expression_of expression_levels (suc self.now.levels)
             (spec.operand_by_punctuator self.now.names.now (readers self.now.names.now self.now.levels) self.now.levels
@@ -272,9 +255,7 @@ impl<
         tokens: &mut Cursor<'_, 'a>,
         least: u8,
     ) -> Result<Leveled<Boxed<Expression<'a>>>, Fault>
-        requires deeper { Deeper self.now.levels (E.pre self.now.expression) (E.post self.now.expression)
-            (S.pre self.now.specifiers) (S.post self.now.specifiers) (D.pre self.now.declarator)
-            (D.post self.now.declarator) }
+        requires deeper { Deeper self.now E.Fn S.Fn D.Fn }
         ensures { ReadsLeveled expression_of expression_levels (suc self.now.levels)
             (spec.operand_from self.now.names.now (readers self.now.names.now self.now.levels) self.now.levels least
             tokens.old.rest.now) result tokens.new.rest.now }

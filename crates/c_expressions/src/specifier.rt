@@ -3,7 +3,8 @@
 ghost use Rattle.std.specs.Prelude.{◌≡◌, suc};
 ghost use Rattle.c_grammar.specs.Nested.{readers};
 ghost use Rattle.c_grammar.specs.Readers as common;
-ghost use Rattle.c_expressions.specs.LeveledReads.{ReadsLeveled, Below, Deeper};
+ghost use Rattle.c_expressions.specs.LeveledReads.{ReadsLeveled, Below};
+ghost use Rattle.c_expressions.specs.Deeper.{Deeper};
 ghost use Rattle.c_grammar.specs.SpecifierReader as spec;
 ghost use Rattle.c_expressions.specs.Steps.{specifier_next, specifiers_extending};
 ghost use Rattle.c_grammar.specs.Reader.{next_is};
@@ -105,9 +106,7 @@ impl<
         keyword: Keyword,
         position: Position,
     ) -> Result<Leveled<Specifier<'a>>, Fault>
-        requires deeper { Deeper self.now.levels (E.pre self.now.expression) (E.post self.now.expression)
-            (S.pre self.now.specifiers) (S.post self.now.specifiers) (D.pre self.now.declarator)
-            (D.post self.now.declarator) }
+        requires deeper { Deeper self.now E.Fn S.Fn D.Fn }
         ensures { ReadsLeveled specifier_of specifier_levels (suc self.now.levels)
             (spec.specifier_by_keyword self.now.names.now (readers self.now.names.now self.now.levels) self.now.levels
             keyword position tokens.old.rest.now) result tokens.new.rest.now }
@@ -121,9 +120,7 @@ impl<
 
     /// Reads a specifier by its first word.
     fn specifier(&self, tokens: &mut Cursor<'_, 'a>) -> Result<Leveled<Specifier<'a>>, Fault>
-        requires deeper { Deeper self.now.levels (E.pre self.now.expression) (E.post self.now.expression)
-            (S.pre self.now.specifiers) (S.post self.now.specifiers) (D.pre self.now.declarator)
-            (D.post self.now.declarator) }
+        requires deeper { Deeper self.now E.Fn S.Fn D.Fn }
         ensures { ReadsLeveled specifier_of specifier_levels (suc self.now.levels)
             (specifier_next self.now.names.now (readers self.now.names.now self.now.levels) self.now.levels
             tokens.old.rest.now) result tokens.new.rest.now }
@@ -192,9 +189,7 @@ impl<
         tokens: &mut Cursor<'_, 'a>,
         allowed: bool,
     ) -> Result<Leveled<Items<Specifier<'a>>>, Fault>
-        requires deeper { Deeper self.now.levels (E.pre self.now.expression) (E.post self.now.expression)
-            (S.pre self.now.specifiers) (S.post self.now.specifiers) (D.pre self.now.declarator)
-            (D.post self.now.declarator) }
+        requires deeper { Deeper self.now E.Fn S.Fn D.Fn }
         ensures { ReadsLeveled specifiers_in specifiers_levels (suc self.now.levels)
             (spec.specifiers_at self.now.names.now (readers self.now.names.now self.now.levels) self.now.levels allowed
             tokens.old.rest.now) result tokens.new.rest.now }

@@ -6,7 +6,8 @@ ghost use Rattle.c_grammar.specs.Reader.{behind_commas, next_is_punctuator};
 ghost use Rattle.c_grammar.specs.SpecifierReader as spec;
 ghost use Rattle.c_grammar.specs.Nested.{readers};
 ghost use Rattle.c_expressions.specs.Steps.{declarators_behind, declarators_behind_levels};
-ghost use Rattle.c_expressions.specs.LeveledReads.{ReadsLeveled, Deeper};
+ghost use Rattle.c_expressions.specs.LeveledReads.{ReadsLeveled};
+ghost use Rattle.c_expressions.specs.Deeper.{Deeper};
 ghost use Rattle.c_grammar.specs.declared.declarator_kind.DeclaratorKind.TheVariants as kind;
 ghost use Rattle.c_syntax.specs.View.{specifier_of, member_of};
 ghost use Rattle.c_syntax.specs.View.{members_in};
@@ -62,9 +63,7 @@ impl<
         &self,
         tokens: &mut Cursor<'_, 'a>,
     ) -> Result<Leveled<Items<(Position, Boxed<Declarator<'a>>)>>, Fault>
-        requires deeper { Deeper self.now.levels (E.pre self.now.expression) (E.post self.now.expression)
-            (S.pre self.now.specifiers) (S.post self.now.specifiers) (D.pre self.now.declarator)
-            (D.post self.now.declarator) }
+        requires deeper { Deeper self.now E.Fn S.Fn D.Fn }
         requires some { 0 < self.now.levels }
         ensures { ReadsLeveled declarators_behind declarators_behind_levels self.now.levels
             (behind_commas ((readers self.now.names.now self.now.levels).declarator kind.Named)
@@ -87,9 +86,7 @@ impl<
     /// Reads a declaration of members (C99 6.7.2.1).
     #[tactic(auto, unfolding(c_grammar::specs::SpecifierReader::member_from))]
     fn member_declaration(&self, tokens: &mut Cursor<'_, 'a>) -> Result<Leveled<Member<'a>>, Fault>
-        requires deeper { Deeper self.now.levels (E.pre self.now.expression) (E.post self.now.expression)
-            (S.pre self.now.specifiers) (S.post self.now.specifiers) (D.pre self.now.declarator)
-            (D.post self.now.declarator) }
+        requires deeper { Deeper self.now E.Fn S.Fn D.Fn }
         requires some { 0 < self.now.levels }
         ensures { ReadsLeveled member_of member_levels self.now.levels
             (spec.member_from self.now.names.now (readers self.now.names.now self.now.levels) self.now.levels
@@ -105,9 +102,7 @@ impl<
 
     /// Reads declarations of members up to `}`, at least one (C99 6.7.2.1).
     fn members(&self, tokens: &mut Cursor<'_, 'a>) -> Result<Leveled<Items<Member<'a>>>, Fault>
-        requires deeper { Deeper self.now.levels (E.pre self.now.expression) (E.post self.now.expression)
-            (S.pre self.now.specifiers) (S.post self.now.specifiers) (D.pre self.now.declarator)
-            (D.post self.now.declarator) }
+        requires deeper { Deeper self.now E.Fn S.Fn D.Fn }
         requires some { 0 < self.now.levels }
         ensures { ReadsLeveled members_in members_levels self.now.levels
             (spec.members_from self.now.names.now (readers self.now.names.now self.now.levels) self.now.levels
@@ -135,9 +130,7 @@ impl<
         position: Position,
         tag: Option<Spelled<'a>>,
     ) -> Result<Leveled<Specifier<'a>>, Fault>
-        requires deeper { Deeper self.now.levels (E.pre self.now.expression) (E.post self.now.expression)
-            (S.pre self.now.specifiers) (S.post self.now.specifiers) (D.pre self.now.declarator)
-            (D.post self.now.declarator) }
+        requires deeper { Deeper self.now E.Fn S.Fn D.Fn }
         requires some { 0 < self.now.levels }
         ensures { ReadsLeveled specifier_of specifier_levels (suc self.now.levels)
             (spec.structure_body_from self.now.names.now (readers self.now.names.now self.now.levels) self.now.levels
@@ -157,9 +150,7 @@ impl<
         keyword: Keyword,
         position: Position,
     ) -> Result<Leveled<Specifier<'a>>, Fault>
-        requires deeper { Deeper self.now.levels (E.pre self.now.expression) (E.post self.now.expression)
-            (S.pre self.now.specifiers) (S.post self.now.specifiers) (D.pre self.now.declarator)
-            (D.post self.now.declarator) }
+        requires deeper { Deeper self.now E.Fn S.Fn D.Fn }
         ensures { ReadsLeveled specifier_of specifier_levels (suc self.now.levels)
             (spec.structure_from self.now.names.now (readers self.now.names.now self.now.levels) self.now.levels keyword
             position tokens.old.rest.now) result tokens.new.rest.now }

@@ -6,7 +6,8 @@ ghost use Rattle.c_grammar.specs.Readers as spec;
 ghost use Rattle.c_grammar.specs.Nested.{readers};
 ghost use Rattle.c_expressions.specs.Steps.{void_word, void_alone, void_parameter, lone_void, parameters_behind};
 ghost use Rattle.c_expressions.specs.Steps.{parameters_behind_levels};
-ghost use Rattle.c_expressions.specs.LeveledReads.{ReadsLeveled, Deeper};
+ghost use Rattle.c_expressions.specs.LeveledReads.{ReadsLeveled};
+ghost use Rattle.c_expressions.specs.Deeper.{Deeper};
 ghost use Rattle.c_grammar.specs.declared.declarator_kind.DeclaratorKind.TheVariants as kind;
 ghost use Rattle.c_syntax.specs.View.{typed_of, parameters_of, more_parameters_in, specifier_of, specifiers_in};
 ghost use Rattle.c_syntax.specs.View.{declarator_of};
@@ -143,9 +144,7 @@ impl<
         tokens: &mut Cursor<'_, 'a>,
         kind: DeclaratorKind,
     ) -> Result<Leveled<TypedDeclarator<'a>>, Fault>
-        requires deeper { Deeper self.now.levels (E.pre self.now.expression) (E.post self.now.expression)
-            (S.pre self.now.specifiers) (S.post self.now.specifiers) (D.pre self.now.declarator)
-            (D.post self.now.declarator) }
+        requires deeper { Deeper self.now E.Fn S.Fn D.Fn }
         ensures { ReadsLeveled typed_of typed_levels self.now.levels
             (spec.typed_from (readers self.now.names.now self.now.levels) kind tokens.old.rest.now) result
             tokens.new.rest.now }
@@ -160,9 +159,7 @@ impl<
         &self,
         tokens: &mut Cursor<'_, 'a>,
     ) -> Result<Leveled<Items<(Position, TypedDeclarator<'a>)>>, Fault>
-        requires deeper { Deeper self.now.levels (E.pre self.now.expression) (E.post self.now.expression)
-            (S.pre self.now.specifiers) (S.post self.now.specifiers) (D.pre self.now.declarator)
-            (D.post self.now.declarator) }
+        requires deeper { Deeper self.now E.Fn S.Fn D.Fn }
         requires some { 0 < self.now.levels }
         ensures { ReadsLeveled parameters_behind parameters_behind_levels self.now.levels
             (behind_commas (spec.typed_from (readers self.now.names.now self.now.levels) kind.Either)
@@ -182,9 +179,7 @@ impl<
     /// Reads what stands between the parentheses of a function declarator (C99 6.7.5.3).
     #[tactic(auto, unfolding(c_grammar::specs::Readers::parameters_from))]
     pub fn parameters(&self, tokens: &mut Cursor<'_, 'a>) -> Result<Leveled<Parameters<'a>>, Fault>
-        requires deeper { Deeper self.now.levels (E.pre self.now.expression) (E.post self.now.expression)
-            (S.pre self.now.specifiers) (S.post self.now.specifiers) (D.pre self.now.declarator)
-            (D.post self.now.declarator) }
+        requires deeper { Deeper self.now E.Fn S.Fn D.Fn }
         requires some { 0 < self.now.levels }
         ensures { ReadsLeveled parameters_of parameters_levels self.now.levels
             (spec.parameters_from (readers self.now.names.now self.now.levels) tokens.old.rest.now) result

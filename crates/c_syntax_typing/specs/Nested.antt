@@ -1,5 +1,6 @@
 -- Function values that type the parts of a construct.
 use Rattle.std.specs.Prelude.{◌≡◌, ℕ, ◌<◌, Bool, List, Result}
+use Rattle.std.specs.Fn.{Shared}
 use denote.Ref.{MutBor, Bor}
 use Rattle.c_syntax.specs.declared.tree.Declarator as code_declarator
 use Rattle.c_syntax.specs.declared.tree.Expression as code_expression
@@ -17,51 +18,69 @@ use Rattle.c_typing.specs.Declarators.{shape_of}
 use Rattle.c_typing.specs.Specifications.{specification_of}
 use Rattle.c_typing.specs.State.{Types, state_of}
 use Rattle.c_expression_typing.specs.Typed.{shape, specification, typed}
+use Rattle.c_syntax_typing.specs.declared.nested.Nested.{Nested}
+
+-- what may be called with a typer, a flag and a part of a construct, and gives an R or refuses
+abbrev pub Typing : (F T R : Type 0) → Type 1
+Typing F T R = Shared F (MutBor Typer × (Bool × (Bor T × Unit {0}))) (Result R Refusal × (MutBor Typer × Unit {0}))
 
 -- a function value that types this expression
-pub record TypesExpression (pre : MutBor Typer → Bool → Bor code_expression.Expression → Type 0)
-    (post : MutBor Typer → Bool → Bor code_expression.Expression → Result code_operand.Operand Refusal → MutBor Typer
-    → Type 0) (e : Expression) : Type 0 where
+pub record TypesExpression {F : Type 0} (typing : Typing F code_expression.Expression code_operand.Operand) (f : F)
+    (e : Expression) : Type 0 where
   pub callable : (old : MutBor Typer) (is_evaluated : Bool) (tree : Bor code_expression.Expression)
-      → expression_of tree.now ≡ e → pre old is_evaluated tree
+      → expression_of tree.now ≡ e → typing.pre f (old, (is_evaluated, (tree, tt)))
   pub types : (old new : MutBor Typer) (is_evaluated : Bool) (tree : Bor code_expression.Expression)
       (result : Result code_operand.Operand Refusal) → expression_of tree.now ≡ e
-      → post old is_evaluated tree result new
+      → typing.post f (old, (is_evaluated, (tree, tt))) (result, (new, tt))
       → Types operand_of (state_of new.now) result (typed is_evaluated e (state_of old.now))
 
 -- one that types this declarator
-pub record TypesDeclarator (pre : MutBor Typer → Bool → Bor code_declarator.Declarator → Type 0)
-    (post : MutBor Typer → Bool → Bor code_declarator.Declarator → Result code_shape.Shape Refusal → MutBor Typer
-    → Type 0) (d : Declarator) : Type 0 where
+pub record TypesDeclarator {F : Type 0} (typing : Typing F code_declarator.Declarator code_shape.Shape) (f : F)
+    (d : Declarator) : Type 0 where
   pub callable : (old : MutBor Typer) (in_definition : Bool) (tree : Bor code_declarator.Declarator)
-      → declarator_of tree.now ≡ d → pre old in_definition tree
+      → declarator_of tree.now ≡ d → typing.pre f (old, (in_definition, (tree, tt)))
   pub types : (old new : MutBor Typer) (in_definition : Bool) (tree : Bor code_declarator.Declarator)
       (result : Result code_shape.Shape Refusal) → declarator_of tree.now ≡ d
-      → post old in_definition tree result new
+      → typing.post f (old, (in_definition, (tree, tt))) (result, (new, tt))
       → Types shape_of (state_of new.now) result (shape in_definition d (state_of old.now))
 
 -- one that types these specifiers
-pub record TypesSpecifiers (pre : MutBor Typer → Bool → Bor (List code_specifier.Specifier) → Type 0)
-    (post : MutBor Typer → Bool → Bor (List code_specifier.Specifier) → Result code_specification.Specification Refusal
-    → MutBor Typer → Type 0) (specs : Specifiers) : Type 0 where
+pub record TypesSpecifiers {F : Type 0}
+    (typing : Typing F (List code_specifier.Specifier) code_specification.Specification) (f : F) (specs : Specifiers)
+    : Type 0 where
   pub callable : (old : MutBor Typer) (is_alone : Bool) (trees : Bor (List code_specifier.Specifier))
-      → specifiers_in trees.now ≡ specs → pre old is_alone trees
+      → specifiers_in trees.now ≡ specs → typing.pre f (old, (is_alone, (trees, tt)))
   pub types : (old new : MutBor Typer) (is_alone : Bool) (trees : Bor (List code_specifier.Specifier))
       (result : Result code_specification.Specification Refusal) → specifiers_in trees.now ≡ specs
-      → post old is_alone trees result new
+      → typing.post f (old, (is_alone, (trees, tt))) (result, (new, tt))
       → Types specification_of (state_of new.now) result (specification is_alone specs (state_of old.now))
 
--- function values that type what has fewer levels than n
-pub record Deeper (n : ℕ) (expression_pre : MutBor Typer → Bool → Bor code_expression.Expression → Type 0)
-    (expression_post : MutBor Typer → Bool → Bor code_expression.Expression → Result code_operand.Operand Refusal
-    → MutBor Typer → Type 0)
-    (declarator_pre : MutBor Typer → Bool → Bor code_declarator.Declarator → Type 0)
-    (declarator_post : MutBor Typer → Bool → Bor code_declarator.Declarator → Result code_shape.Shape Refusal
-    → MutBor Typer → Type 0)
-    (specifiers_pre : MutBor Typer → Bool → Bor (List code_specifier.Specifier) → Type 0)
-    (specifiers_post : MutBor Typer → Bool → Bor (List code_specifier.Specifier)
-    → Result code_specification.Specification Refusal → MutBor Typer → Type 0) : Type 0 where
-  pub expressions : (e : Expression) → expression_levels e < n → TypesExpression expression_pre expression_post e
-  pub declarators : (d : Declarator) → declarator_levels d < n → TypesDeclarator declarator_pre declarator_post d
+-- the function value of these rules for expressions types those of fewer levels than n
+pub record DeeperExpressions {E D S : Type 0} (rules : Nested E D S)
+    (for_expressions : Typing E code_expression.Expression code_operand.Operand) (n : ℕ) : Type 0 where
+  pub expressions : (e : Expression) → expression_levels e < n → TypesExpression for_expressions rules.expression e
+
+-- the one for declarators
+pub record DeeperDeclarators {E D S : Type 0} (rules : Nested E D S)
+    (for_declarators : Typing D code_declarator.Declarator code_shape.Shape) (n : ℕ) : Type 0 where
+  pub declarators : (d : Declarator) → declarator_levels d < n → TypesDeclarator for_declarators rules.declarator d
+
+-- those for declarators and specifiers
+pub record DeeperNames {E D S : Type 0} (rules : Nested E D S)
+    (for_declarators : Typing D code_declarator.Declarator code_shape.Shape)
+    (for_specifiers : Typing S (List code_specifier.Specifier) code_specification.Specification) (n : ℕ)
+    : Type 0 where
+  pub declarators : (d : Declarator) → declarator_levels d < n → TypesDeclarator for_declarators rules.declarator d
   pub specifiers : (specs : Specifiers) → specifiers_levels specs < n
-      → TypesSpecifiers specifiers_pre specifiers_post specs
+      → TypesSpecifiers for_specifiers rules.specifiers specs
+
+-- all three
+pub record Deeper {E D S : Type 0} (rules : Nested E D S)
+    (for_expressions : Typing E code_expression.Expression code_operand.Operand)
+    (for_declarators : Typing D code_declarator.Declarator code_shape.Shape)
+    (for_specifiers : Typing S (List code_specifier.Specifier) code_specification.Specification) (n : ℕ)
+    : Type 0 where
+  pub expressions : (e : Expression) → expression_levels e < n → TypesExpression for_expressions rules.expression e
+  pub declarators : (d : Declarator) → declarator_levels d < n → TypesDeclarator for_declarators rules.declarator d
+  pub specifiers : (specs : Specifiers) → specifiers_levels specs < n
+      → TypesSpecifiers for_specifiers rules.specifiers specs

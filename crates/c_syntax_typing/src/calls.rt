@@ -12,16 +12,15 @@ use c_syntax::{Arguments, Boxed, Declarator, Expression, Position, Specifier};
 use c_typing::{Called, Shape, Specification, Typer};
 use sb_base::Line;
 
-impl<
-    'a,
-    E: Fn(&mut Typer<'a>, bool, &Expression<'a>) -> Result<Operand, Refusal>,
-    D: Fn(&mut Typer<'a>, bool, &Declarator<'a>) -> Result<Shape<'a>, Refusal>,
-    S: Fn(&mut Typer<'a>, bool, &[Specifier<'a>]) -> Result<Specification, Refusal>,
-> Nested<E, D, S> {
-    ghost use Rattle.std.specs.Prelude.{suc, [], map};
+impl<'a, E: Fn(&mut Typer<'a>, bool, &Expression<'a>) -> Result<Operand, Refusal>, D, S> Nested<
+    E,
+    D,
+    S,
+> {
+    ghost use Rattle.std.specs.Prelude.{suc, map};
     ghost use Rattle.c_syntax.specs.Tree as tree;
     ghost use Rattle.c_syntax.specs.View.{arguments_of, expression_of, more_arguments_in};
-    ghost use Rattle.c_syntax.specs.Levels.{arguments_levels, expression_levels, more_arguments_levels};
+    ghost use Rattle.c_syntax.specs.Levels.{arguments_levels, more_arguments_levels};
     ghost use Rattle.c_syntax.specs.declared.position.Position.{Position};
     ghost use Rattle.c_rules.specs.Values.{value_of};
     ghost use Rattle.c_call_rules.specs.Printing.{format_of};
@@ -31,22 +30,21 @@ impl<
     ghost use Rattle.c_expression_typing.specs.Constructs.{applied_to, called_by, format_by, literal_alone, plain_name};
     ghost use Rattle.c_expression_typing.specs.Constructs.{printing_of};
     ghost use Rattle.c_expression_typing.specs.Typed.{argument_values, more_values, printed_values, typed};
-    ghost use Rattle.c_syntax_typing.specs.Nested.{Deeper, TypesExpression};
+    ghost use Rattle.c_syntax_typing.specs.Nested.{DeeperExpressions, TypesExpression};
 
     // What stands before the `(`.
     fn called(
         &self,
         typer: &mut Typer<'a>,
         is_evaluated: bool,
-        function: &Expression<'a>,
+        function: &Boxed<Expression<'a>>,
     ) -> Result<Called, Refusal>
-        requires { TypesExpression (E.pre self.now.expression) (E.post self.now.expression)
-            (expression_of function.now) }
+        requires { TypesExpression E.Fn self.now.expression (expression_of function.now) }
         ensures { Types called_of (state_of typer.new) result (called_by is_evaluated
             (plain_name (expression_of function.now)) (typed is_evaluated (expression_of function.now))
             (state_of typer.old)) }
     {
-        match plain_name(function) {
+        match plain_name(function.get()) {
             Some(name) => {
                 typer.name_called(is_evaluated, name.spelling.bytes(), name.position.line)
             }
@@ -65,39 +63,35 @@ impl<
         arguments: &[(Position, Boxed<Expression<'a>>)],
         before: Vec<TypedValue>,
     ) -> Result<Vec<TypedValue>, Refusal>
-        requires deeper { Deeper (suc (more_arguments_levels (more_arguments_in arguments.now))) (E.pre
-            self.now.expression)
-            (E.post self.now.expression) (D.pre self.now.declarator) (D.post self.now.declarator)
-            (S.pre self.now.specifiers) (S.post self.now.specifiers) }
+        requires deeper { DeeperExpressions self.now E.Fn (suc (more_arguments_levels (more_arguments_in
+            arguments.now))) }
         ensures { Types (λ vs. map value_of vs.items) (state_of typer.new) result (more_values is_evaluated
             (more_arguments_in arguments.now) (map value_of before.items) (state_of typer.old)) }
     {
         let mut values = before;
         for (_, argument) in arguments {
-            let (before, value) = beside(values, self.value(typer, is_evaluated, argument.get()))?;
+            let (before, value) = beside(values, self.value(typer, is_evaluated, argument))?;
             values = with_item(before, value)?;
         }
         Ok(values)
     }
 
     // The values of the arguments, where `printf` is not called.
-    #[tactic(auto, using(crate::proofs::Lower::lower, c_syntax::proofs::ListViews::arguments_view))]
+    #[tactic(auto, using(crate::proofs::Lower::lower_expressions, c_syntax::proofs::ListViews::arguments_view))]
     fn argument_values(
         &self,
         typer: &mut Typer<'a>,
         is_evaluated: bool,
         arguments: &Arguments<'a>,
     ) -> Result<Vec<TypedValue>, Refusal>
-        requires deeper { Deeper (suc (arguments_levels (arguments_of arguments.now))) (E.pre self.now.expression)
-            (E.post self.now.expression) (D.pre self.now.declarator) (D.post self.now.declarator)
-            (S.pre self.now.specifiers) (S.post self.now.specifiers) }
+        requires deeper { DeeperExpressions self.now E.Fn (suc (arguments_levels (arguments_of arguments.now))) }
         ensures { Types (λ vs. map value_of vs.items) (state_of typer.new) result
             (argument_values is_evaluated (arguments_of arguments.now) (state_of typer.old)) }
     {
         match arguments {
             Arguments::Empty => Ok(Vec::new(typer.alloc)),
             Arguments::Given(first, more) => {
-                let value = self.value(typer, is_evaluated, first.get())?;
+                let value = self.value(typer, is_evaluated, first)?;
                 let values = only(typer.alloc, value)?;
                 self.more_values(typer, is_evaluated, more.as_slice(), values)
             }
@@ -109,14 +103,13 @@ impl<
         &self,
         typer: &mut Typer<'a>,
         is_evaluated: bool,
-        first: &Expression<'a>,
+        first: &Boxed<Expression<'a>>,
     ) -> Result<Format, Refusal>
-        requires { TypesExpression (E.pre self.now.expression) (E.post self.now.expression)
-            (expression_of first.now) }
+        requires { TypesExpression E.Fn self.now.expression (expression_of first.now) }
         ensures { Types format_of (state_of typer.new) result (format_by (literal_alone (expression_of first.now))
             (typed is_evaluated (expression_of first.now)) (state_of typer.old)) }
     {
-        match literal_alone(typer.alloc, first)? {
+        match literal_alone(typer.alloc, first.get())? {
             Some(bytes) => Ok(Format::Literal(bytes)),
             None => {
                 let value = self.value(typer, is_evaluated, first)?;
@@ -126,16 +119,14 @@ impl<
     }
 
     // The arguments of a `printf`.
-    #[tactic(auto, using(crate::proofs::Lower::lower, c_syntax::proofs::ListViews::arguments_view))]
+    #[tactic(auto, using(crate::proofs::Lower::lower_expressions, c_syntax::proofs::ListViews::arguments_view))]
     fn printing(
         &self,
         typer: &mut Typer<'a>,
         is_evaluated: bool,
         arguments: &Arguments<'a>,
     ) -> Result<Printing, Refusal>
-        requires deeper { Deeper (suc (arguments_levels (arguments_of arguments.now))) (E.pre self.now.expression)
-            (E.post self.now.expression) (D.pre self.now.declarator) (D.post self.now.declarator)
-            (S.pre self.now.specifiers) (S.post self.now.specifiers) }
+        requires deeper { DeeperExpressions self.now E.Fn (suc (arguments_levels (arguments_of arguments.now))) }
         ensures { Types printing_of (state_of typer.new) result
             (printed_values is_evaluated (arguments_of arguments.now) (state_of typer.old)) }
     {
@@ -145,7 +136,7 @@ impl<
                 values: Vec::new(typer.alloc),
             }),
             Arguments::Given(first, more) => {
-                let format = self.format(typer, is_evaluated, first.get())?;
+                let format = self.format(typer, is_evaluated, first)?;
                 let none = Vec::new(typer.alloc);
                 let values = self.more_values(typer, is_evaluated, more.as_slice(), none);
                 let (format, values) = beside(format, values)?;
@@ -166,9 +157,7 @@ impl<
         called: Called,
         arguments: &Arguments<'a>,
     ) -> Result<Operand, Refusal>
-        requires deeper { Deeper (suc (arguments_levels (arguments_of arguments.now))) (E.pre self.now.expression)
-            (E.post self.now.expression) (D.pre self.now.declarator) (D.post self.now.declarator)
-            (S.pre self.now.specifiers) (S.post self.now.specifiers) }
+        requires deeper { DeeperExpressions self.now E.Fn (suc (arguments_levels (arguments_of arguments.now))) }
         ensures { Types operand_of (state_of typer.new) result (applied_to line
             (argument_values is_evaluated (arguments_of arguments.now))
             (printed_values is_evaluated (arguments_of arguments.now)) (called_of called) (state_of typer.old)) }
@@ -185,19 +174,16 @@ impl<
     }
 
     /// `expression ( arguments )` (6.5.2.2).
-    #[tactic(auto, using(crate::proofs::Lower::lower))]
     pub(crate) fn call(
         &self,
         typer: &mut Typer<'a>,
         is_evaluated: bool,
-        function: &Expression<'a>,
+        function: &Boxed<Expression<'a>>,
         opening: Position,
         arguments: &Arguments<'a>,
     ) -> Result<Operand, Refusal>
-        requires deeper { Deeper (expression_levels (tree.call (expression_of function.now) opening (arguments_of
-            arguments.now) opening)) (E.pre self.now.expression)
-            (E.post self.now.expression) (D.pre self.now.declarator) (D.post self.now.declarator)
-            (S.pre self.now.specifiers) (S.post self.now.specifiers) }
+        requires function { TypesExpression E.Fn self.now.expression (expression_of function.now) }
+        requires arguments { DeeperExpressions self.now E.Fn (suc (arguments_levels (arguments_of arguments.now))) }
         ensures { (closing : Position) → Types operand_of (state_of typer.new) result (typed is_evaluated
             (tree.call (expression_of function.now) opening (arguments_of arguments.now) closing)
             (state_of typer.old)) }

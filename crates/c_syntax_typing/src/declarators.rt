@@ -12,7 +12,7 @@ use c_place_rules::operand::Operand;
 use c_rules::Refusal;
 use c_rules::holding::beside;
 use c_syntax::declarators::is_plain_name;
-use c_syntax::{Declarator, Expression, Parameters, Position, Specifier, Spelled};
+use c_syntax::{Boxed, Declarator, Expression, Parameters, Position, Specifier, Spelled};
 use c_typing::shape::LocatedName;
 use c_typing::sizes::count_in;
 use c_typing::{Shape, Specification, Typer};
@@ -36,21 +36,18 @@ fn named<'a>(alloc: Global, name: &Spelled<'a>) -> Shape<'a>
     Shape::new(alloc, Some(LocatedName { name, line }))
 }
 
-impl<
-    'a,
-    E: Fn(&mut Typer<'a>, bool, &Expression<'a>) -> Result<Operand, Refusal>,
-    D: Fn(&mut Typer<'a>, bool, &Declarator<'a>) -> Result<Shape<'a>, Refusal>,
-    S: Fn(&mut Typer<'a>, bool, &[Specifier<'a>]) -> Result<Specification, Refusal>,
-> Nested<E, D, S> {
-    ghost use Rattle.std.specs.Prelude.{suc};
+impl<'a, E, D: Fn(&mut Typer<'a>, bool, &Declarator<'a>) -> Result<Shape<'a>, Refusal>, S> Nested<
+    E,
+    D,
+    S,
+> {
     ghost use Rattle.c_syntax.specs.Tree as tree;
-    ghost use Rattle.c_syntax.specs.View.{declarator_of, expression_of, parameters_of};
-    ghost use Rattle.c_syntax.specs.Levels.{declarator_levels, expression_levels, parameters_levels};
+    ghost use Rattle.c_syntax.specs.View.{declarator_of};
     ghost use Rattle.c_syntax.specs.declared.position.Position.{Position};
-    ghost use Rattle.c_typing.specs.Declarators.{scope_left, scope_opened, shape_of, with_function};
-    ghost use Rattle.c_typing.specs.State.{Types, done, state_of, ◌>>>◌};
-    ghost use Rattle.c_expression_typing.specs.Typed.{parameter_types, shape};
-    ghost use Rattle.c_syntax_typing.specs.Nested.{Deeper};
+    ghost use Rattle.c_typing.specs.Declarators.{shape_of};
+    ghost use Rattle.c_typing.specs.State.{Types, state_of};
+    ghost use Rattle.c_expression_typing.specs.Typed.{shape};
+    ghost use Rattle.c_syntax_typing.specs.Nested.{TypesDeclarator};
 
     // `*`, the words `const` behind it, and the declarator of the pointer (6.7.5.1).
     fn pointer(
@@ -59,11 +56,9 @@ impl<
         in_definition: bool,
         star: Position,
         words: &[Position],
-        inner: &Declarator<'a>,
+        inner: &Boxed<Declarator<'a>>,
     ) -> Result<Shape<'a>, Refusal>
-        requires deeper { Deeper (suc (declarator_levels (declarator_of inner.now))) (E.pre self.now.expression)
-            (E.post self.now.expression) (D.pre self.now.declarator) (D.post self.now.declarator)
-            (S.pre self.now.specifiers) (S.post self.now.specifiers) }
+        requires { TypesDeclarator D.Fn self.now.declarator (declarator_of inner.now) }
         ensures { Types shape_of (state_of typer.new) result (shape in_definition
             (tree.pointer star words.now (declarator_of inner.now)) (state_of typer.old)) }
     {
@@ -77,11 +72,9 @@ impl<
         &self,
         typer: &mut Typer<'a>,
         in_definition: bool,
-        inner: &Declarator<'a>,
+        inner: &Boxed<Declarator<'a>>,
     ) -> Result<Shape<'a>, Refusal>
-        requires deeper { Deeper (suc (declarator_levels (declarator_of inner.now))) (E.pre self.now.expression)
-            (E.post self.now.expression) (D.pre self.now.declarator) (D.post self.now.declarator)
-            (S.pre self.now.specifiers) (S.post self.now.specifiers) }
+        requires { TypesDeclarator D.Fn self.now.declarator (declarator_of inner.now) }
         ensures { (opening closing : Position) → Types shape_of (state_of typer.new) result (shape in_definition
             (tree.open_array (declarator_of inner.now) opening closing) (state_of typer.old)) }
     {
@@ -89,20 +82,33 @@ impl<
         let shape = shape.with_derivation(Derivation::OpenArray)?;
         Ok(shape)
     }
+}
+
+impl<
+    'a,
+    E: Fn(&mut Typer<'a>, bool, &Expression<'a>) -> Result<Operand, Refusal>,
+    D: Fn(&mut Typer<'a>, bool, &Declarator<'a>) -> Result<Shape<'a>, Refusal>,
+    S,
+> Nested<E, D, S> {
+    ghost use Rattle.c_syntax.specs.Tree as tree;
+    ghost use Rattle.c_syntax.specs.View.{declarator_of, expression_of};
+    ghost use Rattle.c_syntax.specs.declared.position.Position.{Position};
+    ghost use Rattle.c_typing.specs.Declarators.{shape_of};
+    ghost use Rattle.c_typing.specs.State.{Types, state_of};
+    ghost use Rattle.c_expression_typing.specs.Typed.{shape};
+    ghost use Rattle.c_syntax_typing.specs.Nested.{TypesDeclarator, TypesExpression};
 
     // `declarator [ size ]` (6.7.5.2).
     fn array(
         &self,
         typer: &mut Typer<'a>,
         in_definition: bool,
-        inner: &Declarator<'a>,
+        inner: &Boxed<Declarator<'a>>,
         opening: Position,
-        size: &Expression<'a>,
+        size: &Boxed<Expression<'a>>,
     ) -> Result<Shape<'a>, Refusal>
-        requires deeper { Deeper (declarator_levels (tree.array (declarator_of inner.now) opening (expression_of
-            size.now) opening)) (E.pre self.now.expression)
-            (E.post self.now.expression) (D.pre self.now.declarator) (D.post self.now.declarator)
-            (S.pre self.now.specifiers) (S.post self.now.specifiers) }
+        requires inner { TypesDeclarator D.Fn self.now.declarator (declarator_of inner.now) }
+        requires size { TypesExpression E.Fn self.now.expression (expression_of size.now) }
         ensures { (closing : Position) → Types shape_of (state_of typer.new) result (shape in_definition
             (tree.array (declarator_of inner.now) opening (expression_of size.now) closing) (state_of typer.old)) }
     {
@@ -113,6 +119,23 @@ impl<
         let shape = shape.with_derivation(Derivation::Array(count))?;
         Ok(shape)
     }
+}
+
+impl<
+    'a,
+    E,
+    D: Fn(&mut Typer<'a>, bool, &Declarator<'a>) -> Result<Shape<'a>, Refusal>,
+    S: Fn(&mut Typer<'a>, bool, &[Specifier<'a>]) -> Result<Specification, Refusal>,
+> Nested<E, D, S> {
+    ghost use Rattle.std.specs.Prelude.{suc};
+    ghost use Rattle.c_syntax.specs.Tree as tree;
+    ghost use Rattle.c_syntax.specs.View.{declarator_of, parameters_of};
+    ghost use Rattle.c_syntax.specs.Levels.{parameters_levels};
+    ghost use Rattle.c_syntax.specs.declared.position.Position.{Position};
+    ghost use Rattle.c_typing.specs.Declarators.{scope_left, scope_opened, shape_of, with_function};
+    ghost use Rattle.c_typing.specs.State.{Types, done, state_of, ◌>>>◌};
+    ghost use Rattle.c_expression_typing.specs.Typed.{parameter_types, shape};
+    ghost use Rattle.c_syntax_typing.specs.Nested.{DeeperNames, TypesDeclarator};
 
     // The parameters of a function, in a scope of their own, and what its declarator says with them.
     fn with_parameters(
@@ -122,9 +145,7 @@ impl<
         before: Shape<'a>,
         parameters: &Parameters<'a>,
     ) -> Result<Shape<'a>, Refusal>
-        requires deeper { Deeper (suc (parameters_levels (parameters_of parameters.now))) (E.pre self.now.expression)
-            (E.post self.now.expression) (D.pre self.now.declarator) (D.post self.now.declarator)
-            (S.pre self.now.specifiers) (S.post self.now.specifiers) }
+        requires deeper { DeeperNames self.now D.Fn S.Fn (suc (parameters_levels (parameters_of parameters.now))) }
         ensures { Types shape_of (state_of typer.new) result ((scope_opened >>> λ variables.
             parameter_types in_definition (parameters_of parameters.now) >>> λ types. scope_left variables >>> λ scope.
             done (with_function types scope (shape_of before.entry))) (state_of typer.old)) }
@@ -138,27 +159,39 @@ impl<
     }
 
     // `declarator ( parameters )` (6.7.5.3).
-    #[tactic(auto, using(crate::proofs::Lower::lower))]
     fn function(
         &self,
         typer: &mut Typer<'a>,
         in_definition: bool,
-        inner: &Declarator<'a>,
+        inner: &Boxed<Declarator<'a>>,
         opening: Position,
         parameters: &Parameters<'a>,
     ) -> Result<Shape<'a>, Refusal>
-        requires deeper { Deeper (declarator_levels (tree.function (declarator_of inner.now) opening (parameters_of
-            parameters.now) opening)) (E.pre self.now.expression)
-            (E.post self.now.expression) (D.pre self.now.declarator) (D.post self.now.declarator)
-            (S.pre self.now.specifiers) (S.post self.now.specifiers) }
+        requires inner { TypesDeclarator D.Fn self.now.declarator (declarator_of inner.now) }
+        requires parameters { DeeperNames self.now D.Fn S.Fn (suc (parameters_levels (parameters_of parameters.now))) }
         ensures { (closing : Position) → Types shape_of (state_of typer.new) result (shape in_definition
             (tree.function (declarator_of inner.now) opening (parameters_of parameters.now) closing)
             (state_of typer.old)) }
     {
         let shape = self.shape(typer, in_definition, inner)?;
-        let in_definition = in_definition && is_plain_name(inner);
+        let in_definition = in_definition && is_plain_name(inner.get());
         self.with_parameters(typer, in_definition, shape, parameters)
     }
+}
+
+impl<
+    'a,
+    E: Fn(&mut Typer<'a>, bool, &Expression<'a>) -> Result<Operand, Refusal>,
+    D: Fn(&mut Typer<'a>, bool, &Declarator<'a>) -> Result<Shape<'a>, Refusal>,
+    S: Fn(&mut Typer<'a>, bool, &[Specifier<'a>]) -> Result<Specification, Refusal>,
+> Nested<E, D, S> {
+    ghost use Rattle.c_syntax.specs.Tree as tree;
+    ghost use Rattle.c_syntax.specs.View.{declarator_of};
+    ghost use Rattle.c_syntax.specs.Levels.{declarator_levels};
+    ghost use Rattle.c_typing.specs.Declarators.{shape_of};
+    ghost use Rattle.c_typing.specs.State.{Types, state_of};
+    ghost use Rattle.c_expression_typing.specs.Typed.{shape};
+    ghost use Rattle.c_syntax_typing.specs.Nested.{Deeper};
 
     /// A declarator, by its outermost part.
     pub(crate) fn declarator_at(
@@ -167,9 +200,7 @@ impl<
         in_definition: bool,
         tree: &Declarator<'a>,
     ) -> Result<Shape<'a>, Refusal>
-        requires deeper { Deeper (declarator_levels (declarator_of tree.now)) (E.pre self.now.expression)
-            (E.post self.now.expression) (D.pre self.now.declarator) (D.post self.now.declarator)
-            (S.pre self.now.specifiers) (S.post self.now.specifiers) }
+        requires deeper { Deeper self.now E.Fn D.Fn S.Fn (declarator_levels (declarator_of tree.now)) }
         ensures { Types shape_of (state_of typer.new) result
             (shape in_definition (declarator_of tree.now) (state_of typer.old)) }
     {
@@ -177,19 +208,15 @@ impl<
             Declarator::Named(name) => Ok(named(typer.alloc, name)),
             Declarator::Unnamed => Ok(Shape::new(typer.alloc, None)),
             Declarator::Pointer(star, words, inner) => {
-                self.pointer(typer, in_definition, *star, words.as_slice(), inner.get())
+                self.pointer(typer, in_definition, *star, words.as_slice(), inner)
             }
-            Declarator::Parenthesized(_, inner, _) => self.shape(typer, in_definition, inner.get()),
-            Declarator::OpenArray(inner, _, _) => self.open_array(
-                typer,
-                in_definition,
-                inner.get(),
-            ),
+            Declarator::Parenthesized(_, inner, _) => self.shape(typer, in_definition, inner),
+            Declarator::OpenArray(inner, _, _) => self.open_array(typer, in_definition, inner),
             Declarator::Array(inner, opening, size, _) => {
-                self.array(typer, in_definition, inner.get(), *opening, size.get())
+                self.array(typer, in_definition, inner, *opening, size)
             }
             Declarator::Function(inner, opening, parameters, _) => {
-                self.function(typer, in_definition, inner.get(), *opening, parameters)
+                self.function(typer, in_definition, inner, *opening, parameters)
             }
         }
     }

@@ -5,23 +5,22 @@ use crate::nested::Nested;
 use c_expression_typing::constructs::enumerated_as;
 use c_place_rules::operand::Operand;
 use c_rules::Refusal;
-use c_syntax::{Declarator, Enumerator, Expression, Position, Specifier, Spelled};
+use c_syntax::{Boxed, Declarator, Enumerator, Expression, Position, Specifier, Spelled};
 use c_typing::sizes::enumeration_value;
 use c_typing::{Shape, Specification, Typer};
 
-impl<
-    'a,
-    E: Fn(&mut Typer<'a>, bool, &Expression<'a>) -> Result<Operand, Refusal>,
-    D: Fn(&mut Typer<'a>, bool, &Declarator<'a>) -> Result<Shape<'a>, Refusal>,
-    S: Fn(&mut Typer<'a>, bool, &[Specifier<'a>]) -> Result<Specification, Refusal>,
-> Nested<E, D, S> {
+impl<'a, E: Fn(&mut Typer<'a>, bool, &Expression<'a>) -> Result<Operand, Refusal>, D, S> Nested<
+    E,
+    D,
+    S,
+> {
     ghost use Rattle.std.specs.Prelude.{suc};
     ghost use Rattle.c_syntax.specs.Tree as tree;
     ghost use Rattle.c_syntax.specs.View.{enumerator_of, expression_of, more_enumerators_in};
-    ghost use Rattle.c_syntax.specs.Levels.{enumerator_levels, expression_levels, more_enumerators_levels};
+    ghost use Rattle.c_syntax.specs.Levels.{enumerator_levels, more_enumerators_levels};
     ghost use Rattle.c_typing.specs.State.{Types, state_of};
     ghost use Rattle.c_expression_typing.specs.Typed.{enumerator, more_enumerators};
-    ghost use Rattle.c_syntax_typing.specs.Nested.{Deeper, TypesExpression};
+    ghost use Rattle.c_syntax_typing.specs.Nested.{DeeperExpressions, TypesExpression};
 
     // A name, `=`, and its value.
     fn valued_enumerator(
@@ -30,10 +29,9 @@ impl<
         next: Option<u64>,
         name: &Spelled<'a>,
         equals: Position,
-        value: &Expression<'a>,
+        value: &Boxed<Expression<'a>>,
     ) -> Result<Option<u64>, Refusal>
-        requires { TypesExpression (E.pre self.now.expression) (E.post self.now.expression)
-            (expression_of value.now) }
+        requires { TypesExpression E.Fn self.now.expression (expression_of value.now) }
         ensures { Types (λ next. next) (state_of typer.new) result (enumerator next
             (tree.valued name.now equals (expression_of value.now)) (state_of typer.old)) }
     {
@@ -50,9 +48,7 @@ impl<
         next: Option<u64>,
         tree: &Enumerator<'a>,
     ) -> Result<Option<u64>, Refusal>
-        requires deeper { Deeper (suc (enumerator_levels (enumerator_of tree.now))) (E.pre self.now.expression)
-            (E.post self.now.expression) (D.pre self.now.declarator) (D.post self.now.declarator)
-            (S.pre self.now.specifiers) (S.post self.now.specifiers) }
+        requires deeper { DeeperExpressions self.now E.Fn (suc (enumerator_levels (enumerator_of tree.now))) }
         ensures { Types (λ next. next) (state_of typer.new) result
             (enumerator next (enumerator_of tree.now) (state_of typer.old)) }
     {
@@ -61,23 +57,21 @@ impl<
                 enumerated_as(typer, name.spelling.bytes(), name.position.line, next)
             }
             Enumerator::Valued(name, equals, value) => {
-                self.valued_enumerator(typer, next, name, *equals, value.get())
+                self.valued_enumerator(typer, next, name, *equals, value)
             }
         }
     }
 
     /// Enumerators, each behind its comma.
-    #[tactic(auto, using(crate::proofs::Lower::lower))]
+    #[tactic(auto, using(crate::proofs::Lower::lower_expressions))]
     pub(crate) fn more_enumerators(
         &self,
         typer: &mut Typer<'a>,
         next: Option<u64>,
         trees: &[(Position, Enumerator<'a>)],
     ) -> Result<Option<u64>, Refusal>
-        requires deeper { Deeper (suc (more_enumerators_levels (more_enumerators_in trees.now))) (E.pre
-            self.now.expression)
-            (E.post self.now.expression) (D.pre self.now.declarator) (D.post self.now.declarator)
-            (S.pre self.now.specifiers) (S.post self.now.specifiers) }
+        requires deeper { DeeperExpressions self.now E.Fn (suc (more_enumerators_levels (more_enumerators_in
+            trees.now))) }
         ensures { Types (λ next. next) (state_of typer.new) result
             (more_enumerators (more_enumerators_in trees.now) next (state_of typer.old)) }
     {

@@ -10,27 +10,25 @@ use c_place_rules::operand::{Operand, enclosed};
 use c_place_rules::place::type_in;
 use c_rules::Refusal;
 use c_rules::holding::beside;
-use c_syntax::{Declarator, Expression, Position, Specifier, Spelled, TypedDeclarator};
+use c_syntax::{Boxed, Declarator, Expression, Position, Specifier, Spelled, TypedDeclarator};
 use c_tree::Fixity;
 use c_typing::forms::{assignment_form, binary_form, prefix_form, step_form};
 use c_typing::{Shape, Specification, Typer};
 use sb_base::Line;
 
-impl<
-    'a,
-    E: Fn(&mut Typer<'a>, bool, &Expression<'a>) -> Result<Operand, Refusal>,
-    D: Fn(&mut Typer<'a>, bool, &Declarator<'a>) -> Result<Shape<'a>, Refusal>,
-    S: Fn(&mut Typer<'a>, bool, &[Specifier<'a>]) -> Result<Specification, Refusal>,
-> Nested<E, D, S> {
-    ghost use Rattle.std.specs.Prelude.{Bool, suc};
+impl<'a, E: Fn(&mut Typer<'a>, bool, &Expression<'a>) -> Result<Operand, Refusal>, D, S> Nested<
+    E,
+    D,
+    S,
+> {
+    ghost use Rattle.std.specs.Prelude.{Bool};
     ghost use Rattle.c_syntax.specs.Tree as tree;
-    ghost use Rattle.c_syntax.specs.View.{expression_of, typed_of};
-    ghost use Rattle.c_syntax.specs.Levels.{expression_levels, typed_levels};
+    ghost use Rattle.c_syntax.specs.View.{expression_of};
     ghost use Rattle.c_syntax.specs.declared.position.Position.{Position};
     ghost use Rattle.c_place_rules.specs.Operands.{operand_of};
     ghost use Rattle.c_typing.specs.State.{Types, state_of};
     ghost use Rattle.c_expression_typing.specs.Typed.{typed};
-    ghost use Rattle.c_syntax_typing.specs.Nested.{Deeper};
+    ghost use Rattle.c_syntax_typing.specs.Nested.{TypesExpression};
 
     /// `( expression )` (6.5.1 paragraph 5).
     fn parenthesized(
@@ -38,11 +36,9 @@ impl<
         typer: &mut Typer<'a>,
         is_evaluated: bool,
         opening: Position,
-        inner: &Expression<'a>,
+        inner: &Boxed<Expression<'a>>,
     ) -> Result<Operand, Refusal>
-        requires deeper { Deeper (suc (expression_levels (expression_of inner.now))) (E.pre self.now.expression)
-            (E.post self.now.expression) (D.pre self.now.declarator) (D.post self.now.declarator)
-            (S.pre self.now.specifiers) (S.post self.now.specifiers) }
+        requires { TypesExpression E.Fn self.now.expression (expression_of inner.now) }
         ensures { (closing : Position) → Types operand_of (state_of typer.new) result (typed is_evaluated
             (tree.parenthesized opening (expression_of inner.now) closing) (state_of typer.old)) }
     {
@@ -55,14 +51,12 @@ impl<
         &self,
         typer: &mut Typer<'a>,
         is_evaluated: bool,
-        array: &Expression<'a>,
+        array: &Boxed<Expression<'a>>,
         opening: Position,
-        index: &Expression<'a>,
+        index: &Boxed<Expression<'a>>,
     ) -> Result<Operand, Refusal>
-        requires deeper { Deeper (expression_levels (tree.subscript (expression_of array.now) opening (expression_of
-            index.now) opening)) (E.pre self.now.expression)
-            (E.post self.now.expression) (D.pre self.now.declarator) (D.post self.now.declarator)
-            (S.pre self.now.specifiers) (S.post self.now.specifiers) }
+        requires array { TypesExpression E.Fn self.now.expression (expression_of array.now) }
+        requires index { TypesExpression E.Fn self.now.expression (expression_of index.now) }
         ensures { (closing : Position) → Types operand_of (state_of typer.new) result (typed is_evaluated
             (tree.subscript (expression_of array.now) opening (expression_of index.now) closing) (state_of typer.old)) }
     {
@@ -76,14 +70,12 @@ impl<
         &self,
         typer: &mut Typer<'a>,
         is_evaluated: bool,
-        inner: &Expression<'a>,
+        inner: &Boxed<Expression<'a>>,
         operator: Punctuator,
         at: Position,
         name: &Spelled<'a>,
     ) -> Result<Operand, Refusal>
-        requires deeper { Deeper (suc (expression_levels (expression_of inner.now))) (E.pre self.now.expression)
-            (E.post self.now.expression) (D.pre self.now.declarator) (D.post self.now.declarator)
-            (S.pre self.now.specifiers) (S.post self.now.specifiers) }
+        requires { TypesExpression E.Fn self.now.expression (expression_of inner.now) }
         ensures { Types operand_of (state_of typer.new) result (typed is_evaluated
             (tree.member (expression_of inner.now) operator at name.now) (state_of typer.old)) }
     {
@@ -96,13 +88,11 @@ impl<
         &self,
         typer: &mut Typer<'a>,
         is_evaluated: bool,
-        inner: &Expression<'a>,
+        inner: &Boxed<Expression<'a>>,
         operator: Punctuator,
         at: Position,
     ) -> Result<Operand, Refusal>
-        requires deeper { Deeper (suc (expression_levels (expression_of inner.now))) (E.pre self.now.expression)
-            (E.post self.now.expression) (D.pre self.now.declarator) (D.post self.now.declarator)
-            (S.pre self.now.specifiers) (S.post self.now.specifiers) }
+        requires { TypesExpression E.Fn self.now.expression (expression_of inner.now) }
         ensures { Types operand_of (state_of typer.new) result (typed is_evaluated
             (tree.postfix (expression_of inner.now) operator at) (state_of typer.old)) }
     {
@@ -117,11 +107,9 @@ impl<
         is_evaluated: bool,
         operator: Punctuator,
         at: Position,
-        inner: &Expression<'a>,
+        inner: &Boxed<Expression<'a>>,
     ) -> Result<Operand, Refusal>
-        requires deeper { Deeper (suc (expression_levels (expression_of inner.now))) (E.pre self.now.expression)
-            (E.post self.now.expression) (D.pre self.now.declarator) (D.post self.now.declarator)
-            (S.pre self.now.specifiers) (S.post self.now.specifiers) }
+        requires { TypesExpression E.Fn self.now.expression (expression_of inner.now) }
         ensures { Types operand_of (state_of typer.new) result (typed is_evaluated
             (tree.unary operator at (expression_of inner.now)) (state_of typer.old)) }
     {
@@ -134,11 +122,9 @@ impl<
         &self,
         typer: &mut Typer<'a>,
         at: Position,
-        inner: &Expression<'a>,
+        inner: &Boxed<Expression<'a>>,
     ) -> Result<Operand, Refusal>
-        requires deeper { Deeper (suc (expression_levels (expression_of inner.now))) (E.pre self.now.expression)
-            (E.post self.now.expression) (D.pre self.now.declarator) (D.post self.now.declarator)
-            (S.pre self.now.specifiers) (S.post self.now.specifiers) }
+        requires { TypesExpression E.Fn self.now.expression (expression_of inner.now) }
         ensures { (is_evaluated : Bool) → Types operand_of (state_of typer.new) result (typed is_evaluated
             (tree.sizeof_expression at (expression_of inner.now)) (state_of typer.old)) }
     {
@@ -147,59 +133,18 @@ impl<
         without(operand, size)
     }
 
-    /// `sizeof ( type-name )` (6.5.3.4).
-    fn sizeof_type(
-        &self,
-        typer: &mut Typer<'a>,
-        at: Position,
-        name: &TypedDeclarator<'a>,
-    ) -> Result<Operand, Refusal>
-        requires deeper { Deeper (suc (typed_levels (typed_of name.now))) (E.pre self.now.expression)
-            (E.post self.now.expression) (D.pre self.now.declarator) (D.post self.now.declarator)
-            (S.pre self.now.specifiers) (S.post self.now.specifiers) }
-        ensures { (is_evaluated : Bool) (opening closing : Position) → Types operand_of (state_of typer.new) result
-            (typed is_evaluated (tree.sizeof_type at opening (typed_of name.now) closing) (state_of typer.old)) }
-    {
-        let c_type = self.type_name(typer, name)?;
-        sized(typer, at.line, c_type.words())
-    }
-
-    /// `( type-name ) expression` (6.5.4).
-    #[tactic(auto, using(crate::proofs::Lower::lower))]
-    fn cast(
-        &self,
-        typer: &mut Typer<'a>,
-        is_evaluated: bool,
-        opening: Position,
-        name: &TypedDeclarator<'a>,
-        inner: &Expression<'a>,
-    ) -> Result<Operand, Refusal>
-        requires deeper { Deeper (expression_levels (tree.cast opening (typed_of name.now) opening (expression_of
-            inner.now))) (E.pre self.now.expression)
-            (E.post self.now.expression) (D.pre self.now.declarator) (D.post self.now.declarator)
-            (S.pre self.now.specifiers) (S.post self.now.specifiers) }
-        ensures { (closing : Position) → Types operand_of (state_of typer.new) result (typed is_evaluated
-            (tree.cast opening (typed_of name.now) closing (expression_of inner.now)) (state_of typer.old)) }
-    {
-        let c_type = self.type_name(typer, name)?;
-        let (c_type, value) = beside(c_type, self.value(typer, is_evaluated, inner))?;
-        cast_to(typer, opening.line, c_type.words(), value)
-    }
-
     /// Two operands around an operator from `*` to `||`, or around the comma (6.5.5 to 6.5.14, 6.5.17).
     fn binary(
         &self,
         typer: &mut Typer<'a>,
         is_evaluated: bool,
-        left: &Expression<'a>,
+        left: &Boxed<Expression<'a>>,
         operator: Punctuator,
         at: Position,
-        right: &Expression<'a>,
+        right: &Boxed<Expression<'a>>,
     ) -> Result<Operand, Refusal>
-        requires deeper { Deeper (expression_levels (tree.binary (expression_of left.now) operator at (expression_of
-            right.now))) (E.pre self.now.expression)
-            (E.post self.now.expression) (D.pre self.now.declarator) (D.post self.now.declarator)
-            (S.pre self.now.specifiers) (S.post self.now.specifiers) }
+        requires left { TypesExpression E.Fn self.now.expression (expression_of left.now) }
+        requires right { TypesExpression E.Fn self.now.expression (expression_of right.now) }
         ensures { Types operand_of (state_of typer.new) result (typed is_evaluated
             (tree.binary (expression_of left.now) operator at (expression_of right.now)) (state_of typer.old)) }
     {
@@ -213,15 +158,14 @@ impl<
         &self,
         typer: &mut Typer<'a>,
         is_evaluated: bool,
-        condition: &Expression<'a>,
+        condition: &Boxed<Expression<'a>>,
         question: Position,
-        first: &Expression<'a>,
-        second: &Expression<'a>,
+        first: &Boxed<Expression<'a>>,
+        second: &Boxed<Expression<'a>>,
     ) -> Result<Operand, Refusal>
-        requires deeper { Deeper (expression_levels (tree.conditional (expression_of condition.now) question
-            (expression_of first.now) question (expression_of second.now))) (E.pre self.now.expression)
-            (E.post self.now.expression) (D.pre self.now.declarator) (D.post self.now.declarator)
-            (S.pre self.now.specifiers) (S.post self.now.specifiers) }
+        requires condition { TypesExpression E.Fn self.now.expression (expression_of condition.now) }
+        requires first { TypesExpression E.Fn self.now.expression (expression_of first.now) }
+        requires second { TypesExpression E.Fn self.now.expression (expression_of second.now) }
         ensures { (colon : Position) → Types operand_of (state_of typer.new) result (typed is_evaluated
             (tree.conditional (expression_of condition.now) question (expression_of first.now) colon
             (expression_of second.now)) (state_of typer.old)) }
@@ -238,15 +182,13 @@ impl<
         &self,
         typer: &mut Typer<'a>,
         is_evaluated: bool,
-        left: &Expression<'a>,
+        left: &Boxed<Expression<'a>>,
         operator: Punctuator,
         at: Position,
-        right: &Expression<'a>,
+        right: &Boxed<Expression<'a>>,
     ) -> Result<Operand, Refusal>
-        requires deeper { Deeper (expression_levels (tree.assignment (expression_of left.now) operator at
-            (expression_of right.now))) (E.pre self.now.expression)
-            (E.post self.now.expression) (D.pre self.now.declarator) (D.post self.now.declarator)
-            (S.pre self.now.specifiers) (S.post self.now.specifiers) }
+        requires left { TypesExpression E.Fn self.now.expression (expression_of left.now) }
+        requires right { TypesExpression E.Fn self.now.expression (expression_of right.now) }
         ensures { Types operand_of (state_of typer.new) result (typed is_evaluated
             (tree.assignment (expression_of left.now) operator at (expression_of right.now)) (state_of typer.old)) }
     {
@@ -254,17 +196,84 @@ impl<
         let (left, right) = beside(left, self.value(typer, is_evaluated, right))?;
         typer.assigned_by(assignment_form(operator), at.line, left, right)
     }
+}
+
+impl<
+    'a,
+    E,
+    D: Fn(&mut Typer<'a>, bool, &Declarator<'a>) -> Result<Shape<'a>, Refusal>,
+    S: Fn(&mut Typer<'a>, bool, &[Specifier<'a>]) -> Result<Specification, Refusal>,
+> Nested<E, D, S> {
+    ghost use Rattle.std.specs.Prelude.{Bool, suc};
+    ghost use Rattle.c_syntax.specs.Tree as tree;
+    ghost use Rattle.c_syntax.specs.View.{typed_of};
+    ghost use Rattle.c_syntax.specs.Levels.{typed_levels};
+    ghost use Rattle.c_syntax.specs.declared.position.Position.{Position};
+    ghost use Rattle.c_place_rules.specs.Operands.{operand_of};
+    ghost use Rattle.c_typing.specs.State.{Types, state_of};
+    ghost use Rattle.c_expression_typing.specs.Typed.{typed};
+    ghost use Rattle.c_syntax_typing.specs.Nested.{DeeperNames};
+
+    /// `sizeof ( type-name )` (6.5.3.4).
+    fn sizeof_type(
+        &self,
+        typer: &mut Typer<'a>,
+        at: Position,
+        name: &Boxed<TypedDeclarator<'a>>,
+    ) -> Result<Operand, Refusal>
+        requires deeper { DeeperNames self.now D.Fn S.Fn (suc (typed_levels (typed_of name.now))) }
+        ensures { (is_evaluated : Bool) (opening closing : Position) → Types operand_of (state_of typer.new) result
+            (typed is_evaluated (tree.sizeof_type at opening (typed_of name.now) closing) (state_of typer.old)) }
+    {
+        let c_type = self.type_name(typer, name.get())?;
+        sized(typer, at.line, c_type.words())
+    }
+}
+
+impl<
+    'a,
+    E: Fn(&mut Typer<'a>, bool, &Expression<'a>) -> Result<Operand, Refusal>,
+    D: Fn(&mut Typer<'a>, bool, &Declarator<'a>) -> Result<Shape<'a>, Refusal>,
+    S: Fn(&mut Typer<'a>, bool, &[Specifier<'a>]) -> Result<Specification, Refusal>,
+> Nested<E, D, S> {
+    ghost use Rattle.std.specs.Prelude.{suc};
+    ghost use Rattle.c_syntax.specs.Tree as tree;
+    ghost use Rattle.c_syntax.specs.View.{expression_of, typed_of};
+    ghost use Rattle.c_syntax.specs.Levels.{expression_levels, typed_levels};
+    ghost use Rattle.c_syntax.specs.declared.position.Position.{Position};
+    ghost use Rattle.c_place_rules.specs.Operands.{operand_of};
+    ghost use Rattle.c_typing.specs.State.{Types, state_of};
+    ghost use Rattle.c_expression_typing.specs.Typed.{typed};
+    ghost use Rattle.c_syntax_typing.specs.Nested.{Deeper, DeeperNames, TypesExpression};
+
+    /// `( type-name ) expression` (6.5.4).
+    fn cast(
+        &self,
+        typer: &mut Typer<'a>,
+        is_evaluated: bool,
+        opening: Position,
+        name: &Boxed<TypedDeclarator<'a>>,
+        inner: &Boxed<Expression<'a>>,
+    ) -> Result<Operand, Refusal>
+        requires name { DeeperNames self.now D.Fn S.Fn (suc (typed_levels (typed_of name.now))) }
+        requires inner { TypesExpression E.Fn self.now.expression (expression_of inner.now) }
+        ensures { (closing : Position) → Types operand_of (state_of typer.new) result (typed is_evaluated
+            (tree.cast opening (typed_of name.now) closing (expression_of inner.now)) (state_of typer.old)) }
+    {
+        let c_type = self.type_name(typer, name.get())?;
+        let (c_type, value) = beside(c_type, self.value(typer, is_evaluated, inner))?;
+        cast_to(typer, opening.line, c_type.words(), value)
+    }
 
     /// An expression, by the rule for its outermost operator.
+    #[tactic(auto, using(crate::proofs::Lower::for_expressions_alone, crate::proofs::Lower::for_names_alone))]
     pub(crate) fn expression_at(
         &self,
         typer: &mut Typer<'a>,
         is_evaluated: bool,
         tree: &Expression<'a>,
     ) -> Result<Operand, Refusal>
-        requires deeper { Deeper (expression_levels (expression_of tree.now)) (E.pre self.now.expression)
-            (E.post self.now.expression) (D.pre self.now.declarator) (D.post self.now.declarator)
-            (S.pre self.now.specifiers) (S.post self.now.specifiers) }
+        requires deeper { Deeper self.now E.Fn D.Fn S.Fn (expression_levels (expression_of tree.now)) }
         ensures { Types operand_of (state_of typer.new) result
             (typed is_evaluated (expression_of tree.now) (state_of typer.old)) }
     {
@@ -278,43 +287,41 @@ impl<
                 strings(typer, is_evaluated, first, more.as_slice())
             }
             Expression::Parenthesized(opening, inner, _) => {
-                self.parenthesized(typer, is_evaluated, *opening, inner.get())
+                self.parenthesized(typer, is_evaluated, *opening, inner)
             }
             Expression::Subscript(array, opening, index, _) => {
-                self.subscript(typer, is_evaluated, array.get(), *opening, index.get())
+                self.subscript(typer, is_evaluated, array, *opening, index)
             }
             Expression::Call(function, opening, arguments, _) => {
-                self.call(typer, is_evaluated, function.get(), *opening, arguments)
+                self.call(typer, is_evaluated, function, *opening, arguments)
             }
             Expression::Member(inner, operator, at, name) => {
-                self.member(typer, is_evaluated, inner.get(), *operator, *at, name)
+                self.member(typer, is_evaluated, inner, *operator, *at, name)
             }
             Expression::Postfix(inner, operator, at) => {
-                self.postfix(typer, is_evaluated, inner.get(), *operator, *at)
+                self.postfix(typer, is_evaluated, inner, *operator, *at)
             }
             Expression::Unary(operator, at, inner) => {
-                self.unary(typer, is_evaluated, *operator, *at, inner.get())
+                self.unary(typer, is_evaluated, *operator, *at, inner)
             }
-            Expression::SizeofExpression(at, inner) => {
-                self.sizeof_expression(typer, *at, inner.get())
-            }
-            Expression::SizeofType(at, _, name, _) => self.sizeof_type(typer, *at, name.get()),
+            Expression::SizeofExpression(at, inner) => { self.sizeof_expression(typer, *at, inner) }
+            Expression::SizeofType(at, _, name, _) => self.sizeof_type(typer, *at, name),
             Expression::Cast(opening, name, _, inner) => {
-                self.cast(typer, is_evaluated, *opening, name.get(), inner.get())
+                self.cast(typer, is_evaluated, *opening, name, inner)
             }
             Expression::Binary(left, operator, at, right) => {
-                self.binary(typer, is_evaluated, left.get(), *operator, *at, right.get())
+                self.binary(typer, is_evaluated, left, *operator, *at, right)
             }
             Expression::Conditional(condition, question, first, _, second) => self.conditional(
                 typer,
                 is_evaluated,
-                condition.get(),
+                condition,
                 *question,
-                first.get(),
-                second.get(),
+                first,
+                second,
             ),
             Expression::Assignment(left, operator, at, right) => {
-                self.assignment(typer, is_evaluated, left.get(), *operator, *at, right.get())
+                self.assignment(typer, is_evaluated, left, *operator, *at, right)
             }
         }
     }

@@ -2,7 +2,7 @@
 
 use c_place_rules::operand::Operand;
 use c_rules::{Refusal, TypedValue};
-use c_syntax::{Declarator, Expression, Specifier};
+use c_syntax::{Boxed, Declarator, Expression, Specifier};
 use c_typing::{Shape, Specification, Typer};
 
 /// The rules for constructs, with the functions that type what has fewer levels.
@@ -16,36 +16,31 @@ pub struct Nested<E, D, S> {
     pub specifiers: S,
 }
 
-impl<
-    'a,
-    E: Fn(&mut Typer<'a>, bool, &Expression<'a>) -> Result<Operand, Refusal>,
-    D: Fn(&mut Typer<'a>, bool, &Declarator<'a>) -> Result<Shape<'a>, Refusal>,
-    S: Fn(&mut Typer<'a>, bool, &[Specifier<'a>]) -> Result<Specification, Refusal>,
-> Nested<E, D, S> {
-    ghost use Rattle.std.specs.Prelude.{false};
-    ghost use Rattle.c_syntax.specs.View.{declarator_of, expression_of, specifiers_in};
+impl<'a, E: Fn(&mut Typer<'a>, bool, &Expression<'a>) -> Result<Operand, Refusal>, D, S> Nested<
+    E,
+    D,
+    S,
+> {
+    ghost use Rattle.c_syntax.specs.View.{expression_of};
     ghost use Rattle.c_rules.specs.Values.{value_of};
     ghost use Rattle.c_place_rules.specs.Operands.{operand_of};
-    ghost use Rattle.c_typing.specs.Declarators.{shape_of};
-    ghost use Rattle.c_typing.specs.Specifications.{specification_of};
     ghost use Rattle.c_typing.specs.State.{Types, state_of};
     ghost use Rattle.c_expression_typing.specs.Constructs.{valued};
-    ghost use Rattle.c_expression_typing.specs.Typed.{shape, specification, typed};
-    ghost use Rattle.c_syntax_typing.specs.Nested.{TypesDeclarator, TypesExpression, TypesSpecifiers};
+    ghost use Rattle.c_expression_typing.specs.Typed.{typed};
+    ghost use Rattle.c_syntax_typing.specs.Nested.{TypesExpression};
 
     /// An expression as an operand.
     pub(crate) fn operand(
         &self,
         typer: &mut Typer<'a>,
         is_evaluated: bool,
-        tree: &Expression<'a>,
+        tree: &Boxed<Expression<'a>>,
     ) -> Result<Operand, Refusal>
-        requires { TypesExpression (E.pre self.now.expression) (E.post self.now.expression)
-            (expression_of tree.now) }
+        requires { TypesExpression E.Fn self.now.expression (expression_of tree.now) }
         ensures { Types operand_of (state_of typer.new) result
             (typed is_evaluated (expression_of tree.now) (state_of typer.old)) }
     {
-        (self.expression)(typer, is_evaluated, tree)
+        (self.expression)(typer, is_evaluated, tree.get())
     }
 
     /// The value of an expression.
@@ -53,31 +48,55 @@ impl<
         &self,
         typer: &mut Typer<'a>,
         is_evaluated: bool,
-        tree: &Expression<'a>,
+        tree: &Boxed<Expression<'a>>,
     ) -> Result<TypedValue, Refusal>
-        requires { TypesExpression (E.pre self.now.expression) (E.post self.now.expression)
-            (expression_of tree.now) }
+        requires { TypesExpression E.Fn self.now.expression (expression_of tree.now) }
         ensures { Types value_of (state_of typer.new) result
             (valued (typed is_evaluated (expression_of tree.now)) (state_of typer.old)) }
     {
         let operand = self.operand(typer, is_evaluated, tree)?;
         typer.value(operand)
     }
+}
+
+impl<'a, E, D: Fn(&mut Typer<'a>, bool, &Declarator<'a>) -> Result<Shape<'a>, Refusal>, S> Nested<
+    E,
+    D,
+    S,
+> {
+    ghost use Rattle.c_syntax.specs.View.{declarator_of};
+    ghost use Rattle.c_typing.specs.Declarators.{shape_of};
+    ghost use Rattle.c_typing.specs.State.{Types, state_of};
+    ghost use Rattle.c_expression_typing.specs.Typed.{shape};
+    ghost use Rattle.c_syntax_typing.specs.Nested.{TypesDeclarator};
 
     /// What a declarator says.
     pub(crate) fn shape(
         &self,
         typer: &mut Typer<'a>,
         in_definition: bool,
-        tree: &Declarator<'a>,
+        tree: &Boxed<Declarator<'a>>,
     ) -> Result<Shape<'a>, Refusal>
-        requires { TypesDeclarator (D.pre self.now.declarator) (D.post self.now.declarator)
-            (declarator_of tree.now) }
+        requires { TypesDeclarator D.Fn self.now.declarator (declarator_of tree.now) }
         ensures { Types shape_of (state_of typer.new) result
             (shape in_definition (declarator_of tree.now) (state_of typer.old)) }
     {
-        (self.declarator)(typer, in_definition, tree)
+        (self.declarator)(typer, in_definition, tree.get())
     }
+}
+
+impl<
+    'a,
+    E,
+    D,
+    S: Fn(&mut Typer<'a>, bool, &[Specifier<'a>]) -> Result<Specification, Refusal>,
+> Nested<E, D, S> {
+    ghost use Rattle.std.specs.Prelude.{false};
+    ghost use Rattle.c_syntax.specs.View.{specifiers_in};
+    ghost use Rattle.c_typing.specs.Specifications.{specification_of};
+    ghost use Rattle.c_typing.specs.State.{Types, state_of};
+    ghost use Rattle.c_expression_typing.specs.Typed.{specification};
+    ghost use Rattle.c_syntax_typing.specs.Nested.{TypesSpecifiers};
 
     /// What specifiers beside a declarator say.
     pub(crate) fn specification(
@@ -85,8 +104,7 @@ impl<
         typer: &mut Typer<'a>,
         trees: &[Specifier<'a>],
     ) -> Result<Specification, Refusal>
-        requires { TypesSpecifiers (S.pre self.now.specifiers) (S.post self.now.specifiers)
-            (specifiers_in trees.now) }
+        requires { TypesSpecifiers S.Fn self.now.specifiers (specifiers_in trees.now) }
         ensures { Types specification_of (state_of typer.new) result
             (specification false (specifiers_in trees.now) (state_of typer.old)) }
     {

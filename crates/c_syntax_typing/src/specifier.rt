@@ -56,22 +56,21 @@ fn with_tagged<'a>(
 
 impl<
     'a,
-    E: Fn(&mut Typer<'a>, bool, &Expression<'a>) -> Result<Operand, Refusal>,
+    E,
     D: Fn(&mut Typer<'a>, bool, &Declarator<'a>) -> Result<Shape<'a>, Refusal>,
     S: Fn(&mut Typer<'a>, bool, &[Specifier<'a>]) -> Result<Specification, Refusal>,
 > Nested<E, D, S> {
-    ghost use Rattle.std.specs.Prelude.{Bool, Option, Some, max, suc};
+    ghost use Rattle.std.specs.Prelude.{Bool, Option, suc};
     ghost use Rattle.c_syntax.specs.Tree as tree;
-    ghost use Rattle.c_syntax.specs.View.{enumerator_of, members_in, more_enumerators_in, specifier_of, specifiers_in};
-    ghost use Rattle.c_syntax.specs.Levels.{enumerator_levels, members_levels, more_enumerators_levels};
-    ghost use Rattle.c_syntax.specs.Levels.{specifier_levels, specifiers_levels};
+    ghost use Rattle.c_syntax.specs.View.{members_in};
+    ghost use Rattle.c_syntax.specs.Levels.{members_levels};
     ghost use Rattle.c_syntax.specs.declared.position.Position.{Position};
     ghost use Rattle.c_typing.specs.Members.{no_entries, tag_completed};
-    ghost use Rattle.c_typing.specs.Specifications.{gathered_of, nothing_gathered, specification_of};
+    ghost use Rattle.c_typing.specs.Specifications.{gathered_of};
     ghost use Rattle.c_typing.specs.State.{Types, state_of, ◌>>>◌};
-    ghost use Rattle.c_expression_typing.specs.Typed.{enumerator, gathered, more_enumerators, specification};
+    ghost use Rattle.c_expression_typing.specs.Typed.{gathered};
     ghost use Rattle.c_expression_typing.specs.Typed.{with_members, with_specifier};
-    ghost use Rattle.c_syntax_typing.specs.Nested.{Deeper};
+    ghost use Rattle.c_syntax_typing.specs.Nested.{DeeperNames};
 
     // The members of a structure or union that was begun, which is complete with them.
     fn completed(
@@ -81,9 +80,7 @@ impl<
         tag: Tag,
         members: &[Member<'a>],
     ) -> Result<Tag, Refusal>
-        requires deeper { Deeper (suc (members_levels (members_in members.now))) (E.pre self.now.expression)
-            (E.post self.now.expression) (D.pre self.now.declarator) (D.post self.now.declarator)
-            (S.pre self.now.specifiers) (S.post self.now.specifiers) }
+        requires deeper { DeeperNames self.now D.Fn S.Fn (suc (members_levels (members_in members.now))) }
         ensures { Types (λ t. t) (state_of typer.new) result ((with_members (members_in members.now) no_entries >>> λ
             es.
             tag_completed line tag es) (state_of typer.old)) }
@@ -102,9 +99,7 @@ impl<
         name: &Option<Spelled<'a>>,
         members: &[Member<'a>],
     ) -> Result<Gathered, Refusal>
-        requires deeper { Deeper (suc (members_levels (members_in members.now))) (E.pre self.now.expression)
-            (E.post self.now.expression) (D.pre self.now.declarator) (D.post self.now.declarator)
-            (S.pre self.now.specifiers) (S.post self.now.specifiers) }
+        requires deeper { DeeperNames self.now D.Fn S.Fn (suc (members_levels (members_in members.now))) }
         ensures { (is_alone : Bool) (at opening closing : Position) → Types gathered_of (state_of typer.new) result
             (with_specifier is_alone line (tree.structure_body keyword at name.now opening (members_in members.now)
             closing) (gathered_of before) (state_of typer.old)) }
@@ -115,19 +110,34 @@ impl<
         let gathered = with_tag(typer.alloc, before, tag)?;
         Ok(gathered)
     }
+}
+
+impl<'a, E: Fn(&mut Typer<'a>, bool, &Expression<'a>) -> Result<Operand, Refusal>, D, S> Nested<
+    E,
+    D,
+    S,
+> {
+    ghost use Rattle.std.specs.Prelude.{Bool, Option, Some, max, suc};
+    ghost use Rattle.c_syntax.specs.Tree as tree;
+    ghost use Rattle.c_syntax.specs.View.{enumerator_of, more_enumerators_in};
+    ghost use Rattle.c_syntax.specs.Levels.{enumerator_levels, more_enumerators_levels};
+    ghost use Rattle.c_syntax.specs.declared.position.Position.{Position};
+    ghost use Rattle.c_typing.specs.Specifications.{gathered_of};
+    ghost use Rattle.c_typing.specs.State.{Types, state_of, ◌>>>◌};
+    ghost use Rattle.c_expression_typing.specs.Typed.{enumerator, gathered, more_enumerators};
+    ghost use Rattle.c_expression_typing.specs.Typed.{with_specifier};
+    ghost use Rattle.c_syntax_typing.specs.Nested.{DeeperExpressions};
 
     // The enumerators of an enumeration that was begun.
-    #[tactic(auto, using(crate::proofs::Lower::lower))]
+    #[tactic(auto, using(crate::proofs::Lower::lower_expressions))]
     fn enumerators(
         &self,
         typer: &mut Typer<'a>,
         first: &Enumerator<'a>,
         more: &[(Position, Enumerator<'a>)],
     ) -> Result<Option<u64>, Refusal>
-        requires deeper { Deeper (suc (max (enumerator_levels (enumerator_of first.now)) (more_enumerators_levels
-            (more_enumerators_in more.now)))) (E.pre self.now.expression)
-            (E.post self.now.expression) (D.pre self.now.declarator) (D.post self.now.declarator)
-            (S.pre self.now.specifiers) (S.post self.now.specifiers) }
+        requires deeper { DeeperExpressions self.now E.Fn (suc (max (enumerator_levels (enumerator_of first.now))
+            (more_enumerators_levels (more_enumerators_in more.now)))) }
         ensures { Types (λ next. next) (state_of typer.new) result ((enumerator (Some 0) (enumerator_of first.now) >>>
             λ next. more_enumerators (more_enumerators_in more.now) next) (state_of typer.old)) }
     {
@@ -145,10 +155,8 @@ impl<
         first: &Enumerator<'a>,
         more: &[(Position, Enumerator<'a>)],
     ) -> Result<Gathered, Refusal>
-        requires deeper { Deeper (suc (max (enumerator_levels (enumerator_of first.now)) (more_enumerators_levels
-            (more_enumerators_in more.now)))) (E.pre self.now.expression)
-            (E.post self.now.expression) (D.pre self.now.declarator) (D.post self.now.declarator)
-            (S.pre self.now.specifiers) (S.post self.now.specifiers) }
+        requires deeper { DeeperExpressions self.now E.Fn (suc (max (enumerator_levels (enumerator_of first.now))
+            (more_enumerators_levels (more_enumerators_in more.now)))) }
         ensures { (is_alone : Bool) (at opening closing : Position) (comma : Option Position) → Types gathered_of
             (state_of typer.new) result (with_specifier is_alone line (tree.enumeration_body at name.now opening
             (enumerator_of first.now) (more_enumerators_in more.now) comma closing) (gathered_of before)
@@ -160,9 +168,25 @@ impl<
         let gathered = with_tag(typer.alloc, before, tag)?;
         Ok(gathered)
     }
+}
+
+impl<
+    'a,
+    E: Fn(&mut Typer<'a>, bool, &Expression<'a>) -> Result<Operand, Refusal>,
+    D: Fn(&mut Typer<'a>, bool, &Declarator<'a>) -> Result<Shape<'a>, Refusal>,
+    S: Fn(&mut Typer<'a>, bool, &[Specifier<'a>]) -> Result<Specification, Refusal>,
+> Nested<E, D, S> {
+    ghost use Rattle.c_syntax.specs.Tree as tree;
+    ghost use Rattle.c_syntax.specs.View.{specifier_of, specifiers_in};
+    ghost use Rattle.c_syntax.specs.Levels.{specifier_levels, specifiers_levels};
+    ghost use Rattle.c_typing.specs.Specifications.{gathered_of, nothing_gathered, specification_of};
+    ghost use Rattle.c_typing.specs.State.{Types, state_of};
+    ghost use Rattle.c_expression_typing.specs.Typed.{gathered, specification};
+    ghost use Rattle.c_expression_typing.specs.Typed.{with_specifier};
+    ghost use Rattle.c_syntax_typing.specs.Nested.{Deeper};
 
     // What specifiers say with one more, where their first token stands on a line.
-    #[tactic(auto, using(c_syntax::proofs::ListViews::enumeration_view))]
+    #[tactic(auto, using(crate::proofs::Lower::for_expressions_alone, crate::proofs::Lower::for_names_alone, c_syntax::proofs::ListViews::enumeration_view))]
     fn with_specifier(
         &self,
         typer: &mut Typer<'a>,
@@ -171,9 +195,7 @@ impl<
         before: Gathered,
         tree: &Specifier<'a>,
     ) -> Result<Gathered, Refusal>
-        requires deeper { Deeper (specifier_levels (specifier_of tree.now)) (E.pre self.now.expression)
-            (E.post self.now.expression) (D.pre self.now.declarator) (D.post self.now.declarator)
-            (S.pre self.now.specifiers) (S.post self.now.specifiers) }
+        requires deeper { Deeper self.now E.Fn D.Fn S.Fn (specifier_levels (specifier_of tree.now)) }
         ensures { Types gathered_of (state_of typer.new) result (with_specifier is_alone line (specifier_of tree.now)
             (gathered_of before) (state_of typer.old)) }
     {
@@ -204,9 +226,7 @@ impl<
         line: Line,
         trees: &[Specifier<'a>],
     ) -> Result<Gathered, Refusal>
-        requires deeper { Deeper (specifiers_levels (specifiers_in trees.now)) (E.pre self.now.expression)
-            (E.post self.now.expression) (D.pre self.now.declarator) (D.post self.now.declarator)
-            (S.pre self.now.specifiers) (S.post self.now.specifiers) }
+        requires deeper { Deeper self.now E.Fn D.Fn S.Fn (specifiers_levels (specifiers_in trees.now)) }
         ensures { Types gathered_of (state_of typer.new) result (gathered is_alone line (specifiers_in trees.now)
             nothing_gathered (state_of typer.old)) }
     {
@@ -224,9 +244,7 @@ impl<
         is_alone: bool,
         trees: &[Specifier<'a>],
     ) -> Result<Specification, Refusal>
-        requires deeper { Deeper (specifiers_levels (specifiers_in trees.now)) (E.pre self.now.expression)
-            (E.post self.now.expression) (D.pre self.now.declarator) (D.post self.now.declarator)
-            (S.pre self.now.specifiers) (S.post self.now.specifiers) }
+        requires deeper { Deeper self.now E.Fn D.Fn S.Fn (specifiers_levels (specifiers_in trees.now)) }
         ensures { Types specification_of (state_of typer.new) result
             (specification is_alone (specifiers_in trees.now) (state_of typer.old)) }
     {

@@ -12,7 +12,7 @@ use c_typing::{Shape, Specification, Typer};
 
 impl<
     'a,
-    E: Fn(&mut Typer<'a>, bool, &Expression<'a>) -> Result<Operand, Refusal>,
+    E,
     D: Fn(&mut Typer<'a>, bool, &Declarator<'a>) -> Result<Shape<'a>, Refusal>,
     S: Fn(&mut Typer<'a>, bool, &[Specifier<'a>]) -> Result<Specification, Refusal>,
 > Nested<E, D, S> {
@@ -21,7 +21,7 @@ impl<
     ghost use Rattle.c_syntax.specs.Levels.{more_parameters_levels, parameters_levels, typed_levels};
     ghost use Rattle.c_typing.specs.State.{Types, state_of};
     ghost use Rattle.c_expression_typing.specs.Typed.{more_types, parameter_type, parameter_types, type_name};
-    ghost use Rattle.c_syntax_typing.specs.Nested.{Deeper};
+    ghost use Rattle.c_syntax_typing.specs.Nested.{DeeperNames};
 
     /// The type that a type name names.
     #[tactic(auto, using(c_syntax::proofs::TypedView::typed_view))]
@@ -30,14 +30,12 @@ impl<
         typer: &mut Typer<'a>,
         name: &TypedDeclarator<'a>,
     ) -> Result<CType, Refusal>
-        requires deeper { Deeper (suc (typed_levels (typed_of name.now))) (E.pre self.now.expression)
-            (E.post self.now.expression) (D.pre self.now.declarator) (D.post self.now.declarator)
-            (S.pre self.now.specifiers) (S.post self.now.specifiers) }
+        requires deeper { DeeperNames self.now D.Fn S.Fn (suc (typed_levels (typed_of name.now))) }
         ensures { Types (λ c_type. c_type) (state_of typer.new) result
             (type_name (typed_of name.now) (state_of typer.old)) }
     {
         let specification = self.specification(typer, name.specifiers.as_slice())?;
-        let shape = self.shape(typer, false, name.declarator.get());
+        let shape = self.shape(typer, false, &name.declarator);
         let (specification, shape) = beside(specification, shape)?;
         let named = typer.type_named(&specification, &shape);
         without((specification, shape), named)
@@ -51,20 +49,19 @@ impl<
         in_definition: bool,
         parameter: &TypedDeclarator<'a>,
     ) -> Result<CType, Refusal>
-        requires deeper { Deeper (suc (typed_levels (typed_of parameter.now))) (E.pre self.now.expression)
-            (E.post self.now.expression) (D.pre self.now.declarator) (D.post self.now.declarator)
-            (S.pre self.now.specifiers) (S.post self.now.specifiers) }
+        requires deeper { DeeperNames self.now D.Fn S.Fn (suc (typed_levels (typed_of parameter.now))) }
         ensures { Types (λ c_type. c_type) (state_of typer.new) result
             (parameter_type in_definition (typed_of parameter.now) (state_of typer.old)) }
     {
         let specification = self.specification(typer, parameter.specifiers.as_slice())?;
-        let shape = self.shape(typer, false, parameter.declarator.get());
+        let shape = self.shape(typer, false, &parameter.declarator);
         let (specification, shape) = beside(specification, shape)?;
-        typer.parameter(in_definition, &specification, &shape)
+        let c_type = typer.parameter(in_definition, &specification, &shape);
+        without((specification, shape), c_type)
     }
 
     // The types of parameters, each behind its comma, behind those before.
-    #[tactic(auto, using(crate::proofs::Lower::lower))]
+    #[tactic(auto, using(crate::proofs::Lower::lower_names))]
     fn more_types(
         &self,
         typer: &mut Typer<'a>,
@@ -72,10 +69,8 @@ impl<
         parameters: &[(Position, TypedDeclarator<'a>)],
         before: Vec<CType>,
     ) -> Result<Vec<CType>, Refusal>
-        requires deeper { Deeper (suc (more_parameters_levels (more_parameters_in parameters.now))) (E.pre
-            self.now.expression)
-            (E.post self.now.expression) (D.pre self.now.declarator) (D.post self.now.declarator)
-            (S.pre self.now.specifiers) (S.post self.now.specifiers) }
+        requires deeper { DeeperNames self.now D.Fn S.Fn (suc (more_parameters_levels (more_parameters_in
+            parameters.now))) }
         ensures { Types (λ types. types.items) (state_of typer.new) result (more_types in_definition
             (more_parameters_in parameters.now) before.items (state_of typer.old)) }
     {
@@ -89,16 +84,14 @@ impl<
     }
 
     /// The types of the parameters of a function, which is defined or not.
-    #[tactic(auto, using(crate::proofs::Lower::lower, c_syntax::proofs::ListViews::parameters_view))]
+    #[tactic(auto, using(crate::proofs::Lower::lower_names, c_syntax::proofs::ListViews::parameters_view))]
     pub(crate) fn parameter_types(
         &self,
         typer: &mut Typer<'a>,
         in_definition: bool,
         parameters: &Parameters<'a>,
     ) -> Result<Vec<CType>, Refusal>
-        requires deeper { Deeper (suc (parameters_levels (parameters_of parameters.now))) (E.pre self.now.expression)
-            (E.post self.now.expression) (D.pre self.now.declarator) (D.post self.now.declarator)
-            (S.pre self.now.specifiers) (S.post self.now.specifiers) }
+        requires deeper { DeeperNames self.now D.Fn S.Fn (suc (parameters_levels (parameters_of parameters.now))) }
         ensures { Types (λ types. types.items) (state_of typer.new) result
             (parameter_types in_definition (parameters_of parameters.now) (state_of typer.old)) }
     {

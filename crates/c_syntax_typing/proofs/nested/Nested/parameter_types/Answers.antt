@@ -2,7 +2,7 @@ use Rattle.std.proofs.Common.{◌≡◌, max, refl, ap, ◌∙◌, arith}
 use Rattle.c_syntax.specs.View.{parameters_of, typed_of, more_parameters_in}
 use Rattle.c_syntax.specs.Levels.{parameters_levels, typed_levels, more_parameters_levels}
 use Rattle.c_syntax.proofs.ListViews.{parameters_view}
-use Rattle.c_syntax_typing.proofs.Lower.{lower}
+use Rattle.c_syntax_typing.proofs.Lower.{lower_names}
 use Rattle.c_syntax_typing.proofs.nested.Nested.parameter_types.Goals as goal
 
 pub more_types-requires : goal.more_types-requires
@@ -14,4 +14,4 @@ more_types-requires g c κs =
     let more : more_parameters_levels (more_parameters_in c.as_slice.result.now) ≡ more_parameters_levels
     (more_parameters_in c.in-Given.more) =
     ap (λ z. more_parameters_levels (more_parameters_in z)) c.as_slice.ensures in
-    ((refl, tt), lower _ _ _ _ _ _ _ _ c.requires.deeper (omega (arith, levels, more)))
+    ((refl, tt), lower_names _ _ _ _ _ c.requires.deeper (omega (arith, levels, more)))

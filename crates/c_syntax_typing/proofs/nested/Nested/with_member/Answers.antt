@@ -1,6 +1,6 @@
 use Rattle.std.proofs.Common.{◌≡◌, Ok, refl, subst, sym, ap, ◌∙◌, false}
 use Rattle.std.proofs.lemmas.Result.{err_from_is_err_and}
-use Rattle.c_syntax.specs.View.{declarator_of, more_declarators_in, specifiers_in}
+use Rattle.c_syntax.specs.View.{declarator_of, member_of, more_declarators_in, specifiers_in}
 use Rattle.c_syntax.proofs.MemberView.{member_view}
 use Rattle.c_rules.specs.Answer.{Fails}
 use Rattle.c_typing.specs.Members.{entries_of}
@@ -27,12 +27,9 @@ returns-in_err-specification g c =
     (subst (λ r. Types specification_of s1 r (member_specification (specifiers_in c.as_slice.result.now) s))
     c.in_ok-before.ensures.ok.1 c.member_specification-specification.ensures) in
     let fails : Fails f (with_shape spec before (shape false d) s1) =
-    subst (λ z. Fails f (with_shape spec before (shape false (declarator_of z)) s1)) c.get.ensures
-    (subst (λ z. Fails f (with_shape spec (entries_of z) (shape false (declarator_of c.get.result.now)) s1))
-    c.in_ok-before.ensures.ok.0
-    (subst (λ r. Types entries_of s2 r (with_shape spec (entries_of c.in_ok-before.before)
-    (shape false (declarator_of c.get.result.now)) s1))
-    (c.in_err-specification.ensures.err f refl) c.with_declared-entries.ensures)) in
+    subst (λ z. Fails f (with_shape spec (entries_of z) (shape false d) s1)) c.in_ok-before.ensures.ok.0
+    (subst (λ r. Types entries_of s2 r (with_shape spec (entries_of c.in_ok-before.before) (shape false d) s1))
+    (c.in_err-specification.ensures.err f refl) c.with_declared-entries.ensures) in
     let error = err_from_is_err_and c.from_residual-in_err-specification.result
     c.from_residual-in_err-specification.ensures.1 in
     rw (error.1, error.2)
@@ -55,19 +52,17 @@ returns g c =
     (subst (λ r. Types specification_of s1 r (member_specification (specifiers_in c.as_slice.result.now) s))
     c.in_ok-before.ensures.ok.1 c.member_specification-specification.ensures) in
     let declared : with_shape spec before (shape false d) s1 ≡ Ok (s2, added) =
-    subst (λ z. with_shape spec before (shape false (declarator_of z)) s1 ≡ Ok (s2, added)) c.get.ensures
-    (subst (λ z. with_shape spec (entries_of z) (shape false (declarator_of c.get.result.now)) s1 ≡ Ok (s2, added))
-    c.in_ok-before.ensures.ok.0
-    (subst (λ r. Types entries_of s2 r (with_shape spec (entries_of c.in_ok-before.before)
-    (shape false (declarator_of c.get.result.now)) s1)) c.in_ok-specification.ensures.ok.1
-    c.with_declared-entries.ensures)) in
+    subst (λ z. with_shape spec (entries_of z) (shape false d) s1 ≡ Ok (s2, added)) c.in_ok-before.ensures.ok.0
+    (subst (λ r. Types entries_of s2 r (with_shape spec (entries_of c.in_ok-before.before) (shape false d) s1))
+    c.in_ok-specification.ensures.ok.1 c.with_declared-entries.ensures) in
     let whole = ap (λ z. with_member z before s) (member_view m)
     ∙ member_done (specifiers_in m.specifiers) d more m.semicolon before added s s1 s2 spec specified declared in
-    let result = c.with_more_declared.result in
-    let s3 = state_of c.with_more_declared.new.typer in
-    subst (Types entries_of s3 result) (sym whole)
+    let result = c.with_more_declared-entries.result in
+    let s3 = state_of c.with_more_declared-entries.new.typer in
+    subst (λ r. Types entries_of s3 r (with_member (member_of m) before s)) (sym c.without.ensures)
+    (subst (Types entries_of s3 result) (sym whole)
     (subst (λ z. Types entries_of s3 result (with_more_declared spec (more_declarators_in z) added s2))
     c.as_slice-2.ensures
     (subst (λ z. Types entries_of s3 result (with_more_declared (specification_of z)
     (more_declarators_in c.as_slice-2.result.now) added s2)) c.in_ok-specification.ensures.ok.0
-    c.with_more_declared.ensures))
+    c.with_more_declared-entries.ensures)))

@@ -1,6 +1,6 @@
 -- The function values of the rules of the grammar.
 use Rattle.std.specs.Prelude.{ℕ, Bool, Result, List, Option}
-use Rattle.std.specs.Fn.{Shared}
+use Rattle.std.specs.Fn.{Once}
 use Rattle.std.specs.declared.alloc.Global.{Global}
 use denote.Ref.{MutBor, Bor}
 use Rattle.c_syntax.specs.declared.position.Position.{Position}
@@ -26,9 +26,9 @@ Gives A = Result (Leveled A) Fault × (MutBor Cursor × Unit {0})
 
 -- the function values of these rules read what has fewer levels than the rules' number
 pub record Deeper {E S D : Type 0} (rules : Grammar E S D)
-    (for_expressions : Shared E (Given (Option Position × (ℕ × Unit {0}))) (Gives Expression))
-    (for_specifiers : Shared S (Given (Bool × Unit {0})) (Gives (List Specifier)))
-    (for_declarators : Shared D (Given (DeclaratorKind × Unit {0})) (Gives Declarator)) : Type 0 where
+    (for_expressions : Once E (Given (Option Position × (ℕ × Unit {0}))) (Gives Expression))
+    (for_specifiers : Once S (Given (Bool × Unit {0})) (Gives (List Specifier)))
+    (for_declarators : Once D (Given (DeclaratorKind × Unit {0})) (Gives Declarator)) : Type 0 where
   pub fits : IsSize rules.levels
   pub reads_expression : (alloc : Global) (names : Bor (List (List ℕ))) (old : MutBor Cursor) (opened : Option Position)
       (m : ℕ) → for_expressions.pre rules.expression (alloc, (names, (old, (rules.levels, (opened, (m, tt))))))

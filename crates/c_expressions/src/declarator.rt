@@ -73,28 +73,31 @@ fn begins_suffix(rest: &[Positioned], left: &Leveled<Boxed<Declarator>>, limit: 
 impl<
     't,
     'a,
-    E: Fn(
+    E: FnOnce(
         Global,
         &TypedefNames<'a>,
         &mut Cursor<'_, 'a>,
         usize,
         Option<Position>,
         u8,
-    ) -> Result<Leveled<Boxed<Expression<'a>>>, Fault>,
-    S: Fn(
+    ) -> Result<Leveled<Boxed<Expression<'a>>>, Fault>
+        + Copy,
+    S: FnOnce(
         Global,
         &TypedefNames<'a>,
         &mut Cursor<'_, 'a>,
         usize,
         bool,
-    ) -> Result<Leveled<Items<Specifier<'a>>>, Fault>,
-    D: Fn(
+    ) -> Result<Leveled<Items<Specifier<'a>>>, Fault>
+        + Copy,
+    D: FnOnce(
         Global,
         &TypedefNames<'a>,
         &mut Cursor<'_, 'a>,
         usize,
         DeclaratorKind,
-    ) -> Result<Leveled<Boxed<Declarator<'a>>>, Fault>,
+    ) -> Result<Leveled<Boxed<Declarator<'a>>>, Fault>
+        + Copy,
 > Grammar<'t, 'a, E, S, D> {
     /// Reads what follows the `(` of parameters (C99 6.7.5.3).
     fn function(
@@ -103,7 +106,7 @@ impl<
         left: Leveled<Boxed<Declarator<'a>>>,
         position: Position,
     ) -> Result<Leveled<Boxed<Declarator<'a>>>, Fault>
-        requires deeper { Deeper self.now E.Fn S.Fn D.Fn }
+        requires deeper { Deeper self.now E.FnOnce S.FnOnce D.FnOnce }
         requires known { Below self.now.levels left.levels (declarator_levels (declarator_of left.tree)) }
         ensures { ReadsLeveled declarator_of declarator_levels (suc self.now.levels)
             (spec.function_from self.now.names.now (readers self.now.names.now self.now.levels) self.now.levels
@@ -123,7 +126,7 @@ impl<
         kind: DeclaratorKind,
         position: Position,
     ) -> Result<Leveled<Boxed<Declarator<'a>>>, Fault>
-        requires deeper { Deeper self.now E.Fn S.Fn D.Fn }
+        requires deeper { Deeper self.now E.FnOnce S.FnOnce D.FnOnce }
         requires some { 0 < self.now.levels }
         ensures { ReadsLeveled declarator_of declarator_levels (suc self.now.levels)
             (spec.parenthesis_from self.now.names.now (readers self.now.names.now self.now.levels) self.now.levels kind
@@ -145,7 +148,7 @@ impl<
         tokens: &mut Cursor<'_, 'a>,
         kind: DeclaratorKind,
     ) -> Result<Leveled<Boxed<Declarator<'a>>>, Fault>
-        requires deeper { Deeper self.now E.Fn S.Fn D.Fn }
+        requires deeper { Deeper self.now E.FnOnce S.FnOnce D.FnOnce }
         ensures { ReadsLeveled declarator_of declarator_levels (suc self.now.levels)
             (spec.direct_from self.now.names.now (readers self.now.names.now self.now.levels) self.now.levels kind
             tokens.old.rest.now) result tokens.new.rest.now }
@@ -180,7 +183,7 @@ impl<
         left: Leveled<Boxed<Declarator<'a>>>,
         position: Position,
     ) -> Result<Leveled<Boxed<Declarator<'a>>>, Fault>
-        requires deeper { Deeper self.now E.Fn S.Fn D.Fn }
+        requires deeper { Deeper self.now E.FnOnce S.FnOnce D.FnOnce }
         requires known { Below self.now.levels left.levels (declarator_levels (declarator_of left.tree)) }
         ensures { ReadsLeveled declarator_of declarator_levels (suc self.now.levels)
             (spec.array_from self.now.names.now (readers self.now.names.now self.now.levels) self.now.levels
@@ -204,7 +207,7 @@ impl<
         tokens: &mut Cursor<'_, 'a>,
         left: Leveled<Boxed<Declarator<'a>>>,
     ) -> Result<Leveled<Boxed<Declarator<'a>>>, Fault>
-        requires deeper { Deeper self.now E.Fn S.Fn D.Fn }
+        requires deeper { Deeper self.now E.FnOnce S.FnOnce D.FnOnce }
         requires known { Below self.now.levels left.levels (declarator_levels (declarator_of left.tree)) }
         ensures { ReadsLeveled declarator_of declarator_levels (suc self.now.levels)
             (suffix_next self.now.names.now (readers self.now.names.now self.now.levels) self.now.levels
@@ -227,7 +230,7 @@ impl<
         tokens: &mut Cursor<'_, 'a>,
         first: Leveled<Boxed<Declarator<'a>>>,
     ) -> Result<Leveled<Boxed<Declarator<'a>>>, Fault>
-        requires deeper { Deeper self.now E.Fn S.Fn D.Fn }
+        requires deeper { Deeper self.now E.FnOnce S.FnOnce D.FnOnce }
         requires known { Below (suc self.now.levels) first.levels (declarator_levels (declarator_of first.tree)) }
         ensures { ReadsLeveled declarator_of declarator_levels (suc self.now.levels)
             (spec.suffixes_from self.now.names.now (readers self.now.names.now self.now.levels) self.now.levels
@@ -250,7 +253,7 @@ impl<
         tokens: &mut Cursor<'_, 'a>,
         kind: DeclaratorKind,
     ) -> Result<Leveled<Boxed<Declarator<'a>>>, Fault>
-        requires deeper { Deeper self.now E.Fn S.Fn D.Fn }
+        requires deeper { Deeper self.now E.FnOnce S.FnOnce D.FnOnce }
         ensures { ReadsLeveled declarator_of declarator_levels (suc self.now.levels)
             (spec.suffixed_from self.now.names.now (readers self.now.names.now self.now.levels) self.now.levels kind
             tokens.old.rest.now) result tokens.new.rest.now }
@@ -267,7 +270,7 @@ impl<
         kind: DeclaratorKind,
         position: Position,
     ) -> Result<Leveled<Boxed<Declarator<'a>>>, Fault>
-        requires deeper { Deeper self.now E.Fn S.Fn D.Fn }
+        requires deeper { Deeper self.now E.FnOnce S.FnOnce D.FnOnce }
         ensures { ReadsLeveled declarator_of declarator_levels (suc self.now.levels)
             (spec.pointer_from self.now.names.now (readers self.now.names.now self.now.levels) self.now.levels kind
             position tokens.old.rest.now) result tokens.new.rest.now }
@@ -284,7 +287,7 @@ impl<
         tokens: &mut Cursor<'_, 'a>,
         kind: DeclaratorKind,
     ) -> Result<Leveled<Boxed<Declarator<'a>>>, Fault>
-        requires deeper { Deeper self.now E.Fn S.Fn D.Fn }
+        requires deeper { Deeper self.now E.FnOnce S.FnOnce D.FnOnce }
         ensures { ReadsLeveled declarator_of declarator_levels (suc self.now.levels)
             (spec.declarator_at self.now.names.now (readers self.now.names.now self.now.levels) self.now.levels kind
             tokens.old.rest.now) result tokens.new.rest.now }

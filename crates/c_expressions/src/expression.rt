@@ -30,28 +30,31 @@ use std::alloc::Global;
 impl<
     't,
     'a,
-    E: Fn(
+    E: FnOnce(
         Global,
         &TypedefNames<'a>,
         &mut Cursor<'_, 'a>,
         usize,
         Option<Position>,
         u8,
-    ) -> Result<Leveled<Boxed<Expression<'a>>>, Fault>,
-    S: Fn(
+    ) -> Result<Leveled<Boxed<Expression<'a>>>, Fault>
+        + Copy,
+    S: FnOnce(
         Global,
         &TypedefNames<'a>,
         &mut Cursor<'_, 'a>,
         usize,
         bool,
-    ) -> Result<Leveled<Items<Specifier<'a>>>, Fault>,
-    D: Fn(
+    ) -> Result<Leveled<Items<Specifier<'a>>>, Fault>
+        + Copy,
+    D: FnOnce(
         Global,
         &TypedefNames<'a>,
         &mut Cursor<'_, 'a>,
         usize,
         DeclaratorKind,
-    ) -> Result<Leveled<Boxed<Declarator<'a>>>, Fault>,
+    ) -> Result<Leveled<Boxed<Declarator<'a>>>, Fault>
+        + Copy,
 > Grammar<'t, 'a, E, S, D> {
     /// Reads arguments behind the first, each behind its comma.
     #[tactic(auto, unfolding(c_grammar::specs::Reader::behind_commas))]
@@ -59,7 +62,7 @@ impl<
         &self,
         tokens: &mut Cursor<'_, 'a>,
     ) -> Result<Leveled<Items<(Position, Boxed<Expression<'a>>)>>, Fault>
-        requires deeper { Deeper self.now E.Fn S.Fn D.Fn }
+        requires deeper { Deeper self.now E.FnOnce S.FnOnce D.FnOnce }
         requires some { 0 < self.now.levels }
         ensures { ReadsLeveled arguments_behind arguments_behind_levels self.now.levels
             (behind_commas ((readers self.now.names.now self.now.levels).expression None least.assignment)
@@ -82,7 +85,7 @@ impl<
     /// Reads what stands between the parentheses of a call (C99 6.5.2.2).
     #[tactic(auto, unfolding(c_grammar::specs::ExpressionReader::arguments_from))]
     fn arguments(&self, tokens: &mut Cursor<'_, 'a>) -> Result<Leveled<Arguments<'a>>, Fault>
-        requires deeper { Deeper self.now E.Fn S.Fn D.Fn }
+        requires deeper { Deeper self.now E.FnOnce S.FnOnce D.FnOnce }
         requires some { 0 < self.now.levels }
         ensures { ReadsLeveled arguments_of arguments_levels self.now.levels
             (spec.arguments_from self.now.names.now (readers self.now.names.now self.now.levels) self.now.levels
@@ -116,7 +119,7 @@ impl<
         position: Position,
         punctuator: Punctuator,
     ) -> Result<Leveled<Boxed<Expression<'a>>>, Fault>
-        requires deeper { Deeper self.now E.Fn S.Fn D.Fn }
+        requires deeper { Deeper self.now E.FnOnce S.FnOnce D.FnOnce }
         requires known { Below self.now.levels left.levels (expression_levels (expression_of left.tree)) }
         ensures { ReadsLeveled expression_of expression_levels (suc self.now.levels)
             (spec.operation_from self.now.names.now (readers self.now.names.now self.now.levels) self.now.levels
@@ -136,7 +139,7 @@ impl<
         position: Position,
         punctuator: Punctuator,
     ) -> Result<Leveled<Boxed<Expression<'a>>>, Fault>
-        requires deeper { Deeper self.now E.Fn S.Fn D.Fn }
+        requires deeper { Deeper self.now E.FnOnce S.FnOnce D.FnOnce }
         requires known { Below self.now.levels left.levels (expression_levels (expression_of left.tree)) }
         ensures { ReadsLeveled expression_of expression_levels (suc self.now.levels)
             (spec.operation_from self.now.names.now (readers self.now.names.now self.now.levels) self.now.levels
@@ -155,7 +158,7 @@ impl<
         left: Leveled<Boxed<Expression<'a>>>,
         position: Position,
     ) -> Result<Leveled<Boxed<Expression<'a>>>, Fault>
-        requires deeper { Deeper self.now E.Fn S.Fn D.Fn }
+        requires deeper { Deeper self.now E.FnOnce S.FnOnce D.FnOnce }
         requires known { Below self.now.levels left.levels (expression_levels (expression_of left.tree)) }
         ensures { ReadsLeveled expression_of expression_levels (suc self.now.levels)
             (spec.operation_from self.now.names.now (readers self.now.names.now self.now.levels) self.now.levels
@@ -177,7 +180,7 @@ impl<
         left: Leveled<Boxed<Expression<'a>>>,
         position: Position,
     ) -> Result<Leveled<Boxed<Expression<'a>>>, Fault>
-        requires deeper { Deeper self.now E.Fn S.Fn D.Fn }
+        requires deeper { Deeper self.now E.FnOnce S.FnOnce D.FnOnce }
         requires known { Below self.now.levels left.levels (expression_levels (expression_of left.tree)) }
         ensures { ReadsLeveled expression_of expression_levels (suc self.now.levels)
             (spec.operation_from self.now.names.now (readers self.now.names.now self.now.levels) self.now.levels
@@ -197,7 +200,7 @@ impl<
         left: Leveled<Boxed<Expression<'a>>>,
         position: Position,
     ) -> Result<Leveled<Boxed<Expression<'a>>>, Fault>
-        requires deeper { Deeper self.now E.Fn S.Fn D.Fn }
+        requires deeper { Deeper self.now E.FnOnce S.FnOnce D.FnOnce }
         requires known { Below self.now.levels left.levels (expression_levels (expression_of left.tree)) }
         ensures { ReadsLeveled expression_of expression_levels (suc self.now.levels)
             (spec.operation_from self.now.names.now (readers self.now.names.now self.now.levels) self.now.levels
@@ -218,7 +221,7 @@ impl<
         position: Position,
         punctuator: Punctuator,
     ) -> Result<Leveled<Boxed<Expression<'a>>>, Fault>
-        requires deeper { Deeper self.now E.Fn S.Fn D.Fn }
+        requires deeper { Deeper self.now E.FnOnce S.FnOnce D.FnOnce }
         requires known { Below self.now.levels left.levels (expression_levels (expression_of left.tree)) }
         ensures { ReadsLeveled expression_of expression_levels (suc self.now.levels)
             (spec.operation_from self.now.names.now (readers self.now.names.now self.now.levels) self.now.levels
@@ -238,7 +241,7 @@ impl<
         punctuator: Punctuator,
         operation: Operation,
     ) -> Result<Leveled<Boxed<Expression<'a>>>, Fault>
-        requires deeper { Deeper self.now E.Fn S.Fn D.Fn }
+        requires deeper { Deeper self.now E.FnOnce S.FnOnce D.FnOnce }
         requires known { Below self.now.levels left.levels (expression_levels (expression_of left.tree)) }
         ensures { ReadsLeveled expression_of expression_levels (suc self.now.levels)
             (spec.operation_from self.now.names.now (readers self.now.names.now self.now.levels) self.now.levels
@@ -265,7 +268,7 @@ impl<
         position: Position,
         punctuator: Punctuator,
     ) -> Result<Leveled<Boxed<Expression<'a>>>, Fault>
-        requires deeper { Deeper self.now E.Fn S.Fn D.Fn }
+        requires deeper { Deeper self.now E.FnOnce S.FnOnce D.FnOnce }
         requires known { Below self.now.levels left.levels (expression_levels (expression_of left.tree)) }
         ensures { ReadsLeveled expression_of expression_levels (suc self.now.levels)
             (spec.operation_from self.now.names.now (readers self.now.names.now self.now.levels) self.now.levels
@@ -284,7 +287,7 @@ impl<
         tokens: &mut Cursor<'_, 'a>,
         left: Leveled<Boxed<Expression<'a>>>,
     ) -> Result<Leveled<Boxed<Expression<'a>>>, Fault>
-        requires deeper { Deeper self.now E.Fn S.Fn D.Fn }
+        requires deeper { Deeper self.now E.FnOnce S.FnOnce D.FnOnce }
         requires known { Below self.now.levels left.levels (expression_levels (expression_of left.tree)) }
         ensures { ReadsLeveled expression_of expression_levels (suc self.now.levels)
             (operation_next self.now.names.now (readers self.now.names.now self.now.levels) self.now.levels
@@ -327,7 +330,7 @@ impl<
         least: u8,
         first: Leveled<Boxed<Expression<'a>>>,
     ) -> Result<Leveled<Boxed<Expression<'a>>>, Fault>
-        requires deeper { Deeper self.now E.Fn S.Fn D.Fn }
+        requires deeper { Deeper self.now E.FnOnce S.FnOnce D.FnOnce }
         requires known { Below (suc self.now.levels) first.levels (expression_levels (expression_of first.tree)) }
         ensures { ReadsLeveled expression_of expression_levels (suc self.now.levels)
             (spec.operations_from self.now.names.now (readers self.now.names.now self.now.levels) self.now.levels
@@ -350,7 +353,7 @@ impl<
         opened: Option<Position>,
         least: u8,
     ) -> Result<Leveled<Boxed<Expression<'a>>>, Fault>
-        requires deeper { Deeper self.now E.Fn S.Fn D.Fn }
+        requires deeper { Deeper self.now E.FnOnce S.FnOnce D.FnOnce }
         ensures { ReadsLeveled expression_of expression_levels (suc self.now.levels)
             (spec.first_operand self.now.names.now (readers self.now.names.now self.now.levels) self.now.levels opened
             least tokens.old.rest.now) result tokens.new.rest.now }
@@ -370,7 +373,7 @@ impl<
         opened: Option<Position>,
         least: u8,
     ) -> Result<Leveled<Boxed<Expression<'a>>>, Fault>
-        requires deeper { Deeper self.now E.Fn S.Fn D.Fn }
+        requires deeper { Deeper self.now E.FnOnce S.FnOnce D.FnOnce }
         ensures { ReadsLeveled expression_of expression_levels (suc self.now.levels)
             (spec.expression_at self.now.names.now (readers self.now.names.now self.now.levels) self.now.levels opened
             least tokens.old.rest.now) result tokens.new.rest.now }

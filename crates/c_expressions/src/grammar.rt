@@ -34,28 +34,31 @@ pub struct Grammar<'t, 'a, E, S, D> {
 impl<
     't,
     'a,
-    E: Fn(
+    E: FnOnce(
         Global,
         &TypedefNames<'a>,
         &mut Cursor<'_, 'a>,
         usize,
         Option<Position>,
         u8,
-    ) -> Result<Leveled<Boxed<Expression<'a>>>, Fault>,
-    S: Fn(
+    ) -> Result<Leveled<Boxed<Expression<'a>>>, Fault>
+        + Copy,
+    S: FnOnce(
         Global,
         &TypedefNames<'a>,
         &mut Cursor<'_, 'a>,
         usize,
         bool,
-    ) -> Result<Leveled<Items<Specifier<'a>>>, Fault>,
-    D: Fn(
+    ) -> Result<Leveled<Items<Specifier<'a>>>, Fault>
+        + Copy,
+    D: FnOnce(
         Global,
         &TypedefNames<'a>,
         &mut Cursor<'_, 'a>,
         usize,
         DeclaratorKind,
-    ) -> Result<Leveled<Boxed<Declarator<'a>>>, Fault>,
+    ) -> Result<Leveled<Boxed<Declarator<'a>>>, Fault>
+        + Copy,
 > Grammar<'t, 'a, E, S, D> {
     ghost use Rattle.c_expressions.specs.Deeper.{Deeper};
 
@@ -66,7 +69,7 @@ impl<
         opened: Option<Position>,
         least: u8,
     ) -> Result<Leveled<Boxed<Expression<'a>>>, Fault>
-        requires { Deeper self.now E.Fn S.Fn D.Fn }
+        requires { Deeper self.now E.FnOnce S.FnOnce D.FnOnce }
         ensures { ReadsLeveled expression_of expression_levels self.now.levels
             ((readers self.now.names.now self.now.levels).expression opened least tokens.old.rest.now) result
             tokens.new.rest.now }
@@ -80,7 +83,7 @@ impl<
         tokens: &mut Cursor<'_, 'a>,
         allowed: bool,
     ) -> Result<Leveled<Items<Specifier<'a>>>, Fault>
-        requires { Deeper self.now E.Fn S.Fn D.Fn }
+        requires { Deeper self.now E.FnOnce S.FnOnce D.FnOnce }
         ensures { ReadsLeveled specifiers_in specifiers_levels self.now.levels
             ((readers self.now.names.now self.now.levels).specifiers allowed tokens.old.rest.now) result
             tokens.new.rest.now }
@@ -94,7 +97,7 @@ impl<
         tokens: &mut Cursor<'_, 'a>,
         kind: DeclaratorKind,
     ) -> Result<Leveled<Boxed<Declarator<'a>>>, Fault>
-        requires { Deeper self.now E.Fn S.Fn D.Fn }
+        requires { Deeper self.now E.FnOnce S.FnOnce D.FnOnce }
         ensures { ReadsLeveled declarator_of declarator_levels self.now.levels
             ((readers self.now.names.now self.now.levels).declarator kind tokens.old.rest.now) result
             tokens.new.rest.now }

@@ -50,28 +50,31 @@ fn string_literals<'a>(
 impl<
     't,
     'a,
-    E: Fn(
+    E: FnOnce(
         Global,
         &TypedefNames<'a>,
         &mut Cursor<'_, 'a>,
         usize,
         Option<Position>,
         u8,
-    ) -> Result<Leveled<Boxed<Expression<'a>>>, Fault>,
-    S: Fn(
+    ) -> Result<Leveled<Boxed<Expression<'a>>>, Fault>
+        + Copy,
+    S: FnOnce(
         Global,
         &TypedefNames<'a>,
         &mut Cursor<'_, 'a>,
         usize,
         bool,
-    ) -> Result<Leveled<Items<Specifier<'a>>>, Fault>,
-    D: Fn(
+    ) -> Result<Leveled<Items<Specifier<'a>>>, Fault>
+        + Copy,
+    D: FnOnce(
         Global,
         &TypedefNames<'a>,
         &mut Cursor<'_, 'a>,
         usize,
         DeclaratorKind,
-    ) -> Result<Leveled<Boxed<Declarator<'a>>>, Fault>,
+    ) -> Result<Leveled<Boxed<Declarator<'a>>>, Fault>
+        + Copy,
 > Grammar<'t, 'a, E, S, D> {
     /// Reads what follows the `(` of an expression in parentheses (C99 6.5.1).
     #[tactic(auto, unfolding(c_grammar::specs::ExpressionReader::parenthesized_from))]
@@ -80,7 +83,7 @@ impl<
         tokens: &mut Cursor<'_, 'a>,
         position: Position,
     ) -> Result<Leveled<Boxed<Expression<'a>>>, Fault>
-        requires deeper { Deeper self.now E.Fn S.Fn D.Fn }
+        requires deeper { Deeper self.now E.FnOnce S.FnOnce D.FnOnce }
         ensures { ReadsLeveled expression_of expression_levels (suc self.now.levels)
             (spec.parenthesized_from self.now.names.now (readers self.now.names.now self.now.levels) self.now.levels
             position tokens.old.rest.now) result tokens.new.rest.now }
@@ -95,7 +98,7 @@ impl<
         &self,
         tokens: &mut Cursor<'_, 'a>,
     ) -> Result<Leveled<Boxed<TypedDeclarator<'a>>>, Fault>
-        requires deeper { Deeper self.now E.Fn S.Fn D.Fn }
+        requires deeper { Deeper self.now E.FnOnce S.FnOnce D.FnOnce }
         ensures { ReadsLeveled typed_of typed_levels self.now.levels
             (common.typed_from (readers self.now.names.now self.now.levels) kind.Abstract tokens.old.rest.now) result
             tokens.new.rest.now }
@@ -111,7 +114,7 @@ impl<
         tokens: &mut Cursor<'_, 'a>,
         position: Position,
     ) -> Result<Leveled<Boxed<Expression<'a>>>, Fault>
-        requires deeper { Deeper self.now E.Fn S.Fn D.Fn }
+        requires deeper { Deeper self.now E.FnOnce S.FnOnce D.FnOnce }
         ensures { ReadsLeveled expression_of expression_levels (suc self.now.levels)
             (spec.cast_from self.now.names.now (readers self.now.names.now self.now.levels) self.now.levels position
             tokens.old.rest.now) result tokens.new.rest.now }
@@ -130,7 +133,7 @@ impl<
         least: u8,
         position: Position,
     ) -> Result<Leveled<Boxed<Expression<'a>>>, Fault>
-        requires deeper { Deeper self.now E.Fn S.Fn D.Fn }
+        requires deeper { Deeper self.now E.FnOnce S.FnOnce D.FnOnce }
         ensures { ReadsLeveled expression_of expression_levels (suc self.now.levels)
             (spec.parenthesis_from self.now.names.now (readers self.now.names.now self.now.levels) self.now.levels least
             position tokens.old.rest.now) result tokens.new.rest.now }
@@ -152,7 +155,7 @@ impl<
         position: Position,
         left: Position,
     ) -> Result<Leveled<Boxed<Expression<'a>>>, Fault>
-        requires deeper { Deeper self.now E.Fn S.Fn D.Fn }
+        requires deeper { Deeper self.now E.FnOnce S.FnOnce D.FnOnce }
         ensures { ReadsExpression (suc self.now.levels)
             (sizeof_type_from (readers self.now.names.now self.now.levels) position left tokens.old.rest.now) result
             tokens.new.rest.now }
@@ -170,7 +173,7 @@ impl<
         position: Position,
         left: Position,
     ) -> Result<Leveled<Boxed<Expression<'a>>>, Fault>
-        requires deeper { Deeper self.now E.Fn S.Fn D.Fn }
+        requires deeper { Deeper self.now E.FnOnce S.FnOnce D.FnOnce }
         ensures { ReadsLeveled expression_of expression_levels (suc self.now.levels)
             (spec.sizeof_parenthesis_from self.now.names.now (readers self.now.names.now self.now.levels)
             self.now.levels position left tokens.old.rest.now) result tokens.new.rest.now }
@@ -189,7 +192,7 @@ impl<
         tokens: &mut Cursor<'_, 'a>,
         position: Position,
     ) -> Result<Leveled<Boxed<Expression<'a>>>, Fault>
-        requires deeper { Deeper self.now E.Fn S.Fn D.Fn }
+        requires deeper { Deeper self.now E.FnOnce S.FnOnce D.FnOnce }
         ensures { ReadsLeveled expression_of expression_levels (suc self.now.levels)
             (spec.sizeof_from self.now.names.now (readers self.now.names.now self.now.levels) self.now.levels position
             tokens.old.rest.now) result tokens.new.rest.now }
@@ -212,7 +215,7 @@ impl<
         operator: Punctuator,
         position: Position,
     ) -> Result<Leveled<Boxed<Expression<'a>>>, Fault>
-        requires deeper { Deeper self.now E.Fn S.Fn D.Fn }
+        requires deeper { Deeper self.now E.FnOnce S.FnOnce D.FnOnce }
         ensures { ReadsLeveled expression_of expression_levels (suc self.now.levels)
             (unary_from (readers self.now.names.now self.now.levels) operator position tokens.old.rest.now) result
             tokens.new.rest.now }
@@ -231,7 +234,7 @@ impl<
         position: Position,
         rest: &'r [Positioned<'a>],
     ) -> Result<Leveled<Boxed<Expression<'a>>>, Fault>
-        requires deeper { Deeper self.now E.Fn S.Fn D.Fn }
+        requires deeper { Deeper self.now E.FnOnce S.FnOnce D.FnOnce }
         requires next { tokens.old.rest.now ≡ word_at (kinds.Punctuator punctuator) position ∷ rest.now }
         ensures { ReadsLeveled expression_of expression_levels (suc self.now.levels)
             (spec.operand_by_punctuator self.now.names.now (readers self.now.names.now self.now.levels) self.now.levels
@@ -255,7 +258,7 @@ impl<
         tokens: &mut Cursor<'_, 'a>,
         least: u8,
     ) -> Result<Leveled<Boxed<Expression<'a>>>, Fault>
-        requires deeper { Deeper self.now E.Fn S.Fn D.Fn }
+        requires deeper { Deeper self.now E.FnOnce S.FnOnce D.FnOnce }
         ensures { ReadsLeveled expression_of expression_levels (suc self.now.levels)
             (spec.operand_from self.now.names.now (readers self.now.names.now self.now.levels) self.now.levels least
             tokens.old.rest.now) result tokens.new.rest.now }

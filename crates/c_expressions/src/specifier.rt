@@ -76,28 +76,31 @@ fn typedef_name<'a>(name: Spelled<'a>) -> Leveled<Specifier<'a>>
 impl<
     't,
     'a,
-    E: Fn(
+    E: FnOnce(
         Global,
         &TypedefNames<'a>,
         &mut Cursor<'_, 'a>,
         usize,
         Option<Position>,
         u8,
-    ) -> Result<Leveled<Boxed<Expression<'a>>>, Fault>,
-    S: Fn(
+    ) -> Result<Leveled<Boxed<Expression<'a>>>, Fault>
+        + Copy,
+    S: FnOnce(
         Global,
         &TypedefNames<'a>,
         &mut Cursor<'_, 'a>,
         usize,
         bool,
-    ) -> Result<Leveled<Items<Specifier<'a>>>, Fault>,
-    D: Fn(
+    ) -> Result<Leveled<Items<Specifier<'a>>>, Fault>
+        + Copy,
+    D: FnOnce(
         Global,
         &TypedefNames<'a>,
         &mut Cursor<'_, 'a>,
         usize,
         DeclaratorKind,
-    ) -> Result<Leveled<Boxed<Declarator<'a>>>, Fault>,
+    ) -> Result<Leveled<Boxed<Declarator<'a>>>, Fault>
+        + Copy,
 > Grammar<'t, 'a, E, S, D> {
     /// Reads what follows a keyword that goes on with specifiers.
     fn specifier_by_keyword(
@@ -106,7 +109,7 @@ impl<
         keyword: Keyword,
         position: Position,
     ) -> Result<Leveled<Specifier<'a>>, Fault>
-        requires deeper { Deeper self.now E.Fn S.Fn D.Fn }
+        requires deeper { Deeper self.now E.FnOnce S.FnOnce D.FnOnce }
         ensures { ReadsLeveled specifier_of specifier_levels (suc self.now.levels)
             (spec.specifier_by_keyword self.now.names.now (readers self.now.names.now self.now.levels) self.now.levels
             keyword position tokens.old.rest.now) result tokens.new.rest.now }
@@ -120,7 +123,7 @@ impl<
 
     /// Reads a specifier by its first word.
     fn specifier(&self, tokens: &mut Cursor<'_, 'a>) -> Result<Leveled<Specifier<'a>>, Fault>
-        requires deeper { Deeper self.now E.Fn S.Fn D.Fn }
+        requires deeper { Deeper self.now E.FnOnce S.FnOnce D.FnOnce }
         ensures { ReadsLeveled specifier_of specifier_levels (suc self.now.levels)
             (specifier_next self.now.names.now (readers self.now.names.now self.now.levels) self.now.levels
             tokens.old.rest.now) result tokens.new.rest.now }
@@ -189,7 +192,7 @@ impl<
         tokens: &mut Cursor<'_, 'a>,
         allowed: bool,
     ) -> Result<Leveled<Items<Specifier<'a>>>, Fault>
-        requires deeper { Deeper self.now E.Fn S.Fn D.Fn }
+        requires deeper { Deeper self.now E.FnOnce S.FnOnce D.FnOnce }
         ensures { ReadsLeveled specifiers_in specifiers_levels (suc self.now.levels)
             (spec.specifiers_at self.now.names.now (readers self.now.names.now self.now.levels) self.now.levels allowed
             tokens.old.rest.now) result tokens.new.rest.now }

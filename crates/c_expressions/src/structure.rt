@@ -35,35 +35,38 @@ pub(crate) fn begins_body(levels: usize, rest: &[Positioned]) -> bool
 impl<
     't,
     'a,
-    E: Fn(
+    E: FnOnce(
         Global,
         &TypedefNames<'a>,
         &mut Cursor<'_, 'a>,
         usize,
         Option<Position>,
         u8,
-    ) -> Result<Leveled<Boxed<Expression<'a>>>, Fault>,
-    S: Fn(
+    ) -> Result<Leveled<Boxed<Expression<'a>>>, Fault>
+        + Copy,
+    S: FnOnce(
         Global,
         &TypedefNames<'a>,
         &mut Cursor<'_, 'a>,
         usize,
         bool,
-    ) -> Result<Leveled<Items<Specifier<'a>>>, Fault>,
-    D: Fn(
+    ) -> Result<Leveled<Items<Specifier<'a>>>, Fault>
+        + Copy,
+    D: FnOnce(
         Global,
         &TypedefNames<'a>,
         &mut Cursor<'_, 'a>,
         usize,
         DeclaratorKind,
-    ) -> Result<Leveled<Boxed<Declarator<'a>>>, Fault>,
+    ) -> Result<Leveled<Boxed<Declarator<'a>>>, Fault>
+        + Copy,
 > Grammar<'t, 'a, E, S, D> {
     /// Reads declarators behind the first, each behind its comma.
     fn more_declarators(
         &self,
         tokens: &mut Cursor<'_, 'a>,
     ) -> Result<Leveled<Items<(Position, Boxed<Declarator<'a>>)>>, Fault>
-        requires deeper { Deeper self.now E.Fn S.Fn D.Fn }
+        requires deeper { Deeper self.now E.FnOnce S.FnOnce D.FnOnce }
         requires some { 0 < self.now.levels }
         ensures { ReadsLeveled declarators_behind declarators_behind_levels self.now.levels
             (behind_commas ((readers self.now.names.now self.now.levels).declarator kind.Named)
@@ -86,7 +89,7 @@ impl<
     /// Reads a declaration of members (C99 6.7.2.1).
     #[tactic(auto, unfolding(c_grammar::specs::SpecifierReader::member_from))]
     fn member_declaration(&self, tokens: &mut Cursor<'_, 'a>) -> Result<Leveled<Member<'a>>, Fault>
-        requires deeper { Deeper self.now E.Fn S.Fn D.Fn }
+        requires deeper { Deeper self.now E.FnOnce S.FnOnce D.FnOnce }
         requires some { 0 < self.now.levels }
         ensures { ReadsLeveled member_of member_levels self.now.levels
             (spec.member_from self.now.names.now (readers self.now.names.now self.now.levels) self.now.levels
@@ -102,7 +105,7 @@ impl<
 
     /// Reads declarations of members up to `}`, at least one (C99 6.7.2.1).
     fn members(&self, tokens: &mut Cursor<'_, 'a>) -> Result<Leveled<Items<Member<'a>>>, Fault>
-        requires deeper { Deeper self.now E.Fn S.Fn D.Fn }
+        requires deeper { Deeper self.now E.FnOnce S.FnOnce D.FnOnce }
         requires some { 0 < self.now.levels }
         ensures { ReadsLeveled members_in members_levels self.now.levels
             (spec.members_from self.now.names.now (readers self.now.names.now self.now.levels) self.now.levels
@@ -130,7 +133,7 @@ impl<
         position: Position,
         tag: Option<Spelled<'a>>,
     ) -> Result<Leveled<Specifier<'a>>, Fault>
-        requires deeper { Deeper self.now E.Fn S.Fn D.Fn }
+        requires deeper { Deeper self.now E.FnOnce S.FnOnce D.FnOnce }
         requires some { 0 < self.now.levels }
         ensures { ReadsLeveled specifier_of specifier_levels (suc self.now.levels)
             (spec.structure_body_from self.now.names.now (readers self.now.names.now self.now.levels) self.now.levels
@@ -150,7 +153,7 @@ impl<
         keyword: Keyword,
         position: Position,
     ) -> Result<Leveled<Specifier<'a>>, Fault>
-        requires deeper { Deeper self.now E.Fn S.Fn D.Fn }
+        requires deeper { Deeper self.now E.FnOnce S.FnOnce D.FnOnce }
         ensures { ReadsLeveled specifier_of specifier_levels (suc self.now.levels)
             (spec.structure_from self.now.names.now (readers self.now.names.now self.now.levels) self.now.levels keyword
             position tokens.old.rest.now) result tokens.new.rest.now }

@@ -114,28 +114,31 @@ fn typed_with<'a>(
 impl<
     't,
     'a,
-    E: Fn(
+    E: FnOnce(
         Global,
         &TypedefNames<'a>,
         &mut Cursor<'_, 'a>,
         usize,
         Option<Position>,
         u8,
-    ) -> Result<Leveled<Boxed<Expression<'a>>>, Fault>,
-    S: Fn(
+    ) -> Result<Leveled<Boxed<Expression<'a>>>, Fault>
+        + Copy,
+    S: FnOnce(
         Global,
         &TypedefNames<'a>,
         &mut Cursor<'_, 'a>,
         usize,
         bool,
-    ) -> Result<Leveled<Items<Specifier<'a>>>, Fault>,
-    D: Fn(
+    ) -> Result<Leveled<Items<Specifier<'a>>>, Fault>
+        + Copy,
+    D: FnOnce(
         Global,
         &TypedefNames<'a>,
         &mut Cursor<'_, 'a>,
         usize,
         DeclaratorKind,
-    ) -> Result<Leveled<Boxed<Declarator<'a>>>, Fault>,
+    ) -> Result<Leveled<Boxed<Declarator<'a>>>, Fault>
+        + Copy,
 > Grammar<'t, 'a, E, S, D> {
     /// Reads specifiers and a declarator: a type name (C99 6.7.6) or a parameter (6.7.5).
     #[tactic(auto, unfolding(c_grammar::specs::Readers::typed_from))]
@@ -144,7 +147,7 @@ impl<
         tokens: &mut Cursor<'_, 'a>,
         kind: DeclaratorKind,
     ) -> Result<Leveled<TypedDeclarator<'a>>, Fault>
-        requires deeper { Deeper self.now E.Fn S.Fn D.Fn }
+        requires deeper { Deeper self.now E.FnOnce S.FnOnce D.FnOnce }
         ensures { ReadsLeveled typed_of typed_levels self.now.levels
             (spec.typed_from (readers self.now.names.now self.now.levels) kind tokens.old.rest.now) result
             tokens.new.rest.now }
@@ -159,7 +162,7 @@ impl<
         &self,
         tokens: &mut Cursor<'_, 'a>,
     ) -> Result<Leveled<Items<(Position, TypedDeclarator<'a>)>>, Fault>
-        requires deeper { Deeper self.now E.Fn S.Fn D.Fn }
+        requires deeper { Deeper self.now E.FnOnce S.FnOnce D.FnOnce }
         requires some { 0 < self.now.levels }
         ensures { ReadsLeveled parameters_behind parameters_behind_levels self.now.levels
             (behind_commas (spec.typed_from (readers self.now.names.now self.now.levels) kind.Either)
@@ -179,7 +182,7 @@ impl<
     /// Reads what stands between the parentheses of a function declarator (C99 6.7.5.3).
     #[tactic(auto, unfolding(c_grammar::specs::Readers::parameters_from))]
     pub fn parameters(&self, tokens: &mut Cursor<'_, 'a>) -> Result<Leveled<Parameters<'a>>, Fault>
-        requires deeper { Deeper self.now E.Fn S.Fn D.Fn }
+        requires deeper { Deeper self.now E.FnOnce S.FnOnce D.FnOnce }
         requires some { 0 < self.now.levels }
         ensures { ReadsLeveled parameters_of parameters_levels self.now.levels
             (spec.parameters_from (readers self.now.names.now self.now.levels) tokens.old.rest.now) result

@@ -1,6 +1,6 @@
 -- Function values that type the parts of a construct.
 use Rattle.std.specs.Prelude.{◌≡◌, ℕ, ◌<◌, Bool, List, Result}
-use Rattle.std.specs.Fn.{Shared}
+use Rattle.std.specs.Fn.{Once}
 use denote.Ref.{MutBor, Bor}
 use Rattle.c_syntax.specs.declared.tree.Declarator as code_declarator
 use Rattle.c_syntax.specs.declared.tree.Expression as code_expression
@@ -22,7 +22,7 @@ use Rattle.c_syntax_typing.specs.declared.nested.Nested.{Nested}
 
 -- what may be called with a typer, a flag and a part of a construct, and gives an R or refuses
 abbrev pub Typing : (F T R : Type 0) → Type 1
-Typing F T R = Shared F (MutBor Typer × (Bool × (Bor T × Unit {0}))) (Result R Refusal × (MutBor Typer × Unit {0}))
+Typing F T R = Once F (MutBor Typer × (Bool × (Bor T × Unit {0}))) (Result R Refusal × (MutBor Typer × Unit {0}))
 
 -- a function value that types this expression
 pub record TypesExpression {F : Type 0} (typing : Typing F code_expression.Expression code_operand.Operand) (f : F)

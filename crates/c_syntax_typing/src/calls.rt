@@ -12,11 +12,12 @@ use c_syntax::{Arguments, Boxed, Declarator, Expression, Position, Specifier};
 use c_typing::{Called, Shape, Specification, Typer};
 use sb_base::Line;
 
-impl<'a, E: Fn(&mut Typer<'a>, bool, &Expression<'a>) -> Result<Operand, Refusal>, D, S> Nested<
-    E,
+impl<
+    'a,
+    E: FnOnce(&mut Typer<'a>, bool, &Expression<'a>) -> Result<Operand, Refusal> + Copy,
     D,
     S,
-> {
+> Nested<E, D, S> {
     ghost use Rattle.std.specs.Prelude.{suc, map};
     ghost use Rattle.c_syntax.specs.Tree as tree;
     ghost use Rattle.c_syntax.specs.View.{arguments_of, expression_of, more_arguments_in};
@@ -39,7 +40,7 @@ impl<'a, E: Fn(&mut Typer<'a>, bool, &Expression<'a>) -> Result<Operand, Refusal
         is_evaluated: bool,
         function: &Boxed<Expression<'a>>,
     ) -> Result<Called, Refusal>
-        requires { TypesExpression E.Fn self.now.expression (expression_of function.now) }
+        requires { TypesExpression E.FnOnce self.now.expression (expression_of function.now) }
         ensures { Types called_of (state_of typer.new) result (called_by is_evaluated
             (plain_name (expression_of function.now)) (typed is_evaluated (expression_of function.now))
             (state_of typer.old)) }
@@ -63,7 +64,7 @@ impl<'a, E: Fn(&mut Typer<'a>, bool, &Expression<'a>) -> Result<Operand, Refusal
         arguments: &[(Position, Boxed<Expression<'a>>)],
         before: Vec<TypedValue>,
     ) -> Result<Vec<TypedValue>, Refusal>
-        requires deeper { DeeperExpressions self.now E.Fn (suc (more_arguments_levels (more_arguments_in
+        requires deeper { DeeperExpressions self.now E.FnOnce (suc (more_arguments_levels (more_arguments_in
             arguments.now))) }
         ensures { Types (λ vs. map value_of vs.items) (state_of typer.new) result (more_values is_evaluated
             (more_arguments_in arguments.now) (map value_of before.items) (state_of typer.old)) }
@@ -84,7 +85,7 @@ impl<'a, E: Fn(&mut Typer<'a>, bool, &Expression<'a>) -> Result<Operand, Refusal
         is_evaluated: bool,
         arguments: &Arguments<'a>,
     ) -> Result<Vec<TypedValue>, Refusal>
-        requires deeper { DeeperExpressions self.now E.Fn (suc (arguments_levels (arguments_of arguments.now))) }
+        requires deeper { DeeperExpressions self.now E.FnOnce (suc (arguments_levels (arguments_of arguments.now))) }
         ensures { Types (λ vs. map value_of vs.items) (state_of typer.new) result
             (argument_values is_evaluated (arguments_of arguments.now) (state_of typer.old)) }
     {
@@ -105,7 +106,7 @@ impl<'a, E: Fn(&mut Typer<'a>, bool, &Expression<'a>) -> Result<Operand, Refusal
         is_evaluated: bool,
         first: &Boxed<Expression<'a>>,
     ) -> Result<Format, Refusal>
-        requires { TypesExpression E.Fn self.now.expression (expression_of first.now) }
+        requires { TypesExpression E.FnOnce self.now.expression (expression_of first.now) }
         ensures { Types format_of (state_of typer.new) result (format_by (literal_alone (expression_of first.now))
             (typed is_evaluated (expression_of first.now)) (state_of typer.old)) }
     {
@@ -126,7 +127,7 @@ impl<'a, E: Fn(&mut Typer<'a>, bool, &Expression<'a>) -> Result<Operand, Refusal
         is_evaluated: bool,
         arguments: &Arguments<'a>,
     ) -> Result<Printing, Refusal>
-        requires deeper { DeeperExpressions self.now E.Fn (suc (arguments_levels (arguments_of arguments.now))) }
+        requires deeper { DeeperExpressions self.now E.FnOnce (suc (arguments_levels (arguments_of arguments.now))) }
         ensures { Types printing_of (state_of typer.new) result
             (printed_values is_evaluated (arguments_of arguments.now) (state_of typer.old)) }
     {
@@ -157,7 +158,7 @@ impl<'a, E: Fn(&mut Typer<'a>, bool, &Expression<'a>) -> Result<Operand, Refusal
         called: Called,
         arguments: &Arguments<'a>,
     ) -> Result<Operand, Refusal>
-        requires deeper { DeeperExpressions self.now E.Fn (suc (arguments_levels (arguments_of arguments.now))) }
+        requires deeper { DeeperExpressions self.now E.FnOnce (suc (arguments_levels (arguments_of arguments.now))) }
         ensures { Types operand_of (state_of typer.new) result (applied_to line
             (argument_values is_evaluated (arguments_of arguments.now))
             (printed_values is_evaluated (arguments_of arguments.now)) (called_of called) (state_of typer.old)) }
@@ -182,8 +183,8 @@ impl<'a, E: Fn(&mut Typer<'a>, bool, &Expression<'a>) -> Result<Operand, Refusal
         opening: Position,
         arguments: &Arguments<'a>,
     ) -> Result<Operand, Refusal>
-        requires function { TypesExpression E.Fn self.now.expression (expression_of function.now) }
-        requires arguments { DeeperExpressions self.now E.Fn (suc (arguments_levels (arguments_of arguments.now))) }
+        requires function { TypesExpression E.FnOnce self.now.expression (expression_of function.now) }
+        requires arguments { DeeperExpressions self.now E.FnOnce (suc (arguments_levels (arguments_of arguments.now))) }
         ensures { (closing : Position) → Types operand_of (state_of typer.new) result (typed is_evaluated
             (tree.call (expression_of function.now) opening (arguments_of arguments.now) closing)
             (state_of typer.old)) }

@@ -36,11 +36,12 @@ fn named<'a>(alloc: Global, name: &Spelled<'a>) -> Shape<'a>
     Shape::new(alloc, Some(LocatedName { name, line }))
 }
 
-impl<'a, E, D: Fn(&mut Typer<'a>, bool, &Declarator<'a>) -> Result<Shape<'a>, Refusal>, S> Nested<
+impl<
+    'a,
     E,
-    D,
+    D: FnOnce(&mut Typer<'a>, bool, &Declarator<'a>) -> Result<Shape<'a>, Refusal> + Copy,
     S,
-> {
+> Nested<E, D, S> {
     ghost use Rattle.c_syntax.specs.Tree as tree;
     ghost use Rattle.c_syntax.specs.View.{declarator_of};
     ghost use Rattle.c_syntax.specs.declared.position.Position.{Position};
@@ -58,7 +59,7 @@ impl<'a, E, D: Fn(&mut Typer<'a>, bool, &Declarator<'a>) -> Result<Shape<'a>, Re
         words: &[Position],
         inner: &Boxed<Declarator<'a>>,
     ) -> Result<Shape<'a>, Refusal>
-        requires { TypesDeclarator D.Fn self.now.declarator (declarator_of inner.now) }
+        requires { TypesDeclarator D.FnOnce self.now.declarator (declarator_of inner.now) }
         ensures { Types shape_of (state_of typer.new) result (shape in_definition
             (tree.pointer star words.now (declarator_of inner.now)) (state_of typer.old)) }
     {
@@ -74,7 +75,7 @@ impl<'a, E, D: Fn(&mut Typer<'a>, bool, &Declarator<'a>) -> Result<Shape<'a>, Re
         in_definition: bool,
         inner: &Boxed<Declarator<'a>>,
     ) -> Result<Shape<'a>, Refusal>
-        requires { TypesDeclarator D.Fn self.now.declarator (declarator_of inner.now) }
+        requires { TypesDeclarator D.FnOnce self.now.declarator (declarator_of inner.now) }
         ensures { (opening closing : Position) → Types shape_of (state_of typer.new) result (shape in_definition
             (tree.open_array (declarator_of inner.now) opening closing) (state_of typer.old)) }
     {
@@ -86,8 +87,8 @@ impl<'a, E, D: Fn(&mut Typer<'a>, bool, &Declarator<'a>) -> Result<Shape<'a>, Re
 
 impl<
     'a,
-    E: Fn(&mut Typer<'a>, bool, &Expression<'a>) -> Result<Operand, Refusal>,
-    D: Fn(&mut Typer<'a>, bool, &Declarator<'a>) -> Result<Shape<'a>, Refusal>,
+    E: FnOnce(&mut Typer<'a>, bool, &Expression<'a>) -> Result<Operand, Refusal> + Copy,
+    D: FnOnce(&mut Typer<'a>, bool, &Declarator<'a>) -> Result<Shape<'a>, Refusal> + Copy,
     S,
 > Nested<E, D, S> {
     ghost use Rattle.c_syntax.specs.Tree as tree;
@@ -107,8 +108,8 @@ impl<
         opening: Position,
         size: &Boxed<Expression<'a>>,
     ) -> Result<Shape<'a>, Refusal>
-        requires inner { TypesDeclarator D.Fn self.now.declarator (declarator_of inner.now) }
-        requires size { TypesExpression E.Fn self.now.expression (expression_of size.now) }
+        requires inner { TypesDeclarator D.FnOnce self.now.declarator (declarator_of inner.now) }
+        requires size { TypesExpression E.FnOnce self.now.expression (expression_of size.now) }
         ensures { (closing : Position) → Types shape_of (state_of typer.new) result (shape in_definition
             (tree.array (declarator_of inner.now) opening (expression_of size.now) closing) (state_of typer.old)) }
     {
@@ -124,8 +125,8 @@ impl<
 impl<
     'a,
     E,
-    D: Fn(&mut Typer<'a>, bool, &Declarator<'a>) -> Result<Shape<'a>, Refusal>,
-    S: Fn(&mut Typer<'a>, bool, &[Specifier<'a>]) -> Result<Specification, Refusal>,
+    D: FnOnce(&mut Typer<'a>, bool, &Declarator<'a>) -> Result<Shape<'a>, Refusal> + Copy,
+    S: FnOnce(&mut Typer<'a>, bool, &[Specifier<'a>]) -> Result<Specification, Refusal> + Copy,
 > Nested<E, D, S> {
     ghost use Rattle.std.specs.Prelude.{suc};
     ghost use Rattle.c_syntax.specs.Tree as tree;
@@ -145,7 +146,7 @@ impl<
         before: Shape<'a>,
         parameters: &Parameters<'a>,
     ) -> Result<Shape<'a>, Refusal>
-        requires deeper { DeeperNames self.now D.Fn S.Fn (suc (parameters_levels (parameters_of parameters.now))) }
+        requires deeper { DeeperNames self.now D.FnOnce S.FnOnce (suc (parameters_levels (parameters_of parameters.now))) }
         ensures { Types shape_of (state_of typer.new) result ((scope_opened >>> λ variables.
             parameter_types in_definition (parameters_of parameters.now) >>> λ types. scope_left variables >>> λ scope.
             done (with_function types scope (shape_of before.entry))) (state_of typer.old)) }
@@ -167,8 +168,8 @@ impl<
         opening: Position,
         parameters: &Parameters<'a>,
     ) -> Result<Shape<'a>, Refusal>
-        requires inner { TypesDeclarator D.Fn self.now.declarator (declarator_of inner.now) }
-        requires parameters { DeeperNames self.now D.Fn S.Fn (suc (parameters_levels (parameters_of parameters.now))) }
+        requires inner { TypesDeclarator D.FnOnce self.now.declarator (declarator_of inner.now) }
+        requires parameters { DeeperNames self.now D.FnOnce S.FnOnce (suc (parameters_levels (parameters_of parameters.now))) }
         ensures { (closing : Position) → Types shape_of (state_of typer.new) result (shape in_definition
             (tree.function (declarator_of inner.now) opening (parameters_of parameters.now) closing)
             (state_of typer.old)) }
@@ -181,9 +182,9 @@ impl<
 
 impl<
     'a,
-    E: Fn(&mut Typer<'a>, bool, &Expression<'a>) -> Result<Operand, Refusal>,
-    D: Fn(&mut Typer<'a>, bool, &Declarator<'a>) -> Result<Shape<'a>, Refusal>,
-    S: Fn(&mut Typer<'a>, bool, &[Specifier<'a>]) -> Result<Specification, Refusal>,
+    E: FnOnce(&mut Typer<'a>, bool, &Expression<'a>) -> Result<Operand, Refusal> + Copy,
+    D: FnOnce(&mut Typer<'a>, bool, &Declarator<'a>) -> Result<Shape<'a>, Refusal> + Copy,
+    S: FnOnce(&mut Typer<'a>, bool, &[Specifier<'a>]) -> Result<Specification, Refusal> + Copy,
 > Nested<E, D, S> {
     ghost use Rattle.c_syntax.specs.Tree as tree;
     ghost use Rattle.c_syntax.specs.View.{declarator_of};
@@ -200,7 +201,7 @@ impl<
         in_definition: bool,
         tree: &Declarator<'a>,
     ) -> Result<Shape<'a>, Refusal>
-        requires deeper { Deeper self.now E.Fn D.Fn S.Fn (declarator_levels (declarator_of tree.now)) }
+        requires deeper { Deeper self.now E.FnOnce D.FnOnce S.FnOnce (declarator_levels (declarator_of tree.now)) }
         ensures { Types shape_of (state_of typer.new) result
             (shape in_definition (declarator_of tree.now) (state_of typer.old)) }
     {

@@ -9,11 +9,12 @@ use c_syntax::{Boxed, Declarator, Enumerator, Expression, Position, Specifier, S
 use c_typing::sizes::enumeration_value;
 use c_typing::{Shape, Specification, Typer};
 
-impl<'a, E: Fn(&mut Typer<'a>, bool, &Expression<'a>) -> Result<Operand, Refusal>, D, S> Nested<
-    E,
+impl<
+    'a,
+    E: FnOnce(&mut Typer<'a>, bool, &Expression<'a>) -> Result<Operand, Refusal> + Copy,
     D,
     S,
-> {
+> Nested<E, D, S> {
     ghost use Rattle.std.specs.Prelude.{suc};
     ghost use Rattle.c_syntax.specs.Tree as tree;
     ghost use Rattle.c_syntax.specs.View.{enumerator_of, expression_of, more_enumerators_in};
@@ -31,7 +32,7 @@ impl<'a, E: Fn(&mut Typer<'a>, bool, &Expression<'a>) -> Result<Operand, Refusal
         equals: Position,
         value: &Boxed<Expression<'a>>,
     ) -> Result<Option<u64>, Refusal>
-        requires { TypesExpression E.Fn self.now.expression (expression_of value.now) }
+        requires { TypesExpression E.FnOnce self.now.expression (expression_of value.now) }
         ensures { Types (λ next. next) (state_of typer.new) result (enumerator next
             (tree.valued name.now equals (expression_of value.now)) (state_of typer.old)) }
     {
@@ -48,7 +49,7 @@ impl<'a, E: Fn(&mut Typer<'a>, bool, &Expression<'a>) -> Result<Operand, Refusal
         next: Option<u64>,
         tree: &Enumerator<'a>,
     ) -> Result<Option<u64>, Refusal>
-        requires deeper { DeeperExpressions self.now E.Fn (suc (enumerator_levels (enumerator_of tree.now))) }
+        requires deeper { DeeperExpressions self.now E.FnOnce (suc (enumerator_levels (enumerator_of tree.now))) }
         ensures { Types (λ next. next) (state_of typer.new) result
             (enumerator next (enumerator_of tree.now) (state_of typer.old)) }
     {
@@ -70,7 +71,7 @@ impl<'a, E: Fn(&mut Typer<'a>, bool, &Expression<'a>) -> Result<Operand, Refusal
         next: Option<u64>,
         trees: &[(Position, Enumerator<'a>)],
     ) -> Result<Option<u64>, Refusal>
-        requires deeper { DeeperExpressions self.now E.Fn (suc (more_enumerators_levels (more_enumerators_in
+        requires deeper { DeeperExpressions self.now E.FnOnce (suc (more_enumerators_levels (more_enumerators_in
             trees.now))) }
         ensures { Types (λ next. next) (state_of typer.new) result
             (more_enumerators (more_enumerators_in trees.now) next (state_of typer.old)) }

@@ -16,11 +16,12 @@ use c_typing::forms::{assignment_form, binary_form, prefix_form, step_form};
 use c_typing::{Shape, Specification, Typer};
 use sb_base::Line;
 
-impl<'a, E: Fn(&mut Typer<'a>, bool, &Expression<'a>) -> Result<Operand, Refusal>, D, S> Nested<
-    E,
+impl<
+    'a,
+    E: FnOnce(&mut Typer<'a>, bool, &Expression<'a>) -> Result<Operand, Refusal> + Copy,
     D,
     S,
-> {
+> Nested<E, D, S> {
     ghost use Rattle.std.specs.Prelude.{Bool};
     ghost use Rattle.c_syntax.specs.Tree as tree;
     ghost use Rattle.c_syntax.specs.View.{expression_of};
@@ -38,7 +39,7 @@ impl<'a, E: Fn(&mut Typer<'a>, bool, &Expression<'a>) -> Result<Operand, Refusal
         opening: Position,
         inner: &Boxed<Expression<'a>>,
     ) -> Result<Operand, Refusal>
-        requires { TypesExpression E.Fn self.now.expression (expression_of inner.now) }
+        requires { TypesExpression E.FnOnce self.now.expression (expression_of inner.now) }
         ensures { (closing : Position) → Types operand_of (state_of typer.new) result (typed is_evaluated
             (tree.parenthesized opening (expression_of inner.now) closing) (state_of typer.old)) }
     {
@@ -55,8 +56,8 @@ impl<'a, E: Fn(&mut Typer<'a>, bool, &Expression<'a>) -> Result<Operand, Refusal
         opening: Position,
         index: &Boxed<Expression<'a>>,
     ) -> Result<Operand, Refusal>
-        requires array { TypesExpression E.Fn self.now.expression (expression_of array.now) }
-        requires index { TypesExpression E.Fn self.now.expression (expression_of index.now) }
+        requires array { TypesExpression E.FnOnce self.now.expression (expression_of array.now) }
+        requires index { TypesExpression E.FnOnce self.now.expression (expression_of index.now) }
         ensures { (closing : Position) → Types operand_of (state_of typer.new) result (typed is_evaluated
             (tree.subscript (expression_of array.now) opening (expression_of index.now) closing) (state_of typer.old)) }
     {
@@ -75,7 +76,7 @@ impl<'a, E: Fn(&mut Typer<'a>, bool, &Expression<'a>) -> Result<Operand, Refusal
         at: Position,
         name: &Spelled<'a>,
     ) -> Result<Operand, Refusal>
-        requires { TypesExpression E.Fn self.now.expression (expression_of inner.now) }
+        requires { TypesExpression E.FnOnce self.now.expression (expression_of inner.now) }
         ensures { Types operand_of (state_of typer.new) result (typed is_evaluated
             (tree.member (expression_of inner.now) operator at name.now) (state_of typer.old)) }
     {
@@ -92,7 +93,7 @@ impl<'a, E: Fn(&mut Typer<'a>, bool, &Expression<'a>) -> Result<Operand, Refusal
         operator: Punctuator,
         at: Position,
     ) -> Result<Operand, Refusal>
-        requires { TypesExpression E.Fn self.now.expression (expression_of inner.now) }
+        requires { TypesExpression E.FnOnce self.now.expression (expression_of inner.now) }
         ensures { Types operand_of (state_of typer.new) result (typed is_evaluated
             (tree.postfix (expression_of inner.now) operator at) (state_of typer.old)) }
     {
@@ -109,7 +110,7 @@ impl<'a, E: Fn(&mut Typer<'a>, bool, &Expression<'a>) -> Result<Operand, Refusal
         at: Position,
         inner: &Boxed<Expression<'a>>,
     ) -> Result<Operand, Refusal>
-        requires { TypesExpression E.Fn self.now.expression (expression_of inner.now) }
+        requires { TypesExpression E.FnOnce self.now.expression (expression_of inner.now) }
         ensures { Types operand_of (state_of typer.new) result (typed is_evaluated
             (tree.unary operator at (expression_of inner.now)) (state_of typer.old)) }
     {
@@ -124,7 +125,7 @@ impl<'a, E: Fn(&mut Typer<'a>, bool, &Expression<'a>) -> Result<Operand, Refusal
         at: Position,
         inner: &Boxed<Expression<'a>>,
     ) -> Result<Operand, Refusal>
-        requires { TypesExpression E.Fn self.now.expression (expression_of inner.now) }
+        requires { TypesExpression E.FnOnce self.now.expression (expression_of inner.now) }
         ensures { (is_evaluated : Bool) → Types operand_of (state_of typer.new) result (typed is_evaluated
             (tree.sizeof_expression at (expression_of inner.now)) (state_of typer.old)) }
     {
@@ -143,8 +144,8 @@ impl<'a, E: Fn(&mut Typer<'a>, bool, &Expression<'a>) -> Result<Operand, Refusal
         at: Position,
         right: &Boxed<Expression<'a>>,
     ) -> Result<Operand, Refusal>
-        requires left { TypesExpression E.Fn self.now.expression (expression_of left.now) }
-        requires right { TypesExpression E.Fn self.now.expression (expression_of right.now) }
+        requires left { TypesExpression E.FnOnce self.now.expression (expression_of left.now) }
+        requires right { TypesExpression E.FnOnce self.now.expression (expression_of right.now) }
         ensures { Types operand_of (state_of typer.new) result (typed is_evaluated
             (tree.binary (expression_of left.now) operator at (expression_of right.now)) (state_of typer.old)) }
     {
@@ -163,9 +164,9 @@ impl<'a, E: Fn(&mut Typer<'a>, bool, &Expression<'a>) -> Result<Operand, Refusal
         first: &Boxed<Expression<'a>>,
         second: &Boxed<Expression<'a>>,
     ) -> Result<Operand, Refusal>
-        requires condition { TypesExpression E.Fn self.now.expression (expression_of condition.now) }
-        requires first { TypesExpression E.Fn self.now.expression (expression_of first.now) }
-        requires second { TypesExpression E.Fn self.now.expression (expression_of second.now) }
+        requires condition { TypesExpression E.FnOnce self.now.expression (expression_of condition.now) }
+        requires first { TypesExpression E.FnOnce self.now.expression (expression_of first.now) }
+        requires second { TypesExpression E.FnOnce self.now.expression (expression_of second.now) }
         ensures { (colon : Position) → Types operand_of (state_of typer.new) result (typed is_evaluated
             (tree.conditional (expression_of condition.now) question (expression_of first.now) colon
             (expression_of second.now)) (state_of typer.old)) }
@@ -187,8 +188,8 @@ impl<'a, E: Fn(&mut Typer<'a>, bool, &Expression<'a>) -> Result<Operand, Refusal
         at: Position,
         right: &Boxed<Expression<'a>>,
     ) -> Result<Operand, Refusal>
-        requires left { TypesExpression E.Fn self.now.expression (expression_of left.now) }
-        requires right { TypesExpression E.Fn self.now.expression (expression_of right.now) }
+        requires left { TypesExpression E.FnOnce self.now.expression (expression_of left.now) }
+        requires right { TypesExpression E.FnOnce self.now.expression (expression_of right.now) }
         ensures { Types operand_of (state_of typer.new) result (typed is_evaluated
             (tree.assignment (expression_of left.now) operator at (expression_of right.now)) (state_of typer.old)) }
     {
@@ -201,8 +202,8 @@ impl<'a, E: Fn(&mut Typer<'a>, bool, &Expression<'a>) -> Result<Operand, Refusal
 impl<
     'a,
     E,
-    D: Fn(&mut Typer<'a>, bool, &Declarator<'a>) -> Result<Shape<'a>, Refusal>,
-    S: Fn(&mut Typer<'a>, bool, &[Specifier<'a>]) -> Result<Specification, Refusal>,
+    D: FnOnce(&mut Typer<'a>, bool, &Declarator<'a>) -> Result<Shape<'a>, Refusal> + Copy,
+    S: FnOnce(&mut Typer<'a>, bool, &[Specifier<'a>]) -> Result<Specification, Refusal> + Copy,
 > Nested<E, D, S> {
     ghost use Rattle.std.specs.Prelude.{Bool, suc};
     ghost use Rattle.c_syntax.specs.Tree as tree;
@@ -221,7 +222,7 @@ impl<
         at: Position,
         name: &Boxed<TypedDeclarator<'a>>,
     ) -> Result<Operand, Refusal>
-        requires deeper { DeeperNames self.now D.Fn S.Fn (suc (typed_levels (typed_of name.now))) }
+        requires deeper { DeeperNames self.now D.FnOnce S.FnOnce (suc (typed_levels (typed_of name.now))) }
         ensures { (is_evaluated : Bool) (opening closing : Position) → Types operand_of (state_of typer.new) result
             (typed is_evaluated (tree.sizeof_type at opening (typed_of name.now) closing) (state_of typer.old)) }
     {
@@ -232,9 +233,9 @@ impl<
 
 impl<
     'a,
-    E: Fn(&mut Typer<'a>, bool, &Expression<'a>) -> Result<Operand, Refusal>,
-    D: Fn(&mut Typer<'a>, bool, &Declarator<'a>) -> Result<Shape<'a>, Refusal>,
-    S: Fn(&mut Typer<'a>, bool, &[Specifier<'a>]) -> Result<Specification, Refusal>,
+    E: FnOnce(&mut Typer<'a>, bool, &Expression<'a>) -> Result<Operand, Refusal> + Copy,
+    D: FnOnce(&mut Typer<'a>, bool, &Declarator<'a>) -> Result<Shape<'a>, Refusal> + Copy,
+    S: FnOnce(&mut Typer<'a>, bool, &[Specifier<'a>]) -> Result<Specification, Refusal> + Copy,
 > Nested<E, D, S> {
     ghost use Rattle.std.specs.Prelude.{suc};
     ghost use Rattle.c_syntax.specs.Tree as tree;
@@ -255,8 +256,8 @@ impl<
         name: &Boxed<TypedDeclarator<'a>>,
         inner: &Boxed<Expression<'a>>,
     ) -> Result<Operand, Refusal>
-        requires name { DeeperNames self.now D.Fn S.Fn (suc (typed_levels (typed_of name.now))) }
-        requires inner { TypesExpression E.Fn self.now.expression (expression_of inner.now) }
+        requires name { DeeperNames self.now D.FnOnce S.FnOnce (suc (typed_levels (typed_of name.now))) }
+        requires inner { TypesExpression E.FnOnce self.now.expression (expression_of inner.now) }
         ensures { (closing : Position) → Types operand_of (state_of typer.new) result (typed is_evaluated
             (tree.cast opening (typed_of name.now) closing (expression_of inner.now)) (state_of typer.old)) }
     {
@@ -273,7 +274,7 @@ impl<
         is_evaluated: bool,
         tree: &Expression<'a>,
     ) -> Result<Operand, Refusal>
-        requires deeper { Deeper self.now E.Fn D.Fn S.Fn (expression_levels (expression_of tree.now)) }
+        requires deeper { Deeper self.now E.FnOnce D.FnOnce S.FnOnce (expression_levels (expression_of tree.now)) }
         ensures { Types operand_of (state_of typer.new) result
             (typed is_evaluated (expression_of tree.now) (state_of typer.old)) }
     {

@@ -8,11 +8,12 @@ use c_rules::holding::beside;
 use c_syntax::{Boxed, Declarator, Expression, Member, Position, Specifier};
 use c_typing::{Entries, Shape, Specification, Typer};
 
-impl<'a, E, D: Fn(&mut Typer<'a>, bool, &Declarator<'a>) -> Result<Shape<'a>, Refusal>, S> Nested<
+impl<
+    'a,
     E,
-    D,
+    D: FnOnce(&mut Typer<'a>, bool, &Declarator<'a>) -> Result<Shape<'a>, Refusal> + Copy,
     S,
-> {
+> Nested<E, D, S> {
     ghost use Rattle.std.specs.Prelude.{false, suc};
     ghost use Rattle.c_syntax.specs.View.{declarator_of, more_declarators_in};
     ghost use Rattle.c_syntax.specs.Levels.{more_declarators_levels};
@@ -32,7 +33,7 @@ impl<'a, E, D: Fn(&mut Typer<'a>, bool, &Declarator<'a>) -> Result<Shape<'a>, Re
         before: Entries<'a>,
         tree: &Boxed<Declarator<'a>>,
     ) -> Result<Entries<'a>, Refusal>
-        requires { TypesDeclarator D.Fn self.now.declarator (declarator_of tree.now) }
+        requires { TypesDeclarator D.FnOnce self.now.declarator (declarator_of tree.now) }
         ensures { Types entries_of (state_of typer.new) result (with_shape (specification_of specification.now)
             (entries_of before.entry) (shape false (declarator_of tree.now)) (state_of typer.old)) }
     {
@@ -49,7 +50,7 @@ impl<'a, E, D: Fn(&mut Typer<'a>, bool, &Declarator<'a>) -> Result<Shape<'a>, Re
         before: Entries<'a>,
         trees: &[(Position, Boxed<Declarator<'a>>)],
     ) -> Result<Entries<'a>, Refusal>
-        requires deeper { DeeperDeclarators self.now D.Fn (suc (more_declarators_levels (more_declarators_in
+        requires deeper { DeeperDeclarators self.now D.FnOnce (suc (more_declarators_levels (more_declarators_in
             trees.now))) }
         ensures { Types entries_of (state_of typer.new) result (with_more_declared
             (specification_of specification.now) (more_declarators_in trees.now) (entries_of before.entry)
@@ -67,7 +68,7 @@ impl<
     'a,
     E,
     D,
-    S: Fn(&mut Typer<'a>, bool, &[Specifier<'a>]) -> Result<Specification, Refusal>,
+    S: FnOnce(&mut Typer<'a>, bool, &[Specifier<'a>]) -> Result<Specification, Refusal> + Copy,
 > Nested<E, D, S> {
     ghost use Rattle.std.specs.Prelude.{false};
     ghost use Rattle.c_syntax.specs.View.{specifiers_in};
@@ -83,7 +84,7 @@ impl<
         typer: &mut Typer<'a>,
         trees: &[Specifier<'a>],
     ) -> Result<Specification, Refusal>
-        requires { TypesSpecifiers S.Fn self.now.specifiers (specifiers_in trees.now) }
+        requires { TypesSpecifiers S.FnOnce self.now.specifiers (specifiers_in trees.now) }
         ensures { Types specification_of (state_of typer.new) result ((specification false (specifiers_in trees.now)
             >>> λ spec. judged (λ s. member_specified spec)) (state_of typer.old)) }
     {
@@ -95,8 +96,8 @@ impl<
 impl<
     'a,
     E,
-    D: Fn(&mut Typer<'a>, bool, &Declarator<'a>) -> Result<Shape<'a>, Refusal>,
-    S: Fn(&mut Typer<'a>, bool, &[Specifier<'a>]) -> Result<Specification, Refusal>,
+    D: FnOnce(&mut Typer<'a>, bool, &Declarator<'a>) -> Result<Shape<'a>, Refusal> + Copy,
+    S: FnOnce(&mut Typer<'a>, bool, &[Specifier<'a>]) -> Result<Specification, Refusal> + Copy,
 > Nested<E, D, S> {
     ghost use Rattle.std.specs.Prelude.{suc};
     ghost use Rattle.c_syntax.specs.View.{member_of, members_in};
@@ -114,7 +115,7 @@ impl<
         before: Entries<'a>,
         tree: &Member<'a>,
     ) -> Result<Entries<'a>, Refusal>
-        requires deeper { DeeperNames self.now D.Fn S.Fn (suc (member_levels (member_of tree.now))) }
+        requires deeper { DeeperNames self.now D.FnOnce S.FnOnce (suc (member_levels (member_of tree.now))) }
         ensures { Types entries_of (state_of typer.new) result
             (with_member (member_of tree.now) (entries_of before.entry) (state_of typer.old)) }
     {
@@ -138,7 +139,7 @@ impl<
         typer: &mut Typer<'a>,
         trees: &[Member<'a>],
     ) -> Result<Entries<'a>, Refusal>
-        requires deeper { DeeperNames self.now D.Fn S.Fn (suc (members_levels (members_in trees.now))) }
+        requires deeper { DeeperNames self.now D.FnOnce S.FnOnce (suc (members_levels (members_in trees.now))) }
         ensures { Types entries_of (state_of typer.new) result
             (with_members (members_in trees.now) no_entries (state_of typer.old)) }
     {

@@ -16,11 +16,12 @@ pub struct Nested<E, D, S> {
     pub specifiers: S,
 }
 
-impl<'a, E: Fn(&mut Typer<'a>, bool, &Expression<'a>) -> Result<Operand, Refusal>, D, S> Nested<
-    E,
+impl<
+    'a,
+    E: FnOnce(&mut Typer<'a>, bool, &Expression<'a>) -> Result<Operand, Refusal> + Copy,
     D,
     S,
-> {
+> Nested<E, D, S> {
     ghost use Rattle.c_syntax.specs.View.{expression_of};
     ghost use Rattle.c_rules.specs.Values.{value_of};
     ghost use Rattle.c_place_rules.specs.Operands.{operand_of};
@@ -36,7 +37,7 @@ impl<'a, E: Fn(&mut Typer<'a>, bool, &Expression<'a>) -> Result<Operand, Refusal
         is_evaluated: bool,
         tree: &Boxed<Expression<'a>>,
     ) -> Result<Operand, Refusal>
-        requires { TypesExpression E.Fn self.now.expression (expression_of tree.now) }
+        requires { TypesExpression E.FnOnce self.now.expression (expression_of tree.now) }
         ensures { Types operand_of (state_of typer.new) result
             (typed is_evaluated (expression_of tree.now) (state_of typer.old)) }
     {
@@ -50,7 +51,7 @@ impl<'a, E: Fn(&mut Typer<'a>, bool, &Expression<'a>) -> Result<Operand, Refusal
         is_evaluated: bool,
         tree: &Boxed<Expression<'a>>,
     ) -> Result<TypedValue, Refusal>
-        requires { TypesExpression E.Fn self.now.expression (expression_of tree.now) }
+        requires { TypesExpression E.FnOnce self.now.expression (expression_of tree.now) }
         ensures { Types value_of (state_of typer.new) result
             (valued (typed is_evaluated (expression_of tree.now)) (state_of typer.old)) }
     {
@@ -59,11 +60,12 @@ impl<'a, E: Fn(&mut Typer<'a>, bool, &Expression<'a>) -> Result<Operand, Refusal
     }
 }
 
-impl<'a, E, D: Fn(&mut Typer<'a>, bool, &Declarator<'a>) -> Result<Shape<'a>, Refusal>, S> Nested<
+impl<
+    'a,
     E,
-    D,
+    D: FnOnce(&mut Typer<'a>, bool, &Declarator<'a>) -> Result<Shape<'a>, Refusal> + Copy,
     S,
-> {
+> Nested<E, D, S> {
     ghost use Rattle.c_syntax.specs.View.{declarator_of};
     ghost use Rattle.c_typing.specs.Declarators.{shape_of};
     ghost use Rattle.c_typing.specs.State.{Types, state_of};
@@ -77,7 +79,7 @@ impl<'a, E, D: Fn(&mut Typer<'a>, bool, &Declarator<'a>) -> Result<Shape<'a>, Re
         in_definition: bool,
         tree: &Boxed<Declarator<'a>>,
     ) -> Result<Shape<'a>, Refusal>
-        requires { TypesDeclarator D.Fn self.now.declarator (declarator_of tree.now) }
+        requires { TypesDeclarator D.FnOnce self.now.declarator (declarator_of tree.now) }
         ensures { Types shape_of (state_of typer.new) result
             (shape in_definition (declarator_of tree.now) (state_of typer.old)) }
     {
@@ -89,7 +91,7 @@ impl<
     'a,
     E,
     D,
-    S: Fn(&mut Typer<'a>, bool, &[Specifier<'a>]) -> Result<Specification, Refusal>,
+    S: FnOnce(&mut Typer<'a>, bool, &[Specifier<'a>]) -> Result<Specification, Refusal> + Copy,
 > Nested<E, D, S> {
     ghost use Rattle.std.specs.Prelude.{false};
     ghost use Rattle.c_syntax.specs.View.{specifiers_in};
@@ -104,7 +106,7 @@ impl<
         typer: &mut Typer<'a>,
         trees: &[Specifier<'a>],
     ) -> Result<Specification, Refusal>
-        requires { TypesSpecifiers S.Fn self.now.specifiers (specifiers_in trees.now) }
+        requires { TypesSpecifiers S.FnOnce self.now.specifiers (specifiers_in trees.now) }
         ensures { Types specification_of (state_of typer.new) result
             (specification false (specifiers_in trees.now) (state_of typer.old)) }
     {

@@ -57,8 +57,8 @@ fn with_tagged<'a>(
 impl<
     'a,
     E,
-    D: Fn(&mut Typer<'a>, bool, &Declarator<'a>) -> Result<Shape<'a>, Refusal>,
-    S: Fn(&mut Typer<'a>, bool, &[Specifier<'a>]) -> Result<Specification, Refusal>,
+    D: FnOnce(&mut Typer<'a>, bool, &Declarator<'a>) -> Result<Shape<'a>, Refusal> + Copy,
+    S: FnOnce(&mut Typer<'a>, bool, &[Specifier<'a>]) -> Result<Specification, Refusal> + Copy,
 > Nested<E, D, S> {
     ghost use Rattle.std.specs.Prelude.{Bool, Option, suc};
     ghost use Rattle.c_syntax.specs.Tree as tree;
@@ -80,7 +80,7 @@ impl<
         tag: Tag,
         members: &[Member<'a>],
     ) -> Result<Tag, Refusal>
-        requires deeper { DeeperNames self.now D.Fn S.Fn (suc (members_levels (members_in members.now))) }
+        requires deeper { DeeperNames self.now D.FnOnce S.FnOnce (suc (members_levels (members_in members.now))) }
         ensures { Types (λ t. t) (state_of typer.new) result ((with_members (members_in members.now) no_entries >>> λ
             es.
             tag_completed line tag es) (state_of typer.old)) }
@@ -99,7 +99,7 @@ impl<
         name: &Option<Spelled<'a>>,
         members: &[Member<'a>],
     ) -> Result<Gathered, Refusal>
-        requires deeper { DeeperNames self.now D.Fn S.Fn (suc (members_levels (members_in members.now))) }
+        requires deeper { DeeperNames self.now D.FnOnce S.FnOnce (suc (members_levels (members_in members.now))) }
         ensures { (is_alone : Bool) (at opening closing : Position) → Types gathered_of (state_of typer.new) result
             (with_specifier is_alone line (tree.structure_body keyword at name.now opening (members_in members.now)
             closing) (gathered_of before) (state_of typer.old)) }
@@ -112,11 +112,12 @@ impl<
     }
 }
 
-impl<'a, E: Fn(&mut Typer<'a>, bool, &Expression<'a>) -> Result<Operand, Refusal>, D, S> Nested<
-    E,
+impl<
+    'a,
+    E: FnOnce(&mut Typer<'a>, bool, &Expression<'a>) -> Result<Operand, Refusal> + Copy,
     D,
     S,
-> {
+> Nested<E, D, S> {
     ghost use Rattle.std.specs.Prelude.{Bool, Option, Some, max, suc};
     ghost use Rattle.c_syntax.specs.Tree as tree;
     ghost use Rattle.c_syntax.specs.View.{enumerator_of, more_enumerators_in};
@@ -136,7 +137,7 @@ impl<'a, E: Fn(&mut Typer<'a>, bool, &Expression<'a>) -> Result<Operand, Refusal
         first: &Enumerator<'a>,
         more: &[(Position, Enumerator<'a>)],
     ) -> Result<Option<u64>, Refusal>
-        requires deeper { DeeperExpressions self.now E.Fn (suc (max (enumerator_levels (enumerator_of first.now))
+        requires deeper { DeeperExpressions self.now E.FnOnce (suc (max (enumerator_levels (enumerator_of first.now))
             (more_enumerators_levels (more_enumerators_in more.now)))) }
         ensures { Types (λ next. next) (state_of typer.new) result ((enumerator (Some 0) (enumerator_of first.now) >>>
             λ next. more_enumerators (more_enumerators_in more.now) next) (state_of typer.old)) }
@@ -155,7 +156,7 @@ impl<'a, E: Fn(&mut Typer<'a>, bool, &Expression<'a>) -> Result<Operand, Refusal
         first: &Enumerator<'a>,
         more: &[(Position, Enumerator<'a>)],
     ) -> Result<Gathered, Refusal>
-        requires deeper { DeeperExpressions self.now E.Fn (suc (max (enumerator_levels (enumerator_of first.now))
+        requires deeper { DeeperExpressions self.now E.FnOnce (suc (max (enumerator_levels (enumerator_of first.now))
             (more_enumerators_levels (more_enumerators_in more.now)))) }
         ensures { (is_alone : Bool) (at opening closing : Position) (comma : Option Position) → Types gathered_of
             (state_of typer.new) result (with_specifier is_alone line (tree.enumeration_body at name.now opening
@@ -172,9 +173,9 @@ impl<'a, E: Fn(&mut Typer<'a>, bool, &Expression<'a>) -> Result<Operand, Refusal
 
 impl<
     'a,
-    E: Fn(&mut Typer<'a>, bool, &Expression<'a>) -> Result<Operand, Refusal>,
-    D: Fn(&mut Typer<'a>, bool, &Declarator<'a>) -> Result<Shape<'a>, Refusal>,
-    S: Fn(&mut Typer<'a>, bool, &[Specifier<'a>]) -> Result<Specification, Refusal>,
+    E: FnOnce(&mut Typer<'a>, bool, &Expression<'a>) -> Result<Operand, Refusal> + Copy,
+    D: FnOnce(&mut Typer<'a>, bool, &Declarator<'a>) -> Result<Shape<'a>, Refusal> + Copy,
+    S: FnOnce(&mut Typer<'a>, bool, &[Specifier<'a>]) -> Result<Specification, Refusal> + Copy,
 > Nested<E, D, S> {
     ghost use Rattle.c_syntax.specs.Tree as tree;
     ghost use Rattle.c_syntax.specs.View.{specifier_of, specifiers_in};
@@ -195,7 +196,7 @@ impl<
         before: Gathered,
         tree: &Specifier<'a>,
     ) -> Result<Gathered, Refusal>
-        requires deeper { Deeper self.now E.Fn D.Fn S.Fn (specifier_levels (specifier_of tree.now)) }
+        requires deeper { Deeper self.now E.FnOnce D.FnOnce S.FnOnce (specifier_levels (specifier_of tree.now)) }
         ensures { Types gathered_of (state_of typer.new) result (with_specifier is_alone line (specifier_of tree.now)
             (gathered_of before) (state_of typer.old)) }
     {
@@ -226,7 +227,7 @@ impl<
         line: Line,
         trees: &[Specifier<'a>],
     ) -> Result<Gathered, Refusal>
-        requires deeper { Deeper self.now E.Fn D.Fn S.Fn (specifiers_levels (specifiers_in trees.now)) }
+        requires deeper { Deeper self.now E.FnOnce D.FnOnce S.FnOnce (specifiers_levels (specifiers_in trees.now)) }
         ensures { Types gathered_of (state_of typer.new) result (gathered is_alone line (specifiers_in trees.now)
             nothing_gathered (state_of typer.old)) }
     {
@@ -244,7 +245,7 @@ impl<
         is_alone: bool,
         trees: &[Specifier<'a>],
     ) -> Result<Specification, Refusal>
-        requires deeper { Deeper self.now E.Fn D.Fn S.Fn (specifiers_levels (specifiers_in trees.now)) }
+        requires deeper { Deeper self.now E.FnOnce D.FnOnce S.FnOnce (specifiers_levels (specifiers_in trees.now)) }
         ensures { Types specification_of (state_of typer.new) result
             (specification is_alone (specifiers_in trees.now) (state_of typer.old)) }
     {

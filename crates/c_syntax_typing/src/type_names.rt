@@ -13,8 +13,8 @@ use c_typing::{Shape, Specification, Typer};
 impl<
     'a,
     E,
-    D: Fn(&mut Typer<'a>, bool, &Declarator<'a>) -> Result<Shape<'a>, Refusal>,
-    S: Fn(&mut Typer<'a>, bool, &[Specifier<'a>]) -> Result<Specification, Refusal>,
+    D: FnOnce(&mut Typer<'a>, bool, &Declarator<'a>) -> Result<Shape<'a>, Refusal> + Copy,
+    S: FnOnce(&mut Typer<'a>, bool, &[Specifier<'a>]) -> Result<Specification, Refusal> + Copy,
 > Nested<E, D, S> {
     ghost use Rattle.std.specs.Prelude.{suc};
     ghost use Rattle.c_syntax.specs.View.{more_parameters_in, parameters_of, typed_of};
@@ -30,7 +30,7 @@ impl<
         typer: &mut Typer<'a>,
         name: &TypedDeclarator<'a>,
     ) -> Result<CType, Refusal>
-        requires deeper { DeeperNames self.now D.Fn S.Fn (suc (typed_levels (typed_of name.now))) }
+        requires deeper { DeeperNames self.now D.FnOnce S.FnOnce (suc (typed_levels (typed_of name.now))) }
         ensures { Types (λ c_type. c_type) (state_of typer.new) result
             (type_name (typed_of name.now) (state_of typer.old)) }
     {
@@ -49,7 +49,7 @@ impl<
         in_definition: bool,
         parameter: &TypedDeclarator<'a>,
     ) -> Result<CType, Refusal>
-        requires deeper { DeeperNames self.now D.Fn S.Fn (suc (typed_levels (typed_of parameter.now))) }
+        requires deeper { DeeperNames self.now D.FnOnce S.FnOnce (suc (typed_levels (typed_of parameter.now))) }
         ensures { Types (λ c_type. c_type) (state_of typer.new) result
             (parameter_type in_definition (typed_of parameter.now) (state_of typer.old)) }
     {
@@ -69,7 +69,7 @@ impl<
         parameters: &[(Position, TypedDeclarator<'a>)],
         before: Vec<CType>,
     ) -> Result<Vec<CType>, Refusal>
-        requires deeper { DeeperNames self.now D.Fn S.Fn (suc (more_parameters_levels (more_parameters_in
+        requires deeper { DeeperNames self.now D.FnOnce S.FnOnce (suc (more_parameters_levels (more_parameters_in
             parameters.now))) }
         ensures { Types (λ types. types.items) (state_of typer.new) result (more_types in_definition
             (more_parameters_in parameters.now) before.items (state_of typer.old)) }
@@ -91,7 +91,7 @@ impl<
         in_definition: bool,
         parameters: &Parameters<'a>,
     ) -> Result<Vec<CType>, Refusal>
-        requires deeper { DeeperNames self.now D.Fn S.Fn (suc (parameters_levels (parameters_of parameters.now))) }
+        requires deeper { DeeperNames self.now D.FnOnce S.FnOnce (suc (parameters_levels (parameters_of parameters.now))) }
         ensures { Types (λ types. types.items) (state_of typer.new) result
             (parameter_types in_definition (parameters_of parameters.now) (state_of typer.old)) }
     {

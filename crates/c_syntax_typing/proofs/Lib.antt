@@ -1,3 +1,4 @@
 pub mod Lower
 pub mod Composing
+pub mod Loops
 pub mod Views

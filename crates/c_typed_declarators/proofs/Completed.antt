@@ -20,6 +20,7 @@ use Rattle.c_typing.specs.State.{State, extents}
 use Rattle.c_typed_validity.specs.More.{AreMore}
 use Rattle.c_typed_validity.specs.Sound.{IsFormed, IsNumbered, IsObjectExtent, IsPending}
 use Rattle.c_typed_validity.specs.Typed.{HaveMembers}
+use Rattle.c_typed_validity.proofs.Common.{the_same}
 use Rattle.c_typed_validity.proofs.Kept.{extent_kept, target_kept}
 use Rattle.c_typed_validity.proofs.Sound.{more_more}
 use Rattle.c_typed_declarators.specs.Extending.{Extending, Extends}
@@ -35,9 +36,6 @@ none_or a b x P e g = by (sym e ∙ g)
   where
     by : None ≡ Some x → P
     by e = cc
-
-the_same : {A : Type 0} {a b : A} → Some a ≡ Some b → a ≡ b
-the_same e = cc
 
 abbrev pub filled : ℕ → TypeExtent → List (Option TypeExtent) → List (Option TypeExtent)
 filled n whole es = changed n (λ e. Some whole) es

@@ -27,10 +27,12 @@ use Rattle.c_typing.specs.Declarators.{parameter_built, parameter_declaration, b
 use Rattle.c_typing.specs.Specifications.{Specification}
 use Rattle.c_typing.specs.State.{State, extents}
 use Rattle.c_typed_validity.specs.Sound.{IsFormed, IsNumbered}
+use Rattle.c_typed_validity.proofs.Common.{neither_right}
 use Rattle.c_typed_validity.proofs.Sound.{same_list, same_more}
 use Rattle.c_typed_declarators.specs.Extending.{AddsEnumerators, Extending, Extends, IsNew, IsSameOr, same}
 use Rattle.c_typed_declarators.specs.Given.{anything}
-use Rattle.c_typed_declarators.proofs.Chained.{IfAnswer, adds_none, constants_stay, judged_extends, typedefs_stay}
+use Rattle.c_typed_declarators.proofs.Chained.{adds_none, constants_stay, judged_extends, typedefs_stay}
+use Rattle.c_typed_declarators.proofs.Steps.{whatever}
 use Rattle.c_typed_declarators.proofs.Tags.{bound_same}
 
 -- a scope that is opened and left
@@ -60,7 +62,7 @@ pub innermost_last : {A : Type 0} (file : Names A) (outer : List (Names A)) (cur
 innermost_last file [] current = refl
 innermost_last file (o ∷ outer) current = innermost_last o outer current
 
-not_empty : {A : Type 0} (outer : List A) (x : A) → is_empty (outer ++ x ∷ []) ≡ false
+pub not_empty : {A : Type 0} (outer : List A) (x : A) → is_empty (outer ++ x ∷ []) ≡ false
 not_empty [] x = refl
 not_empty (o ∷ outer) x = refl
 
@@ -249,10 +251,6 @@ judged_by : (s : State) (d : Declaration) (type : List TypeWord) (a : Answer (Un
 judged_by s d type (Ok x) h = (h, tt)
 judged_by s d type (Err f) h = tt
 
-pub misplaced_by : (a b : Bool) → (a || b) ≡ false → b ≡ false
-misplaced_by true b e = absurd cc
-misplaced_by false b e = e
-
 named_parameter : (s : State) → IsFormed s → in_file s.environment ≡ false → (in_definition : Bool)
     (spec : Specification) (b : BuiltType) (name : Name × ℕ) (is : Bool) → is_misplaced spec ≡ is
     → Extending true s anything
@@ -261,7 +259,7 @@ named_parameter : (s : State) → IsFormed s → in_file s.environment ≡ false
 named_parameter s formed inner in_definition spec b name true e = tt
 named_parameter s formed inner in_definition spec b name false e =
     let d = parameter_declaration in_definition spec b name in
-    let plain = misplaced_by spec.has_two_storages (not_for_parameter spec.storage) e in
+    let plain = neither_right spec.has_two_storages (not_for_parameter spec.storage) e in
     judged_by s d (unqualified (adjusted b.type)) (judged (surroundings s.environment d) d)
     (linked_by s d (has_linkage (in_file s.environment) d)
     (unlinked_is (in_file s.environment) (is_function (adjusted b.type)) (is_extern spec.storage)
@@ -272,11 +270,7 @@ parameter_by : (s : State) → IsFormed s → in_file s.environment ≡ false �
     (spec : Specification) (b : BuiltType) (name : Option (Name × ℕ))
     → Extending true s anything (parameter_built in_definition spec b name s)
 parameter_by s formed inner in_definition spec b None =
-    judged_extends true s anything (nameless_parameter spec b) formed (whatever (nameless_parameter spec b))
-  where
-    whatever : {A : Type 0} (a : Answer A) → IfAnswer (λ x. Unit {0}) a
-    whatever (Ok x) = tt
-    whatever (Err f) = tt
+    judged_extends true s anything (nameless_parameter spec b) formed (whatever s (nameless_parameter spec b))
 parameter_by s formed inner in_definition spec b (Some name) =
     named_parameter s formed inner in_definition spec b name (is_misplaced spec) refl
 

@@ -23,6 +23,7 @@ use Rattle.c_expression_typing.specs.Constructs.{begun_as, tagged_as}
 use Rattle.c_typed_validity.specs.More.{AreMore}
 use Rattle.c_typed_validity.specs.Sound.{IsFormed, IsNumbered, IsObjectExtent, IsPending}
 use Rattle.c_typed_validity.specs.Typed.{HaveMembers}
+use Rattle.c_typed_validity.proofs.Common.{the_same}
 use Rattle.c_typed_validity.proofs.Kept.{target_kept}
 use Rattle.c_typed_validity.proofs.Sound.{same_list, same_more}
 use Rattle.c_typed_declarators.specs.Extending.{Extending, Extends, IsSameOr, new, same}
@@ -78,9 +79,6 @@ stays_by : {A : Type 0} (P : A → Type 0) (before behind around : Option A) →
     → ((x : A) → or_else before around ≡ Some x → P x) → (x : A) → or_else behind around ≡ Some x → P x
 stays_by P before behind around (same e) h x is = h x (ap (λ z. or_else z around) (sym e) ∙ is)
 stays_by P before behind around (new y e p) h x is = subst P (the_same (ap (λ z. or_else z around) (sym e) ∙ is)) p
-  where
-    the_same : Some y ≡ Some x → y ≡ x
-    the_same e = cc
 
 pub numbered_more : (count more : ℕ) → count ≤ more → (t : Tag) → IsNumbered count t → IsNumbered more t
 numbered_more count more low (tag.Structure n) is = omega arith
@@ -89,7 +87,7 @@ numbered_more count more low (tag.Enumeration n) is = tt
 
 -- other structures, tags and enumerations
 
-abbrev restructured : State → Structures → Names Tag → List Bool → State
+abbrev pub restructured : State → Structures → Names Tag → List Bool → State
 restructured s st current enumerations = record s {
   environment = record s.environment {
     structures = st;
@@ -257,10 +255,10 @@ added_extends b s formed kind.Enumeration (Some x) =
     (λ name. bound_same (IsNumbered (length (extents s))) x name (tag.Enumeration (length s.environment.enumerations))
     s.environment.tags.current tt))
 
-abbrev in_environment : State → Environment × Tag → Answer (State × Tag)
+abbrev pub in_environment : State → Environment × Tag → Answer (State × Tag)
 in_environment s r = Ok (record s { environment = r.0 }, r.1)
 
-abbrev unless_mistaken : (is : Bool) → (line : ℕ) → Environment × Tag → Answer (Environment × Tag)
+abbrev pub unless_mistaken : (is : Bool) → (line : ℕ) → Environment × Tag → Answer (Environment × Tag)
 unless_mistaken is line r = if is then Ok r else violates MistakenTag line
 
 referred_by : (b : Bool) (s : State) → IsFormed s → (line : ℕ) (t : Tag) (is : Bool)

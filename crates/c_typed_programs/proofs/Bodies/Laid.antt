@@ -24,7 +24,7 @@ use Rattle.c_expression_typing.specs.Constructs.{valued}
 use Rattle.c_expression_typing.specs.Typed.{specification, typed}
 use Rattle.c_unit_typing.specs.Constructs.{Labels, behind_first, case_label, case_with, controlling, controls}
 use Rattle.c_unit_typing.specs.Constructs.{controls_if, evaluated, evaluated_if, expression_typed, returned}
-use Rattle.c_unit_typing.specs.Constructs.{returned_nothing, returned_value, scope_closed, scope_opened, switches}
+use Rattle.c_unit_typing.specs.Constructs.{returned_nothing, returned_value, switches}
 use Rattle.c_unit_typing.specs.Constructs.{switching_on, valued_if}
 use Rattle.c_unit_typing.specs.Declarations.{stored_once}
 use Rattle.c_unit_typing.specs.Files.{File}
@@ -32,6 +32,7 @@ use Rattle.c_unit_typing.specs.Units.{definition_of, entered, gives_incomplete}
 use Rattle.c_typed_validity.specs.More.{AreMore}
 use Rattle.c_typed_validity.specs.Regular.{are_regular_specifiers, is_regular}
 use Rattle.c_typed_validity.specs.Sound.{IsFormed}
+use Rattle.c_typed_validity.proofs.Common.{neither_left as first_false, the_same}
 use Rattle.c_typed_declarators.specs.Extending.{IsNew}
 use Rattle.c_typed_declarators.specs.Given.{IsParameterScope, anything}
 use Rattle.c_typed_declarators.proofs.Marks.{type_extends}
@@ -40,10 +41,8 @@ use Rattle.c_typed_declarators.proofs.Steps.{whatever}
 use Rattle.c_typed_declarators.proofs.Types.{without_faults}
 use Rattle.c_typed_programs.specs.Declarations.Binding.{IfDeclared}
 use Rattle.c_typed_programs.proofs.Declarations.Judged.{IsBuilt, answered}
-use Rattle.c_typed_programs.specs.Scopes.Leaving.{FileLeads}
 use Rattle.c_typed_programs.specs.Scopes.Regular.{is_regular_if}
 use Rattle.c_typed_programs.proofs.Scopes.Files.{inside, inside_formed}
-use Rattle.c_typed_programs.proofs.Scopes.Leading.{names_are}
 use Rattle.c_typed_programs.proofs.Scopes.Extended.{case_extends, controlling_extends, evaluated_extends}
 use Rattle.c_typed_programs.proofs.Scopes.Extended.{expression_extends, returned_extends}
 use Rattle.c_typed_programs.proofs.Scopes.Extended.{switching_extends, valued_if_extends}
@@ -56,16 +55,8 @@ use Rattle.c_typed_programs.proofs.Layouts.Declared.{declared_by}
 use Rattle.c_typed_programs.proofs.Layouts.Recursion.{typed_laid, valued_laid}
 use Rattle.c_typed_programs.proofs.Layouts.Standing.{same_lists}
 use Rattle.c_typed_programs.proofs.Bodies.Evaluated.{head_extends}
-use Rattle.c_typed_programs.proofs.Common.{neither_left as first_false}
 
 -- in and behind blocks
-
-pub laid_opened : (f : File) → IsLaidOut f.state → IsLaidOut (scope_opened f).state
-laid_opened f is = record {
-  lists = is.lists;
-  names = λ name m e.
-      is.names name m (sym (found_last name f.state.environment.names.outer f.state.environment.names.current) ∙ e);
-}
 
 -- names stand for what they did before
 pub laid_left : (s u : State) → AreMore (extents s) (extents u) → HasLists u
@@ -77,21 +68,12 @@ laid_left s u more lists same is = record {
       meaning_kept (extents s) (extents u) more m (is.names name m (sym (same name) ∙ e));
 }
 
-pub laid_closed : (f g : File) → FileLeads (scope_opened f) g → IsLaidOut f.state → IsLaidOut g.state
-    → IsLaidOut (scope_closed g).state
-laid_closed f g h before behind =
-    laid_left f.state (scope_closed g).state (record { kept = h.state.more.kept }) behind.lists
-    (λ name. names_are f.state g.state h.state.outer h.state.outer_tags name) before
-
 -- in the scope of parameters
 
 inner_arrays : (es : List (Option TypeExtent)) (a b : Option Meaning) → ((m : Meaning) → a ≡ Some m → IsNew true m)
     → ((m : Meaning) → b ≡ Some m → HasArraysIn es m) → (m : Meaning) → or_else a b ≡ Some m → HasArraysIn es m
 inner_arrays es None b h g m e = g m e
 inner_arrays es (Some x) b h g m e = subst (HasArraysIn es) (the_same e) (new_arrays true es x (h x refl))
-  where
-    the_same : Some x ≡ Some m → x ≡ m
-    the_same e = cc
 
 laid_inside : (f : File) (n : ℕ) (p : ParameterScope) → IsParameterScope f.state p → IsLaidOut f.state
     → IsLaidOut (inside n p f)

@@ -35,9 +35,10 @@ use Rattle.c_expression_typing.specs.Typed.{more_types, parameter_type, paramete
 use Rattle.c_typed_validity.specs.Regular.{are_regular_parameters, is_regular_declarator, is_regular_name}
 use Rattle.c_typed_validity.specs.Regular.{more_are_regular_parameters}
 use Rattle.c_typed_validity.specs.Sound.{IsFormed}
+use Rattle.c_typed_validity.proofs.Common.{first, neither_right, second}
 use Rattle.c_typed_declarators.specs.Extending.{AreEnumerators, Extending, Extends, IsEnumerator}
 use Rattle.c_typed_declarators.specs.Given.{IsShapeOf, IsSpecified, anything}
-use Rattle.c_typed_declarators.proofs.Parameters.{misplaced_by, no_function, plain_by, unlinked_is, within}
+use Rattle.c_typed_declarators.proofs.Parameters.{no_function, plain_by, unlinked_is, within}
 use Rattle.c_typed_declarators.proofs.Parameters.{within_block}
 use Rattle.c_typed_declarators.proofs.Parameters.{within_formed}
 use Rattle.c_typed_declarators.proofs.Recursion.{parameter_extend, shape_extends}
@@ -46,7 +47,7 @@ use Rattle.c_typed_declarators.proofs.Tags.{bound_last}
 use Rattle.c_typed_programs.specs.Bodies.Types.{AreTypesOf, EntryTypes, NameTypes, NextType}
 use Rattle.c_typed_programs.proofs.Bodies.Parameters.{IfSays, Says, fresh_name, shape_says}
 use Rattle.c_typed_programs.proofs.Bodies.Types.{AllTypes, parameters_types, types_extended, types_inside}
-use Rattle.c_typed_programs.proofs.Common.{IfGives, first, second}
+use Rattle.c_typed_programs.proofs.Common.{IfGives}
 
 -- lists of names, one behind the other
 
@@ -143,7 +144,7 @@ module _ (s : State) (inner : in_file s.environment ≡ false) where
     named_by spec b name true e = tt
     named_by spec b name false e =
         let d = parameter_declaration true spec b name in
-        let plain = misplaced_by spec.has_two_storages (not_for_parameter spec.storage) e in
+        let plain = neither_right spec.has_two_storages (not_for_parameter spec.storage) e in
         judged_by d plain
         (unlinked_is (in_file s.environment) (is_function (adjusted b.type)) (is_extern spec.storage)
         (is_typedef spec.storage) inner (no_function b.type) (plain_by spec.storage plain).no_extern)

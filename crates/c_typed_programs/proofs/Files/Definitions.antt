@@ -41,6 +41,8 @@ use Rattle.c_typed_programs.specs.SpelledTypes.Spelled.{IsFunctionType}
 use Rattle.c_typed_programs.proofs.SpelledTypes.Composites.{none_first}
 use Rattle.c_typed_validity.specs.Sound.{IsFormed, is_sized_array}
 use Rattle.c_typed_validity.specs.More.{AreMore}
+use Rattle.c_typed_validity.specs.Steps.{Structures}
+use Rattle.c_typed_validity.proofs.Common.{first, neither_left, neither_right, second, the_same}
 use Rattle.c_typed_declarators.specs.Given.{AreCounted, HasScope, IsParameterScope, IsShapeOf, IsSpecified}
 use Rattle.c_typed_declarators.proofs.Recursion.{scope_kept, shape_extends}
 use Rattle.c_typed_declarators.proofs.Types.{NoFaults, without_faults}
@@ -55,7 +57,7 @@ use Rattle.c_typed_programs.proofs.Scopes.Files.{stored_extends}
 use Rattle.c_typed_programs.proofs.Scopes.Leading.{bound_leads, closed_leads, file_on, file_same, leads_by, state_leads}
 use Rattle.c_typed_programs.proofs.Scopes.Statements.{IfFileBehind, Walk, items_walk}
 use Rattle.c_typed_programs.specs.Types.Typed.{AreNamed, Each, IsDerived, IsNamed, IsSpelled, OfParameters}
-use Rattle.c_typed_programs.specs.Types.Typed.{OfSpecification, Structures, Types}
+use Rattle.c_typed_programs.specs.Types.Typed.{OfSpecification, Types}
 use Rattle.c_typed_programs.proofs.Types.Built.{built_spelled}
 use Rattle.c_typed_programs.proofs.Types.Calls.{gives_no_array, gives_no_function, result_fits}
 use Rattle.c_typed_programs.proofs.Types.Declarators.{HasKinds, IsDeclared}
@@ -68,8 +70,8 @@ use Rattle.c_typed_programs.specs.Scopes.Defined.{define_functions, defines}
 use Rattle.c_typed_programs.proofs.Files.FunctionWords.{composite_function_type, rest_spelled, result_kinded}
 use Rattle.c_typed_programs.proofs.Files.FunctionWords.{words_parameters, words_result}
 use Rattle.c_typed_programs.proofs.Files.Spelled.{IfTypes, Values, declaration_typed, state_then, stored_specification}
-use Rattle.c_typed_programs.proofs.Files.Spelled.{types_walk}
-use Rattle.c_typed_programs.proofs.Common.{filed, first, neither_left, neither_right, second, the_same}
+use Rattle.c_typed_programs.proofs.Files.Spelled.{type_is, types_walk}
+use Rattle.c_typed_programs.proofs.Common.{filed}
 
 -- blocks
 
@@ -249,9 +251,6 @@ visible_type_function es t None h is = is
 visible_type_function es t (Some (meaning.Typedef s)) h is = is
 visible_type_function es t (Some (meaning.Constant w)) h is = is
 visible_type_function es t (Some (meaning.Named d s)) h is = linked_function es d s t (h (meaning.Named d s) refl) is
-
-type_is : {d e : Designated} {s t : List TypeWord} → meaning.Named d s ≡ meaning.Named e t → s ≡ t
-type_is e = cc
 
 unlinked_function : (s : State) (d : Declaration) (z : Storage) (n : ℕ) (type : List TypeWord)
     → unlinked_meaning z s.environment d ≡ meaning.Named (what.Function n) type → IsFunctionType (extents s) d.type

@@ -16,10 +16,10 @@ use Rattle.c_tree.specs.TypesAgree.{kind_of_type, structure_kind}
 use Rattle.c_rules.specs.Types.{unqualified}
 use Rattle.c_current_object.specs.Types.{is_character_array_as, is_character_as}
 use Rattle.c_initializer_rules.specs.Literals.{filling_as}
+use Rattle.c_typed_validity.proofs.Common.{the_same}
 use Rattle.c_typed_declarators.proofs.Types.{size_low}
 use Rattle.c_typed_programs.specs.Initializers.Placing.{HasExtent}
 use Rattle.c_typed_programs.proofs.Initializers.Extents.{array_elements, unqualified_extent}
-use Rattle.c_typed_programs.proofs.Common.{the_same}
 
 -- the bytes of the kind of a type
 

@@ -14,11 +14,11 @@ use Rattle.c_current_object.specs.declared.subobject.Step.{Step}
 use Rattle.c_current_object.specs.declared.subobject.Subobject.{Subobject}
 use Rattle.c_current_object.specs.Members.{MemberList, MemberLists}
 use Rattle.c_current_object.specs.Subobjects.{element_in, member_in, member_of, part, part_as, size_or_0, whole}
+use Rattle.c_typed_validity.proofs.Common.{the_same}
 use Rattle.c_typed_programs.specs.Initializers.Cursor.{HasIf}
 use Rattle.c_typed_programs.specs.Layouts.Listed.{AreListed, IsListed}
 use Rattle.c_typed_programs.specs.Initializers.Placing.{HasExtent, IsPlaced, LiesWithin, as_part, as_whole, bound}
 use Rattle.c_typed_programs.proofs.Initializers.Extents.{array_elements, rows, target_extent, unqualified_has}
-use Rattle.c_typed_programs.proofs.Common.{the_same}
 
 -- the part is the object itself, or lies within the same limit, one step below it
 pub data IsPartOf (es : List (Option TypeExtent)) (limit : ℕ) (o p : Subobject) : Type 0 where

@@ -32,6 +32,7 @@ use Rattle.c_unit_typing.specs.Statements.{block, block_item, block_items, state
 use Rattle.c_unit_typing.specs.Statements.{switch_items}
 use Rattle.c_typed_validity.specs.Regular.{is_regular}
 use Rattle.c_typed_validity.specs.Sound.{IsFormed}
+use Rattle.c_typed_validity.proofs.Common.{first, second}
 use Rattle.c_typed_programs.specs.Layouts.Listed.{IsLaidOut}
 use Rattle.c_typed_programs.specs.Scopes.Regular.{are_regular_block_items, is_regular_block, is_regular_block_item}
 use Rattle.c_typed_programs.specs.Scopes.Regular.{is_regular_declaration, is_regular_first, is_regular_if}
@@ -41,7 +42,6 @@ use Rattle.c_typed_programs.specs.LaidOut.Behind.{IfLaid}
 use Rattle.c_typed_programs.proofs.LaidOut.Chained.{Lays, StateLays, chain, done_lays, finished_lays, judged_lays}
 use Rattle.c_typed_programs.proofs.LaidOut.Chained.{scoped, state_chain, state_lays, then_lays, value_lays}
 use Rattle.c_typed_programs.proofs.LaidOut.Declarations.{declaration_laid}
-use Rattle.c_typed_programs.proofs.Common.{first, second}
 
 labelled_lays : (ls : Labels) (typing : FileTyping Statement) → Lays typing → Lays (labelled ls typing)
 labelled_lays ls typing h =

@@ -23,6 +23,7 @@ use Rattle.c_scope.specs.declared.meaning.Tag.{Tag}
 use Rattle.c_scope.specs.declared.meaning.Tag.TheVariants as tag
 use Rattle.c_typing.specs.Specifications.{Gathered, specified, tag_type, type_or_basic}
 use Rattle.c_typed_validity.specs.More.{AreMore}
+use Rattle.c_typed_validity.proofs.Common.{both_true}
 use Rattle.c_typed_validity.proofs.Kept.{extent_kept}
 use Rattle.c_typed_declarators.proofs.Tags.{member_kept}
 use Rattle.c_typed_declarators.proofs.Types.{NoFaults, element_known, first_faultless, second_faultless}
@@ -34,10 +35,6 @@ pub bytes_kept : (count bytes : ℕ) (o more : Option TypeExtent) → ((e : Type
     → has_bytes count bytes o ≡ true → has_bytes count bytes more ≡ true
 bytes_kept count bytes None more h e = absurd cc
 bytes_kept count bytes (Some x) more h e = ap (has_bytes count bytes) (h x refl) ∙ e
-
-pub both_true : (a b c d : Bool) → (a ≡ true → c ≡ true) → (b ≡ true → d ≡ true) → (a && b) ≡ true → (c && d) ≡ true
-both_true true b c d h g e = ap (λ z. z && d) (h refl) ∙ g e
-both_true false b c d h g e = absurd cc
 
 pub arrays_kept : (es more : List (Option TypeExtent)) → AreMore es more → (ws : List TypeWord)
     → has_array_bytes es ws ≡ true → has_array_bytes more ws ≡ true

@@ -31,10 +31,12 @@ use Rattle.c_unit_typing.specs.Declarations.{with_others, with_parts, with_varia
 use Rattle.c_unit_typing.specs.Files.{File, FileTyping}
 use Rattle.c_unit_typing.specs.Lines.{initializer_line}
 use Rattle.c_typed_validity.specs.Sound.{is_sized_array}
+use Rattle.c_typed_validity.proofs.Common.{first, second}
 use Rattle.c_typed_declarators.specs.Given.{AreCounted, IsShapeOf, IsSpecified}
 use Rattle.c_typed_declarators.proofs.Recursion.{shape_extends}
 use Rattle.c_typed_programs.specs.Declarations.Binding.{Binds, Declares, IfDeclared, IsCompleteFor, bound_meaning}
-use Rattle.c_typed_programs.specs.Declarations.Binding.{linked_meaning, unlinked_meaning}
+use Rattle.c_typed_programs.specs.Declarations.Binding.{unlinked_meaning}
+use Rattle.c_typed_programs.proofs.Declarations.Bound.{Bound}
 use Rattle.c_typed_programs.proofs.Declarations.Judged.{declared_as_declares}
 use Rattle.c_typed_programs.specs.Scopes.Regular.{are_regular_declarators, initializer_of, is_regular_declaration}
 use Rattle.c_typed_programs.specs.Scopes.Regular.{is_regular_initializer_if, is_regular_object}
@@ -53,7 +55,7 @@ use Rattle.c_typed_programs.proofs.Bodies.Objects.{AreDeclared}
 use Rattle.c_typed_programs.specs.Statics.Added.{IfAdds}
 use Rattle.c_typed_programs.proofs.Statics.Added.{adds_same, adds_typed, from_file, state_then}
 use Rattle.c_typed_programs.proofs.Statics.Objects.{static_adds}
-use Rattle.c_typed_programs.proofs.Common.{filed, first, second, some_mapped}
+use Rattle.c_typed_programs.proofs.Common.{filed, some_mapped}
 
 -- what is no object without linkage leaves the static objects of a file as they are
 
@@ -73,9 +75,6 @@ parts_kept g n false (Ok r) = refl
 parts_kept g n b (Err e) = tt
 
 -- a name without linkage that stands for a static object is of a complete type
-
-abbrev Bound : Bool → Environment → Declaration → Meaning
-Bound b env d = if b then linked_meaning env d else unlinked_meaning d.storage env d
 
 record IsStaticName (env : Environment) (d : Declaration) (named : List TypeWord) : Type 0 where
   linkage : has_linkage (in_file env) d ≡ false

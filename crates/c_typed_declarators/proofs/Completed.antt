@@ -3,7 +3,7 @@ use Rattle.std.proofs.Common.{◌≡◌, ◌⊎◌, inl, inr, ℕ, zero, suc, �
 use Rattle.std.proofs.Common.{◌∙◌, subst}
 use Rattle.std.proofs.Common.{List, [], ◌∷◌, length, Option, Some, None, if◌then◌else◌, nat_le, arith}
 use Rattle.std.specs.Prelude.{Ok, slice_get, get_or, nat_lt}
-use Rattle.std.proofs.lemmas.Bool.{le-leb, ltb-false}
+use Rattle.std.proofs.lemmas.Bool.{false≢true, le-leb, ltb-false}
 use Rattle.c_tree.specs.Extents.{TypeExtent, structure_extent}
 use Rattle.c_rules.specs.declared.fault.Rule.TheVariants as rule
 use Rattle.c_rules.specs.Answer.{violates, ◌>>=◌}
@@ -169,10 +169,7 @@ module _ (u : State) (formed : IsFormed u) (is_union : Bool) (n : ℕ) (entries 
   not_now : (s : State) (k : ℕ) → is_begun n s.environment.structures.bodies ≡ false
       → is_begun k s.environment.structures.bodies ≡ true → k ≡ n → ⊥
   not_now s k fresh begun e =
-      conflict (sym fresh ∙ ap (λ k. is_begun k s.environment.structures.bodies) (sym e) ∙ begun)
-    where
-      conflict : false ≡ true → ⊥
-      conflict e = cc
+      false≢true (sym fresh ∙ ap (λ k. is_begun k s.environment.structures.bodies) (sym e) ∙ begun)
 
   pending_stays : (k : ℕ) → (k ≡ n → ⊥) → IsPending u k → IsPending (with_structure is_union n entries u) k
   pending_stays k other p = record {

@@ -1,5 +1,5 @@
 -- Lists of parameters have a scope of their own.
-use Rattle.std.proofs.Common.{◌≡◌, ℕ, ◌≤◌, Bool, true, false, ◌&&◌, ◌||◌, refl, sym, ap, subst, ◌∙◌, List, [], ◌∷◌}
+use Rattle.std.proofs.Common.{◌≡◌, ℕ, Bool, true, false, ◌&&◌, ◌||◌, refl, sym, ap, subst, ◌∙◌, List, [], ◌∷◌}
 use Rattle.std.proofs.Common.{◌++◌, length, Option, Some, None, if◌then◌else◌, arith}
 use Rattle.std.specs.Prelude.{Ok, Err, not}
 use Rattle.c_tree.specs.declared.c_type.TypeWord.{TypeWord}
@@ -13,8 +13,6 @@ use Rattle.c_scope.specs.declared.meaning.Designated.TheVariants as what
 use Rattle.c_scope.specs.declared.meaning.Meaning.TheVariants as meaning
 use Rattle.c_scope.specs.declared.meaning.Storage.{Storage}
 use Rattle.c_scope.specs.declared.meaning.Storage.TheVariants as storage
-use Rattle.c_scope.specs.declared.meaning.Tag.{Tag}
-use Rattle.c_scope.specs.declared.meaning.Tag.TheVariants as tag
 use Rattle.c_scope.specs.Declaring.{Declaration, has_linkage, is_extern, is_function, is_typedef, judged}
 use Rattle.c_scope.specs.Environment.{in_file, linked, surroundings, with_block, with_declarator, with_variable}
 use Rattle.c_scope.specs.Environment.{without_linkage}
@@ -26,14 +24,14 @@ use Rattle.c_typing.specs.Declarators.{Shape, declaring, is_misplaced, not_for_p
 use Rattle.c_typing.specs.Declarators.{parameter_built, parameter_declaration, built_in}
 use Rattle.c_typing.specs.Specifications.{Specification}
 use Rattle.c_typing.specs.State.{State, extents}
-use Rattle.c_typed_validity.specs.Sound.{IsFormed, IsNumbered}
+use Rattle.c_typed_validity.specs.Sound.{IsFormed}
 use Rattle.c_typed_validity.proofs.Common.{neither_right}
 use Rattle.c_typed_validity.proofs.Sound.{same_list, same_more}
 use Rattle.c_typed_declarators.specs.Extending.{AddsEnumerators, Extending, Extends, IsNew, IsSameOr, same}
 use Rattle.c_typed_declarators.specs.Given.{anything}
 use Rattle.c_typed_declarators.proofs.Chained.{adds_none, constants_stay, judged_extends, typedefs_stay}
 use Rattle.c_typed_declarators.proofs.Steps.{whatever}
-use Rattle.c_typed_declarators.proofs.Tags.{bound_same}
+use Rattle.c_typed_declarators.proofs.Tags.{bound_same, numbered_more}
 
 -- a scope that is opened and left
 
@@ -109,11 +107,6 @@ module _ (b : Bool) (s t : State) (formed : IsFormed s) (h : Extends true (withi
   the_tags_are name = ap (λ z. or_else (declared name z) (found name (around t.environment.tags.outer))) tags_are
       ∙ ap (λ z. or_else (declared name s.environment.tags.current) (found name z)) outer_tags_are
 
-  more_numbered : (t : Tag) (count more : ℕ) → count ≤ more → IsNumbered count t → IsNumbered more t
-  more_numbered (tag.Structure n) count more low is = omega arith
-  more_numbered (tag.Union n) count more low is = omega arith
-  more_numbered (tag.Enumeration n) count more low is = tt
-
   pub behind_extends : Extends b s (behind s.environment.variables t)
   behind_extends = record {
     more = record { kept = h.more.kept };
@@ -141,7 +134,7 @@ module _ (b : Bool) (s t : State) (formed : IsFormed s) (h : Extends true (withi
       begun = h.formed.begun;
       sizes = h.formed.sizes;
       tags = λ name x e.
-          more_numbered x (length (extents s)) (length (extents t)) h.longer
+          numbered_more (length (extents s)) (length (extents t)) h.longer x
           (formed.tags name x (sym (the_tags_are name) ∙ e));
       constants = λ name w e. formed.constants name w (sym (names_are name) ∙ e);
       typedefs = λ name type e. formed.typedefs name type (sym (names_are name) ∙ e);

@@ -1,6 +1,7 @@
 -- Tags, and structures and unions of which more are declared, begun or complete.
 use Rattle.std.proofs.Common.{◌≡◌, ℕ, zero, suc, ◌<◌, ◌≤◌, Bool, true, false, ◌&&◌, refl, sym, ap, ◌∙◌, subst}
 use Rattle.std.proofs.Common.{List, [], ◌∷◌, ◌++◌, length, Option, Some, None, if◌then◌else◌, arith}
+use Rattle.std.proofs.lemmas.Bool.{false≢true}
 use Rattle.std.specs.Prelude.{Ok, not}
 use Rattle.c_tree.specs.Extents.{TypeExtent, structure_extent}
 use Rattle.c_rules.specs.Answer.{Answer, violates, ◌>>=◌}
@@ -395,10 +396,7 @@ open_by : (es : List (Option TypeExtent)) (bodies : List Body) (n : ℕ)
     → ((e : TypeExtent) → structure_extent es n ≡ Some e → is_begun n bodies ≡ true)
     → is_begun n bodies ≡ false → (o : Option TypeExtent) → structure_extent es n ≡ o → structure_extent es n ≡ None
 open_by es bodies n h fresh None e = e
-open_by es bodies n h fresh (Some x) e = absurd (conflict (sym fresh ∙ h x e))
-  where
-    conflict : false ≡ true → ⊥
-    conflict e = cc
+open_by es bodies n h fresh (Some x) e = absurd (false≢true (sym fresh ∙ h x e))
 
 fresh_open : (s : State) → IsFormed s → (t : Tag) → IsFresh s t → IsOpen s t
 fresh_open s formed (tag.Structure n) fresh =

@@ -2,7 +2,7 @@
 use Rattle.std.proofs.Common.{◌≡◌, ℕ, zero, suc, ◌*◌, ◌^◌, ◌<◌, ◌≤◌, Bool, true, false, ◌&&◌, refl, ap, ◌∙◌}
 use Rattle.std.proofs.Common.{subst, List, [], ◌∷◌, Option, Some, None, if◌then◌else◌, nat_le, arith}
 use Rattle.std.specs.Prelude.{not, is_none, option_map}
-use Rattle.std.proofs.lemmas.Bool.{leb-true, le-leb, ltb-false, and_from}
+use Rattle.std.proofs.lemmas.Bool.{leb-true, le-leb, ltb-false, and_from, true≢false}
 use Rattle.obj_memory.specs.declared.int_type.IntType.{IntType}
 use Rattle.obj_memory.specs.declared.int_type.IntType.TheVariants as int
 use Rattle.obj_memory.specs.Integers.{size_of}
@@ -225,10 +225,8 @@ derived_sized es h (to_pointer is_const) counted b sized good = pointer_sized is
 derived_sized es h to_open_array counted b sized good =
     sized (first_faultless b.faults (element_faults es b.type) good)
 derived_sized es h (to_array None) counted b sized good =
-    absurd (no_count (second_faultless b.faults (record (element_faults es b.type) { miscounted = true }) good).counted)
-  where
-    no_count : true ≡ false → ⊥
-    no_count e = cc
+    absurd (true≢false
+    (second_faultless b.faults (record (element_faults es b.type) { miscounted = true }) good).counted)
 derived_sized es h (to_array (Some count)) counted b sized good =
     let w = array_of count (extent_of es b.type) in
     let own = second_faultless b.faults (record (element_faults es b.type) { large = is_large w }) good in

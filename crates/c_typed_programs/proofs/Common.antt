@@ -44,6 +44,10 @@ same_number n = eq-eqb n n refl
 pub three : (a b c : Bool) → a ≡ true → b ≡ true → c ≡ true → (a && b && c) ≡ true
 three a b c e g h = and_from (a && b) c (and_from a b e g) h
 
+pub other_is : (b x y : Bool) → b ≡ false → (if b then x else y) ≡ true → y ≡ true
+other_is true x y e g = absurd cc
+other_is false x y e g = g
+
 pub some_mapped : {A B : Type 0} (g : A → B) (x : Option A) → is_some (option_map g x) ≡ is_some x
 some_mapped g None = refl
 some_mapped g (Some x) = refl

@@ -1,6 +1,7 @@
 -- Constructs of a function that are typed one behind the other.
 use Rattle.std.proofs.Common.{◌≡◌, ◌⊎◌, inl, inr, ℕ, true, false, refl, sym, ap, ◌∙◌, subst, List, [], ◌++◌, length}
 use Rattle.std.proofs.Common.{arith}
+use Rattle.std.proofs.lemmas.Bool.{false≢true}
 use Rattle.std.specs.Prelude.{Ok, Err}
 use Rattle.c_tree.specs.declared.c_type.TypeWord.{TypeWord}
 use Rattle.c_tree.specs.Blocks.{is_among}
@@ -55,10 +56,7 @@ ready_opened f ready = record {
 }
 
 pub no_variables : (scope : Scope) → AreVariables scope []
-no_variables scope = λ n e. absurd (no_number e)
-  where
-    no_number : false ≡ true → ⊥
-    no_number e = cc
+no_variables scope = λ n e. absurd (false≢true e)
 
 both_variables : (scope : Scope) (xs ys : List ℕ) → AreVariables scope xs → AreVariables scope ys
     → AreVariables scope (xs ++ ys)
@@ -69,10 +67,7 @@ both_variables scope xs ys h g = λ n e. by n (among_either xs ys n e)
     by n (inr is) = g n is
 
 open_none : (scope : Scope) → AreOpen scope []
-open_none scope = λ n e. absurd (no e)
-  where
-    no : false ≡ true → ⊥
-    no e = cc
+open_none scope = λ n e. absurd (false≢true e)
 
 -- what is typed in the state of expressions and declarators, in its file
 

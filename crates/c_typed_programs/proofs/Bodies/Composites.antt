@@ -1,6 +1,7 @@
 -- Composite types spell the signatures of the types that they are composed of (C99 6.2.7).
 use Rattle.std.proofs.Common.{◌≡◌, ℕ, zero, suc, Bool, true, false, ◌&&◌, refl, sym, ap, ◌∙◌, subst, List, [], ◌∷◌}
 use Rattle.std.proofs.Common.{Some, None}
+use Rattle.std.proofs.lemmas.Bool.{true≢false}
 use Rattle.c_tree.specs.declared.c_type.TypeWord.{TypeWord}
 use Rattle.c_tree.specs.declared.c_type.TypeWord.TheVariants as word
 use Rattle.c_tree.specs.declared.expression.Kind.{Kind}
@@ -87,14 +88,8 @@ still_alike v w (both_arrays e g) n = array_still v e n ∙ sym (array_still w g
 behind_alike : (n : ℕ) (vs ws : List TypeWord) → AreAlike vs ws → AreAlike (behind_types n vs) (behind_types n ws)
 behind_alike zero vs ws h = h
 behind_alike (suc n) [] [] h = tt
-behind_alike (suc n) [] (w ∷ ws) h = absurd (conflict h)
-  where
-    conflict : true ≡ false → ⊥
-    conflict e = cc
-behind_alike (suc n) (v ∷ vs) [] h = absurd (conflict h)
-  where
-    conflict : true ≡ false → ⊥
-    conflict e = cc
+behind_alike (suc n) [] (w ∷ ws) h = absurd (true≢false h)
+behind_alike (suc n) (v ∷ vs) [] h = absurd (true≢false h)
 behind_alike (suc n) (v ∷ vs) (w ∷ ws) h =
     subst (λ k. AreAlike (behind_types (still v n) vs) (behind_types k ws)) (still_alike v w h.0 n)
     (behind_alike (still v n) vs ws h.1)

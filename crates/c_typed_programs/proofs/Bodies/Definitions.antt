@@ -2,6 +2,7 @@
 -- for them (C99 6.9.1).
 use Rattle.std.proofs.Common.{◌≡◌, ◌⊎◌, inl, inr, ℕ, Bool, true, false, refl, sym, ap, ◌∙◌, subst, List, [], ◌∷◌, ◌++◌}
 use Rattle.std.proofs.Common.{Option, Some, None, if◌then◌else◌}
+use Rattle.std.proofs.lemmas.Bool.{false≢true}
 use Rattle.std.specs.Prelude.{Ok, Err, is_some}
 use Rattle.c_syntax.specs.Formed.{defines_function}
 use Rattle.c_syntax.specs.Formed as formed
@@ -82,10 +83,7 @@ new_stands env name (meaning.Named (what.Variable n) x) is d type e l = not_link
     the_same e = cc
 
     not_linked : (d : Designated) → what.Variable n ≡ d → is_linked d ≡ true → IsEntity d (declared name env.entities)
-    not_linked d e l = absurd (no_link (ap is_linked e ∙ l))
-      where
-        no_link : false ≡ true → ⊥
-        no_link e = cc
+    not_linked d e l = absurd (false≢true (ap is_linked e ∙ l))
 new_stands env name (meaning.Named (what.Object n) x) is d type e l = absurd cc
 new_stands env name (meaning.Named (what.Static n) x) is d type e l = absurd cc
 new_stands env name (meaning.Named (what.Function n) x) is d type e l = absurd cc
@@ -324,10 +322,7 @@ declarator_made d s name line false =
 scope_takes : (es : Structures) (base : List TypeWord) (sh : Shape) → TakesParameters sh → is_some sh.name ≡ true
     → (o : Option ParameterScope) → sh.parameters ≡ o
     → Takes (scope_or_none o).names (built es base sh.derivations).type
-scope_takes es base sh h named None e = absurd (conflict (sym (ap is_some e) ∙ h.there named))
-  where
-    conflict : false ≡ true → ⊥
-    conflict e = cc
+scope_takes es base sh h named None e = absurd (false≢true (sym (ap is_some e) ∙ h.there named))
 scope_takes es base sh h named (Some p) e = built_takes es base p.names sh.derivations (h.each named p e)
 
 -- what is known of a declarator that is typed

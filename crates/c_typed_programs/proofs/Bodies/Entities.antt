@@ -1,6 +1,7 @@
 -- What names with linkage stand for behind declarations and blocks.
 use Rattle.std.proofs.Common.{◌≡◌, ℕ, Bool, true, false, refl, sym, ap, ◌∙◌, subst, List, [], ◌∷◌, ◌++◌}
 use Rattle.std.proofs.Common.{length, Option, Some, None, if◌then◌else◌}
+use Rattle.std.proofs.lemmas.Bool.{false≢true}
 use Rattle.c_tree.specs.declared.c_type.TypeWord.{TypeWord}
 use Rattle.c_scope.specs.declared.meaning.Designated.{Designated}
 use Rattle.c_scope.specs.declared.meaning.Designated.TheVariants as what
@@ -123,13 +124,10 @@ unlinked_stands : (env : Environment) (name : Name) (m : Meaning) → IsUnlinked
 unlinked_stands env name (meaning.Constant w) is d type e l = absurd cc
 unlinked_stands env name (meaning.Typedef t) is d type e l = absurd cc
 unlinked_stands env name (meaning.Named c t) is d type e l =
-    absurd (differ (sym is ∙ ap is_linked (the_same e) ∙ l))
+    absurd (false≢true (sym is ∙ ap is_linked (the_same e) ∙ l))
   where
     the_same : Some (meaning.Named c t) ≡ Some (meaning.Named d type) → c ≡ d
     the_same e = cc
-
-    differ : false ≡ true → ⊥
-    differ e = cc
 
 -- behind a name without linkage
 pub linked_bound : (name : Name) (m : Meaning) (s t : State) → Binds name m s t → IsUnlinked m

@@ -1,6 +1,7 @@
 -- Declarations at file scope leave a state outside of functions (C99 6.2.2, 6.9.2).
 use Rattle.std.proofs.Common.{◌≡◌, ℕ, Bool, true, false, ◌&&◌, ◌||◌, refl, sym, ap, ◌∙◌, subst, List, [], ◌∷◌, ◌++◌}
 use Rattle.std.proofs.Common.{Option, Some, None, if◌then◌else◌}
+use Rattle.std.proofs.lemmas.Bool.{false≢true}
 use Rattle.std.specs.Prelude.{Ok, Err, is_none, is_some, not, option_map}
 use Rattle.std.specs.List.{list_all}
 use Rattle.c_syntax.specs.declared.position.Position.{Position}
@@ -402,15 +403,9 @@ meant_beyond e f is name x c (meaning.Constant w) g = is
 meant_beyond e f is name x c (meaning.Named (what.Function n) type) g = is
 meant_beyond e f is name x c (meaning.Named (what.Library r) type) g = is
 meant_beyond e f is name x c (meaning.Named (what.Static n) type) g =
-    absurd (conflict (is.outside.names.linked name.0 (what.Static n) type g))
-  where
-    conflict : false ≡ true → ⊥
-    conflict e = cc
+    absurd (false≢true (is.outside.names.linked name.0 (what.Static n) type g))
 meant_beyond e f is name x c (meaning.Named (what.Variable n) type) g =
-    absurd (conflict (is.outside.names.linked name.0 (what.Variable n) type g))
-  where
-    conflict : false ≡ true → ⊥
-    conflict e = cc
+    absurd (false≢true (is.outside.names.linked name.0 (what.Variable n) type g))
 
 named_from : (e f : File) → IsBeyond e f → (d : Declaration) → is_type d.type ≡ true
     → (line : ℕ) (x : Option Initializer)

@@ -2,6 +2,7 @@
 use Rattle.std.proofs.Common.{◌≡◌, ℕ, ◌+◌, Bool, true, false, ◌&&◌, ◌||◌, refl, sym, ap, ◌∙◌, subst, List, [], ◌∷◌}
 use Rattle.std.proofs.Common.{◌++◌}
 use Rattle.std.proofs.Common.{Option, Some, None, if◌then◌else◌, arith}
+use Rattle.std.proofs.lemmas.Bool.{true≢false}
 use Rattle.std.specs.Prelude.{Ok, Err, is_some, not, suc}
 use Rattle.c_syntax.specs.Formed.{is_plain_name}
 use Rattle.c_syntax.specs.Tree.{Declarator, MoreParameters, Parameters, TypedDeclarator}
@@ -93,10 +94,7 @@ enumerator_then : (es : Structures) (next : ℕ) (P : ℕ → Type 0) (m : Meani
     → EntryThen es next P m
 enumerator_then es next P (meaning.Constant w) is p = p
 enumerator_then es next P (meaning.Typedef type) is p = is
-enumerator_then es next P (meaning.Named d type) is p = absurd (conflict is)
-  where
-    conflict : true ≡ false → ⊥
-    conflict e = cc
+enumerator_then es next P (meaning.Named d type) is p = absurd (true≢false is)
 
 enumerators_only : (es : Structures) (last : ℕ) (entries : Names Meaning) → AreEnumerators entries
     → AreParameters es last entries last

@@ -1,7 +1,7 @@
 -- Specifiers and declarators make whole types of whole ones (C99 6.7.2, 6.7.5).
 use Rattle.std.proofs.Common.{◌≡◌, ℕ, zero, suc, ◌+◌, Bool, true, false, ◌&&◌, ◌||◌, refl, sym, ap, ◌∙◌, List, [], ◌∷◌}
 use Rattle.std.proofs.Common.{◌++◌, Option, Some, None, if◌then◌else◌, arith}
-use Rattle.std.proofs.lemmas.Bool.{and_from}
+use Rattle.std.proofs.lemmas.Bool.{and_from, true≢false}
 use Rattle.std.specs.Prelude.{Ok, Err}
 use Rattle.std.specs.List.{list_all}
 use Rattle.c_syntax.specs.Formed.{is_plain_name}
@@ -182,10 +182,7 @@ map_gives p q (Err e) f h is = tt
 new_type : (b : Bool) (m : Meaning) → IsNew b m → (type : List TypeWord) → Some m ≡ Some (meaning.Typedef type)
     → is_type type ≡ true
 new_type b (meaning.Constant w) is type e = absurd cc
-new_type b (meaning.Typedef x) is type e = absurd (conflict is)
-  where
-    conflict : true ≡ false → ⊥
-    conflict e = cc
+new_type b (meaning.Typedef x) is type e = absurd (true≢false is)
 new_type b (meaning.Named d x) is type e = absurd cc
 
 pub types_extended : (b : Bool) (s u : State) → Extends b s u → NameTypes s → NameTypes u

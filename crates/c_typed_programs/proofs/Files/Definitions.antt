@@ -2,6 +2,7 @@
 -- kinds.
 use Rattle.std.proofs.Common.{◌≡◌, ◌⊎◌, inl, inr, ℕ, Bool, true, false, ◌||◌, refl, sym, ap, ◌∙◌, subst, List, [], ◌∷◌}
 use Rattle.std.proofs.Common.{Option, Some, None, if◌then◌else◌}
+use Rattle.std.proofs.lemmas.Bool.{false≢true}
 use Rattle.std.specs.Prelude.{Ok, Err}
 use Rattle.c_syntax.specs.Formed.{defines_function}
 use Rattle.c_syntax.specs.Statements as t
@@ -40,7 +41,6 @@ use Rattle.c_unit_typing.specs.Units.{externals, gives_incomplete, left, paramet
 use Rattle.c_typed_programs.specs.SpelledTypes.Spelled.{IsFunctionType}
 use Rattle.c_typed_programs.proofs.SpelledTypes.Composites.{none_first}
 use Rattle.c_typed_validity.specs.Sound.{IsFormed, is_sized_array}
-use Rattle.c_typed_validity.specs.More.{AreMore}
 use Rattle.c_typed_validity.specs.Steps.{Structures}
 use Rattle.c_typed_validity.proofs.Common.{first, neither_left, neither_right, second, the_same}
 use Rattle.c_typed_declarators.specs.Given.{AreCounted, HasScope, IsParameterScope, IsShapeOf, IsSpecified}
@@ -60,8 +60,8 @@ use Rattle.c_typed_programs.specs.Types.Typed.{AreNamed, Each, IsDerived, IsName
 use Rattle.c_typed_programs.specs.Types.Typed.{OfSpecification, Types}
 use Rattle.c_typed_programs.proofs.Types.Built.{built_spelled}
 use Rattle.c_typed_programs.proofs.Types.Calls.{gives_no_array, gives_no_function, result_fits}
-use Rattle.c_typed_programs.proofs.Types.Declarators.{HasKinds, IsDeclared}
-use Rattle.c_typed_programs.proofs.Types.Kept.{each_append, each_around, each_innermost, each_meaning, names_kept}
+use Rattle.c_typed_programs.proofs.Types.Declarators.{HasKinds, IsDeclared, parameters_kept}
+use Rattle.c_typed_programs.proofs.Types.Kept.{each_append, each_around, each_innermost, each_meaning}
 use Rattle.c_typed_programs.proofs.Types.Kept.{spelled_kept}
 use Rattle.c_typed_programs.proofs.Types.Parameters.{judged_known}
 use Rattle.c_typed_programs.proofs.Types.Recursion.{shape_typed}
@@ -231,10 +231,7 @@ library_function es s t (inl e) is =
     nothing_function : (es : Structures) (t : List TypeWord) (o : Option (List TypeWord)) → composite [] t ≡ o
         → IsFunctionType es t → IsFunctionType es (type_or o t)
     nothing_function es t None e is = is
-    nothing_function es [] (Some c) e is = absurd (no_words is.spelled)
-      where
-        no_words : false ≡ true → ⊥
-        no_words e = cc
+    nothing_function es [] (Some c) e is = absurd (false≢true is.spelled)
     nothing_function es (w ∷ t) (Some c) e is = none_first w t c _ e
 
 linked_function : (es : Structures) (d : Designated) (s t : List TypeWord) → IsNamed es (meaning.Named d s)
@@ -333,12 +330,7 @@ named_typed : (f : File) (d : Declaration) (name : Name) (o : Option ParameterSc
 named_typed f d name o line b c has own (Ok r) h is =
     let leads = bound_leads d.name (bound_meaning f.state.environment d) f.state r.0 h.0.binds h.0.formed in
     body_typed line o b c r.1 (record f { state = r.0 }) h.0.formed (scope_kept f.state r.0 leads.longer o has) is.types
-    (parameters_more (extents f.state) (extents r.0) leads.more o own) is.function
-  where
-    parameters_more : (es more : Structures) → AreMore es more → (o : Option ParameterScope) → OfParameters es o
-        → OfParameters more o
-    parameters_more es more h None is = tt
-    parameters_more es more h (Some p) is = names_kept es more h p.names is
+    (parameters_kept (extents f.state) (extents r.0) leads.more o own) is.function
 named_typed f d name o line b c has own (Err e) h is = tt
 
 defined_typed : (spec : Specification) → is_sized_array spec.type ≡ true → (d : Declarator)

@@ -1,7 +1,7 @@
 -- Words of function types: their parameters and results, also in composite types, and their kinds.
-use Rattle.std.proofs.Common.{◌≡◌, ℕ, zero, suc, ◌+◌, arith, Bool, true, false, refl, sym, ap, ◌∙◌, subst, List, []}
+use Rattle.std.proofs.Common.{◌≡◌, ℕ, zero, suc, ◌+◌, arith, true, false, refl, sym, ap, ◌∙◌, subst, List, []}
 use Rattle.std.proofs.Common.{◌∷◌, ◌++◌, Option, Some, None}
-use Rattle.std.proofs.lemmas.Bool.{and_from}
+use Rattle.std.proofs.lemmas.Bool.{and_from, false≢true, not-true}
 use Rattle.std.specs.Prelude.{not, is_none, is_some}
 use Rattle.c_tree.specs.declared.c_type.TypeWord.{TypeWord}
 use Rattle.c_tree.specs.declared.c_type.TypeWord.TheVariants as word
@@ -123,11 +123,7 @@ unfolding extent_of
 result_kinded es [] s a i f = absurd cc
 result_kinded es (word.Structure n ∷ ws) s a i f = known_structure (structure_extent es n) i
 result_kinded es (word.Const ∷ ws) s a i f =
-    result_kinded es ws (right (not (is_array ws)) _ s) (not_true (is_array ws) (left (not (is_array ws)) _ s)) i f
-  where
-    not_true : (b : Bool) → not b ≡ true → b ≡ false
-    not_true true e = absurd cc
-    not_true false e = refl
+    result_kinded es ws (right (not (is_array ws)) _ s) (not-true (is_array ws) (left (not (is_array ws)) _ s)) i f
 result_kinded es (word.Void ∷ ws) s a i f = refl
 result_kinded es (word.Integer t ∷ ws) s a i f = refl
 result_kinded es (word.Enumeration n ∷ ws) s a i f = refl
@@ -159,15 +155,9 @@ kind_joint : (es : Structures) (v w x : TypeWord) (t c : List TypeWord) → IsJo
 kind_joint es v w x t c (alike e g) h k =
     ap (λ z. is_some (kind_of_type es (z ∷ c))) (g ∙ e) ∙ kind_behind es w t c h k
 kind_joint es v w x t c (first_sized n b e g i) h k =
-    absurd (no_kind (sym (ap (λ z. is_some (kind_of_type es (z ∷ t))) g) ∙ k))
-  where
-    no_kind : false ≡ true → ⊥
-    no_kind e = cc
+    absurd (false≢true (sym (ap (λ z. is_some (kind_of_type es (z ∷ t))) g) ∙ k))
 kind_joint es v w x t c (second_sized n b e g i) h k =
-    absurd (no_kind (sym (ap (λ z. is_some (kind_of_type es (z ∷ t))) g) ∙ k))
-  where
-    no_kind : false ≡ true → ⊥
-    no_kind e = cc
+    absurd (false≢true (sym (ap (λ z. is_some (kind_of_type es (z ∷ t))) g) ∙ k))
 
 composite_kind : (es : Structures) (s t c : List TypeWord) → composite s t ≡ Some c
     → is_some (kind_of_type es t) ≡ true → is_some (kind_of_type es c) ≡ true
@@ -218,10 +208,7 @@ parameters_second : (es : Structures) (w x : TypeWord) (t c : List TypeWord) →
 parameters_second es w x t c (equal e) h g k =
     ap (λ z. has_parameters es 0 (z ∷ c)) e ∙ parameters_behind es w t c h g k
 parameters_second es w x t c (arrays n b e i) h g k =
-    absurd (no_function (sym (ap (λ z. has_parameters es 0 (z ∷ t)) e) ∙ k))
-  where
-    no_function : false ≡ true → ⊥
-    no_function e = cc
+    absurd (false≢true (sym (ap (λ z. has_parameters es 0 (z ∷ t)) e) ∙ k))
 
 composite_parameters : (es : Structures) (n : ℕ) (s t c : List TypeWord) → composite s t ≡ Some c
     → has_parameters es n t ≡ true → has_parameters es n c ≡ true

@@ -1,6 +1,7 @@
 -- What declared objects are initialized with (C99 6.7.8).
 use Rattle.std.proofs.Common.{arith, ◌≡◌, ◌⊎◌, inl, inr, ℕ, ◌≤◌, Bool, true, false, refl, sym, ap, ◌∙◌, subst, List}
 use Rattle.std.proofs.Common.{Option, Some, None, [], ◌∷◌}
+use Rattle.std.proofs.lemmas.Option.{none-some}
 use Rattle.std.specs.Prelude.{Ok, Err, is_some, option_map}
 use Rattle.c_syntax.specs.Tree.{Initializer}
 use Rattle.c_tree.specs.declared.c_type.TypeWord.{TypeWord}
@@ -132,10 +133,7 @@ extent_sized es size (word.Enumeration n ∷ ws) h = refl
 extent_sized es size (word.Pointer ∷ ws) h = refl
 extent_sized es size (word.Array count bytes ∷ ws) h =
     array_sized (extent_of es ws) bytes size h.extent h.complete h.bytes h.object
-extent_sized es size (word.OpenArray ∷ ws) h = absurd (none h.complete)
-  where
-    none : None ≡ Some h.extent → ⊥
-    none e = cc
+extent_sized es size (word.OpenArray ∷ ws) h = absurd (none-some _ h.complete)
 extent_sized es size (word.Structure n ∷ ws) h = refl
 extent_sized es size (word.Const ∷ ws) h =
     extent_sized es size ws (record {

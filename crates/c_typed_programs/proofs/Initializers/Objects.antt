@@ -3,6 +3,7 @@ use Rattle.std.proofs.Common.{◌≡◌, ℕ, ◌*◌, ◌^◌, ◌≤◌, Bool,
 use Rattle.std.proofs.Common.{sym, ap, ◌∙◌, subst, List, [], ◌∷◌, Option, Some, None, if◌then◌else◌, arith}
 use Rattle.std.specs.Prelude.{Ok, option_map, slice_get}
 use Rattle.std.proofs.lemmas.Bool.{ltb-false}
+use Rattle.std.proofs.lemmas.Option.{none-some}
 use Rattle.c_tree.specs.declared.c_type.TypeWord.{TypeWord}
 use Rattle.c_tree.specs.declared.c_type.TypeWord.TheVariants as word
 use Rattle.c_tree.specs.Extents.{TypeExtent, array_extent, capped, extent_of, structure_extent}
@@ -156,10 +157,7 @@ closed_by : (s : State) (d : Designated) (name : Name × ℕ) (count size : ℕ)
     → HasExtent (extents s) size type → IfAnswer (IsSized false size count s) (completed d name type count s)
 unfolding extent_of
 closed_by s d name count size [] h = closed_sized s size count [] h
-closed_by s d name count size (word.OpenArray ∷ ws) h = absurd (none h.complete)
-  where
-    none : None ≡ Some h.extent → ⊥
-    none e = cc
+closed_by s d name count size (word.OpenArray ∷ ws) h = absurd (none-some _ h.complete)
 closed_by s d name count size (word.Void ∷ ws) h = closed_sized s size count _ h
 closed_by s d name count size (word.Integer t ∷ ws) h = closed_sized s size count _ h
 closed_by s d name count size (word.Enumeration n ∷ ws) h = closed_sized s size count _ h
@@ -189,10 +187,7 @@ same_count : (s : State) (d : Designated) (name : Name × ℕ) (count size : ℕ
     → HasExtent (extents s) size type → completed d name type 1 s ≡ completed d name type count s
 unfolding extent_of
 same_count s d name count size [] h = refl
-same_count s d name count size (word.OpenArray ∷ ws) h = absurd (none h.complete)
-  where
-    none : None ≡ Some h.extent → ⊥
-    none e = cc
+same_count s d name count size (word.OpenArray ∷ ws) h = absurd (none-some _ h.complete)
 same_count s d name count size (word.Void ∷ ws) h = refl
 same_count s d name count size (word.Integer t ∷ ws) h = refl
 same_count s d name count size (word.Enumeration n ∷ ws) h = refl

@@ -1,6 +1,7 @@
 -- An initializer that violates no rule stores at least one part (C99 6.7.8).
 use Rattle.std.proofs.Common.{◌≡◌, ◌⊎◌, inl, inr, ℕ, zero, suc, ◌-◌, Bool, true, false, refl, sym, ap, ◌∙◌}
 use Rattle.std.proofs.Common.{subst, List, [], ◌∷◌, ◌++◌, length, take, Option, Some, None, if◌then◌else◌, arith}
+use Rattle.std.proofs.lemmas.Bool.{true≢false}
 use Rattle.std.specs.Prelude.{Ok, Err, is_some, slice_index_or}
 use Rattle.c_tree.specs.declared.c_type.TypeWord.{TypeWord}
 use Rattle.c_tree.specs.Extents.{TypeExtent}
@@ -220,10 +221,7 @@ opened_at es lists n i h = opened_by es lists n i h i.next refl
 stored_closed : (es : List (Option TypeExtent)) (lists : MemberLists) (i : Initializing) → IsStored i
     → has_misplaced i.list ≡ false → IsStored (closed_list es lists i)
 stored_closed es lists i (some h) e = some h
-stored_closed es lists i (misplaced g) e = absurd (conflict (sym g ∙ e))
-  where
-    conflict : true ≡ false → ⊥
-    conflict e = cc
+stored_closed es lists i (misplaced g) e = absurd (true≢false (sym g ∙ e))
 stored_closed es lists i (around h) e = by (last_or_other i.outer h)
   where
     by : LastOrOther i.outer (length i.outer - 1) → IsStored (closed_list es lists i)

@@ -1,7 +1,7 @@
 -- Arrays have the bytes of their elements in the types that declarators and specifiers make, and keep them where more
 -- structures are complete (C99 6.7.5.2).
 use Rattle.std.proofs.Common.{◌≡◌, ℕ, Bool, true, false, ◌&&◌, refl, ap, ◌∙◌, List, [], ◌∷◌, Option, Some, None}
-use Rattle.std.proofs.lemmas.Bool.{eq-eqb}
+use Rattle.std.proofs.lemmas.Bool.{eq-eqb, true≢false}
 use Rattle.c_tree.specs.declared.c_type.TypeWord.{TypeWord}
 use Rattle.c_tree.specs.declared.c_type.TypeWord.TheVariants as word
 use Rattle.c_tree.specs.Arrays.{has_bytes}
@@ -87,10 +87,8 @@ derived_arrays : (es : List (Option TypeExtent)) (d : Derivation) (b : BuiltType
 derived_arrays es (to_pointer is_const) b h good = pointer_arrays es is_const b.type
 derived_arrays es to_open_array b h good = h (first_faultless b.faults (element_faults es b.type) good)
 derived_arrays es (to_array None) b h good =
-    absurd (no_count (second_faultless b.faults (record (element_faults es b.type) { miscounted = true }) good).counted)
-  where
-    no_count : true ≡ false → ⊥
-    no_count e = cc
+    absurd (true≢false
+    (second_faultless b.faults (record (element_faults es b.type) { miscounted = true }) good).counted)
 derived_arrays es (to_array (Some count)) b h good =
     let w = array_of count (extent_of es b.type) in
     let own = second_faultless b.faults (record (element_faults es b.type) { large = is_large w }) good in

@@ -3,7 +3,7 @@ use Rattle.std.proofs.Common.{◌≡◌, ℕ, Bool, true, false, ◌||◌, ◌==
 use Rattle.std.proofs.Common.{Option, Some, None, if◌then◌else◌}
 use Rattle.std.specs.Prelude.{Ok, Err, not}
 use Rattle.std.specs.List.{list_all, list_any}
-use Rattle.std.proofs.lemmas.Bool.{and_from, eq-eqb, eqb-true}
+use Rattle.std.proofs.lemmas.Bool.{and_from, eq-eqb, eqb-true, not-true}
 use Rattle.std.proofs.lemmas.List.{append_assoc}
 use Rattle.obj_memory.specs.declared.int_type.IntType.{IntType}
 use Rattle.obj_memory.specs.declared.value.Scalar.TheVariants as scalar
@@ -65,13 +65,9 @@ more_different : (xs : List CaseLabel) (l : CaseLabel) → are_different xs ≡ 
 more_different [] l e g = refl
 more_different (x ∷ xs) l e g =
     and_from (not (list_any (same_label x) (xs ++ l ∷ []))) (are_different (xs ++ l ∷ []))
-    (ap not (none_among x xs l (not_true (list_any (same_label x) xs) (left_true _ _ e))
+    (ap not (none_among x xs l (not-true (list_any (same_label x) xs) (left_true _ _ e))
     (same_label_back x l ∙ neither_left (same_label l x) (list_any (same_label l) xs) g)))
     (more_different xs l (right_true _ _ e) (neither_right (same_label l x) (list_any (same_label l) xs) g))
-  where
-    not_true : (b : Bool) → not b ≡ true → b ≡ false
-    not_true true e = sym e
-    not_true false e = refl
 
 pub all_append : {A : Type 0} (p : A → Bool) (xs ys : List A) → list_all p xs ≡ true → list_all p ys ≡ true
     → list_all p (xs ++ ys) ≡ true

@@ -1,6 +1,7 @@
 -- Definitions leave an object with linkage that is new among those that the file defines (C99 6.2.2, 6.9, 6.9.1).
 use Rattle.std.proofs.Common.{◌≡◌, ◌⊎◌, inl, inr, ℕ, Bool, true, false, refl, sym, ap, ◌∙◌, subst, List}
 use Rattle.std.proofs.Common.{Option, Some, None, if◌then◌else◌}
+use Rattle.std.proofs.lemmas.Bool.{false≢true}
 use Rattle.std.specs.Prelude.{Ok, Err}
 use Rattle.c_syntax.specs.Statements as t
 use Rattle.c_syntax.specs.Tree.{Declarator, Specifiers}
@@ -78,10 +79,7 @@ pub record IsOutsideOf (env after behind : Environment) : Type 0 where
 inside_only : (P Q : Type 0) (b : Bool) → b ≡ false → P ⊎ ((b ≡ true) × Q) → P
 inside_only P Q b e (inl p) = p
 inside_only P Q true e (inr q) = absurd cc
-inside_only P Q false e (inr q) = absurd (no q.0)
-  where
-    no : false ≡ true → ⊥
-    no e = cc
+inside_only P Q false e (inr q) = absurd (false≢true q.0)
 
 pub scoped_steps : (env inner after behind : Environment) → IsInside env inner → Steps inner after
     → IsOutsideOf env after behind → Steps env behind

@@ -2,6 +2,7 @@
 use Rattle.std.proofs.Common.{◌≡◌, ℕ, Bool, true, false, ◌||◌, refl, sym, ap, ◌∙◌, subst, List, [], ◌∷◌, ◌++◌}
 use Rattle.std.proofs.Common.{Option, Some, None, if◌then◌else◌}
 use Rattle.std.specs.Prelude.{Ok, Err, is_none, is_some, not, option_map}
+use Rattle.std.proofs.lemmas.Bool.{false≢true}
 use Rattle.std.proofs.lemmas.List.{append-nil}
 use Rattle.std.specs.List.{list_all}
 use Rattle.c_syntax.specs.declared.position.Position.{Position}
@@ -101,10 +102,7 @@ static_name : (env : Environment) → AreLinked env → (d : Declaration) (n : �
     → has_linkage (in_file env) d ≡ b → Bound b env d ≡ meaning.Named (what.Static n) type
     → IsStaticName env d type
 static_name env linked d n type true e g =
-    absurd (conflict (not_linked _ n (declared_linked env d linked) (designated _ (what.Static n) _ type g)))
-  where
-    conflict : false ≡ true → ⊥
-    conflict e = cc
+    absurd (false≢true (not_linked _ n (declared_linked env d linked) (designated _ (what.Static n) _ type g)))
 static_name env linked d n type false e g = by_storage env d n type e d.storage refl g
 
 module _ (result : List TypeWord) where

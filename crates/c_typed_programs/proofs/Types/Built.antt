@@ -2,7 +2,7 @@
 use Rattle.std.proofs.Common.{◌≡◌, ℕ, Bool, true, false, ◌&&◌, ◌||◌, refl, ap, ◌∙◌, List, [], ◌∷◌}
 use Rattle.std.proofs.Common.{Option, Some, None}
 use Rattle.std.specs.Prelude.{not}
-use Rattle.std.proofs.lemmas.Bool.{and_from, eq-eqb}
+use Rattle.std.proofs.lemmas.Bool.{and_from, eq-eqb, true≢false}
 use Rattle.c_tree.specs.declared.c_type.TypeWord.{TypeWord}
 use Rattle.c_tree.specs.declared.c_type.TypeWord.TheVariants as word
 use Rattle.c_tree.specs.Arrays.{has_bytes}
@@ -66,10 +66,8 @@ derived_spelled : (es : Structures) (d : Derivation) → IsDerived es d → (b :
 derived_spelled es (to_pointer c) is b h good = pointer_spelled es c b.type (h good)
 derived_spelled es to_open_array is b h good = h (first_faultless b.faults (element_faults es b.type) good)
 derived_spelled es (to_array None) is b h good =
-    absurd (no_count (second_faultless b.faults (record (element_faults es b.type) { miscounted = true }) good).counted)
-  where
-    no_count : true ≡ false → ⊥
-    no_count e = cc
+    absurd (true≢false
+    (second_faultless b.faults (record (element_faults es b.type) { miscounted = true }) good).counted)
 derived_spelled es (to_array (Some count)) is b h good =
     let w = array_of count (extent_of es b.type) in
     let own = second_faultless b.faults (record (element_faults es b.type) { large = is_large w }) good in

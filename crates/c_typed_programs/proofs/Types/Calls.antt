@@ -1,7 +1,7 @@
 -- What calls make of types: a type of functions that is called has kinds of its parameters and result.
 use Rattle.std.proofs.Common.{◌≡◌, ℕ, zero, suc, Bool, true, false, ◌||◌, refl, sym, ap, ◌∙◌, List, [], ◌∷◌}
 use Rattle.std.proofs.Common.{◌++◌, Option, Some, None, if◌then◌else◌}
-use Rattle.std.proofs.lemmas.Bool.{and_from}
+use Rattle.std.proofs.lemmas.Bool.{and_from, not-true}
 use Rattle.std.specs.Prelude.{Ok, Err, not, is_some}
 use Rattle.obj_memory.specs.declared.int_type.IntType.TheVariants.{Char, Int}
 use Rattle.c_tree.specs.declared.c_type.TypeWord.{TypeWord}
@@ -200,10 +200,6 @@ passed_parameters es line (word.Const ∷ ws) before (v ∷ vs) h =
 
 -- results
 
-not_true : (b : Bool) → not b ≡ true → b ≡ false
-not_true true e = absurd cc
-not_true false e = refl
-
 pub result_fits : (es : Structures) (n : ℕ) (ws : List TypeWord) → is_spelled es (suc n) ws ≡ true
     → fits es word.Gives (result_type n ws) ≡ true
 result_fits es n [] e = refl
@@ -223,10 +219,10 @@ result_fits es (suc n) (v ∷ ws) e =
 
 pub gives_no_function : (es : Structures) (ws : List TypeWord) → fits es word.Gives ws ≡ true
     → is_function (unqualified ws) ≡ false
-gives_no_function es ws e = not_true (is_function (unqualified ws)) (left _ (not (is_array ws)) e)
+gives_no_function es ws e = not-true (is_function (unqualified ws)) (left _ (not (is_array ws)) e)
 
 pub gives_no_array : (es : Structures) (ws : List TypeWord) → fits es word.Gives ws ≡ true → is_array ws ≡ false
-gives_no_array es ws e = not_true (is_array ws) (right (not (is_function (unqualified ws))) _ e)
+gives_no_array es ws e = not-true (is_array ws) (right (not (is_function (unqualified ws))) _ e)
 
 object_kinded : (o : Option TypeExtent) → is_incomplete (object_of o) ≡ false → is_some (structure_kind o) ≡ true
 object_kinded None e = absurd cc
@@ -240,7 +236,7 @@ unfolding extent_of
 target_kinded es [] s a e f = absurd cc
 target_kinded es (word.Structure n ∷ ws) s a e f = object_kinded (structure_extent es n) e
 target_kinded es (word.Const ∷ ws) s a e f =
-    target_kinded es ws (right (not (is_array ws)) _ s) (not_true (is_array ws) (left (not (is_array ws)) _ s)) e f
+    target_kinded es ws (right (not (is_array ws)) _ s) (not-true (is_array ws) (left (not (is_array ws)) _ s)) e f
 target_kinded es (word.Void ∷ ws) s a e f = refl
 target_kinded es (word.Integer t ∷ ws) s a e f = refl
 target_kinded es (word.Enumeration n ∷ ws) s a e f = refl

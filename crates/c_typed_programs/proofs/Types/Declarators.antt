@@ -56,7 +56,7 @@ derived_kept es more h to_open_array is = tt
 derived_kept es more h (to_array count) is = tt
 derived_kept es more h (to_function ps) is = each_map (IsSpelled es) (IsSpelled more) (spelled_kept es more h) ps is
 
-parameters_kept : (es more : Structures) → AreMore es more → (o : Option ParameterScope) → OfParameters es o
+pub parameters_kept : (es more : Structures) → AreMore es more → (o : Option ParameterScope) → OfParameters es o
     → OfParameters more o
 parameters_kept es more h None is = tt
 parameters_kept es more h (Some p) is = names_kept es more h p.names is

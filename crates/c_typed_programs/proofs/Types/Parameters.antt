@@ -1,6 +1,7 @@
 -- Parameters have types that are spelled, and kinds where the function is defined (C99 6.7.5.3 paragraph 4).
 use Rattle.std.proofs.Common.{◌≡◌, ℕ, Bool, true, false, ◌&&◌, ◌||◌, refl, sym, subst, List, [], ◌∷◌}
 use Rattle.std.proofs.Common.{Option, Some, None, if◌then◌else◌}
+use Rattle.std.proofs.lemmas.Bool.{not-true}
 use Rattle.std.specs.Prelude.{Ok, Err, not, is_some}
 use Rattle.c_tree.specs.declared.c_type.TypeWord.{TypeWord}
 use Rattle.c_tree.specs.declared.c_type.TypeWord.TheVariants as word
@@ -25,6 +26,7 @@ use Rattle.c_typing.specs.Declarators.{rule_or_storage, type_named, unless, has_
 use Rattle.c_typing.specs.Specifications.{Specification}
 use Rattle.c_typing.specs.State.{State, extents}
 use Rattle.c_typed_validity.proofs.Common.{first as left_true, neither_right as second_false, second as right}
+use Rattle.c_typed_validity.proofs.Common.{neither_left}
 use Rattle.c_typed_validity.proofs.Sound.{IfAnswer}
 use Rattle.c_typed_validity.specs.Steps.{Structures}
 use Rattle.c_typed_declarators.proofs.Parameters.{behind, no_function, plain_by, within}
@@ -119,11 +121,7 @@ unfolding extent_of
 extent_kinded es [] s a e = absurd cc
 extent_kinded es (word.Structure n ∷ ws) s a e = kind_by (structure_extent es n) e
 extent_kinded es (word.Const ∷ ws) s a e =
-    extent_kinded es ws (right (not (is_array ws)) _ s) (not_array (is_array ws) (left_true (not (is_array ws)) _ s)) e
-  where
-    not_array : (b : Bool) → not b ≡ true → b ≡ false
-    not_array true e = absurd cc
-    not_array false e = refl
+    extent_kinded es ws (right (not (is_array ws)) _ s) (not-true (is_array ws) (left_true (not (is_array ws)) _ s)) e
 extent_kinded es (word.Void ∷ ws) s a e = absurd cc
 extent_kinded es (word.Integer t ∷ ws) s a e = refl
 extent_kinded es (word.Enumeration n ∷ ws) s a e = refl
@@ -199,15 +197,11 @@ module _ (s : State) (types : Types s) (inner : in_file s.environment ≡ false)
       (λ good. unqualified_spelled (extents s) 0 (adjusted b.type)
       (adjusted_spelled (extents s) b.type
       (built (record {
-        complete = first_of_both b.faults.incomplete (is_void b.type) good.complete;
+        complete = neither_left b.faults.incomplete (is_void b.type) good.complete;
         placed = good.placed;
         counted = good.counted;
         small = good.small;
       }))))
-    where
-      first_of_both : (a c : Bool) → (a || c) ≡ false → a ≡ false
-      first_of_both true c e = absurd cc
-      first_of_both false c e = refl
 
 -- a parameter; where the function is defined it has a name
 abbrev pub GivesParameter : (defined named : Bool) → Structures → List TypeWord → Type 0

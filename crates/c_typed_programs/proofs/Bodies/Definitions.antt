@@ -47,6 +47,7 @@ use Rattle.c_typed_programs.proofs.Declarations.Judged.{answered}
 use Rattle.c_typed_programs.proofs.Declarations.Named.{HasNameOf, named_as, shape_named}
 use Rattle.c_typed_programs.specs.Scopes.Leaving.{FileLeads}
 use Rattle.c_typed_programs.specs.Scopes.Regular.{are_regular_block_items, is_regular_block}
+use Rattle.c_typed_programs.proofs.LaidOut.Files.{entered_laid}
 use Rattle.c_typed_programs.proofs.Scopes.Files.{defined_as_declares, entered_leads, inside, inside_formed, left_grows}
 use Rattle.c_typed_programs.proofs.Scopes.Files.{scope_is, stored_extends}
 use Rattle.c_typed_programs.proofs.Scopes.Leading.{bound_leads, file_on, file_same, leads_by, names_are, outer_is}
@@ -64,7 +65,7 @@ use Rattle.c_typed_programs.proofs.Bodies.Bodies.{items_valid}
 use Rattle.c_typed_programs.proofs.Bodies.Declared.{IfMade, answered_made}
 use Rattle.c_typed_programs.proofs.Bodies.Entered.{environment_is}
 use Rattle.c_typed_programs.proofs.Bodies.Entities.{StandsLinked, entities_on, entities_same, linked_extended}
-use Rattle.c_typed_programs.proofs.Bodies.Laid.{defined_laid, laid_entered, stored_laid}
+use Rattle.c_typed_programs.proofs.Bodies.Laid.{defined_laid, stored_laid}
 use Rattle.c_typed_programs.proofs.Bodies.Matching.{TakesParameters, shape_takes}
 use Rattle.c_typed_programs.proofs.Bodies.Outside.{declared_outside, extended_outside}
 use Rattle.c_typed_programs.proofs.Bodies.Parameters.{IfSays, Says, parameters_kept, shape_says}
@@ -114,7 +115,7 @@ module _ (f : File) (formed : IsFormed f.state) (linked : AreLinked f.state.envi
         inner = ap is_empty leads.outer ∙ within_block f.state;
         linked = linked_extended (inside n p f) (entered n type p f).state
             (type_extends false type (inside n p f) (inside_formed f formed n p is)) inside_linked;
-        laid = laid_entered f formed laid n p is type (environment_is n type p f);
+        laid = entered_laid f laid n type p is;
       }
 
 -- behind the block names stand for what they did before it

@@ -14,7 +14,7 @@ use Rattle.c_scope.specs.declared.meaning.Meaning.TheVariants as meaning
 use Rattle.c_scope.specs.Declaring.{Declaration, is_typedef}
 use Rattle.c_scope.specs.Declaring as declaring
 use Rattle.c_scope.specs.Environment.{surroundings}
-use Rattle.c_scope.specs.Names.{Name, declared, found, or_else}
+use Rattle.c_scope.specs.Names.{Name, declared, found}
 use Rattle.c_scope.specs.Parameters.{ParameterScope}
 use Rattle.c_typing.specs.Calls.{place_among, with_type}
 use Rattle.c_typing.specs.Declarators.{Shape, built_in}
@@ -52,14 +52,9 @@ use Rattle.c_typed_programs.specs.LaidOut.Behind.{IfLaid, IsLaidIf}
 use Rattle.c_typed_programs.proofs.LaidOut.Chained.{StateLaid}
 use Rattle.c_typed_programs.proofs.LaidOut.Declarations.{declaration_laid, stored_laid}
 use Rattle.c_typed_programs.proofs.LaidOut.Statements.{items_laid}
-use Rattle.c_typed_programs.proofs.Common.{filed}
+use Rattle.c_typed_programs.proofs.Common.{filed, inner_or}
 
 -- in the block of a function names stand for its parameters too
-
-inner_or : (P : Meaning → Type 0) (a b : Option Meaning) → ((x : Meaning) → a ≡ Some x → P x)
-    → ((x : Meaning) → b ≡ Some x → P x) → (x : Meaning) → or_else a b ≡ Some x → P x
-inner_or P None b h g x e = g x e
-inner_or P (Some y) b h g x e = h x e
 
 inside_laid : (f : File) → IsLaidOut f.state → (n : ℕ) (p : ParameterScope) → IsParameterScope f.state p
     → IsLaidOut (inside n p f)

@@ -1,6 +1,6 @@
 -- The state behind what is typed inside functions is laid out (C99 6.2.5, 6.7.2.1).
-use Rattle.std.proofs.Common.{◌≡◌, ℕ, Bool, true, false, ◌||◌, refl, List}
-use Rattle.std.proofs.Common.{Option, None, if◌then◌else◌}
+use Rattle.std.proofs.Common.{◌≡◌, ℕ, Bool, true, false, refl, List}
+use Rattle.std.proofs.Common.{Option, if◌then◌else◌}
 use Rattle.std.specs.Prelude.{Ok, Err}
 use Rattle.c_syntax.specs.Tree.{Expression, Specifiers}
 use Rattle.c_tree.specs.declared.c_type.TypeWord.{TypeWord}
@@ -18,20 +18,18 @@ use Rattle.c_unit_typing.specs.Constructs.{Labels, behind_first, case_label, con
 use Rattle.c_unit_typing.specs.Constructs.{evaluated, expression_typed, returned}
 use Rattle.c_unit_typing.specs.Constructs.{switching_on}
 use Rattle.c_unit_typing.specs.Declarations.{stored_once}
-use Rattle.c_unit_typing.specs.Units.{definition_of, gives_incomplete}
+use Rattle.c_unit_typing.specs.Units.{definition_of}
 use Rattle.c_typed_validity.specs.Regular.{are_regular_specifiers, is_regular}
 use Rattle.c_typed_validity.specs.Sound.{IsFormed}
-use Rattle.c_typed_validity.proofs.Common.{neither_left as first_false}
 use Rattle.c_typed_declarators.specs.Given.{anything}
-use Rattle.c_typed_declarators.proofs.Types.{without_faults}
 use Rattle.c_typed_programs.specs.Declarations.Binding.{IfDeclared}
 use Rattle.c_typed_programs.proofs.Declarations.Judged.{IsBuilt, answered}
 use Rattle.c_typed_programs.specs.Scopes.Regular.{is_regular_if}
 use Rattle.c_typed_programs.proofs.LaidOut.Chained.{StateLaid}
+use Rattle.c_typed_programs.proofs.LaidOut.Files.{definition_arrays}
 use Rattle.c_typed_programs.proofs.LaidOut.Statements.{controlling_lays, evaluated_lays, expression_lays, returned_lays}
 use Rattle.c_typed_programs.proofs.LaidOut.Statements.{behind_first_lays, case_lays, switching_lays}
-use Rattle.c_typed_programs.specs.Layouts.Listed.{HasArrays, IfLaidOut, IsLaidOut, has_array_bytes}
-use Rattle.c_typed_programs.proofs.Layouts.Arrays.{built_arrays}
+use Rattle.c_typed_programs.specs.Layouts.Listed.{HasArrays, IfLaidOut, IsLaidOut}
 use Rattle.c_typed_programs.proofs.Layouts.Behind.{specification_behind}
 use Rattle.c_typed_programs.proofs.Layouts.Declared.{declared_by}
 
@@ -102,23 +100,11 @@ module _ (s : State) (formed : IsFormed s) (laid : IsLaidOut s) (spec : Specific
   abbrev defined : Declaration
   defined = definition_of (extents s) spec (built_in s spec sh) name
 
-  defined_arrays : defined.type_rule ≡ None → has_array_bytes (extents s) defined.type ≡ true
-  defined_arrays e =
-      let b = built_in s spec sh in
-      let good = without_faults
-      (record b.faults { incomplete = b.faults.incomplete || gives_incomplete (extents s) b.type }) e in
-      built_arrays (extents s) spec.type has sh.derivations (record {
-        complete = first_false b.faults.incomplete (gives_incomplete (extents s) b.type) good.complete;
-        placed = good.placed;
-        counted = good.counted;
-        small = good.small;
-      })
-
   defined_by : (a : Answer (Unit {0})) → judged_declarator (surroundings s.environment defined) defined ≡ a
       → IfDeclared defined s (answered defined s name a) → IfLaidOut anything (answered defined s name a)
   defined_by (Ok x) e h =
       let built : IsBuilt defined = record { sized = λ g. h.0.sized; placed = λ g. refl } in
-      ((declared_by s formed laid defined built defined_arrays name (Ok x) e h).0, tt)
+      ((declared_by s formed laid defined built (definition_arrays s spec has sh name) name (Ok x) e h).0, tt)
   defined_by (Err f) e h = tt
 
   pub defined_laid : (b : Bool)

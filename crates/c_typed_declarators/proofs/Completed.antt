@@ -1,7 +1,7 @@
 -- A structure or union is complete behind its members.
 use Rattle.std.proofs.Common.{◌≡◌, ◌⊎◌, inl, inr, ℕ, zero, suc, ◌+◌, ◌^◌, ◌<◌, ◌≤◌, Bool, true, false, refl, sym, ap}
 use Rattle.std.proofs.Common.{◌∙◌, subst}
-use Rattle.std.proofs.Common.{List, [], ◌∷◌, length, Option, Some, None, if◌then◌else◌, nat_le, arith}
+use Rattle.std.proofs.Common.{List, [], ◌∷◌, length, Option, Some, None, if◌then◌else◌, arith}
 use Rattle.std.specs.Prelude.{Ok, slice_get, get_or, nat_lt}
 use Rattle.std.proofs.lemmas.Bool.{false≢true, le-leb, ltb-false}
 use Rattle.c_tree.specs.Extents.{TypeExtent, structure_extent}

@@ -1,5 +1,5 @@
 -- Constants, string literals, names and members give what is valid.
-use Rattle.std.proofs.Common.{◌≡◌, ℕ, ◌^◌, ◌<◌, Bool, true, false, ◌&&◌, ◌||◌}
+use Rattle.std.proofs.Common.{◌≡◌, ℕ, Bool, true, false, ◌&&◌, ◌||◌}
 use Rattle.std.proofs.Common.{if◌then◌else◌, refl, sym, ap, ◌∙◌, subst, List, [], ◌∷◌, Option, Some, None, arith}
 use Rattle.std.specs.Prelude.{◌==◌, get_or, is_none, not, option_map}
 use Rattle.std.proofs.lemmas.Bool.{eq-eqb}
@@ -27,7 +27,6 @@ use Rattle.c_rules.specs.Fine.{IsFine}
 use Rattle.c_rules.specs.Types.{object_of, target_of}
 use Rattle.c_rules.proofs.FineBinary.{all}
 use Rattle.c_rules.proofs.FineConversions.{unqualified_kind}
-use Rattle.c_rules.proofs.FineUnary.{same_kind}
 use Rattle.c_place_rules.specs.Operands.{Place, Variable}
 use Rattle.c_place_rules.specs.Targets.{object_kind}
 use Rattle.c_place_laws.specs.FinePlaces.{IfFineOperand, IsFineOperand, IsFinePlace, IsFineVariable, IsSized}

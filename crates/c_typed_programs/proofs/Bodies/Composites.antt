@@ -8,7 +8,7 @@ use Rattle.c_tree.specs.declared.expression.Kind.{Kind}
 use Rattle.c_tree.specs.TypesAgree.{agrees, behind_types, gives_kind, is_end, is_kind_of, kind_of_type}
 use Rattle.c_tree.specs.TypesAgree.{still}
 use Rattle.c_tree.specs.TypesAgree.{takes_kind}
-use Rattle.c_scope.specs.Composite.{composite, joint}
+use Rattle.c_scope.specs.Composite.{composite}
 use Rattle.c_typed_validity.specs.Steps.{Structures}
 use Rattle.c_typed_programs.proofs.SpelledTypes.Composites.{IsJoint, alike, composite_nothing, first_sized, joins}
 use Rattle.c_typed_programs.proofs.SpelledTypes.Composites.{none_first, none_second, second_sized}

@@ -7,7 +7,7 @@ use Rattle.c_tree.specs.declared.c_type.TypeWord.TheVariants as word
 use Rattle.c_tree.specs.Arrays.{has_bytes}
 use Rattle.c_tree.specs.Extents.{TypeExtent, array_extent, capped, extent_of}
 use Rattle.c_tree.specs.Kinds.{is_size}
-use Rattle.c_scope.specs.Composite.{composite, joint}
+use Rattle.c_scope.specs.Composite.{composite}
 use Rattle.c_scope.specs.Environment.{type_or}
 use Rattle.c_scope.specs.Declaring.{sized_by_initializer}
 use Rattle.c_typed_validity.specs.Sound.{is_sized_array}

@@ -27,6 +27,7 @@ abbrev pub IfGives : {A : Type 0} → (A → Type 0) → Answer (State × A) →
 IfGives p (Ok r) = p r.1
 IfGives p (Err e) = Unit {0}
 
+-- what stands behind a construct, whatever this gives
 pub then_gives : {A B : Type 0} (p : B → Type 0) (a : Answer (State × A)) (next : A → Typing B)
     → ((x : A) (u : State) → IfGives p (next x u)) → IfGives p (a >>= λ r. next r.1 r.0)
 then_gives p (Ok r) next h = h r.1 r.0
@@ -44,6 +45,7 @@ same_number n = eq-eqb n n refl
 pub three : (a b c : Bool) → a ≡ true → b ≡ true → c ≡ true → (a && b && c) ≡ true
 three a b c e g h = and_from (a && b) c (and_from a b e g) h
 
+-- where a test fails, what is chosen otherwise holds
 pub other_is : (b x y : Bool) → b ≡ false → (if b then x else y) ≡ true → y ≡ true
 other_is true x y e g = absurd cc
 other_is false x y e g = g

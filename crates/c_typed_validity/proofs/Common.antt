@@ -1,11 +1,15 @@
 -- What proofs of several subjects cite: of booleans and options.
 use Rattle.std.proofs.Common.{◌≡◌, Bool, true, false, ◌&&◌, ◌||◌, refl, ap, ◌∙◌, Some, None}
 
+-- options
+
 pub the_same : {A : Type 0} {a b : A} → Some a ≡ Some b → a ≡ b
 the_same e = cc
 
 pub no_value : {A : Type 0} (x : A) (P : Type 0) → None ≡ Some x → P
 no_value x P e = cc
+
+-- booleans
 
 pub first : (a b : Bool) → (a && b) ≡ true → a ≡ true
 first true b e = refl

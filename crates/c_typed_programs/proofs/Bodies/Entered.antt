@@ -63,10 +63,10 @@ pub parameter_count : (es : Structures) (s : State) (last : ℕ) (entries : Name
     → AreParameters es last entries first → first + length (parameters_in s entries) ≡ last
 parameter_count es s last [] first is = omega (arith, is)
 parameter_count es s last (e ∷ entries) first is =
-    let and_from = length-append (parameter_in s e.1) (parameters_in s entries) in
+    let both = length-append (parameter_in s e.1) (parameters_in s entries) in
     let all = entry_count es s first last (AreParameters es last entries) (length (parameters_in s entries))
     (λ n p. parameter_count es s last entries n p) e.1 is in
-    omega (arith, and_from, all)
+    omega (arith, both, all)
 
 -- each holds a scalar or is an object
 

@@ -248,8 +248,8 @@ main_entity : (f : File) (o : Option Entity) → declared (codes "main") f.state
     → units.is_main o ≡ true → IsMainEntity f
 main_entity f None e g = absurd cc
 main_entity f (Some x) e g =
-    let and_from = both_true x.is_defined (same_words x.c_type (word.Gives ∷ word.Integer Int ∷ [])) g in
-    record { entity = x; there = e; defined = and_from.0; type = words_are x.c_type _ and_from.1 }
+    let both = both_true x.is_defined (same_words x.c_type (word.Gives ∷ word.Integer Int ∷ [])) g in
+    record { entity = x; there = e; defined = both.0; type = words_are x.c_type _ both.1 }
 
 main_by : (f : File) (numbers : Names ℕ) → FunctionsOf f numbers
     → f.state.environment.facts.functions ≡ numbers → IsEnded f → is_main (program_of f) ≡ true

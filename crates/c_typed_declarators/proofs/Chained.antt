@@ -1,6 +1,6 @@
 -- Constructs that are typed one behind the other: the state behind the last extends the first.
 use Rattle.std.proofs.Common.{◌≡◌, ℕ, Bool, true, false, refl, sym, ap, ◌∙◌, subst, List, [], ◌∷◌, ◌++◌, Option, Some}
-use Rattle.std.proofs.Common.{None, arith}
+use Rattle.std.proofs.Common.{arith}
 use Rattle.std.specs.Prelude.{Ok, Err}
 use Rattle.std.proofs.lemmas.List.{append-nil, append_assoc}
 use Rattle.obj_memory.specs.declared.int_type.IntType.TheVariants.{Int}
@@ -14,18 +14,12 @@ use Rattle.c_scope.specs.declared.meaning.Meaning.TheVariants as meaning
 use Rattle.c_scope.specs.Names.{Name, Names, declared, found, or_else}
 use Rattle.c_typing.specs.State.{State, Typing, extents}
 use Rattle.c_typed_validity.specs.Sound.{IsFormed, is_sized_array}
-use Rattle.c_typed_validity.proofs.Sound.{longer_list, more_more, same_list, same_more}
+use Rattle.c_typed_validity.proofs.Sound.{IfAnswer, longer_list, more_more, same_list, same_more}
 use Rattle.c_typed_declarators.specs.Extending.{AddsEnumerators, AreEnumerators, Extending, Extends}
 use Rattle.c_typed_declarators.specs.Extending.{IsNew, IsNewObject, IsSameOr, new, same}
 
 no_new : (P : Type 0) → true ≡ false → P
 no_new P e = cc
-
-some_is : {A : Type 0} {a b : A} → Some a ≡ Some b → a ≡ b
-some_is e = cc
-
-no_some : {A : Type 0} (x : A) (P : Type 0) → None ≡ Some x → P
-no_some x P e = cc
 
 -- enumerators that are declared in a scope
 
@@ -123,10 +117,6 @@ weaker b s p q (Err f) h is = tt
 pub done_extends : {A : Type 0} (b : Bool) (s : State) (p : State → A → Type 0) (x : A) → IsFormed s → p s x
     → Extending b s p (Ok (s, x))
 done_extends b s p x formed is = (extends_same b s formed, is)
-
-abbrev pub IfAnswer : {A : Type 0} → (A → Type 0) → Answer A → Type 0
-IfAnswer p (Ok x) = p x
-IfAnswer p (Err f) = Unit {0}
 
 pub judged_extends : {A : Type 0} (b : Bool) (s : State) (p : State → A → Type 0) (a : Answer A) → IsFormed s
     → IfAnswer (p s) a → Extending b s p (a >>= λ x. Ok (s, x))

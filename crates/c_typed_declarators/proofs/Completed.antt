@@ -1,9 +1,9 @@
 -- A structure or union is complete behind its members.
 use Rattle.std.proofs.Common.{◌≡◌, ◌⊎◌, inl, inr, ℕ, zero, suc, ◌+◌, ◌^◌, ◌<◌, ◌≤◌, Bool, true, false, refl, sym, ap}
 use Rattle.std.proofs.Common.{◌∙◌, subst}
-use Rattle.std.proofs.Common.{List, [], ◌∷◌, length, Option, Some, None, if◌then◌else◌, nat_le, arith}
+use Rattle.std.proofs.Common.{List, [], ◌∷◌, length, Option, Some, None, if◌then◌else◌, arith}
 use Rattle.std.specs.Prelude.{Ok, slice_get, get_or, nat_lt}
-use Rattle.std.proofs.lemmas.Bool.{le-leb, ltb-false}
+use Rattle.std.proofs.lemmas.Bool.{false≢true, le-leb, ltb-false}
 use Rattle.c_tree.specs.Extents.{TypeExtent, structure_extent}
 use Rattle.c_rules.specs.declared.fault.Rule.TheVariants as rule
 use Rattle.c_rules.specs.Answer.{violates, ◌>>=◌}
@@ -20,6 +20,7 @@ use Rattle.c_typing.specs.State.{State, extents}
 use Rattle.c_typed_validity.specs.More.{AreMore}
 use Rattle.c_typed_validity.specs.Sound.{IsFormed, IsNumbered, IsObjectExtent, IsPending}
 use Rattle.c_typed_validity.specs.Typed.{HaveMembers}
+use Rattle.c_typed_validity.proofs.Common.{the_same}
 use Rattle.c_typed_validity.proofs.Kept.{extent_kept, target_kept}
 use Rattle.c_typed_validity.proofs.Sound.{more_more}
 use Rattle.c_typed_declarators.specs.Extending.{Extending, Extends}
@@ -35,9 +36,6 @@ none_or a b x P e g = by (sym e ∙ g)
   where
     by : None ≡ Some x → P
     by e = cc
-
-the_same : {A : Type 0} {a b : A} → Some a ≡ Some b → a ≡ b
-the_same e = cc
 
 abbrev pub filled : ℕ → TypeExtent → List (Option TypeExtent) → List (Option TypeExtent)
 filled n whole es = changed n (λ e. Some whole) es
@@ -171,10 +169,7 @@ module _ (u : State) (formed : IsFormed u) (is_union : Bool) (n : ℕ) (entries 
   not_now : (s : State) (k : ℕ) → is_begun n s.environment.structures.bodies ≡ false
       → is_begun k s.environment.structures.bodies ≡ true → k ≡ n → ⊥
   not_now s k fresh begun e =
-      conflict (sym fresh ∙ ap (λ k. is_begun k s.environment.structures.bodies) (sym e) ∙ begun)
-    where
-      conflict : false ≡ true → ⊥
-      conflict e = cc
+      false≢true (sym fresh ∙ ap (λ k. is_begun k s.environment.structures.bodies) (sym e) ∙ begun)
 
   pending_stays : (k : ℕ) → (k ≡ n → ⊥) → IsPending u k → IsPending (with_structure is_union n entries u) k
   pending_stays k other p = record {

@@ -1,5 +1,5 @@
 -- What is known of a state is known of one that extends it: type names keep it.
-use Rattle.std.proofs.Common.{◌≡◌, ℕ, false, ◌||◌, sym, ap, ◌∙◌, subst, List, length, Option, Some, None, nat_le}
+use Rattle.std.proofs.Common.{◌≡◌, false, ◌||◌, sym, ap, ◌∙◌, subst, List, length, Option, Some, None, nat_le}
 use Rattle.std.specs.Prelude.{Ok, Err}
 use Rattle.c_tree.specs.declared.c_type.TypeWord.{TypeWord}
 use Rattle.c_tree.specs.Valid.{Scope}
@@ -10,9 +10,8 @@ use Rattle.c_scope.specs.declared.meaning.Meaning.{Meaning}
 use Rattle.c_scope.specs.declared.meaning.Meaning.TheVariants as meaning
 use Rattle.c_scope.specs.Names.{declared, found, or_else}
 use Rattle.c_typing.specs.Primaries.{is_aggregate, is_marked}
-use Rattle.c_typing.specs.State.{State, extents}
+use Rattle.c_typing.specs.State.{State}
 use Rattle.c_expression_typing.specs.Typed.{type_name}
-use Rattle.c_typed_validity.specs.More.{AreMore}
 use Rattle.c_typed_validity.specs.Names.{IsMeant}
 use Rattle.c_typed_validity.specs.Sound.{IsFormed, Keeps, Knows, Sound}
 use Rattle.c_typed_validity.specs.Steps.{Structures, TypeNames, nothing}

@@ -3,6 +3,7 @@ use Rattle.std.proofs.Common.{◌≡◌, ◌⊎◌, inl, inr, ℕ, zero, suc, re
 use Rattle.std.proofs.Common.{length, Option, Some, None, ◌<◌, arith}
 use Rattle.std.specs.Prelude.{slice_get, get_or}
 use Rattle.c_scope.specs.Structures.{changed}
+use Rattle.c_typed_validity.proofs.Common.{the_same}
 
 pub changed_length : {A : Type 0} (n : ℕ) (f : A → A) (xs : List A) → length (changed n f xs) ≡ length xs
 changed_length n f [] = refl
@@ -87,8 +88,5 @@ there_changed (suc n) f (x ∷ xs) h = there_changed n f xs (omega arith)
 pub got_there : {A : Type 0} (n : ℕ) (f : A → A) (xs : List A) (y : A) → slice_get (changed n f xs) n ≡ Some y
     → (x : A) × (y ≡ f x) × (slice_get xs n ≡ Some x)
 got_there n f [] y e = absurd cc
-got_there zero f (x ∷ xs) y e = (x, sym (same_some e), refl)
-  where
-    same_some : {A : Type 0} {a b : A} → Some a ≡ Some b → a ≡ b
-    same_some e = cc
+got_there zero f (x ∷ xs) y e = (x, sym (the_same e), refl)
 got_there (suc n) f (x ∷ xs) y e = got_there n f xs y e

@@ -10,9 +10,10 @@ use Rattle.c_scope.specs.declared.meaning.Meaning.{Meaning}
 use Rattle.c_scope.specs.declared.meaning.Meaning.TheVariants as meaning
 use Rattle.c_typing.specs.Calls.{place_among, with_callee_type, with_type}
 use Rattle.c_typing.specs.Operators.{object_taken, variable_named, with_taken}
-use Rattle.c_typing.specs.Primaries.{earlier_or, is_undefined, used_as, with_literal, with_use}
+use Rattle.c_typing.specs.Primaries.{is_undefined, used_as, with_literal, with_use}
 use Rattle.c_typing.specs.State.{Literal, State, extents}
 use Rattle.c_typed_validity.specs.Sound.{Extended, IsFormed}
+use Rattle.c_typed_validity.proofs.Moved.{unused_before}
 use Rattle.c_typed_validity.proofs.Sound.{same_list, same_more}
 use Rattle.c_typed_declarators.specs.Extending.{Extends, below, literals_at, one_if, same}
 use Rattle.c_typed_declarators.proofs.Chained.{adds_none, extends_same}
@@ -61,10 +62,6 @@ extends_marks b s formed taken undefined literals types statics unused more_lite
   };
   undefined = unused;
 }
-
-unused_before : (o : Option ℕ) (line : ℕ) → earlier_or o line ≡ None → o ≡ None
-unused_before None line e = refl
-unused_before (Some n) line e = e
 
 use_extends : (b : Bool) (is : Bool) (line : ℕ) (s : State) → IsFormed s
     → Extends b s (if is then with_use line s else s)

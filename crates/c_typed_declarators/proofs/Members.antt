@@ -1,5 +1,5 @@
 -- Members, and structures and unions that are complete behind them.
-use Rattle.std.proofs.Common.{◌≡◌, ℕ, zero, suc, ◌+◌, ◌^◌, ◌<◌, ◌≤◌, Bool, true, false, refl, sym, ap}
+use Rattle.std.proofs.Common.{◌≡◌, ℕ, zero, suc, ◌+◌, ◌^◌, ◌<◌, ◌≤◌, Bool, true, false, refl, sym}
 use Rattle.std.proofs.Common.{◌∙◌, subst, List, [], ◌∷◌, ◌++◌, length, map, Option, Some, None, arith}
 use Rattle.std.specs.Prelude.{All, slice_get, get_or, is_some}
 use Rattle.std.proofs.lemmas.List.Elements.{All-cons}
@@ -22,13 +22,16 @@ use Rattle.c_typing.specs.Specifications.{Specification}
 use Rattle.c_typing.specs.State.{State, extents}
 use Rattle.c_typed_validity.specs.More.{AreMore}
 use Rattle.c_typed_validity.specs.Sound.{IsFormed, IsObjectExtent, is_sized_array}
+use Rattle.c_typed_validity.proofs.Common.{the_same}
 use Rattle.c_typed_validity.proofs.Kept.{extent_kept}
+use Rattle.c_typed_validity.proofs.Moved.{size_high}
+use Rattle.c_typed_validity.proofs.Sound.{IfAnswer}
 use Rattle.c_typed_declarators.specs.Extending.{IsSameOr, new, same}
 use Rattle.c_typed_declarators.specs.Given.{AreCounted, AreEntries, IsEntry}
-use Rattle.c_typed_declarators.proofs.Chained.{IfAnswer}
+use Rattle.c_typed_declarators.proofs.Lists.{added_length}
 use Rattle.c_typed_declarators.proofs.Tags.{bound_same}
 use Rattle.c_typed_declarators.proofs.Types.{NoFaults, built_sized, first_faultless, object_type}
-use Rattle.c_typed_declarators.proofs.Types.{size_high, size_low, is_size_of, without_faults}
+use Rattle.c_typed_declarators.proofs.Types.{size_low, is_size_of, without_faults}
 
 -- a member that a declarator adds
 
@@ -56,10 +59,6 @@ pub members_kept : (s t : State) → AreMore (extents s) (extents t) → (n : �
     → Members t n es
 members_kept s t h n es is = record { each = entries_kept s t h es.entries is.each; count = is.count }
 
-more_entries : (es : List Entry) (e : Entry) → length (es ++ e ∷ []) ≡ suc (length es)
-more_entries [] e = refl
-more_entries (x ∷ es) e = ap suc (more_entries es e)
-
 sized_by : (s : State) (n : ℕ) (es : Entries) → Members s n es → (name : Name) (line : ℕ) (type : List TypeWord)
     (o : Option TypeExtent) → extent_of (extents s) type ≡ o → ((e : TypeExtent) → o ≡ Some e → IsObjectExtent e)
     → IfAnswer (Members s (suc n)) (sized_entry name line type o es)
@@ -68,15 +67,15 @@ sized_by s n es is name line type (Some x) e h =
     let entry : Entry = record { name = name; type = type; extent = x } in
     record {
       each = entries_more s es.entries entry is.each (record { complete = e; object = h x refl });
-      count = let more = more_entries es.entries entry in let low = is.count in omega arith;
+      count = let more = added_length es.entries entry in let low = is.count in omega arith;
     }
 
-unless_by : (r : Option Rule) (line : ℕ) (es : Entries) (next : Entries → Answer Entries) (P : Entries → Type 0)
+pub unless_by : (r : Option Rule) (line : ℕ) (es : Entries) (next : Entries → Answer Entries) (P : Entries → Type 0)
     → (r ≡ None → IfAnswer P (next es)) → IfAnswer P (unless r line es >>= next)
 unless_by None line es next P h = h refl
 unless_by (Some r) line es next P h = tt
 
-no_rule : (r : Option Rule) (b : Bool) → rule_or_repeated r b ≡ None → r ≡ None
+pub no_rule : (r : Option Rule) (b : Bool) → rule_or_repeated r b ≡ None → r ≡ None
 no_rule None b e = refl
 no_rule (Some r) b e = absurd cc
 
@@ -111,9 +110,6 @@ bound_each : (P : Member → Type 0) (before behind : Option Member) → IsSameO
     → ((m : Member) → before ≡ Some m → P m) → (m : Member) → behind ≡ Some m → P m
 bound_each P before behind (same e) h m is = h m (sym e ∙ is)
 bound_each P before behind (new x e p) h m is = subst P (the_same (sym e ∙ is)) p
-  where
-    the_same : Some x ≡ Some m → x ≡ m
-    the_same e = cc
 
 pub members_each : (P : Member → Type 0) (es : List Entry) (os : List ℕ) (members : Names Member)
     → ((name : Name) (m : Member) → declared name members ≡ Some m → P m) → Each P es os

@@ -61,9 +61,9 @@ use Rattle.c_typing.specs.Primaries.{character_constant, integer_as, integer_con
 use Rattle.c_typing.specs.State.{State, extents, with_const}
 use Rattle.c_expression_typing.specs.Constructs.{cast_to, chosen, sized}
 use Rattle.c_typed_validity.proofs.Constants.{IsHeld, constant_held, within_type}
+use Rattle.c_typed_validity.proofs.Moved.{size_high}
+use Rattle.c_typed_validity.proofs.Sound.{IfAnswer}
 use Rattle.c_typed_declarators.specs.Given.{HasWords, OperandHasWords, ValueHasWords}
-use Rattle.c_typed_declarators.proofs.Chained.{IfAnswer}
-use Rattle.c_typed_declarators.proofs.Types.{size_high}
 
 abbrev Words : Answer Value → Type 0
 Words a = IfAnswer (λ v. HasWords v.tree) a

@@ -1,5 +1,5 @@
 -- Lists of parameters have a scope of their own.
-use Rattle.std.proofs.Common.{◌≡◌, ℕ, ◌≤◌, Bool, true, false, ◌&&◌, ◌||◌, refl, sym, ap, subst, ◌∙◌, List, [], ◌∷◌}
+use Rattle.std.proofs.Common.{◌≡◌, ℕ, Bool, true, false, ◌&&◌, ◌||◌, refl, sym, ap, subst, ◌∙◌, List, [], ◌∷◌}
 use Rattle.std.proofs.Common.{◌++◌, length, Option, Some, None, if◌then◌else◌, arith}
 use Rattle.std.specs.Prelude.{Ok, Err, not}
 use Rattle.c_tree.specs.declared.c_type.TypeWord.{TypeWord}
@@ -13,8 +13,6 @@ use Rattle.c_scope.specs.declared.meaning.Designated.TheVariants as what
 use Rattle.c_scope.specs.declared.meaning.Meaning.TheVariants as meaning
 use Rattle.c_scope.specs.declared.meaning.Storage.{Storage}
 use Rattle.c_scope.specs.declared.meaning.Storage.TheVariants as storage
-use Rattle.c_scope.specs.declared.meaning.Tag.{Tag}
-use Rattle.c_scope.specs.declared.meaning.Tag.TheVariants as tag
 use Rattle.c_scope.specs.Declaring.{Declaration, has_linkage, is_extern, is_function, is_typedef, judged}
 use Rattle.c_scope.specs.Environment.{in_file, linked, surroundings, with_block, with_declarator, with_variable}
 use Rattle.c_scope.specs.Environment.{without_linkage}
@@ -26,12 +24,14 @@ use Rattle.c_typing.specs.Declarators.{Shape, declaring, is_misplaced, not_for_p
 use Rattle.c_typing.specs.Declarators.{parameter_built, parameter_declaration, built_in}
 use Rattle.c_typing.specs.Specifications.{Specification}
 use Rattle.c_typing.specs.State.{State, extents}
-use Rattle.c_typed_validity.specs.Sound.{IsFormed, IsNumbered}
+use Rattle.c_typed_validity.specs.Sound.{IsFormed}
+use Rattle.c_typed_validity.proofs.Common.{neither_right}
 use Rattle.c_typed_validity.proofs.Sound.{same_list, same_more}
 use Rattle.c_typed_declarators.specs.Extending.{AddsEnumerators, Extending, Extends, IsNew, IsSameOr, same}
 use Rattle.c_typed_declarators.specs.Given.{anything}
-use Rattle.c_typed_declarators.proofs.Chained.{IfAnswer, adds_none, constants_stay, judged_extends, typedefs_stay}
-use Rattle.c_typed_declarators.proofs.Tags.{bound_same}
+use Rattle.c_typed_declarators.proofs.Chained.{adds_none, constants_stay, judged_extends, typedefs_stay}
+use Rattle.c_typed_declarators.proofs.Steps.{whatever}
+use Rattle.c_typed_declarators.proofs.Tags.{bound_same, numbered_more}
 
 -- a scope that is opened and left
 
@@ -60,7 +60,7 @@ pub innermost_last : {A : Type 0} (file : Names A) (outer : List (Names A)) (cur
 innermost_last file [] current = refl
 innermost_last file (o ∷ outer) current = innermost_last o outer current
 
-not_empty : {A : Type 0} (outer : List A) (x : A) → is_empty (outer ++ x ∷ []) ≡ false
+pub not_empty : {A : Type 0} (outer : List A) (x : A) → is_empty (outer ++ x ∷ []) ≡ false
 not_empty [] x = refl
 not_empty (o ∷ outer) x = refl
 
@@ -107,11 +107,6 @@ module _ (b : Bool) (s t : State) (formed : IsFormed s) (h : Extends true (withi
   the_tags_are name = ap (λ z. or_else (declared name z) (found name (around t.environment.tags.outer))) tags_are
       ∙ ap (λ z. or_else (declared name s.environment.tags.current) (found name z)) outer_tags_are
 
-  more_numbered : (t : Tag) (count more : ℕ) → count ≤ more → IsNumbered count t → IsNumbered more t
-  more_numbered (tag.Structure n) count more low is = omega arith
-  more_numbered (tag.Union n) count more low is = omega arith
-  more_numbered (tag.Enumeration n) count more low is = tt
-
   pub behind_extends : Extends b s (behind s.environment.variables t)
   behind_extends = record {
     more = record { kept = h.more.kept };
@@ -139,7 +134,7 @@ module _ (b : Bool) (s t : State) (formed : IsFormed s) (h : Extends true (withi
       begun = h.formed.begun;
       sizes = h.formed.sizes;
       tags = λ name x e.
-          more_numbered x (length (extents s)) (length (extents t)) h.longer
+          numbered_more (length (extents s)) (length (extents t)) h.longer x
           (formed.tags name x (sym (the_tags_are name) ∙ e));
       constants = λ name w e. formed.constants name w (sym (names_are name) ∙ e);
       typedefs = λ name type e. formed.typedefs name type (sym (names_are name) ∙ e);
@@ -249,10 +244,6 @@ judged_by : (s : State) (d : Declaration) (type : List TypeWord) (a : Answer (Un
 judged_by s d type (Ok x) h = (h, tt)
 judged_by s d type (Err f) h = tt
 
-pub misplaced_by : (a b : Bool) → (a || b) ≡ false → b ≡ false
-misplaced_by true b e = absurd cc
-misplaced_by false b e = e
-
 named_parameter : (s : State) → IsFormed s → in_file s.environment ≡ false → (in_definition : Bool)
     (spec : Specification) (b : BuiltType) (name : Name × ℕ) (is : Bool) → is_misplaced spec ≡ is
     → Extending true s anything
@@ -261,7 +252,7 @@ named_parameter : (s : State) → IsFormed s → in_file s.environment ≡ false
 named_parameter s formed inner in_definition spec b name true e = tt
 named_parameter s formed inner in_definition spec b name false e =
     let d = parameter_declaration in_definition spec b name in
-    let plain = misplaced_by spec.has_two_storages (not_for_parameter spec.storage) e in
+    let plain = neither_right spec.has_two_storages (not_for_parameter spec.storage) e in
     judged_by s d (unqualified (adjusted b.type)) (judged (surroundings s.environment d) d)
     (linked_by s d (has_linkage (in_file s.environment) d)
     (unlinked_is (in_file s.environment) (is_function (adjusted b.type)) (is_extern spec.storage)
@@ -272,11 +263,7 @@ parameter_by : (s : State) → IsFormed s → in_file s.environment ≡ false �
     (spec : Specification) (b : BuiltType) (name : Option (Name × ℕ))
     → Extending true s anything (parameter_built in_definition spec b name s)
 parameter_by s formed inner in_definition spec b None =
-    judged_extends true s anything (nameless_parameter spec b) formed (whatever (nameless_parameter spec b))
-  where
-    whatever : {A : Type 0} (a : Answer A) → IfAnswer (λ x. Unit {0}) a
-    whatever (Ok x) = tt
-    whatever (Err f) = tt
+    judged_extends true s anything (nameless_parameter spec b) formed (whatever s (nameless_parameter spec b))
 parameter_by s formed inner in_definition spec b (Some name) =
     named_parameter s formed inner in_definition spec b name (is_misplaced spec) refl
 

@@ -44,12 +44,13 @@ use Rattle.c_typed_validity.specs.Regular.{is_regular_enumerator, is_regular_mem
 use Rattle.c_typed_validity.specs.Regular.{is_regular_specifier, more_are_regular, more_are_regular_declarators}
 use Rattle.c_typed_validity.specs.Regular.{more_are_regular_enumerators, more_are_regular_parameters}
 use Rattle.c_typed_validity.specs.Sound.{IsFormed, is_sized_array}
-use Rattle.c_typed_validity.proofs.Sound.{more_more}
+use Rattle.c_typed_validity.proofs.Common.{first, second, the_same}
+use Rattle.c_typed_validity.proofs.Sound.{IfAnswer, more_more}
 use Rattle.c_typed_declarators.specs.Extending.{Extending, Extends, IsNew, IsSameOr, new, same}
 use Rattle.c_typed_declarators.specs.Given.{HasScope, IsParameterScope}
 use Rattle.c_typed_declarators.specs.Given.{AreCounted, HasType, HasWords, IsBegun, IsCounted, IsGathered, IsIntIf}
 use Rattle.c_typed_declarators.specs.Given.{IsShapeOf, IsSpecified, OperandHasWords, ValueHasWords, anything}
-use Rattle.c_typed_declarators.proofs.Chained.{IfAnswer, done_extends, extends_same, from_before, inside}
+use Rattle.c_typed_declarators.proofs.Chained.{done_extends, extends_same, from_before, inside}
 use Rattle.c_typed_declarators.proofs.Chained.{judged_extends, then_extends, then_from, weaker}
 use Rattle.c_typed_declarators.proofs.Completed.{completed_from}
 use Rattle.c_typed_declarators.proofs.Members.{Members, member_given, members_kept}
@@ -64,14 +65,6 @@ use Rattle.c_typed_declarators.proofs.Steps.{prefixed_extends, typedef_sized, va
 use Rattle.c_typed_declarators.proofs.Tags.{BegunFrom, begun_extends, tagged_extends, numbered_more}
 use Rattle.c_typed_declarators.proofs.Types.{specified_sized}
 use Rattle.c_typed_declarators.proofs.Words.{enumeration_int, int_word}
-
-pub first : (a b : Bool) → (a && b) ≡ true → a ≡ true
-first true b e = refl
-first false b e = e
-
-pub second : (a b : Bool) → (a && b) ≡ true → b ≡ true
-second true b e = e
-second false b e = cc
 
 pub value_then : {B : Type 0} (s : State) (operand : Typing Operand) (q : State → B → Type 0) (next : Value → Typing B)
     → Extending false s OperandHasWords (operand s)
@@ -181,9 +174,6 @@ new_there behind m (same e) is = none_new (sym e ∙ is)
     none_new : None ≡ Some m → IsNew true m
     none_new e = cc
 new_there behind m (new x e p) is = subst (IsNew true) (the_same (sym e ∙ is)) p
-  where
-    the_same : Some x ≡ Some m → x ≡ m
-    the_same e = cc
 
 pub parameters_scope : (s t : State) → Extends true (within s) t → IsParameterScope t (parameters_in t.environment)
 parameters_scope s t h = record {

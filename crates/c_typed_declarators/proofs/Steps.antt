@@ -13,7 +13,7 @@ use Rattle.c_const.specs.Integers.{constant_word}
 use Rattle.c_rules.specs.declared.fault.Rule.TheVariants.{Redeclared}
 use Rattle.c_rules.specs.Answer.{Answer, violates, ◌>>=◌}
 use Rattle.c_rules.specs.Values.{Value}
-use Rattle.c_place_rules.specs.Operands.{Operand, a_value}
+use Rattle.c_place_rules.specs.Operands.{Operand}
 use Rattle.c_place_rules.specs.Places.{address}
 use Rattle.c_call_rules.specs.Calls.{called_through, of_function, of_routine}
 use Rattle.c_call_rules.specs.FunctionTypes.{callee_type}
@@ -33,7 +33,7 @@ use Rattle.c_typing.specs.declared.forms.PrefixForm.TheVariants as form
 use Rattle.c_typing.specs.Calls.{Called, a_function, a_pointer, a_printf, a_routine, applied, callee_number}
 use Rattle.c_typing.specs.Calls.{called_by_value, called_plainly, name_called, plainly_or, pointer_called}
 use Rattle.c_typing.specs.Calls.{printed, with_callee_type}
-use Rattle.c_typing.specs.Operators.{arrowed, as_operand, as_value, dotted, object_taken, stepped_by, unary_value}
+use Rattle.c_typing.specs.Operators.{arrowed, as_operand, as_value, dotted, stepped_by, unary_value}
 use Rattle.c_typing.specs.Operators.{value_among}
 use Rattle.c_typing.specs.Primaries.{designated, is_object, literal, meant, named, place, plain_variable, used_as}
 use Rattle.c_typing.specs.Sizes.{count_in, is_count, has_sign, next_value, provided}
@@ -44,10 +44,11 @@ use Rattle.c_expression_typing.specs.Constructs.{prefixed, valued}
 use Rattle.c_expression_typing.specs.Lines.{name_of}
 use Rattle.c_syntax.specs.declared.position.Spelled.{Spelled}
 use Rattle.c_typed_validity.specs.Sound.{IsFormed, is_sized_array}
-use Rattle.c_typed_validity.proofs.Sound.{same_list, same_more}
+use Rattle.c_typed_validity.proofs.Constructs.{address_made, as_made}
+use Rattle.c_typed_validity.proofs.Sound.{IfAnswer, same_list, same_more}
 use Rattle.c_typed_declarators.specs.Extending.{Extending, Extends, IsNew, IsSameOr}
 use Rattle.c_typed_declarators.specs.Given.{HasWords, IsCounted, IsIntIf, OperandHasWords, ValueHasWords, anything}
-use Rattle.c_typed_declarators.proofs.Chained.{IfAnswer, constants_stay, done_extends, extends_same, judged_extends}
+use Rattle.c_typed_declarators.proofs.Chained.{constants_stay, done_extends, extends_same, judged_extends}
 use Rattle.c_typed_declarators.proofs.Chained.{then_extends, typedefs_stay}
 use Rattle.c_typed_declarators.proofs.Marks.{address_extends, callee_extends, literal_by, used_extends}
 use Rattle.c_typed_declarators.proofs.Operators.{address_words, among_words, operand_words, place_words, plainly_words}
@@ -113,12 +114,6 @@ pub literal_extends : (b is : Bool) (bytes : List ℕ) (line : ℕ) (s : State) 
 literal_extends b is bytes line s formed = (literal_by b is bytes s formed, tt)
 
 -- unary operators, and `.` and `->`
-
-abbrev pub address_made : (is : Bool) → Operand → State → Value → Answer (State × Value)
-address_made is o s v = Ok (if is then object_taken o s else s, v)
-
-abbrev pub as_made : State × Value → Answer (State × Operand)
-as_made r = Ok (r.0, a_value r.1)
 
 pub addressed_by : (b is : Bool) (o : Operand) (s : State) → IsFormed s → (a : Answer Value)
     → IfAnswer (λ v. HasWords v.tree) a

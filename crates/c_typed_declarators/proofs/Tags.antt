@@ -1,6 +1,7 @@
 -- Tags, and structures and unions of which more are declared, begun or complete.
 use Rattle.std.proofs.Common.{◌≡◌, ℕ, zero, suc, ◌<◌, ◌≤◌, Bool, true, false, ◌&&◌, refl, sym, ap, ◌∙◌, subst}
 use Rattle.std.proofs.Common.{List, [], ◌∷◌, ◌++◌, length, Option, Some, None, if◌then◌else◌, arith}
+use Rattle.std.proofs.lemmas.Bool.{false≢true}
 use Rattle.std.specs.Prelude.{Ok, not}
 use Rattle.c_tree.specs.Extents.{TypeExtent, structure_extent}
 use Rattle.c_rules.specs.Answer.{Answer, violates, ◌>>=◌}
@@ -23,6 +24,7 @@ use Rattle.c_expression_typing.specs.Constructs.{begun_as, tagged_as}
 use Rattle.c_typed_validity.specs.More.{AreMore}
 use Rattle.c_typed_validity.specs.Sound.{IsFormed, IsNumbered, IsObjectExtent, IsPending}
 use Rattle.c_typed_validity.specs.Typed.{HaveMembers}
+use Rattle.c_typed_validity.proofs.Common.{the_same}
 use Rattle.c_typed_validity.proofs.Kept.{target_kept}
 use Rattle.c_typed_validity.proofs.Sound.{same_list, same_more}
 use Rattle.c_typed_declarators.specs.Extending.{Extending, Extends, IsSameOr, new, same}
@@ -78,9 +80,6 @@ stays_by : {A : Type 0} (P : A → Type 0) (before behind around : Option A) →
     → ((x : A) → or_else before around ≡ Some x → P x) → (x : A) → or_else behind around ≡ Some x → P x
 stays_by P before behind around (same e) h x is = h x (ap (λ z. or_else z around) (sym e) ∙ is)
 stays_by P before behind around (new y e p) h x is = subst P (the_same (ap (λ z. or_else z around) (sym e) ∙ is)) p
-  where
-    the_same : Some y ≡ Some x → y ≡ x
-    the_same e = cc
 
 pub numbered_more : (count more : ℕ) → count ≤ more → (t : Tag) → IsNumbered count t → IsNumbered more t
 numbered_more count more low (tag.Structure n) is = omega arith
@@ -89,7 +88,7 @@ numbered_more count more low (tag.Enumeration n) is = tt
 
 -- other structures, tags and enumerations
 
-abbrev restructured : State → Structures → Names Tag → List Bool → State
+abbrev pub restructured : State → Structures → Names Tag → List Bool → State
 restructured s st current enumerations = record s {
   environment = record s.environment {
     structures = st;
@@ -257,10 +256,10 @@ added_extends b s formed kind.Enumeration (Some x) =
     (λ name. bound_same (IsNumbered (length (extents s))) x name (tag.Enumeration (length s.environment.enumerations))
     s.environment.tags.current tt))
 
-abbrev in_environment : State → Environment × Tag → Answer (State × Tag)
+abbrev pub in_environment : State → Environment × Tag → Answer (State × Tag)
 in_environment s r = Ok (record s { environment = r.0 }, r.1)
 
-abbrev unless_mistaken : (is : Bool) → (line : ℕ) → Environment × Tag → Answer (Environment × Tag)
+abbrev pub unless_mistaken : (is : Bool) → (line : ℕ) → Environment × Tag → Answer (Environment × Tag)
 unless_mistaken is line r = if is then Ok r else violates MistakenTag line
 
 referred_by : (b : Bool) (s : State) → IsFormed s → (line : ℕ) (t : Tag) (is : Bool)
@@ -397,10 +396,7 @@ open_by : (es : List (Option TypeExtent)) (bodies : List Body) (n : ℕ)
     → ((e : TypeExtent) → structure_extent es n ≡ Some e → is_begun n bodies ≡ true)
     → is_begun n bodies ≡ false → (o : Option TypeExtent) → structure_extent es n ≡ o → structure_extent es n ≡ None
 open_by es bodies n h fresh None e = e
-open_by es bodies n h fresh (Some x) e = absurd (conflict (sym fresh ∙ h x e))
-  where
-    conflict : false ≡ true → ⊥
-    conflict e = cc
+open_by es bodies n h fresh (Some x) e = absurd (false≢true (sym fresh ∙ h x e))
 
 fresh_open : (s : State) → IsFormed s → (t : Tag) → IsFresh s t → IsOpen s t
 fresh_open s formed (tag.Structure n) fresh =

@@ -1,8 +1,8 @@
 -- Types that declarators make, and the extents of types.
-use Rattle.std.proofs.Common.{◌≡◌, ℕ, zero, suc, ◌*◌, ◌^◌, ◌<◌, ◌≤◌, Bool, true, false, ◌&&◌, ◌||◌, refl, ap, ◌∙◌}
+use Rattle.std.proofs.Common.{◌≡◌, ℕ, zero, suc, ◌*◌, ◌^◌, ◌<◌, ◌≤◌, Bool, true, false, ◌&&◌, refl, ap, ◌∙◌}
 use Rattle.std.proofs.Common.{subst, List, [], ◌∷◌, Option, Some, None, if◌then◌else◌, nat_le, arith}
 use Rattle.std.specs.Prelude.{not, is_none, option_map}
-use Rattle.std.proofs.lemmas.Bool.{leb-true, le-leb, ltb-false}
+use Rattle.std.proofs.lemmas.Bool.{leb-true, le-leb, ltb-false, and_from, true≢false}
 use Rattle.obj_memory.specs.declared.int_type.IntType.{IntType}
 use Rattle.obj_memory.specs.declared.int_type.IntType.TheVariants as int
 use Rattle.obj_memory.specs.Integers.{size_of}
@@ -28,39 +28,20 @@ use Rattle.c_specifiers.specs.declared.specified.Specified.{Specified}
 use Rattle.c_specifiers.specs.Specified.{basic_of}
 use Rattle.c_typing.specs.Specifications.{Gathered, specified, type_or_basic}
 use Rattle.c_typed_validity.specs.Sound.{IsObjectExtent, is_sized_array}
+use Rattle.c_typed_validity.proofs.Common.{first, neither_left, neither_right, no_value, the_same}
+use Rattle.c_typed_validity.proofs.Moved.{size_high}
 use Rattle.c_typed_declarators.specs.Given.{AreCounted, HasType, IsCounted}
 
-both : (a b : Bool) → a ≡ true → b ≡ true → (a && b) ≡ true
-both true b e g = g
-both false b e g = cc
-
-left_true : (a b : Bool) → (a && b) ≡ true → a ≡ true
-left_true true b e = refl
-left_true false b e = e
-
-right_true : (a b : Bool) → (a && b) ≡ true → b ≡ true
-right_true true b e = e
-right_true false b e = cc
-
 pub is_size_of : (n : ℕ) → 1 ≤ n → n ≤ 2 ^ 32 → is_size n ≡ true
-is_size_of n low high = both (nat_le 1 n) (nat_le n (2 ^ 32)) (le-leb 1 n low) (le-leb n (2 ^ 32) high)
+is_size_of n low high = and_from (nat_le 1 n) (nat_le n (2 ^ 32)) (le-leb 1 n low) (le-leb n (2 ^ 32) high)
 
 pub size_low : (n : ℕ) → is_size n ≡ true → 1 ≤ n
-size_low n e = leb-true 1 n (left_true (nat_le 1 n) (nat_le n (2 ^ 32)) e)
-
-pub size_high : (n : ℕ) → is_size n ≡ true → n ≤ 2 ^ 32
-size_high n e = leb-true n (2 ^ 32) (right_true (nat_le 1 n) (nat_le n (2 ^ 32)) e)
+size_low n e = leb-true 1 n (first (nat_le 1 n) (nat_le n (2 ^ 32)) e)
 
 -- extents of complete types
 
 abbrev HasSizes : List (Option TypeExtent) → Type 0
 HasSizes es = (n : ℕ) (e : TypeExtent) → structure_extent es n ≡ Some e → IsObjectExtent e
-
-none_is : {A : Type 0} (x : A) (P : Type 0) → None ≡ Some x → P
-none_is x P e = cc
-
-the_same : {A : Type 0} {a b : A} → Some a ≡ Some b → a ≡ b
-the_same e = cc
 
 scalar_object : (n : ℕ) → is_size n ≡ true → n ≤ 8 → IsObjectExtent (scalar_extent n)
 scalar_object n e small = record { size = e; least = size_low n e; greatest = small }
@@ -88,15 +69,15 @@ object_aligned e is = record { least = is.least; greatest = is.greatest }
 
 array_aligned : (bytes : ℕ) (o : Option TypeExtent) (e : TypeExtent) → ((x : TypeExtent) → o ≡ Some x → IsAligned x)
     → option_map (array_extent bytes) o ≡ Some e → IsAligned e
-array_aligned bytes None e h is = none_is e _ is
+array_aligned bytes None e h is = no_value e _ is
 array_aligned bytes (Some x) e h is =
     subst IsAligned (the_same is) (record { least = (h x refl).least; greatest = (h x refl).greatest })
 
 pub aligned_type : (es : List (Option TypeExtent)) → HasSizes es → (ws : List TypeWord) (e : TypeExtent)
     → extent_of es ws ≡ Some e → IsAligned e
 unfolding extent_of
-aligned_type es h [] e is = none_is e _ is
-aligned_type es h (word.Void ∷ ws) e is = none_is e _ is
+aligned_type es h [] e is = no_value e _ is
+aligned_type es h (word.Void ∷ ws) e is = no_value e _ is
 aligned_type es h (word.Integer t ∷ ws) e is =
     subst IsAligned (the_same is) (object_aligned (scalar_extent (size_of t)) (integer_object t))
 aligned_type es h (word.Enumeration n ∷ ws) e is =
@@ -105,18 +86,18 @@ aligned_type es h (word.Pointer ∷ ws) e is =
     subst IsAligned (the_same is) (object_aligned (scalar_extent 8) (scalar_object 8 refl (omega arith)))
 aligned_type es h (word.Array count bytes ∷ ws) e is =
     array_aligned bytes (extent_of es ws) e (λ x. aligned_type es h ws x) is
-aligned_type es h (word.OpenArray ∷ ws) e is = none_is e _ is
+aligned_type es h (word.OpenArray ∷ ws) e is = no_value e _ is
 aligned_type es h (word.Structure n ∷ ws) e is = object_aligned e (h n e is)
 aligned_type es h (word.Const ∷ ws) e is = aligned_type es h ws e is
-aligned_type es h (word.Takes ∷ ws) e is = none_is e _ is
-aligned_type es h (word.Gives ∷ ws) e is = none_is e _ is
+aligned_type es h (word.Takes ∷ ws) e is = no_value e _ is
+aligned_type es h (word.Gives ∷ ws) e is = no_value e _ is
 
 capped_same : (n : ℕ) → n ≤ 2 ^ 32 → capped n ≡ n
 capped_same n small = omega arith
 
 array_object : (bytes : ℕ) (o : Option TypeExtent) (e : TypeExtent) → ((x : TypeExtent) → o ≡ Some x → IsAligned x)
     → is_size bytes ≡ true → option_map (array_extent bytes) o ≡ Some e → IsObjectExtent e
-array_object bytes None e h sized is = none_is e _ is
+array_object bytes None e h sized is = no_value e _ is
 array_object bytes (Some x) e h sized is =
     subst IsObjectExtent (the_same is) (record {
       size = ap is_size (capped_same bytes (size_high bytes sized)) ∙ sized;
@@ -127,19 +108,19 @@ array_object bytes (Some x) e h sized is =
 pub object_type : (es : List (Option TypeExtent)) → HasSizes es → (ws : List TypeWord) → is_sized_array ws ≡ true
     → (e : TypeExtent) → extent_of es ws ≡ Some e → IsObjectExtent e
 unfolding extent_of
-object_type es h [] sized e is = none_is e _ is
-object_type es h (word.Void ∷ ws) sized e is = none_is e _ is
+object_type es h [] sized e is = no_value e _ is
+object_type es h (word.Void ∷ ws) sized e is = no_value e _ is
 object_type es h (word.Integer t ∷ ws) sized e is = subst IsObjectExtent (the_same is) (integer_object t)
 object_type es h (word.Enumeration n ∷ ws) sized e is = subst IsObjectExtent (the_same is) (integer_object int.Int)
 object_type es h (word.Pointer ∷ ws) sized e is =
     subst IsObjectExtent (the_same is) (scalar_object 8 refl (omega arith))
 object_type es h (word.Array count bytes ∷ ws) sized e is =
     array_object bytes (extent_of es ws) e (λ x. aligned_type es h ws x) sized is
-object_type es h (word.OpenArray ∷ ws) sized e is = none_is e _ is
+object_type es h (word.OpenArray ∷ ws) sized e is = no_value e _ is
 object_type es h (word.Structure n ∷ ws) sized e is = h n e is
 object_type es h (word.Const ∷ ws) sized e is = object_type es h ws sized e is
-object_type es h (word.Takes ∷ ws) sized e is = none_is e _ is
-object_type es h (word.Gives ∷ ws) sized e is = none_is e _ is
+object_type es h (word.Takes ∷ ws) sized e is = no_value e _ is
+object_type es h (word.Gives ∷ ws) sized e is = no_value e _ is
 
 object_is : (o : Option TypeExtent) (e : TypeExtent) → o ≡ Some e → is_size e.size ≡ true
     → object_of o ≡ target.Object e.size
@@ -148,17 +129,17 @@ object_is o e is sized = ap object_of is ∙ ap (λ b. if b then target.Object e
 pub target_is : (es : List (Option TypeExtent)) (ws : List TypeWord) (e : TypeExtent) → extent_of es ws ≡ Some e
     → is_size e.size ≡ true → target_of es ws ≡ target.Object e.size
 unfolding extent_of
-target_is es [] e is sized = none_is e _ is
-target_is es (word.Void ∷ ws) e is sized = none_is e _ is
+target_is es [] e is sized = no_value e _ is
+target_is es (word.Void ∷ ws) e is sized = no_value e _ is
 target_is es (word.Integer t ∷ ws) e is sized = object_is (extent_of es (word.Integer t ∷ ws)) e is sized
 target_is es (word.Enumeration n ∷ ws) e is sized = object_is (extent_of es (word.Enumeration n ∷ ws)) e is sized
 target_is es (word.Pointer ∷ ws) e is sized = object_is (extent_of es (word.Pointer ∷ ws)) e is sized
 target_is es (word.Array c b ∷ ws) e is sized = object_is (extent_of es (word.Array c b ∷ ws)) e is sized
-target_is es (word.OpenArray ∷ ws) e is sized = none_is e _ is
+target_is es (word.OpenArray ∷ ws) e is sized = no_value e _ is
 target_is es (word.Structure n ∷ ws) e is sized = object_is (extent_of es (word.Structure n ∷ ws)) e is sized
 target_is es (word.Const ∷ ws) e is sized = target_is es ws e is sized
-target_is es (word.Takes ∷ ws) e is sized = none_is e _ is
-target_is es (word.Gives ∷ ws) e is sized = none_is e _ is
+target_is es (word.Takes ∷ ws) e is sized = no_value e _ is
+target_is es (word.Gives ∷ ws) e is sized = no_value e _ is
 
 -- what a declarator makes of a type, without a fault
 
@@ -178,14 +159,6 @@ no_faults_by false false false false e = record { complete = refl; placed = refl
 
 pub without_faults : (f : TypeFaults) → rule_of f ≡ None → NoFaults f
 without_faults f e = no_faults_by f.incomplete f.misplaced f.miscounted f.large e
-
-pub neither_left : (a b : Bool) → (a || b) ≡ false → a ≡ false
-neither_left true b e = e
-neither_left false b e = refl
-
-neither_right : (a b : Bool) → (a || b) ≡ false → b ≡ false
-neither_right true b e = cc
-neither_right false b e = e
 
 pub first_faultless : (a b : TypeFaults) → NoFaults (and_faults a b) → NoFaults a
 first_faultless a b h = record {
@@ -214,7 +187,7 @@ pub element_known : (es : List (Option TypeExtent)) (type : List TypeWord) → N
     → (e : TypeExtent) × (extent_of es type ≡ Some e)
 element_known es type h = known_by (is_function type) (extent_of es type) h.complete h.placed
 
-positive_product : (a b : ℕ) → 1 ≤ a → 1 ≤ b → 1 ≤ a * b
+pub positive_product : (a b : ℕ) → 1 ≤ a → 1 ≤ b → 1 ≤ a * b
 positive_product (suc a) (suc b) low high = grind arith
 positive_product zero b low high = absurd (omega arith)
 positive_product (suc a) zero low high = absurd (omega arith)
@@ -233,7 +206,7 @@ words_sized count e some is small =
 pub array_sized : (es : List (Option TypeExtent)) (count : ℕ) (type : List TypeWord) (o : Option TypeExtent)
     → 0 < count → ((e : TypeExtent) → o ≡ Some e → IsObjectExtent e) → (e : TypeExtent) → o ≡ Some e
     → is_large (array_of count o) ≡ false → is_sized_array (array_of count o ∷ type) ≡ true
-array_sized es count type None some h e is small = none_is e _ is
+array_sized es count type None some h e is small = no_value e _ is
 array_sized es count type (Some x) some h e is small = words_sized count x some (h x refl) small
 
 function_sized : (ps : List (List TypeWord)) (type : List TypeWord)
@@ -252,10 +225,8 @@ derived_sized es h (to_pointer is_const) counted b sized good = pointer_sized is
 derived_sized es h to_open_array counted b sized good =
     sized (first_faultless b.faults (element_faults es b.type) good)
 derived_sized es h (to_array None) counted b sized good =
-    absurd (no_count (second_faultless b.faults (record (element_faults es b.type) { miscounted = true }) good).counted)
-  where
-    no_count : true ≡ false → ⊥
-    no_count e = cc
+    absurd (true≢false
+    (second_faultless b.faults (record (element_faults es b.type) { miscounted = true }) good).counted)
 derived_sized es h (to_array (Some count)) counted b sized good =
     let w = array_of count (extent_of es b.type) in
     let own = second_faultless b.faults (record (element_faults es b.type) { large = is_large w }) good in

@@ -1,54 +1,23 @@
 -- What proofs of several subjects cite: of booleans and options, and steps of declarations.
-use Rattle.std.proofs.Common.{◌≡◌, ℕ, Bool, true, false, ◌&&◌, ◌||◌, ◌==◌, if◌then◌else◌, refl, List, [], ◌∷◌, Option}
+use Rattle.std.proofs.Common.{◌≡◌, ℕ, Bool, true, false, ◌&&◌, ◌==◌, if◌then◌else◌, refl, List, [], ◌∷◌, Option}
 use Rattle.std.proofs.Common.{Some, None}
 use Rattle.std.specs.Prelude.{Ok, Err, is_some, option_map}
-use Rattle.std.proofs.lemmas.Bool.{eq-eqb}
+use Rattle.std.proofs.lemmas.Bool.{and_from, eq-eqb}
 use Rattle.c_tree.specs.declared.c_type.TypeWord.{TypeWord}
 use Rattle.c_tree.specs.declared.expression.Kind.TheVariants as kind
 use Rattle.c_tree.specs.Valid.{Scope}
-use Rattle.c_rules.specs.Answer.{Answer, violates}
+use Rattle.c_rules.specs.Answer.{Answer, violates, ◌>>=◌}
 use Rattle.c_rules.specs.declared.fault.Rule.{Rule}
 use Rattle.c_rules.specs.declared.fault.Rule.TheVariants.{LargeType}
 use Rattle.c_scope.specs.declared.meaning.Designated.{Designated}
 use Rattle.c_scope.specs.Declaring.{when, when_some}
-use Rattle.c_scope.specs.Names.{Name}
-use Rattle.c_typing.specs.State.{State}
+use Rattle.c_scope.specs.Names.{Name, or_else}
+use Rattle.c_typing.specs.State.{State, Typing}
 use Rattle.c_unit_typing.specs.Declarations.{with_size}
 use Rattle.c_unit_typing.specs.Files.{File}
 
-pub the_same : {A : Type 0} {a b : A} → Some a ≡ Some b → a ≡ b
-the_same e = cc
-
-pub no_value : {A : Type 0} (x : A) (P : Type 0) → None ≡ Some x → P
-no_value x P e = cc
-
-pub first : (a b : Bool) → (a && b) ≡ true → a ≡ true
-first true b e = refl
-first false b e = e
-
-pub second : (a b : Bool) → (a && b) ≡ true → b ≡ true
-second true b e = e
-second false b e = absurd cc
-
-pub both : (a b : Bool) → a ≡ true → b ≡ true → (a && b) ≡ true
-both true b e g = g
-both false b e g = absurd cc
-
-pub neither_left : (a b : Bool) → (a || b) ≡ false → a ≡ false
-neither_left true b e = e
-neither_left false b e = refl
-
-pub neither_right : (a b : Bool) → (a || b) ≡ false → b ≡ false
-neither_right true b e = absurd cc
-neither_right false b e = e
-
-pub or_left : (a b : Bool) → a ≡ true → (a || b) ≡ true
-or_left true b e = refl
-or_left false b e = absurd cc
-
-pub or_right : (a b : Bool) → b ≡ true → (a || b) ≡ true
-or_right true b e = refl
-or_right false b e = e
+pub conflict : {P : Type 0} → false ≡ true → P
+conflict e = cc
 
 abbrev pub filed : {A : Type 0} → File → State × A → Answer (File × A)
 filed f r = Ok (record f { state = r.0 }, r.1)
@@ -57,6 +26,12 @@ filed f r = Ok (record f { state = r.0 }, r.1)
 abbrev pub IfGives : {A : Type 0} → (A → Type 0) → Answer (State × A) → Type 0
 IfGives p (Ok r) = p r.1
 IfGives p (Err e) = Unit {0}
+
+-- what stands behind a construct, whatever this gives
+pub then_gives : {A B : Type 0} (p : B → Type 0) (a : Answer (State × A)) (next : A → Typing B)
+    → ((x : A) (u : State) → IfGives p (next x u)) → IfGives p (a >>= λ r. next r.1 r.0)
+then_gives p (Ok r) next h = h r.1 r.0
+then_gives p (Err e) next h = tt
 
 abbrev pub unless_large : State → Designated → Name → (array : TypeWord) → (element : List TypeWord) → (line : ℕ)
     → (large : Bool) → Answer (State × List TypeWord)
@@ -68,11 +43,22 @@ pub same_number : (n : ℕ) → (n == n) ≡ true
 same_number n = eq-eqb n n refl
 
 pub three : (a b c : Bool) → a ≡ true → b ≡ true → c ≡ true → (a && b && c) ≡ true
-three a b c e g h = both (a && b) c (both a b e g) h
+three a b c e g h = and_from (a && b) c (and_from a b e g) h
+
+-- where a test fails, what is chosen otherwise holds
+pub other_is : (b x y : Bool) → b ≡ false → (if b then x else y) ≡ true → y ≡ true
+other_is true x y e g = absurd cc
+other_is false x y e g = g
 
 pub some_mapped : {A B : Type 0} (g : A → B) (x : Option A) → is_some (option_map g x) ≡ is_some x
 some_mapped g None = refl
 some_mapped g (Some x) = refl
+
+-- what holds of both holds of the one that is chosen
+pub inner_or : {A : Type 0} (P : A → Type 0) (a b : Option A) → ((x : A) → a ≡ Some x → P x)
+    → ((x : A) → b ≡ Some x → P x) → (x : A) → or_else a b ≡ Some x → P x
+inner_or P None b h g x e = g x e
+inner_or P (Some y) b h g x e = h x e
 
 pub passed : (b : Bool) (r : Rule) (line : ℕ) (other : Answer (Unit {0})) (x : Unit {0}) → when b r line other ≡ Ok x
     → (b ≡ false) × (other ≡ Ok x)

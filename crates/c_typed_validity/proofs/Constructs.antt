@@ -207,10 +207,10 @@ address_extents : (is : Bool) (o : Operand) (s : State) → extents (if is then 
 address_extents true o s = object_extents o s
 address_extents false o s = refl
 
-abbrev address_made : (is : Bool) → Operand → State → Value → Answer (State × Value)
+abbrev pub address_made : (is : Bool) → Operand → State → Value → Answer (State × Value)
 address_made is o s v = Ok (if is then object_taken o s else s, v)
 
-abbrev as_made : State × Value → Answer (State × Operand)
+abbrev pub as_made : State × Value → Answer (State × Operand)
 as_made r = Ok (r.0, a_value r.1)
 
 abbrev pub with_state : State → Value → Answer (State × Value)

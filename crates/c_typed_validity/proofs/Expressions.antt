@@ -1,5 +1,5 @@
 -- What expressions are typed to is valid.
-use Rattle.std.proofs.Common.{◌≡◌, ℕ, Bool, true, false, ◌&&◌, refl, List, [], ◌∷◌, ◌++◌, Option, Some, None}
+use Rattle.std.proofs.Common.{◌≡◌, ℕ, Bool, true, false, List, [], ◌∷◌, ◌++◌, Option, Some, None}
 use Rattle.c_syntax.specs.declared.position.Spelled.{Spelled}
 use Rattle.c_syntax.specs.Tree.{Expression, Arguments, MoreArguments}
 use Rattle.c_syntax.specs.Tree as t
@@ -28,6 +28,7 @@ use Rattle.c_typed_validity.specs.Regular.{are_regular, is_regular, more_are_reg
 use Rattle.c_typed_validity.specs.Sound.{Sound}
 use Rattle.c_typed_validity.specs.Steps.{Fine, FineAll, FineValue, PointerCalls, Structures, TypeNames, Written}
 use Rattle.c_typed_validity.specs.Steps.{nothing}
+use Rattle.c_typed_validity.proofs.Common.{first, second}
 use Rattle.c_typed_validity.proofs.Constructs.{assigned_fine, combined_fine, operand_from, place_from}
 use Rattle.c_typed_validity.proofs.Primaries.{character_fine, integer_fine}
 use Rattle.c_typed_validity.proofs.Sound.{Stays, both, keeps_same, sound_then, whatever, with_given}
@@ -35,14 +36,6 @@ use Rattle.c_typed_validity.proofs.Steps.{FineCalled, accessed_sound, all_stays,
 use Rattle.c_typed_validity.proofs.Steps.{fine_written, judged_sound, literal_sound, name_called_sound, named_sound}
 use Rattle.c_typed_validity.proofs.Steps.{nothing_stays, pointer_called_sound, prefixed_sound, printed_sound}
 use Rattle.c_typed_validity.proofs.Steps.{stepped_sound, value_stays, valued_sound, written_stays}
-
-first : (a b : Bool) → (a && b) ≡ true → a ≡ true
-first true b e = refl
-first false b e = e
-
-second : (a b : Bool) → (a && b) ≡ true → b ≡ true
-second true b e = e
-second false b e = cc
 
 pub done_sound : {A : Type 0} (scope : Scope) (last : Structures) (s : State) (given : Structures → Type 0)
     (p : Structures → A → Type 0) (x : A) → (given (extents s) → p (extents s) x)

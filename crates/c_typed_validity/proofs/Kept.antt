@@ -22,13 +22,11 @@ use Rattle.c_place_laws.specs.FinePlaces.{IsEarlierOperand, IsFineOperand, IsFin
 use Rattle.c_place_laws.specs.FinePlaces.{complete_as, is_unsized, is_unsized_kind, unsized, unsized_as}
 use Rattle.c_call_rules.specs.FineCalls.{AreFine}
 use Rattle.c_typed_validity.specs.More.{AreMore}
-
-pub none_some : {A : Type 0} (x : A) (P : Type 0) → None ≡ Some x → P
-none_some x P e = cc
+use Rattle.c_typed_validity.proofs.Common.{both_true, no_value}
 
 structure_kept : (s more : List (Option TypeExtent)) → AreMore s more → (n : ℕ) (k : Kind) (o : Option TypeExtent)
     → structure_extent s n ≡ o → structure_kind o ≡ Some k → structure_kind (structure_extent more n) ≡ Some k
-structure_kept s more h n k None is e = none_some k _ e
+structure_kept s more h n k None is e = no_value k _ e
 structure_kept s more h n k (Some x) is e = ap structure_kind (h.kept n x is) ∙ e
 
 pub kind_kept : (s more : List (Option TypeExtent)) → AreMore s more → (ws : List TypeWord) (k : Kind)
@@ -45,10 +43,10 @@ kind_kept s more h (Const ∷ behind) k e = kind_kept s more h behind k e
 kind_kept s more h (Takes ∷ behind) k e = e
 kind_kept s more h (Gives ∷ behind) k e = e
 
-array_kept : (bytes : ℕ) (o more : Option TypeExtent) (e : TypeExtent)
+pub array_kept : (bytes : ℕ) (o more : Option TypeExtent) (e : TypeExtent)
     → ((x : TypeExtent) → o ≡ Some x → more ≡ Some x) → option_map (array_extent bytes) o ≡ Some e
     → option_map (array_extent bytes) more ≡ Some e
-array_kept bytes None more e h is = none_some e _ is
+array_kept bytes None more e h is = no_value e _ is
 array_kept bytes (Some x) more e h is = ap (option_map (array_extent bytes)) (h x refl) ∙ is
 
 pub extent_kept : (s more : List (Option TypeExtent)) → AreMore s more → (ws : List TypeWord) (e : TypeExtent)
@@ -133,10 +131,6 @@ takes_kept s more h (OpenArray ∷ ws) k e = e
 takes_kept s more h (Structure n ∷ ws) k e = e
 takes_kept s more h (Const ∷ ws) k e = e
 takes_kept s more h (Gives ∷ ws) k e = e
-
-both_true : (a b c d : Bool) → (a ≡ true → c ≡ true) → (b ≡ true → d ≡ true) → (a && b) ≡ true → (c && d) ≡ true
-both_true true b c d h g e = ap (λ z. z && d) (h refl) ∙ g e
-both_true false b c d h g e = cc
 
 pub agrees_kept : (s more : List (Option TypeExtent)) → AreMore s more → (ws : List TypeWord) (ks : List Kind)
     (k : Kind) → agrees s ws ks k ≡ true → agrees more ws ks k ≡ true

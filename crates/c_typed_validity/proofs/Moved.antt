@@ -2,7 +2,7 @@
 use Rattle.std.proofs.Common.{◌≡◌, ℕ, ◌*◌, ◌^◌, ◌≤◌, Bool, true, false, ◌||◌, ◌&&◌, refl, ap, sym, ◌∙◌}
 use Rattle.std.proofs.Common.{List, [], ◌∷◌, ◌++◌, length, Option, Some, None, if◌then◌else◌, nat_le, arith}
 use Rattle.std.specs.Prelude.{slice_get}
-use Rattle.std.proofs.lemmas.Bool.{leb-true}
+use Rattle.std.proofs.lemmas.Bool.{leb-true, or_left}
 use Rattle.obj_memory.specs.Integers.{size_of}
 use Rattle.c_tree.specs.Extents.{TypeExtent, capped, extent_of}
 use Rattle.c_tree.specs.declared.expression.Kind.TheVariants as kind
@@ -26,7 +26,8 @@ use Rattle.c_typing.specs.State.{State, extents}
 use Rattle.c_typed_validity.specs.More.{AreMore}
 use Rattle.c_typed_validity.specs.Names.{IsMeant, kind_among}
 use Rattle.c_typed_validity.specs.Sound.{Covers, IsFormed, Keeps}
-use Rattle.c_typed_validity.proofs.Kept.{none_some, target_kept}
+use Rattle.c_typed_validity.proofs.Common.{no_value, second}
+use Rattle.c_typed_validity.proofs.Kept.{target_kept}
 use Rattle.c_typed_validity.proofs.Primaries.{static_fine}
 use Rattle.c_typed_validity.proofs.Sound.{keeps_same, same_list, same_more}
 
@@ -72,7 +73,7 @@ keeps_marks scope last s formed taken undefined unused = record {
   undefined = unused;
 }
 
-unused_before : (o : Option ℕ) (line : ℕ) → earlier_or o line ≡ None → o ≡ None
+pub unused_before : (o : Option ℕ) (line : ℕ) → earlier_or o line ≡ None → o ≡ None
 unused_before None line e = refl
 unused_before (Some n) line e = e
 
@@ -141,17 +142,13 @@ pub get_last : {A : Type 0} (xs : List A) (x : A) → slice_get (xs ++ x ∷ [])
 get_last [] x = refl
 get_last (y ∷ xs) x = get_last xs x
 
-at_most : (n : ℕ) → is_size n ≡ true → n ≤ 2 ^ 32
-at_most n e = leb-true n (2 ^ 32) (second (nat_le 1 n) (nat_le n (2 ^ 32)) e)
-  where
-    second : (a b : Bool) → (a && b) ≡ true → b ≡ true
-    second true b e = e
-    second false b e = cc
+pub size_high : (n : ℕ) → is_size n ≡ true → n ≤ 2 ^ 32
+size_high n e = leb-true n (2 ^ 32) (second (nat_le 1 n) (nat_le n (2 ^ 32)) e)
 
 literal_sized : (size : ℕ) → is_size size ≡ true → target_of [] (literal_type size) ≡ target.Object size
 unfolding extent_of array_size size_of
 literal_sized size sized =
-    let small = at_most size sized in
+    let small = size_high size sized in
     let e : capped (capped (size * 1)) ≡ size = omega (arith, small) in
     ap (λ n. if is_size n then target.Object n else target.Incomplete) e
     ∙ ap (λ b. if b then target.Object size else target.Incomplete) sized
@@ -159,18 +156,15 @@ literal_sized size sized =
 literal_bytes : (size : ℕ) → is_size size ≡ true → size_or_zero (extent_of [] (literal_type size)) ≡ size
 unfolding extent_of array_size size_of
 literal_bytes size sized =
-    let small = at_most size sized in
+    let small = size_high size sized in
     let e : capped (capped (size * 1)) ≡ size = omega (arith, small) in e
 
 literal_complete : (size : ℕ) → is_unsized [] (literal_type size) ≡ false
 unfolding extent_of
 literal_complete size = refl
 
-pub or_left : {a : Bool} (b : Bool) → a ≡ true → (a || b) ≡ true
-or_left b e = ap (λ z. z || b) e
-
 no_structures : (es : List (Option TypeExtent)) → AreMore [] es
-no_structures es = record { kept = λ n e is. none_some e _ is }
+no_structures es = record { kept = λ n e is. no_value e _ is }
 
 -- an lvalue of a type that is complete without any structure
 complete_kept : (scope : Scope) (es : List (Option TypeExtent)) (p : Place) → is_unsized [] p.type ≡ false
@@ -201,5 +195,5 @@ literal_fine scope last es bytes line s covers =
       there = is.there;
       kind = ap (λ k. is_named_as k (kind_among [] type)) is.kind
           ∙ ap (λ z. is_named_as (kind.Array (length bytes)) (kind.Array z)) e
-          ∙ or_left _ (same_kind (kind.Array (length bytes)));
+          ∙ or_left _ _ (same_kind (kind.Array (length bytes)));
     }))

@@ -35,6 +35,7 @@ use Rattle.c_typed_validity.specs.More.{AreMore}
 use Rattle.c_typed_validity.specs.Names.{IsFunctionOf}
 use Rattle.c_typed_validity.specs.Sound.{Covers, IsFormed, IsTypeOf, Keeps, Sound}
 use Rattle.c_typed_validity.specs.Steps.{Fine, FineAll, FineValue, PointerCalls, Structures}
+use Rattle.c_typed_validity.proofs.Common.{both_true}
 use Rattle.c_typed_validity.proofs.Kept.{both_kept, kind_kept}
 use Rattle.c_typed_validity.proofs.Moved.{get_last, meant_moved}
 use Rattle.c_typed_validity.proofs.Sound.{keeps_same, same_list, same_more}
@@ -107,10 +108,6 @@ gives_back es last h (word.Takes ∷ ws) k complete e = e
 
 -- and so are its parameters
 
-two_true : (a b c d : Bool) → (a ≡ true → c ≡ true) → (b ≡ true → d ≡ true) → (a && b) ≡ true → (c && d) ≡ true
-two_true true b c d h g e = ap (λ z. z && d) (h refl) ∙ g e
-two_true false b c d h g e = cc
-
 abbrev PassedOn : Structures → (line : ℕ) → (type : List TypeWord) → List Value → List Expression
     → (y : List Expression)
     → Answer Expression → Type 0
@@ -130,7 +127,7 @@ next_back scope es last h line type j k ks vs before y (Ok x) fine on rest e =
     let later : kind_of_type last type ≡ Some (kind_of x) = kind_kept es last h type (kind_of x) known in
     let same : is_kind_of (kind_of_type es type) j ≡ is_kind_of (kind_of_type last type) j =
     ap (λ o. is_kind_of o j) known ∙ ap (λ o. is_kind_of o j) (sym later) in
-    two_true (is_kind_of (kind_of_type last type) j) (agrees last (behind_types 1 type) ks k)
+    both_true (is_kind_of (kind_of_type last type) j) (agrees last (behind_types 1 type) ks k)
     (is_kind_of (kind_of_type es type) j) (agrees es (behind_types 1 type) ks k) (λ p. same ∙ p)
     (rest (before ++ x ∷ []) on) e
 

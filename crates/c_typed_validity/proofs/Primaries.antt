@@ -1,5 +1,5 @@
 -- Constants, string literals, names and members give what is valid.
-use Rattle.std.proofs.Common.{◌≡◌, ℕ, ◌^◌, ◌<◌, Bool, true, false, ◌&&◌, ◌||◌}
+use Rattle.std.proofs.Common.{◌≡◌, ℕ, Bool, true, false, ◌&&◌, ◌||◌}
 use Rattle.std.proofs.Common.{if◌then◌else◌, refl, sym, ap, ◌∙◌, subst, List, [], ◌∷◌, Option, Some, None, arith}
 use Rattle.std.specs.Prelude.{◌==◌, get_or, is_none, not, option_map}
 use Rattle.std.proofs.lemmas.Bool.{eq-eqb}
@@ -27,7 +27,6 @@ use Rattle.c_rules.specs.Fine.{IsFine}
 use Rattle.c_rules.specs.Types.{object_of, target_of}
 use Rattle.c_rules.proofs.FineBinary.{all}
 use Rattle.c_rules.proofs.FineConversions.{unqualified_kind}
-use Rattle.c_rules.proofs.FineUnary.{same_kind}
 use Rattle.c_place_rules.specs.Operands.{Place, Variable}
 use Rattle.c_place_rules.specs.Targets.{object_kind}
 use Rattle.c_place_laws.specs.FinePlaces.{IfFineOperand, IsFineOperand, IsFinePlace, IsFineVariable, IsSized}
@@ -44,8 +43,9 @@ use Rattle.c_typing.specs.Primaries.{used, used_as, with_use}
 use Rattle.c_typing.specs.State.{State, extents}
 use Rattle.c_typed_validity.specs.More.{AreMore}
 use Rattle.c_typed_validity.specs.Names.{IsDesignated, IsFunctionOf, IsMeant, IsStaticOf, IsVariableOf, kind_among}
+use Rattle.c_typed_validity.proofs.Common.{neither_left, no_value}
 use Rattle.c_typed_validity.proofs.Constants.{IsHeld, constant_held, small_int, within_type}
-use Rattle.c_typed_validity.proofs.Kept.{extent_kept, none_some}
+use Rattle.c_typed_validity.proofs.Kept.{extent_kept}
 
 pub constant_fine : (scope : Scope) (es : List (Option TypeExtent)) (line : ℕ) (t : IntType) (w : ℕ) → fit t w ≡ w
     → IsFine scope es (constant_value line t w)
@@ -222,7 +222,7 @@ sized_still : (es last : List (Option TypeExtent)) (ws : List TypeWord) (x : Typ
     → IsSized es ws (size_among es ws)
 sized_still es last ws x e g (complete s) =
     complete (target_by es last ws (e ∙ sym g) ∙ s ∙ ap (λ o. target.Object (size_or_zero o)) (g ∙ sym e))
-sized_still es last ws x e g (unsized u z) = none_some x _ (sym (unsized_extent last ws u) ∙ g)
+sized_still es last ws x e g (unsized u z) = no_value x _ (sym (unsized_extent last ws u) ∙ g)
 
 before_by : (es last : List (Option TypeExtent)) → AreMore es last → (ws : List TypeWord)
     → IsSized last ws (size_among last ws) → (o : Option TypeExtent) → extent_of es ws ≡ o → Before es last ws
@@ -307,10 +307,6 @@ kind_by es (word.Const ∷ ws) size e f = kind_by es ws size e f
 kind_by es (word.Takes ∷ ws) size e f = absurd cc
 kind_by es (word.Gives ∷ ws) size e f = absurd cc
 
-neither : (a b : Bool) → (a || b) ≡ false → a ≡ false
-neither true b e = e
-neither false b e = refl
-
 abbrev plain_of : (es : List (Option TypeExtent)) (line n : ℕ) → List TypeWord → Variable
 plain_of es line n type = record {
   type = type;
@@ -365,7 +361,7 @@ plain_fine : (scope : Scope) (last : List (Option TypeExtent)) (s : State) → A
 plain_fine scope last s h line n type is e =
     let es = extents s in
     let b = before es last h type is.sized in
-    let single = neither (is_aggregate type) (is_marked s.objects n) e in
+    let single = neither_left (is_aggregate type) (is_marked s.objects n) e in
     let sized = single_object es type (size_among es type) b.sized single in
     let scalar = scalar_by es type (size_among es type) sized single in
     let declared = (variable_at scope n).kind in

@@ -114,13 +114,13 @@ with_given scope last s less given p (Ok r) h is =
 with_given scope last s less given p (Err f) h is = tt
 
 -- what is judged in a state
-abbrev pub If : {A : Type 0} → (A → Type 0) → Answer A → Type 0
-If p (Ok x) = p x
-If p (Err f) = Unit {0}
+abbrev pub IfAnswer : {A : Type 0} → (A → Type 0) → Answer A → Type 0
+IfAnswer p (Ok x) = p x
+IfAnswer p (Err f) = Unit {0}
 
 pub sound_judged : {A : Type 0} (scope : Scope) (last : Structures) (s : State) (given : Structures → Type 0)
     (p : Structures → A → Type 0) (a : Answer A) → (Knows scope last s → given (extents s) → Covers scope last s
-    → If (p (extents s)) a)
+    → IfAnswer (p (extents s)) a)
     → Sound scope last s given p (a >>= λ x. Ok (s, x))
 sound_judged scope last s given p (Ok x) is =
     λ formed. (keeps_same scope last s formed, λ knows g covers. is knows g covers)

@@ -16,7 +16,7 @@ use Rattle.c_rules.specs.Fine.{IfFine, IsFine}
 use Rattle.c_rules.specs.Types.{unqualified}
 use Rattle.c_rules.specs.Values.{Value}
 use Rattle.c_place_rules.specs.declared.place.Member as code_member
-use Rattle.c_place_rules.specs.Operands.{Operand, a_value}
+use Rattle.c_place_rules.specs.Operands.{Operand}
 use Rattle.c_place_rules.specs.Places.{Member, address, member_view, structure_of, type_in}
 use Rattle.c_place_rules.specs.Targets.{pointee_of}
 use Rattle.c_place_laws.specs.FinePlaces.{IfFineOperand, IsFineOperand, IsFound, IsFoundBehind}
@@ -53,11 +53,12 @@ use Rattle.c_typed_validity.proofs.PointerCalls.{function_called}
 use Rattle.c_typed_validity.specs.Steps.{Fine, FineAll, FineValue, PointerCalls, Structures, Written, nothing}
 use Rattle.c_typed_validity.specs.Typed.{HaveMembers}
 use Rattle.c_typed_validity.proofs.Constructs.{among_fine, operand_from, with_state, place_from, stepped_fine_by}
-use Rattle.c_typed_validity.proofs.Constructs.{unary_fine_by}
+use Rattle.c_typed_validity.proofs.Constructs.{address_made, as_made, unary_fine_by}
 use Rattle.c_typed_validity.proofs.Kept.{arguments_kept, earlier_kept, operand_kept, value_kept}
 use Rattle.c_typed_validity.proofs.Moved.{address_keeps, literal_fine, literal_keeps, used_keeps}
 use Rattle.c_typed_validity.proofs.Primaries.{defined_by, meant_fine, used_extents}
-use Rattle.c_typed_validity.proofs.Sound.{If, Stays, both, keeps_same, same_more, sound_judged, sound_then, with_given}
+use Rattle.c_typed_validity.proofs.Sound.{IfAnswer, Stays, both, keeps_same, same_more, sound_judged, sound_then}
+use Rattle.c_typed_validity.proofs.Sound.{with_given}
 
 -- what is evaluated is valid
 
@@ -83,17 +84,17 @@ both_stay given p x h g = λ es more more_of is. (h es more more_of is.0, g es m
 
 -- answers
 
-if_true : {A : Type 0} (is : Bool) (p : A → Type 0) (a : Answer A) → (is ≡ true → If p a)
-    → If (λ x. is ≡ true → p x) a
+if_true : {A : Type 0} (is : Bool) (p : A → Type 0) (a : Answer A) → (is ≡ true → IfAnswer p a)
+    → IfAnswer (λ x. is ≡ true → p x) a
 if_true is p (Ok x) h = h
 if_true is p (Err f) h = tt
 
 if_operand : (scope : Scope) (es : Structures) (a : Answer Operand) → IfFineOperand scope es a
-    → If (IsFineOperand scope es) a
+    → IfAnswer (IsFineOperand scope es) a
 if_operand scope es (Ok o) h = h
 if_operand scope es (Err f) h = tt
 
-if_value : (scope : Scope) (es : Structures) (a : Answer Value) → IfFine scope es a → If (IsFine scope es) a
+if_value : (scope : Scope) (es : Structures) (a : Answer Value) → IfFine scope es a → IfAnswer (IsFine scope es) a
 if_value scope es (Ok v) h = h
 if_value scope es (Err f) h = tt
 
@@ -170,12 +171,6 @@ literal_sound scope last true bytes line s =
 literal_sound scope last false bytes line s = λ formed. (keeps_same scope last s formed, λ knows g covers p. cc)
 
 -- a unary operator, or `&`, `++` or `--`, before its operand
-
-abbrev address_made : (is : Bool) → Operand → State → Value → Answer (State × Value)
-address_made is o s v = Ok (if is then object_taken o s else s, v)
-
-abbrev as_made : State × Value → Answer (State × Operand)
-as_made r = Ok (r.0, a_value r.1)
 
 taken_extents : (scope : Scope) (last : Structures) (is : Bool) (o : Operand) (s : State) (v : Value) → IsFormed s
     → IsFine scope (extents s) v
@@ -330,12 +325,12 @@ pub called_stays : (scope : Scope) (last : Structures) (is : Bool) (c : Called)
 called_stays scope last is c = λ es more h f p. called_kept scope last es more h c (f p)
 
 pointer_if : (scope : Scope) (last : Structures) (es : Structures) (a : Answer Value) → IfFine scope es a
-    → If (IsCalled scope last es) (a >>= λ v. Ok (a_pointer v))
+    → IfAnswer (IsCalled scope last es) (a >>= λ v. Ok (a_pointer v))
 pointer_if scope last es (Ok v) h = h
 pointer_if scope last es (Err f) h = tt
 
 value_called : (scope : Scope) (last : Structures) (s : State) (a : Answer Operand) → IfFineOperand scope (extents s) a
-    → If (IsCalled scope last (extents s)) (a >>= λ o. pointer_called o s)
+    → IfAnswer (IsCalled scope last (extents s)) (a >>= λ o. pointer_called o s)
 value_called scope last s (Ok o) h =
     pointer_if scope last (extents s) (value_among (extents s) o) (among_fine scope (extents s) o h)
 value_called scope last s (Err f) h = tt
@@ -348,7 +343,7 @@ library_if scope last es library.Printf = tt
 called_if : (scope : Scope) (last : Structures) (line : ℕ) (m : Option Meaning) (s : State)
     → AreMore (extents s) last → IsMeant scope last s m
     → (used_as true line m s).undefined ≡ None
-    → If (IsCalled scope last (extents s)) (plainly_or (called_plainly m) (called_by_value true line m s))
+    → IfAnswer (IsCalled scope last (extents s)) (plainly_or (called_plainly m) (called_by_value true line m s))
 called_if scope last line None s more h unused = tt
 called_if scope last line (Some (meaning.Typedef type)) s more h unused = tt
 called_if scope last line (Some (meaning.Constant w)) s more h unused =
@@ -371,14 +366,14 @@ called_if scope last line (Some (meaning.Named (what.Variable n) type)) s more h
 called_as_is : (scope : Scope) (last : Structures) (is : Bool) (line : ℕ) (m : Option Meaning) (s : State)
     → AreMore (extents s) last → IsMeant scope last s m
     → (used_as is line m s).undefined ≡ None → is ≡ true
-    → If (IsCalled scope last (extents s)) (plainly_or (called_plainly m) (called_by_value is line m s))
+    → IfAnswer (IsCalled scope last (extents s)) (plainly_or (called_plainly m) (called_by_value is line m s))
 called_as_is scope last true line m s more h unused p = called_if scope last line m s more h unused
 called_as_is scope last false line m s more h unused p = cc
 
 called_used : (scope : Scope) (last : Structures) (is : Bool) (line : ℕ) (m : Option Meaning) (s : State)
     (a : Answer Called)
     → (Knows scope last s → AreMore (extents s) last → (used_as is line m s).undefined ≡ None → is ≡ true
-    → If (IsCalled scope last (extents s)) a)
+    → IfAnswer (IsCalled scope last (extents s)) a)
     → Sound scope last s nothing (FineCalled scope last is) (a >>= λ c. Ok (used_as is line m s, c))
 called_used scope last is line m s (Ok c) h = λ formed. (
   used_keeps scope last is line m s formed,

@@ -3,7 +3,6 @@ mod Causes
 mod Composing
 mod Designating
 mod DoScopes
-mod FileStates
 mod Files
 mod Filling
 mod Items

@@ -1,7 +1,7 @@
 -- The parameters of a function whose block begins.
 use Rattle.std.proofs.Common.{◌≡◌, ℕ, zero, suc, ◌+◌, ◌<◌, ◌≤◌, refl, sym, ap, ◌∙◌, Bool, true, false, List, [], ◌∷◌}
 use Rattle.std.proofs.Common.{◌++◌, length, map, drop, arith}
-use Rattle.std.specs.Prelude.{Option, Some, nat_lt, slice_get, if◌then◌else◌}
+use Rattle.std.specs.Prelude.{Option, nat_lt, slice_get, if◌then◌else◌}
 use Rattle.std.proofs.lemmas.List.{append_assoc, append-nil, drop_all}
 use Rattle.c_tree.specs.declared.c_type.TypeWord.{TypeWord}
 use Rattle.c_tree.specs.declared.program.Variable.{Variable}
@@ -9,11 +9,12 @@ use Rattle.c_scope.specs.declared.meaning.Designated.TheVariants as what
 use Rattle.c_scope.specs.declared.meaning.Meaning.{Meaning}
 use Rattle.c_scope.specs.declared.meaning.Meaning.TheVariants.{Constant, Named, Typedef}
 use Rattle.c_scope.specs.Names.{Names}
-use Rattle.c_scope.specs.Parameters.{ParameterScope, with_parameters}
+use Rattle.c_scope.specs.Parameters.{ParameterScope}
 use Rattle.c_typing.specs.Calls.{place_among}
 use Rattle.c_typing.specs.State.{State}
 use Rattle.c_unit_typing.specs.Files.{File}
-use Rattle.c_unit_typing.specs.Units.{entered, marks_in, parameter_in, parameters_in}
+use Rattle.c_unit_typing.specs.Units.{entered, parameter_in, parameters_in}
+use Rattle.c_typed_programs.proofs.Scopes.Files.{inside}
 use Rattle.c_typer.specs.Entering.{begun, parameter_of}
 
 -- one after the other
@@ -41,14 +42,6 @@ parameters_end s es n vs all past e =
     sym (append-nil vs) ∙ ap (λ z. vs ++ parameters_in s z) (sym (drop_all n es past)) ∙ e
 
 -- before and in their scope
-
-abbrev inside : (number : ℕ) → ParameterScope → File → State
-inside n scope f = record f.state {
-  environment = with_parameters scope f.state.environment;
-  objects = marks_in f.objects n;
-  taken = [];
-  function = Some n;
-}
 
 one_same : (n : ℕ) (scope : ParameterScope) (f : File) (types : List (List TypeWord)) (m : Meaning)
     → parameter_in (begun n f).state m ≡ parameter_in (record (inside n scope f) { function_types = types }) m

@@ -1,5 +1,6 @@
 -- Parts that agree with what typing answers make constructs that do.
-use Rattle.std.proofs.Common.{◌≡◌, ℕ, refl, sym, ap, subst, List, [], ◌∷◌, ◌++◌, Option, Some, None}
+use Rattle.std.proofs.Common.{◌≡◌, ℕ, refl, sym, ap, subst, List, [], ◌∷◌, ◌++◌, Option, Some}
+use Rattle.std.proofs.lemmas.Option.{none-some}
 use Rattle.std.specs.Prelude.{Ok, Err, option_map}
 use Rattle.c_rules.specs.declared.fault.Fault.{Fault}
 use Rattle.c_rules.specs.Answer.{Answer, ◌>>=◌}
@@ -8,11 +9,8 @@ use Rattle.c_violations.specs.Judgements.{Violation, both, if_known, Judgement, 
 use Rattle.c_violations.specs.Judgements.{rule_at}
 use Rattle.c_violations.specs.Judgements.{with_second}
 
-none_some : (f : Fault) (P : Type 0) → None ≡ Some f → P
-none_some f P e = cc
-
 pub first_in : (f : Fault) (fs gs : List Violation) → first_of fs ≡ Some f → first_of (fs ++ gs) ≡ Some f
-first_in f [] gs e = none_some f _ e
+first_in f [] gs e = absurd (none-some f e)
 first_in f (g ∷ fs) gs e = e
 
 agree_first : {S A : Type 0} (j : Judgement S A) (x : Answer (S × A)) → Agree j x

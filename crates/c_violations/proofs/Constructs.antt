@@ -223,7 +223,7 @@ returned_agrees at result (Some e) s =
 
 -- `do`
 
-abbrev condition_rule : (line : ℕ) → Value → Typing typed_tree.Expression
+abbrev pub condition_rule : (line : ℕ) → Value → Typing typed_tree.Expression
 condition_rule line v = judged (controls line v)
 
 abbrev do_with : Position → (body : tree.Statement) → (f : File) → Judgement State Value

@@ -1,6 +1,7 @@
 -- The first violation in a file is what typing answers.
 use Rattle.std.proofs.Common.{◌≡◌, ℕ, Bool, true, false, refl, sym, ap, ◌∙◌, subst, List, [], ◌∷◌, ◌++◌}
 use Rattle.std.proofs.Common.{Option, Some, None, if◌then◌else◌, length, map}
+use Rattle.std.proofs.lemmas.Option.{none-some}
 use Rattle.std.specs.Prelude.{Ok, Err, codes, option_map}
 use Rattle.c_syntax.specs.Statements as t
 use Rattle.c_syntax.specs.Tree.{Declarator, Specifiers}
@@ -92,10 +93,7 @@ externals_agree (e ∷ es) f =
 
 first_fault : (vs : List Violation) (gs : List Fault) (g : Fault) → first_of vs ≡ Some g
     → first_in (map (λ v. v.fault) vs ++ gs) ≡ Some g
-first_fault [] gs g e = by e
-  where
-    by : None ≡ Some g → first_in gs ≡ Some g
-    by e = cc
+first_fault [] gs g e = absurd (none-some g e)
 first_fault (v ∷ vs) gs g e = e
 
 abbrev EndsAs : File × List Fault → Answer File → Type 0
@@ -130,10 +128,7 @@ fault_is r (Ok f) e = ap (λ r. first_in r.1) e
 fault_is r (Err g) e = e
 
 those : (fs gs : List Fault) (g : Fault) → first_in fs ≡ Some g → first_in (or_those fs gs) ≡ Some g
-those [] gs g e = by e
-  where
-    by : None ≡ Some g → first_in gs ≡ Some g
-    by e = cc
+those [] gs g e = absurd (none-some g e)
 those (f ∷ fs) gs g e = e
 
 again : (end : ℕ) (es : List t.External) (r : File × List Fault) (x : Answer File) → EndsAs r x

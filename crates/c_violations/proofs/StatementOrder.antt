@@ -16,7 +16,7 @@ use Rattle.c_tree.specs.Statements as tree
 use Rattle.c_tree.specs.Tree as typed_tree
 use Rattle.c_rules.specs.Answer.{Answer}
 use Rattle.c_rules.specs.Values.{Value}
-use Rattle.c_typing.specs.State.{State, Typing, judged}
+use Rattle.c_typing.specs.State.{State, judged}
 use Rattle.c_unit_typing.specs.Constructs.{Labels, controls, jump, no_labels, returned_nothing, returned_value}
 use Rattle.c_unit_typing.specs.Constructs.{labels_on, scope_opened, switches}
 use Rattle.c_unit_typing.specs.Files.{File}
@@ -34,6 +34,7 @@ use Rattle.c_violations.specs.Statements.{if_else, if_then, in_scope, label_type
 use Rattle.c_violations.specs.Statements.{statements, switch_block, switch_item, switch_items, switch_items_of}
 use Rattle.c_violations.specs.Statements.{switch_with, switching, switching_on, tree_in, valued_if, while_do}
 use Rattle.c_violations.specs.Statements.{with_labels}
+use Rattle.c_violations.proofs.Constructs.{condition_rule}
 use Rattle.c_violations.proofs.DeclarationOrder.{declaration_read}
 use Rattle.c_violations.proofs.ExpressionOrder.{expression_read}
 use Rattle.c_violations.proofs.ExpressionParts.{ExpressionIn, value_placed}
@@ -96,9 +97,6 @@ switching_placed e low lo hi at p a b c s =
     (wider low hi (omega arith) (omega arith) (value_placed e lo hi p true s))
 
 -- `do`: the rule on conditions stands at its word, before the body
-
-abbrev condition_rule : (line : ℕ) → Value → Typing typed_tree.Expression
-condition_rule line v = judged (controls line v)
 
 condition_placed : (lo : ℕ) (at : Position) → lo ≤ at.at → (o : Option Value) (s : State)
     → Placed lo (suc at.at) (rule_at at.at (condition_rule at.line) o s)

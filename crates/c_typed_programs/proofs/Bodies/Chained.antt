@@ -1,6 +1,7 @@
 -- Constructs of a function that are typed one behind the other.
 use Rattle.std.proofs.Common.{◌≡◌, ◌⊎◌, inl, inr, ℕ, true, false, refl, sym, ap, ◌∙◌, subst, List, [], ◌++◌, length}
 use Rattle.std.proofs.Common.{arith}
+use Rattle.std.proofs.lemmas.Bool.{false≢true}
 use Rattle.std.specs.Prelude.{Ok, Err}
 use Rattle.c_tree.specs.declared.c_type.TypeWord.{TypeWord}
 use Rattle.c_tree.specs.Blocks.{is_among}
@@ -19,6 +20,7 @@ use Rattle.c_typed_declarators.specs.Given.{anything}
 use Rattle.c_typed_declarators.proofs.Known.{keeps_behind}
 use Rattle.c_typed_declarators.proofs.Parameters.{within_block, within_formed}
 use Rattle.c_typed_programs.specs.Scopes.Leaving.{FileLeads}
+use Rattle.c_typed_programs.proofs.LaidOut.Chained.{closed_laid, opened_laid}
 use Rattle.c_typed_programs.proofs.Scopes.Leading.{closed_leads, file_on, file_same, leads_by, state_leads}
 use Rattle.c_typed_programs.specs.Layouts.Listed.{IfLaidOut, IsLaidOut}
 use Rattle.c_typed_programs.specs.Bodies.Standing.{AreLinked, AreOpen, AreVariables, Ends, IsReady, IsResult, Numbers}
@@ -27,7 +29,6 @@ use Rattle.c_typed_programs.specs.Bodies.Typed.{IfTyped, Typed, none}
 use Rattle.c_typed_programs.proofs.Bodies.Ends.{ends_before, ends_closed, ends_within, numbers_on}
 use Rattle.c_typed_programs.proofs.Bodies.Entities.{entities_on, entities_same, linked_closed, linked_extended}
 use Rattle.c_typed_programs.proofs.Bodies.Entities.{linked_opened}
-use Rattle.c_typed_programs.proofs.Bodies.Laid.{laid_closed, laid_opened}
 use Rattle.c_typed_programs.proofs.Bodies.Opened.{among_either, among_left, among_right, within_open}
 use Rattle.c_typed_programs.proofs.Bodies.Standing.{stands_closed, stands_extended, stands_opened, stands_within}
 use Rattle.c_typed_programs.proofs.Common.{filed}
@@ -51,14 +52,11 @@ ready_opened f ready = record {
   formed = within_formed f.state ready.formed;
   inner = within_block f.state;
   linked = linked_opened f ready.linked;
-  laid = laid_opened f ready.laid;
+  laid = opened_laid f ready.laid;
 }
 
 pub no_variables : (scope : Scope) → AreVariables scope []
-no_variables scope = λ n e. absurd (no_number e)
-  where
-    no_number : false ≡ true → ⊥
-    no_number e = cc
+no_variables scope = λ n e. absurd (false≢true e)
 
 both_variables : (scope : Scope) (xs ys : List ℕ) → AreVariables scope xs → AreVariables scope ys
     → AreVariables scope (xs ++ ys)
@@ -69,10 +67,7 @@ both_variables scope xs ys h g = λ n e. by n (among_either xs ys n e)
     by n (inr is) = g n is
 
 open_none : (scope : Scope) → AreOpen scope []
-open_none scope = λ n e. absurd (no e)
-  where
-    no : false ≡ true → ⊥
-    no e = cc
+open_none scope = λ n e. absurd (false≢true e)
 
 -- what is typed in the state of expressions and declarators, in its file
 
@@ -250,7 +245,7 @@ module _ (result : List TypeWord) where
     numbers = record { counted = h.numbers.counted; count = h.numbers.count; made = h.numbers.made };
     entities = record { each = h.entities.each };
     linked = linked_closed f g h.leads ready.linked (record { each = h.entities.each }) h.linked;
-    laid = laid_closed f g h.leads ready.laid h.laid;
+    laid = closed_laid f g h.leads ready.laid h.laid;
     sound = λ scope last stands ends shown. (
       (to scope last (stands_opened scope last f stands) (ends_closed scope last result g ends)).0,
       (

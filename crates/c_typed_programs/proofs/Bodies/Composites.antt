@@ -1,16 +1,17 @@
 -- Composite types spell the signatures of the types that they are composed of (C99 6.2.7).
 use Rattle.std.proofs.Common.{◌≡◌, ℕ, zero, suc, Bool, true, false, ◌&&◌, refl, sym, ap, ◌∙◌, subst, List, [], ◌∷◌}
-use Rattle.std.proofs.Common.{Option, Some, None, if◌then◌else◌}
+use Rattle.std.proofs.Common.{Some, None}
+use Rattle.std.proofs.lemmas.Bool.{true≢false}
 use Rattle.c_tree.specs.declared.c_type.TypeWord.{TypeWord}
 use Rattle.c_tree.specs.declared.c_type.TypeWord.TheVariants as word
 use Rattle.c_tree.specs.declared.expression.Kind.{Kind}
-use Rattle.c_tree.specs.TypesAgree.{agrees, behind_types, gives_kind, is_end, is_kind_of, kind_of_type, same_words}
+use Rattle.c_tree.specs.TypesAgree.{agrees, behind_types, gives_kind, is_end, is_kind_of, kind_of_type}
 use Rattle.c_tree.specs.TypesAgree.{still}
 use Rattle.c_tree.specs.TypesAgree.{takes_kind}
-use Rattle.c_rules.proofs.SameTypes.{words_are}
-use Rattle.c_scope.specs.Composite.{composite, joined, joint}
+use Rattle.c_scope.specs.Composite.{composite}
 use Rattle.c_typed_validity.specs.Steps.{Structures}
-use Rattle.c_typed_programs.proofs.Common.{the_same}
+use Rattle.c_typed_programs.proofs.SpelledTypes.Composites.{IsJoint, alike, composite_nothing, first_sized, joins}
+use Rattle.c_typed_programs.proofs.SpelledTypes.Composites.{none_first, none_second, second_sized}
 
 -- words that differ in the sizes of arrays alone
 
@@ -87,14 +88,8 @@ still_alike v w (both_arrays e g) n = array_still v e n ∙ sym (array_still w g
 behind_alike : (n : ℕ) (vs ws : List TypeWord) → AreAlike vs ws → AreAlike (behind_types n vs) (behind_types n ws)
 behind_alike zero vs ws h = h
 behind_alike (suc n) [] [] h = tt
-behind_alike (suc n) [] (w ∷ ws) h = absurd (conflict h)
-  where
-    conflict : true ≡ false → ⊥
-    conflict e = cc
-behind_alike (suc n) (v ∷ vs) [] h = absurd (conflict h)
-  where
-    conflict : true ≡ false → ⊥
-    conflict e = cc
+behind_alike (suc n) [] (w ∷ ws) h = absurd (true≢false h)
+behind_alike (suc n) (v ∷ vs) [] h = absurd (true≢false h)
 behind_alike (suc n) (v ∷ vs) (w ∷ ws) h =
     subst (λ k. AreAlike (behind_types (still v n) vs) (behind_types k ws)) (still_alike v w h.0 n)
     (behind_alike (still v n) vs ws h.1)
@@ -182,80 +177,19 @@ agrees_alike es (v ∷ vs) (w ∷ ws) h (j ∷ ks) k =
 
 -- composite types
 
-word_same : {v w : TypeWord} {vs ws : List TypeWord} → v ∷ vs ≡ w ∷ ws → v ≡ w
-word_same e = cc
-
-chosen_alike : (v w c : TypeWord) (b : Bool) → same_words (v ∷ []) (w ∷ []) ≡ b
-    → (if b then Some v else None) ≡ Some c → IsAlike c w
-chosen_alike v w c true e g = same_word (sym (the_same g) ∙ word_same (words_are (v ∷ []) (w ∷ []) e))
-chosen_alike v w c false e g = absurd cc
-
-joint_alike : (v w c : TypeWord) → joint v w ≡ Some c → IsAlike c w
-joint_alike word.Void w c e = chosen_alike word.Void w c (same_words (word.Void ∷ []) (w ∷ [])) refl e
-joint_alike (word.Integer x) w c e =
-    chosen_alike (word.Integer x) w c (same_words (word.Integer x ∷ []) (w ∷ [])) refl e
-joint_alike (word.Enumeration x) w c e =
-    chosen_alike (word.Enumeration x) w c (same_words (word.Enumeration x ∷ []) (w ∷ [])) refl e
-joint_alike word.Pointer w c e = chosen_alike word.Pointer w c (same_words (word.Pointer ∷ []) (w ∷ [])) refl e
-joint_alike (word.Array x y) word.Void c e =
-    chosen_alike (word.Array x y) word.Void c (same_words (word.Array x y ∷ []) (word.Void ∷ [])) refl e
-joint_alike (word.Array x y) (word.Integer m) c e =
-    chosen_alike (word.Array x y) (word.Integer m) c (same_words (word.Array x y ∷ []) (word.Integer m ∷ [])) refl e
-joint_alike (word.Array x y) (word.Enumeration m) c e =
-    chosen_alike (word.Array x y) (word.Enumeration m) c (same_words (word.Array x y ∷ []) (word.Enumeration m ∷ []))
-    refl e
-joint_alike (word.Array x y) word.Pointer c e =
-    chosen_alike (word.Array x y) word.Pointer c (same_words (word.Array x y ∷ []) (word.Pointer ∷ [])) refl e
-joint_alike (word.Array x y) (word.Array m n) c e =
-    chosen_alike (word.Array x y) (word.Array m n) c (same_words (word.Array x y ∷ []) (word.Array m n ∷ [])) refl e
-joint_alike (word.Array x y) word.OpenArray c e = both_arrays (ap is_array_word (sym (the_same e))) refl
-joint_alike (word.Array x y) (word.Structure m) c e =
-    chosen_alike (word.Array x y) (word.Structure m) c (same_words (word.Array x y ∷ []) (word.Structure m ∷ [])) refl e
-joint_alike (word.Array x y) word.Const c e =
-    chosen_alike (word.Array x y) word.Const c (same_words (word.Array x y ∷ []) (word.Const ∷ [])) refl e
-joint_alike (word.Array x y) word.Takes c e =
-    chosen_alike (word.Array x y) word.Takes c (same_words (word.Array x y ∷ []) (word.Takes ∷ [])) refl e
-joint_alike (word.Array x y) word.Gives c e =
-    chosen_alike (word.Array x y) word.Gives c (same_words (word.Array x y ∷ []) (word.Gives ∷ [])) refl e
-joint_alike word.OpenArray word.Void c e =
-    chosen_alike word.OpenArray word.Void c (same_words (word.OpenArray ∷ []) (word.Void ∷ [])) refl e
-joint_alike word.OpenArray (word.Integer m) c e =
-    chosen_alike word.OpenArray (word.Integer m) c (same_words (word.OpenArray ∷ []) (word.Integer m ∷ [])) refl e
-joint_alike word.OpenArray (word.Enumeration m) c e =
-    chosen_alike word.OpenArray (word.Enumeration m) c (same_words (word.OpenArray ∷ []) (word.Enumeration m ∷ []))
-    refl e
-joint_alike word.OpenArray word.Pointer c e =
-    chosen_alike word.OpenArray word.Pointer c (same_words (word.OpenArray ∷ []) (word.Pointer ∷ [])) refl e
-joint_alike word.OpenArray (word.Array m n) c e = same_word (sym (the_same e))
-joint_alike word.OpenArray word.OpenArray c e =
-    chosen_alike word.OpenArray word.OpenArray c (same_words (word.OpenArray ∷ []) (word.OpenArray ∷ [])) refl e
-joint_alike word.OpenArray (word.Structure m) c e =
-    chosen_alike word.OpenArray (word.Structure m) c (same_words (word.OpenArray ∷ []) (word.Structure m ∷ [])) refl e
-joint_alike word.OpenArray word.Const c e =
-    chosen_alike word.OpenArray word.Const c (same_words (word.OpenArray ∷ []) (word.Const ∷ [])) refl e
-joint_alike word.OpenArray word.Takes c e =
-    chosen_alike word.OpenArray word.Takes c (same_words (word.OpenArray ∷ []) (word.Takes ∷ [])) refl e
-joint_alike word.OpenArray word.Gives c e =
-    chosen_alike word.OpenArray word.Gives c (same_words (word.OpenArray ∷ []) (word.Gives ∷ [])) refl e
-joint_alike (word.Structure x) w c e =
-    chosen_alike (word.Structure x) w c (same_words (word.Structure x ∷ []) (w ∷ [])) refl e
-joint_alike word.Const w c e = chosen_alike word.Const w c (same_words (word.Const ∷ []) (w ∷ [])) refl e
-joint_alike word.Takes w c e = chosen_alike word.Takes w c (same_words (word.Takes ∷ []) (w ∷ [])) refl e
-joint_alike word.Gives w c e = chosen_alike word.Gives w c (same_words (word.Gives ∷ []) (w ∷ [])) refl e
+joint_alike : (v w c : TypeWord) → IsJoint v w c → IsAlike c w
+joint_alike v w c (alike e g) = same_word (g ∙ e)
+joint_alike v w c (first_sized n b e g h) = both_arrays (ap is_array_word (h ∙ e)) (ap is_array_word g)
+joint_alike v w c (second_sized n b e g h) = same_word h
 
 composite_alike : (s t c : List TypeWord) → composite s t ≡ Some c → AreAlike c t
-unfolding composite
-composite_alike [] [] c e = subst (λ z. AreAlike z []) (the_same e) tt
-composite_alike [] (w ∷ t) c e = absurd cc
-composite_alike (v ∷ s) [] c e = absurd cc
+composite_alike [] [] c e = subst (λ z. AreAlike z []) (sym (composite_nothing c e)) tt
+composite_alike [] (w ∷ t) c e = none_first w t c _ e
+composite_alike (v ∷ s) [] c e = none_second v s c _ e
 composite_alike (v ∷ s) (w ∷ t) c e =
-    by (joint v w) (composite s t) (joint_alike v w) (composite_alike s t) e
-  where
-    by : (o : Option TypeWord) (p : Option (List TypeWord)) → ((x : TypeWord) → o ≡ Some x → IsAlike x w)
-        → ((xs : List TypeWord) → p ≡ Some xs → AreAlike xs t) → joined o p ≡ Some c → AreAlike c (w ∷ t)
-    by None p h g e = absurd cc
-    by (Some x) None h g e = absurd cc
-    by (Some x) (Some xs) h g e = subst (λ z. AreAlike z (w ∷ t)) (the_same e) (h x refl, g xs refl)
+    let j = joins v s w t c e in
+    subst (λ z. AreAlike z (w ∷ t)) (sym j.is)
+    (joint_alike v w j.first j.joint, composite_alike s t j.rest j.behind)
 
 -- a composite type spells what the types that it is composed of spell
 pub composite_agrees : (es : Structures) (s t c : List TypeWord) → composite s t ≡ Some c → (ks : List Kind) (k : Kind)

@@ -2,6 +2,7 @@
 use Rattle.std.proofs.Common.{◌≡◌, ℕ, Bool, true, false, ◌&&◌, refl, sym, List, []}
 use Rattle.std.proofs.Common.{Option, Some, None, if◌then◌else◌}
 use Rattle.std.specs.Prelude.{Ok, Err}
+use Rattle.std.proofs.lemmas.Bool.{and_from}
 use Rattle.std.proofs.lemmas.List.{append-nil}
 use Rattle.c_syntax.specs.Tree.{Expression}
 use Rattle.c_tree.specs.declared.c_type.TypeWord.{TypeWord}
@@ -31,7 +32,7 @@ use Rattle.c_unit_typing.specs.Constructs.{without_labels}
 use Rattle.c_unit_typing.specs.Files.{File, FileTyping, finished, in_state, ◌~>◌}
 use Rattle.c_typed_validity.specs.Regular.{is_regular}
 use Rattle.c_typed_validity.specs.Steps.{nothing}
-use Rattle.c_typed_validity.proofs.Sound.{If, sound_judged}
+use Rattle.c_typed_validity.proofs.Sound.{IfAnswer, sound_judged}
 use Rattle.c_typed_declarators.specs.Extending.{Extending}
 use Rattle.c_typed_declarators.specs.Given.{anything}
 use Rattle.c_typed_programs.specs.Scopes.Regular.{is_regular_if}
@@ -48,7 +49,6 @@ use Rattle.c_typed_programs.proofs.Bodies.Chained.{one_typed, scoped_typed, stat
 use Rattle.c_typed_programs.proofs.Bodies.Evaluated.{controlling_sound, expression_sound}
 use Rattle.c_typed_programs.proofs.Bodies.Evaluated.{returned_sound}
 use Rattle.c_typed_programs.proofs.Bodies.Laid.{controlling_laid, expression_laid, returned_laid, step_laid}
-use Rattle.c_typed_programs.proofs.Common.{both}
 
 -- what constructs are typed to
 
@@ -132,7 +132,7 @@ returned_bare line result (Some e) s =
     (λ v u. value_bare (gives_void result) line (assigned (extents u) line result v) u)
 
 jump_parts : (may : Bool) (line : ℕ) (st : Statement) (scope : Scope) → Parts scope st → (s : State)
-    → If (λ x. Parts scope x) (jump may line st s)
+    → IfAnswer (λ x. Parts scope x) (jump may line st s)
 jump_parts true line st scope e s = e
 jump_parts false line st scope e s = tt
 
@@ -221,7 +221,7 @@ module _ (result : List TypeWord) where
       scoped_typed result all_variables Parts f ready
       (in_state (controlling line e) ~> λ c. body ~> λ s. finished (tree.if_then c s))
       (λ g k. two_typed result none none Controls all_variables none Parts all_variables none Parts
-      (λ c s. tree.if_then c s) (λ x s. refl) (λ x s. refl) (λ scope x s p q. both _ _ p q) g k
+      (λ c s. tree.if_then c s) (λ x s. refl) (λ x s. refl) (λ scope x s p q. and_from _ _ p q) g k
       (in_state (controlling line e) g) (λ x. body) (controlling_typed line e c g k) (λ x j i. h j i))
 
   pub if_otherwise_typed : (line : ℕ) (e : Expression) → is_regular e ≡ true → (body other : FileTyping Statement)
@@ -233,7 +233,7 @@ module _ (result : List TypeWord) where
       (λ c. body ~> λ s. other ~> λ other. finished (tree.if_else c s other)) (controlling_typed line e c j k)
       (λ x i l. two_typed result all_variables none Parts all_variables none Parts all_variables none
       (λ scope y. Controls scope x → Parts scope y) (λ s o. tree.if_else x s o) (λ s o. refl) (λ s o. refl)
-      (λ scope s o p q is. both _ _ is (both _ _ p q)) i l (body i) (λ s. other) (h i l) (λ s m n. g m n)))
+      (λ scope s o p q is. and_from _ _ is (and_from _ _ p q)) i l (body i) (λ s. other) (h i l) (λ s m n. g m n)))
 
   pub loop_typed : (line : ℕ) (e : Expression) → is_regular e ≡ true → (body : FileTyping Statement)
       → TypesStatement body → TypesStatement (while_typed line e body)
@@ -241,7 +241,7 @@ module _ (result : List TypeWord) where
       scoped_typed result all_variables Parts f ready
       (in_state (controlling line e) ~> λ c. body ~> λ s. finished (tree.while_do c s))
       (λ g k. two_typed result none none Controls all_variables none Parts all_variables none Parts
-      (λ c s. tree.while_do c s) (λ x s. refl) (λ x s. refl) (λ scope x s p q. both _ _ p q) g k
+      (λ c s. tree.while_do c s) (λ x s. refl) (λ x s. refl) (λ scope x s p q. and_from _ _ p q) g k
       (in_state (controlling line e) g) (λ x. body) (controlling_typed line e c g k) (λ x j i. h j i))
 
   no_file : {B : Type 0} (f : File) (e : Fault) (a : Answer B)
@@ -260,7 +260,7 @@ module _ (result : List TypeWord) where
   do_by line e c f ready (Ok r) h =
       two_typed result all_variables none Parts none none Controls all_variables none Parts
       (λ s c. tree.do_while s c) (λ s x. sym (append-nil (all_variables s))) (λ s x. refl)
-      (λ scope s x p q. both _ _ p q) f ready (Ok r) (λ s. in_state (controlling line e)) h
+      (λ scope s x p q. and_from _ _ p q) f ready (Ok r) (λ s. in_state (controlling line e)) h
       (λ s g k. controlling_typed line e c g k)
   do_by line e c f ready (Err g) h = fault_typed f line g (valued (typed true e) f.state)
 

@@ -40,12 +40,14 @@ use Rattle.c_typed_validity.specs.More.{AreMore}
 use Rattle.c_typed_validity.specs.Names.{IsMeant}
 use Rattle.c_typed_validity.specs.Sound.{IsFormed, is_sized_array}
 use Rattle.c_typed_validity.specs.Steps.{Structures}
+use Rattle.c_typed_validity.proofs.Common.{first, second}
 use Rattle.c_typed_validity.proofs.Sound.{same_more}
 use Rattle.c_typed_declarators.specs.Given.{AreCounted, IsShapeOf, IsSpecified, anything}
 use Rattle.c_typed_declarators.proofs.Known.{meant_kept}
 use Rattle.c_typed_declarators.proofs.Recursion.{shape_extends}
 use Rattle.c_typed_programs.specs.Declarations.Binding.{Binds, Declares, IfDeclared, IsCompleteFor, bound_meaning}
 use Rattle.c_typed_programs.specs.Declarations.Binding.{linked_meaning, unlinked_meaning}
+use Rattle.c_typed_programs.proofs.Declarations.Bound.{Behind, Bound}
 use Rattle.c_typed_programs.proofs.Declarations.Judged.{answered, declared_as_declares}
 use Rattle.c_typed_programs.specs.Scopes.Regular.{are_regular_declarators, initializer_of, is_regular_declaration}
 use Rattle.c_typed_programs.specs.Scopes.Regular.{is_regular_initializer_if, is_regular_object}
@@ -68,7 +70,7 @@ use Rattle.c_typed_programs.proofs.Bodies.Laid.{stored_laid}
 use Rattle.c_typed_programs.proofs.Bodies.Meant.{if_linked}
 use Rattle.c_typed_programs.proofs.Bodies.Objects.{AreDeclared, static_typed, variable_typed}
 use Rattle.c_typed_programs.proofs.Bodies.Standing.{stands_bound}
-use Rattle.c_typed_programs.proofs.Common.{filed, first, passed, passed_some, second, some_mapped}
+use Rattle.c_typed_programs.proofs.Common.{filed, passed, passed_some, some_mapped}
 
 -- what is declared, and that it violates no rule
 
@@ -125,12 +127,6 @@ linked_bare s d inner e has =
     inner has (well_initialized (surroundings s.environment d) d e)
 
 -- what is bound, by linkage and storage
-
-abbrev Bound : Bool → Environment → Declaration → Meaning
-Bound b env d = if b then linked_meaning env d else unlinked_meaning d.storage env d
-
-abbrev Behind : Bool → Environment → Declaration → Environment
-Behind b env d = if b then linked env d else without_linkage d.storage env d
 
 module _ (result : List TypeWord) where
   -- a name that is bound, where no variable is made

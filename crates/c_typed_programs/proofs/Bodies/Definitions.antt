@@ -2,6 +2,7 @@
 -- for them (C99 6.9.1).
 use Rattle.std.proofs.Common.{◌≡◌, ◌⊎◌, inl, inr, ℕ, Bool, true, false, refl, sym, ap, ◌∙◌, subst, List, [], ◌∷◌, ◌++◌}
 use Rattle.std.proofs.Common.{Option, Some, None, if◌then◌else◌}
+use Rattle.std.proofs.lemmas.Bool.{false≢true}
 use Rattle.std.specs.Prelude.{Ok, Err, is_some}
 use Rattle.c_syntax.specs.Formed.{defines_function}
 use Rattle.c_syntax.specs.Formed as formed
@@ -46,6 +47,7 @@ use Rattle.c_typed_programs.proofs.Declarations.Judged.{answered}
 use Rattle.c_typed_programs.proofs.Declarations.Named.{HasNameOf, named_as, shape_named}
 use Rattle.c_typed_programs.specs.Scopes.Leaving.{FileLeads}
 use Rattle.c_typed_programs.specs.Scopes.Regular.{are_regular_block_items, is_regular_block}
+use Rattle.c_typed_programs.proofs.LaidOut.Files.{entered_laid}
 use Rattle.c_typed_programs.proofs.Scopes.Files.{defined_as_declares, entered_leads, inside, inside_formed, left_grows}
 use Rattle.c_typed_programs.proofs.Scopes.Files.{scope_is, stored_extends}
 use Rattle.c_typed_programs.proofs.Scopes.Leading.{bound_leads, file_on, file_same, leads_by, names_are, outer_is}
@@ -63,7 +65,7 @@ use Rattle.c_typed_programs.proofs.Bodies.Bodies.{items_valid}
 use Rattle.c_typed_programs.proofs.Bodies.Declared.{IfMade, answered_made}
 use Rattle.c_typed_programs.proofs.Bodies.Entered.{environment_is}
 use Rattle.c_typed_programs.proofs.Bodies.Entities.{StandsLinked, entities_on, entities_same, linked_extended}
-use Rattle.c_typed_programs.proofs.Bodies.Laid.{defined_laid, laid_entered, stored_laid}
+use Rattle.c_typed_programs.proofs.Bodies.Laid.{defined_laid, stored_laid}
 use Rattle.c_typed_programs.proofs.Bodies.Matching.{TakesParameters, shape_takes}
 use Rattle.c_typed_programs.proofs.Bodies.Outside.{declared_outside, extended_outside}
 use Rattle.c_typed_programs.proofs.Bodies.Parameters.{IfSays, Says, parameters_kept, shape_says}
@@ -82,10 +84,7 @@ new_stands env name (meaning.Named (what.Variable n) x) is d type e l = not_link
     the_same e = cc
 
     not_linked : (d : Designated) → what.Variable n ≡ d → is_linked d ≡ true → IsEntity d (declared name env.entities)
-    not_linked d e l = absurd (no_link (ap is_linked e ∙ l))
-      where
-        no_link : false ≡ true → ⊥
-        no_link e = cc
+    not_linked d e l = absurd (false≢true (ap is_linked e ∙ l))
 new_stands env name (meaning.Named (what.Object n) x) is d type e l = absurd cc
 new_stands env name (meaning.Named (what.Static n) x) is d type e l = absurd cc
 new_stands env name (meaning.Named (what.Function n) x) is d type e l = absurd cc
@@ -116,7 +115,7 @@ module _ (f : File) (formed : IsFormed f.state) (linked : AreLinked f.state.envi
         inner = ap is_empty leads.outer ∙ within_block f.state;
         linked = linked_extended (inside n p f) (entered n type p f).state
             (type_extends false type (inside n p f) (inside_formed f formed n p is)) inside_linked;
-        laid = laid_entered f formed laid n p is type (environment_is n type p f);
+        laid = entered_laid f laid n type p is;
       }
 
 -- behind the block names stand for what they did before it
@@ -324,10 +323,7 @@ declarator_made d s name line false =
 scope_takes : (es : Structures) (base : List TypeWord) (sh : Shape) → TakesParameters sh → is_some sh.name ≡ true
     → (o : Option ParameterScope) → sh.parameters ≡ o
     → Takes (scope_or_none o).names (built es base sh.derivations).type
-scope_takes es base sh h named None e = absurd (conflict (sym (ap is_some e) ∙ h.there named))
-  where
-    conflict : false ≡ true → ⊥
-    conflict e = cc
+scope_takes es base sh h named None e = absurd (false≢true (sym (ap is_some e) ∙ h.there named))
 scope_takes es base sh h named (Some p) e = built_takes es base p.names sh.derivations (h.each named p e)
 
 -- what is known of a declarator that is typed

@@ -1,8 +1,9 @@
 -- Names stand for something of the kind of their type where the block of a function begins.
 use Rattle.std.proofs.Common.{◌≡◌, ℕ, suc, ◌+◌, true, false, refl, sym, ap, ◌∙◌, subst, List, [], ◌∷◌, ◌++◌}
 use Rattle.std.proofs.Common.{length, Bool, Option, Some, None, if◌then◌else◌, nat_le, arith}
-use Rattle.std.specs.Prelude.{nat_lt, slice_get}
+use Rattle.std.specs.Prelude.{slice_get}
 use Rattle.std.specs.List.{list_all}
+use Rattle.std.proofs.lemmas.Bool.{and_from}
 use Rattle.std.proofs.lemmas.Option.{get_or_from_slice_get, slice_get_within}
 use Rattle.std.proofs.lemmas.List.{get_or_append_left, length-append}
 use Rattle.obj_memory.specs.declared.int_type.IntType.TheVariants.{Int}
@@ -21,7 +22,6 @@ use Rattle.c_scope.specs.Declaring.{is_linked}
 use Rattle.c_scope.specs.Names.{Name, Names, declared, found, is_name, or_else}
 use Rattle.c_scope.specs.Names as names
 use Rattle.c_scope.specs.Parameters.{ParameterScope, with_parameters}
-use Rattle.c_typing.specs.Calls.{place_among, with_type}
 use Rattle.c_typing.specs.State.{State, extents}
 use Rattle.c_unit_typing.specs.Declarations.{variable_in}
 use Rattle.c_unit_typing.specs.Files.{File}
@@ -34,12 +34,11 @@ use Rattle.c_typed_declarators.specs.Given.{IsParameterScope}
 use Rattle.c_typed_declarators.proofs.Parameters.{found_last}
 use Rattle.c_typed_programs.specs.Declarations.Binding.{HasVariable, IsObjectType}
 use Rattle.c_typed_programs.proofs.Declarations.Variables.{declared_is_variable, variable_is}
-use Rattle.c_typed_programs.proofs.Scopes.Files.{entered_leads, inside}
+use Rattle.c_typed_programs.proofs.Scopes.Files.{entered_leads, inside, type_environment}
 use Rattle.c_typed_programs.specs.Bodies.Parameters.{AreParameters, EntryThen, IsFileScope, NumberedThen}
 use Rattle.c_typed_programs.specs.Bodies.Standing.{IsOpen, IsOpenMeaning, Stands}
 use Rattle.c_typed_programs.proofs.Bodies.Ends.{linked_open}
 use Rattle.c_typed_programs.proofs.Bodies.Functions.{parameter_open}
-use Rattle.c_typed_programs.proofs.Common.{both}
 
 -- how many parameters there are, and where each stands among them
 
@@ -76,7 +75,7 @@ numbered_valid : (s : State) (next : ℕ) (P : ℕ → Type 0) (vs : List Variab
     → NumberedThen (extents s) next P type d
     → list_all is_variable (parameter_in s (meaning.Named d type) ++ vs) ≡ true
 numbered_valid s next P vs h type (what.Variable n) is =
-    both (is_variable (variable_in s n type)) (list_all is_variable vs)
+    and_from (is_variable (variable_in s n type)) (list_all is_variable vs)
     (declared_is_variable s n type is.1.0.extent is.1.0.is is.1.0.object) (h (suc next) is.1.1)
 numbered_valid s next P vs h type (what.Object n) is = absurd cc
 numbered_valid s next P vs h type (what.Static n) is = absurd cc
@@ -226,14 +225,6 @@ module _ (scope : Scope) (f : Function) (all : scope.all ≡ all_of f)
   parameter_or (Some (meaning.Named (what.Library r) type)) b h w g = absurd cc
 
 -- where the block of a function begins
-
-type_environment : (type : List TypeWord) (s : State) → (with_type type s).environment ≡ s.environment
-type_environment type s = by (nat_lt (place_among type s.function_types) (length s.function_types))
-  where
-    by : (b : Bool) → (if b then s else record s { function_types = s.function_types ++ type ∷ [] }).environment
-        ≡ s.environment
-    by true = refl
-    by false = refl
 
 module _ (number : ℕ) (type : List TypeWord) (p : ParameterScope) (before : File) where
   abbrev there : State

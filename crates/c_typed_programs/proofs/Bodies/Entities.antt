@@ -1,8 +1,7 @@
 -- What names with linkage stand for behind declarations and blocks.
-use Rattle.std.proofs.Common.{◌≡◌, ℕ, Bool, true, false, ◌&&◌, refl, sym, ap, ◌∙◌, subst, List, [], ◌∷◌, ◌++◌}
+use Rattle.std.proofs.Common.{◌≡◌, ℕ, Bool, true, false, refl, sym, ap, ◌∙◌, subst, List, [], ◌∷◌, ◌++◌}
 use Rattle.std.proofs.Common.{length, Option, Some, None, if◌then◌else◌}
-use Rattle.std.specs.Prelude.{nat_eq}
-use Rattle.std.proofs.lemmas.Bool.{eqb-true}
+use Rattle.std.proofs.lemmas.Bool.{false≢true}
 use Rattle.c_tree.specs.declared.c_type.TypeWord.{TypeWord}
 use Rattle.c_scope.specs.declared.meaning.Designated.{Designated}
 use Rattle.c_scope.specs.declared.meaning.Designated.TheVariants as what
@@ -18,27 +17,19 @@ use Rattle.c_scope.specs.Names as names
 use Rattle.c_typing.specs.State.{State}
 use Rattle.c_unit_typing.specs.Constructs.{scope_closed, scope_opened}
 use Rattle.c_unit_typing.specs.Files.{File}
+use Rattle.c_typed_validity.proofs.Common.{the_same}
 use Rattle.c_typed_declarators.specs.Extending.{Extends, IsNew, IsSameOr, new, same}
 use Rattle.c_typed_declarators.proofs.Parameters.{found_last}
 use Rattle.c_typed_declarators.proofs.Tags.{bound_same}
 use Rattle.c_typed_programs.specs.Declarations.Binding.{Binds}
 use Rattle.c_typed_programs.proofs.Declarations.Bound.{bound_here}
 use Rattle.c_typed_programs.specs.Scopes.Leaving.{FileLeads}
+use Rattle.c_typed_programs.proofs.Functions.Entities.{name_is}
 use Rattle.c_typed_programs.proofs.Scopes.Leading.{names_are}
 use Rattle.c_typed_programs.specs.Bodies.Standing.{AreLinked, EntitiesLead, EntityLeads, IsEntity, composed}
 use Rattle.c_typed_programs.proofs.Bodies.Standing.{either}
 
 -- names
-
-name_same : (a b : Name) → is_name a b ≡ true → a ≡ b
-name_same [] [] e = refl
-name_same [] (y ∷ b) e = absurd cc
-name_same (x ∷ a) [] e = absurd cc
-name_same (x ∷ a) (y ∷ b) e = by (nat_eq x y) refl (name_same a b) e
-  where
-    by : (c : Bool) → nat_eq x y ≡ c → (is_name a b ≡ true → a ≡ b) → (c && is_name a b) ≡ true → x ∷ a ≡ y ∷ b
-    by true g k h = ap (λ z. z ∷ a) (eqb-true x y g) ∙ ap (λ z. y ∷ z) (k h)
-    by false g k h = absurd cc
 
 not_chosen : {A : Type 0} (b : Bool) (x : A) (other : Option A) → b ≡ false → (if b then Some x else other) ≡ other
 not_chosen true x other e = absurd cc
@@ -48,7 +39,7 @@ behind_other : {A : Type 0} (name other : Name) (x : A) (e : Name × A) (es : Na
     → is_name other name ≡ false → is_name name e.0 ≡ b → declared other (bound name x es) ≡ declared other es
     → declared other (if b then (e.0, x) ∷ es else e ∷ bound name x es) ≡ declared other (e ∷ es)
 behind_other name other x e es true differs is h =
-    let there : is_name other e.0 ≡ false = ap (is_name other) (sym (name_same name e.0 is)) ∙ differs in
+    let there : is_name other e.0 ≡ false = ap (is_name other) (sym (name_is name e.0 is)) ∙ differs in
     not_chosen (is_name other e.0) x (declared other es) there
     ∙ sym (not_chosen (is_name other e.0) e.1 (declared other es) there)
 behind_other name other x e es false differs is h = ap (λ z. if is_name other e.0 then Some e.1 else z) h
@@ -133,13 +124,10 @@ unlinked_stands : (env : Environment) (name : Name) (m : Meaning) → IsUnlinked
 unlinked_stands env name (meaning.Constant w) is d type e l = absurd cc
 unlinked_stands env name (meaning.Typedef t) is d type e l = absurd cc
 unlinked_stands env name (meaning.Named c t) is d type e l =
-    absurd (differ (sym is ∙ ap is_linked (the_same e) ∙ l))
+    absurd (false≢true (sym is ∙ ap is_linked (the_same e) ∙ l))
   where
     the_same : Some (meaning.Named c t) ≡ Some (meaning.Named d type) → c ≡ d
     the_same e = cc
-
-    differ : false ≡ true → ⊥
-    differ e = cc
 
 -- behind a name without linkage
 pub linked_bound : (name : Name) (m : Meaning) (s t : State) → Binds name m s t → IsUnlinked m
@@ -158,14 +146,14 @@ linked_bound name m s t b unlinked entities is = record {
 
 -- behind a declaration with linkage
 
-new_entity : (b : Bool) (f n : ℕ) → is_linked (if b then what.Function f else what.Object n) ≡ true
-new_entity true f n = refl
-new_entity false f n = refl
+pub new_is_linked : (b : Bool) (f n : ℕ) → is_linked (if b then what.Function f else what.Object n) ≡ true
+new_is_linked true f n = refl
+new_is_linked false f n = refl
 
 entity_linked : (env : Environment) (d : Declaration) (o : Option Entity)
     → ((e : Entity) → o ≡ Some e → is_linked e.what ≡ true) → is_linked (entity_with env d o).what ≡ true
 entity_linked env d None h =
-    new_entity (is_function d.type) (number_or (declared d.name env.facts.functions) (length env.facts.functions))
+    new_is_linked (is_function d.type) (number_or (declared d.name env.facts.functions) (length env.facts.functions))
     env.statics
 entity_linked env d (Some e) h = h e refl
 
@@ -188,7 +176,7 @@ module _ (env : Environment) (name : Name) (entity : Entity) (w : Designated) (t
     by_name : (other : Name) (b : Bool) → is_name other name ≡ b
         → StandsLinked entity_bound other (names.meaning other entity_bound.names)
     by_name other true is_same c t g l =
-        let at : other ≡ name = name_same other name is_same in
+        let at : other ≡ name = name_is other name is_same in
         let known : declared other (bound name meant env.names.current) ≡ Some meant =
         ap (λ z. declared z (bound name meant env.names.current)) at ∙ bound_here name meant env.names.current in
         record {
@@ -216,20 +204,17 @@ module _ (env : Environment) (name : Name) (entity : Entity) (w : Designated) (t
       names = λ other. by_name other (is_name other name) refl;
     }
       where
-        some_same : (x y : Entity) → Some x ≡ Some y → x ≡ y
-        some_same x y e = cc
-
         by : (other : Name) (x : Entity)
             → IsSameOr (λ y. y ≡ entity) (declared other env.entities) (declared other (bound name entity env.entities))
             → declared other (bound name entity env.entities) ≡ Some x → is_linked x.what ≡ true
         by other x (same h) g = is.entities other x (sym h ∙ g)
-        by other x (new y h k) g = ap (λ z. is_linked z.what) (sym (some_same y x (sym h ∙ g)) ∙ k) ∙ link
+        by other x (new y h k) g = ap (λ z. is_linked z.what) (sym (the_same (sym h ∙ g)) ∙ k) ∙ link
 
   module _ (lead : (x : Entity) → declared name env.entities ≡ Some x → EntityLeads x (Some entity)) where
     lead_by : (other : Name) (x : Entity) → declared other env.entities ≡ Some x → (b : Bool)
         → is_name other name ≡ b → EntityLeads x (declared other (bound name entity env.entities))
     lead_by other x g true is_same =
-        let at : other ≡ name = name_same other name is_same in
+        let at : other ≡ name = name_is other name is_same in
         subst (EntityLeads x)
         (sym (ap (λ z. declared z (bound name entity env.entities)) at ∙ bound_here name entity env.entities))
         (lead x (ap (λ z. declared z env.entities) (sym at) ∙ g))

@@ -1,6 +1,7 @@
 -- The expressions of statements are typed to what is valid (C99 6.8.3 to 6.8.6).
 use Rattle.std.proofs.Common.{◌≡◌, ℕ, Bool, true, false, ◌&&◌, refl, sym, ap, ◌∙◌, List, [], ◌∷◌, Option, Some, None}
 use Rattle.std.proofs.Common.{if◌then◌else◌}
+use Rattle.std.proofs.lemmas.Bool.{and_from as and}
 use Rattle.std.specs.Prelude.{Ok, Err}
 use Rattle.c_syntax.specs.Tree.{Expression}
 use Rattle.c_tree.specs.declared.c_type.TypeWord.{TypeWord}
@@ -36,7 +37,7 @@ use Rattle.c_typed_validity.specs.Steps.{FineValue, Structures, nothing}
 use Rattle.c_typed_validity.proofs.Expressions.{done_sound, typed_sound}
 use Rattle.c_typed_validity.proofs.Kept.{kind_kept}
 use Rattle.c_typed_validity.proofs.PointerCalls.{pointer_calls}
-use Rattle.c_typed_validity.proofs.Sound.{If, Stays, both, sound_judged, sound_then, whatever}
+use Rattle.c_typed_validity.proofs.Sound.{IfAnswer, Stays, both, sound_judged, sound_then, whatever}
 use Rattle.c_typed_validity.proofs.Steps.{both_stay, nothing_stays, value_stays, valued_sound}
 use Rattle.c_typed_declarators.specs.Extending.{Extending}
 use Rattle.c_typed_declarators.proofs.Chained.{extends_same, then_extends}
@@ -47,7 +48,6 @@ use Rattle.c_typed_programs.proofs.Scopes.Extended.{step_extends}
 use Rattle.c_typed_programs.proofs.Scopes.Extended.{evaluated_if_extends, valued_if_extends}
 use Rattle.c_typed_programs.specs.Bodies.Parts.{has_valid_parts}
 use Rattle.c_typed_programs.specs.Bodies.Standing.{IsResult}
-use Rattle.c_typed_programs.proofs.Common.{both as and}
 
 -- the kind of what a function gives
 
@@ -135,7 +135,8 @@ module _ (scope : Scope) (last : Structures) where
   abbrev ControlsIf : Structures → Option typed_tree.Expression → Type 0
   ControlsIf es e = is_condition_if scope e ≡ true
 
-  if_condition : (a : Answer typed_tree.Expression) → IfCondition scope a → If (λ e. is_condition scope e ≡ true) a
+  if_condition : (a : Answer typed_tree.Expression) → IfCondition scope a
+      → IfAnswer (λ e. is_condition scope e ≡ true) a
   if_condition (Ok e) h = h
   if_condition (Err f) h = tt
 
@@ -149,7 +150,7 @@ module _ (scope : Scope) (last : Structures) where
   abbrev Switches : Structures → Value → Type 0
   Switches es v = (is_valid scope v.tree && is_promoted (kind_of v.tree)) ≡ true
 
-  if_switch : (es : Structures) (a : Answer Value) → IfSwitchValue scope es a → If (Switches es) a
+  if_switch : (es : Structures) (a : Answer Value) → IfSwitchValue scope es a → IfAnswer (Switches es) a
   if_switch es (Ok v) h = h.valid
   if_switch es (Err f) h = tt
 
@@ -164,12 +165,12 @@ module _ (scope : Scope) (last : Structures) where
 
   module _ (result : List TypeWord) (is : IsResult scope last result) where
     nothing_returned : (b : Bool) → gives_void result ≡ b → (line : ℕ) (es : Structures)
-        → If (Parts es) (if b then Ok (tree.return None) else violates MistakenReturn line)
+        → IfAnswer (Parts es) (if b then Ok (tree.return None) else violates MistakenReturn line)
     nothing_returned true e line es = void_result scope last result is e
     nothing_returned false e line es = tt
 
     value_returned : (es : State) (a : Answer typed_tree.Expression) → Covers scope last es
-        → IfFineAs scope (extents es) result a → If (Parts (extents es)) (a >>= λ e. Ok (tree.return (Some e)))
+        → IfFineAs scope (extents es) result a → IfAnswer (Parts (extents es)) (a >>= λ e. Ok (tree.return (Some e)))
     value_returned s (Ok e) covers h =
         and (is_valid scope e && is_kind (kind_of e) scope.result) (is_value (kind_of e))
         (and (is_valid scope e) (is_kind (kind_of e) scope.result) h.valid
@@ -179,7 +180,7 @@ module _ (scope : Scope) (last : Structures) where
 
     either_returned : (b : Bool) (line : ℕ) (s : State) (a : Answer typed_tree.Expression) → Covers scope last s
         → IfFineAs scope (extents s) result a
-        → If (Parts (extents s))
+        → IfAnswer (Parts (extents s))
         (if b then violates MistakenReturn line else (a >>= λ e. Ok (tree.return (Some e))))
     either_returned true line s a covers h = tt
     either_returned false line s a covers h = value_returned s a covers h
@@ -212,13 +213,13 @@ module _ (scope : Scope) (last : Structures) where
       value_then e c s FineIf (λ v. done (Some v))
       (λ t v. done_sound scope last t (both nothing (FineValue scope true) v) FineIf (Some v) (λ g. g.1))
 
-  some_controls : (es : Structures) (a : Answer typed_tree.Expression) → If (Controls es) a
-      → If (ControlsIf es) (a >>= λ e. Ok (Some e))
+  some_controls : (es : Structures) (a : Answer typed_tree.Expression) → IfAnswer (Controls es) a
+      → IfAnswer (ControlsIf es) (a >>= λ e. Ok (Some e))
   some_controls es (Ok e) h = h
   some_controls es (Err f) h = tt
 
   controls_if_fine : (line : ℕ) (v : Option Value) (s : State) → FineIf (extents s) v
-      → If (ControlsIf (extents s)) (controls_if line v s)
+      → IfAnswer (ControlsIf (extents s)) (controls_if line v s)
   controls_if_fine line None s h = refl
   controls_if_fine line (Some v) s h =
       some_controls (extents s) (controls line v s)

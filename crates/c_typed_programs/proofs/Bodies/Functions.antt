@@ -3,7 +3,7 @@ use Rattle.std.proofs.Common.{◌≡◌, Bool, ◌⊎◌, inl, inr, ℕ, ◌+◌
 use Rattle.std.proofs.Common.{List, [], ◌∷◌, ◌++◌, length, Some, arith}
 use Rattle.std.specs.Prelude.{◌==◌, ◌-◌, map, slice_get, suc}
 use Rattle.std.specs.List.{list_all}
-use Rattle.std.proofs.lemmas.Bool.{cases_lt, eq-eqb}
+use Rattle.std.proofs.lemmas.Bool.{and_from, cases_lt, eq-eqb}
 use Rattle.std.proofs.lemmas.List.{get_or-append-add, get_or_append_left, length-append, length-map}
 use Rattle.std.proofs.lemmas.Option.{get_or_from_slice_get}
 use Rattle.c_tree.specs.declared.program.Variable.{Variable}
@@ -13,7 +13,6 @@ use Rattle.c_tree.specs.Valid.{Scope, at_number}
 use Rattle.c_tree.specs.ValidProgram.{count_from, declares_all}
 use Rattle.c_typed_programs.specs.Bodies.Standing.{AreOpen, IsOpen}
 use Rattle.c_typed_programs.proofs.Bodies.Opened.{opened_at, opened_length}
-use Rattle.c_typed_programs.proofs.Common.{both}
 
 -- a scope in the block of the body of a function
 module _ (scope : Scope) (f : Function) (all : scope.all ≡ all_of f)
@@ -69,7 +68,7 @@ module _ (scope : Scope) (f : Function) (all : scope.all ≡ all_of f)
 pub all_declared : (f : Function) → count_from (length f.parameters) (each_variables f.body) ≡ true
     → length (each_variables f.body) ≡ length f.variables → declares_all f ≡ true
 all_declared f e g =
-    both (count_from (length f.parameters) (each_variables f.body))
+    and_from (count_from (length f.parameters) (each_variables f.body))
     (length (each_variables f.body) == length f.variables) e
     (eq-eqb (length (each_variables f.body)) (length f.variables) g)
 
@@ -77,4 +76,4 @@ all_declared f e g =
 pub all_by : {A : Type 0} (p : A → Bool) (xs : List A) → ((k : ℕ) (x : A) → slice_get xs k ≡ Some x → p x ≡ true)
     → list_all p xs ≡ true
 all_by p [] h = refl
-all_by p (x ∷ xs) h = both (p x) (list_all p xs) (h 0 x refl) (all_by p xs (λ k y e. h (suc k) y e))
+all_by p (x ∷ xs) h = and_from (p x) (list_all p xs) (h 0 x refl) (all_by p xs (λ k y e. h (suc k) y e))

@@ -1,6 +1,7 @@
 -- What initializers are typed to is valid (C99 6.7.8).
 use Rattle.std.proofs.Common.{◌≡◌, ℕ, Bool, true, false, refl, sym, ap, ◌∙◌, List, [], ◌∷◌}
 use Rattle.std.proofs.Common.{Option, Some, None, if◌then◌else◌}
+use Rattle.std.proofs.lemmas.Bool.{true≢false}
 use Rattle.std.specs.Prelude.{Ok, Err, not, is_some}
 use Rattle.c_syntax.specs.Tree.{Initializer}
 use Rattle.c_tree.specs.declared.c_type.TypeWord.{TypeWord}
@@ -99,11 +100,8 @@ module _ (scope : Scope) (last : Structures) (d : Designated) (name : Name × �
   by_type true e (Ok r) h g k = λ covers. record {
     complete = h.completes.complete;
     within = h.parts knows covers;
-    scalar = λ scalar. absurd (conflict (sym (g e) ∙ scalar));
+    scalar = λ scalar. absurd (true≢false (sym (g e) ∙ scalar));
   }
-    where
-      conflict : true ≡ false → ⊥
-      conflict e = cc
   by_type false e (Ok r) h g k = λ covers.
       (let one = (k e).value knows covers in record {
         complete = h.completes.complete;

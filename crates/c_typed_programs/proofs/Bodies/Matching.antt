@@ -2,6 +2,7 @@
 use Rattle.std.proofs.Common.{◌≡◌, ℕ, Bool, true, false, ◌&&◌, refl, sym, ap, ◌∙◌, subst, List, [], ◌∷◌, ◌++◌}
 use Rattle.std.proofs.Common.{Option, Some, None, if◌then◌else◌}
 use Rattle.std.specs.Prelude.{Ok, Err, is_some}
+use Rattle.std.proofs.lemmas.Bool.{false≢true, true≢false}
 use Rattle.std.proofs.lemmas.List.{append-nil}
 use Rattle.c_syntax.specs.Formed.{are_named_parameters, defines_function, has_named_parameters}
 use Rattle.c_syntax.specs.Formed.{is_named_parameter, is_plain_name}
@@ -35,9 +36,10 @@ use Rattle.c_expression_typing.specs.Typed.{more_types, parameter_type, paramete
 use Rattle.c_typed_validity.specs.Regular.{are_regular_parameters, is_regular_declarator, is_regular_name}
 use Rattle.c_typed_validity.specs.Regular.{more_are_regular_parameters}
 use Rattle.c_typed_validity.specs.Sound.{IsFormed}
+use Rattle.c_typed_validity.proofs.Common.{first, neither_right, second}
 use Rattle.c_typed_declarators.specs.Extending.{AreEnumerators, Extending, Extends, IsEnumerator}
 use Rattle.c_typed_declarators.specs.Given.{IsShapeOf, IsSpecified, anything}
-use Rattle.c_typed_declarators.proofs.Parameters.{misplaced_by, no_function, plain_by, unlinked_is, within}
+use Rattle.c_typed_declarators.proofs.Parameters.{no_function, plain_by, unlinked_is, within}
 use Rattle.c_typed_declarators.proofs.Parameters.{within_block}
 use Rattle.c_typed_declarators.proofs.Parameters.{within_formed}
 use Rattle.c_typed_declarators.proofs.Recursion.{parameter_extend, shape_extends}
@@ -46,17 +48,14 @@ use Rattle.c_typed_declarators.proofs.Tags.{bound_last}
 use Rattle.c_typed_programs.specs.Bodies.Types.{AreTypesOf, EntryTypes, NameTypes, NextType}
 use Rattle.c_typed_programs.proofs.Bodies.Parameters.{IfSays, Says, fresh_name, shape_says}
 use Rattle.c_typed_programs.proofs.Bodies.Types.{AllTypes, parameters_types, types_extended, types_inside}
-use Rattle.c_typed_programs.proofs.Common.{IfGives, first, second}
+use Rattle.c_typed_programs.proofs.Common.{IfGives, other_is}
 
 -- lists of names, one behind the other
 
 next_behind : (P Q : List (List TypeWord) → Type 0) (us : List (List TypeWord))
     → ((ts : List (List TypeWord)) → P ts → Q (ts ++ us)) → (type : List TypeWord) (ts : List (List TypeWord))
     → NextType P type ts → NextType Q type (ts ++ us)
-next_behind P Q us h type [] is = absurd (conflict is)
-  where
-    conflict : true ≡ false → ⊥
-    conflict e = cc
+next_behind P Q us h type [] is = absurd (true≢false is)
 next_behind P Q us h type (t ∷ ts) is = (is.0, h ts is.1)
 
 entry_behind : (P Q : List (List TypeWord) → Type 0) (us : List (List TypeWord))
@@ -143,7 +142,7 @@ module _ (s : State) (inner : in_file s.environment ≡ false) where
     named_by spec b name true e = tt
     named_by spec b name false e =
         let d = parameter_declaration true spec b name in
-        let plain = misplaced_by spec.has_two_storages (not_for_parameter spec.storage) e in
+        let plain = neither_right spec.has_two_storages (not_for_parameter spec.storage) e in
         judged_by d plain
         (unlinked_is (in_file s.environment) (is_function (adjusted b.type)) (is_extern spec.storage)
         (is_typedef spec.storage) inner (no_function b.type) (plain_by spec.storage plain).no_extern)
@@ -151,10 +150,7 @@ module _ (s : State) (inner : in_file s.environment ≡ false) where
 
     built_by : (spec : Specification) (b : BuiltType) (name : Option (Name × ℕ)) → is_some name ≡ true
         → IfNext (parameter_built true spec b name s)
-    built_by spec b None e = absurd (conflict e)
-      where
-        conflict : false ≡ true → ⊥
-        conflict e = cc
+    built_by spec b None e = absurd (false≢true e)
     built_by spec b (Some name) e = named_by spec b name (misplaced spec) refl
 
 abbrev IfNextTypes : (before : List (List TypeWord)) → Answer (State × List TypeWord) → Type 0
@@ -319,10 +315,6 @@ function_by d from s types (Err e) h says inside next g = tt
 plain_is : (b x y : Bool) → b ≡ true → (if b then x else y) ≡ true → x ≡ true
 plain_is true x y e g = g
 plain_is false x y e g = absurd cc
-
-other_is : (b x y : Bool) → b ≡ false → (if b then x else y) ≡ true → y ≡ true
-other_is true x y e g = absurd cc
-other_is false x y e g = g
 
 pub shape_takes : (d : Declarator) → is_regular_declarator d ≡ true → defines_function d ≡ true → (s : State)
     → IsFormed s → NameTypes s → IfTakes (shape true d s)

@@ -1,6 +1,7 @@
 -- Declared variables and static objects without linkage, with their initializers (C99 6.7.8).
 use Rattle.std.proofs.Common.{◌≡◌, ℕ, ◌+◌, Bool, true, false, ◌&&◌, refl, sym, ap, ◌∙◌, subst, List, [], ◌∷◌, ◌++◌}
-use Rattle.std.proofs.Common.{length, Option, Some, None, if◌then◌else◌, arith}
+use Rattle.std.proofs.Common.{length, Option, Some, None, arith}
+use Rattle.std.proofs.lemmas.Bool.{and_from}
 use Rattle.std.specs.Prelude.{Ok, Err, is_some, not}
 use Rattle.c_syntax.specs.Tree.{Initializer}
 use Rattle.c_tree.specs.declared.c_type.TypeWord.{TypeWord}
@@ -25,6 +26,7 @@ use Rattle.c_unit_typing.specs.Files.{File, in_state, ◌~>◌}
 use Rattle.c_typed_validity.specs.More.{AreMore}
 use Rattle.c_typed_validity.specs.Sound.{Covers, IsFormed}
 use Rattle.c_typed_validity.specs.Steps.{Structures}
+use Rattle.c_typed_validity.proofs.Common.{neither_left}
 use Rattle.c_typed_validity.proofs.Kept.{extent_kept}
 use Rattle.c_typed_validity.proofs.Moved.{get_last}
 use Rattle.c_typed_validity.proofs.Sound.{same_list}
@@ -45,7 +47,7 @@ use Rattle.c_typed_programs.proofs.Bodies.Initialized.{IfInitializes, Initialize
 use Rattle.c_typed_programs.proofs.Bodies.Initialized.{initialized_is, static_meant, variable_meant, with_count}
 use Rattle.c_typed_programs.proofs.Bodies.Opened.{alone_among, among_alone, count_alone}
 use Rattle.c_typed_programs.proofs.Bodies.Standing.{stands_bound}
-use Rattle.c_typed_programs.proofs.Common.{both, filed, neither_left}
+use Rattle.c_typed_programs.proofs.Common.{filed, other_is}
 
 abbrev pub AreDeclared : Scope → List DeclaredVariable → Type 0
 AreDeclared scope ds = are_declared scope ds ≡ true
@@ -64,31 +66,27 @@ no_initializer scope last (Err e) = tt
 -- the initializer of a variable
 
 module _ (scope : Scope) (t : State) (n : ℕ) (type : List TypeWord) (has : HasVariable scope t n type) where
-  scalar_of : (b x y : Bool) → b ≡ false → (if b then x else y) ≡ true → y ≡ true
-  scalar_of true x y e g = absurd cc
-  scalar_of false x y e g = g
-
   plain_valid : (e : Bool) → (variable_in t n type).is_object ≡ e → e ≡ false
       → is_variable (variable_in t n type) ≡ true → (parts : List Part) → IsScalarPart scope (kind_in t type) parts
       → is_initializer scope n (Some (parts_initializer false parts)) ≡ true
   plain_valid e is is_false scalar parts one =
       subst (λ ps. is_initializer scope n (Some (parts_initializer false ps)) ≡ true) (sym one.is)
-      (both (is_valid scope one.tree) _ one.valid
-      (both (not (variable_at scope n).is_object && is_kind (variable_at scope n).kind (kind_of one.tree))
+      (and_from (is_valid scope one.tree) _ one.valid
+      (and_from (not (variable_at scope n).is_object && is_kind (variable_at scope n).kind (kind_of one.tree))
       (is_scalar (kind_of one.tree))
-      (both (not (variable_at scope n).is_object) (is_kind (variable_at scope n).kind (kind_of one.tree))
+      (and_from (not (variable_at scope n).is_object) (is_kind (variable_at scope n).kind (kind_of one.tree))
       (ap (λ v. not v.is_object) has ∙ ap not (is ∙ is_false))
       (ap (λ v. is_kind v.kind (kind_of one.tree)) has ∙ ap (is_kind (kind_in t type)) one.kind
       ∙ same_kind (kind_in t type)))
       (ap is_scalar one.kind
-      ∙ scalar_of (variable_in t n type).is_object (has_size (kind_in t type)) (is_scalar (kind_in t type))
+      ∙ other_is (variable_in t n type).is_object (has_size (kind_in t type)) (is_scalar (kind_in t type))
       (is ∙ is_false) scalar)))
 
   made_valid : (is_object : Bool) → (variable_in t n type).is_object ≡ is_object → (parts : List Part)
       → AreInitialized scope t type parts
       → is_initializer scope n (Some (parts_initializer is_object parts)) ≡ true
   made_valid true is parts h =
-      both (variable_at scope n).is_object (are_parts scope (size_of_kind (variable_at scope n).kind) parts)
+      and_from (variable_at scope n).is_object (are_parts scope (size_of_kind (variable_at scope n).kind) parts)
       (ap (λ v. v.is_object) has ∙ is)
       (ap (λ v. are_parts scope (size_of_kind v.kind) parts) has ∙ h.within)
   made_valid false is parts h =

@@ -1,6 +1,7 @@
 -- Declarations at file scope leave a state outside of functions (C99 6.2.2, 6.9.2).
 use Rattle.std.proofs.Common.{◌≡◌, ℕ, Bool, true, false, ◌&&◌, ◌||◌, refl, sym, ap, ◌∙◌, subst, List, [], ◌∷◌, ◌++◌}
 use Rattle.std.proofs.Common.{Option, Some, None, if◌then◌else◌}
+use Rattle.std.proofs.lemmas.Bool.{false≢true}
 use Rattle.std.specs.Prelude.{Ok, Err, is_none, is_some, not, option_map}
 use Rattle.std.specs.List.{list_all}
 use Rattle.c_syntax.specs.declared.position.Position.{Position}
@@ -25,7 +26,7 @@ use Rattle.c_scope.specs.declared.meaning.Storage.TheVariants as storage
 use Rattle.c_scope.specs.Composite.{composite}
 use Rattle.c_scope.specs.Declaring.{Declaration, has_linkage, is_extern, is_function, is_linked, is_misplaced}
 use Rattle.c_scope.specs.Declaring.{is_typedef}
-use Rattle.c_scope.specs.Environment.{Environment, entity_with, in_file, linked as linked_env, type_or}
+use Rattle.c_scope.specs.Environment.{Environment, entity_with, in_file, type_or}
 use Rattle.c_scope.specs.Environment.{with_declarator as declared_env, with_name, without_linkage}
 use Rattle.c_scope.specs.Names.{Name, declared, found, is_empty, or_else}
 use Rattle.c_scope.specs.Names as names
@@ -41,11 +42,13 @@ use Rattle.c_unit_typing.specs.Files.{File, FileTyping, in_state, ◌~>◌}
 use Rattle.c_unit_typing.specs.Initializers.{initialized}
 use Rattle.c_unit_typing.specs.Lines.{initializer_line}
 use Rattle.c_typed_validity.specs.Sound.{IsFormed, is_sized_array}
+use Rattle.c_typed_validity.proofs.Common.{first, second, the_same}
 use Rattle.c_typed_declarators.specs.Extending.{Extending, Extends, IsNew}
 use Rattle.c_typed_declarators.specs.Given.{AreCounted, IsShapeOf, IsSpecified, anything}
 use Rattle.c_typed_declarators.proofs.Recursion.{shape_extends}
 use Rattle.c_typed_programs.specs.Declarations.Binding.{Binds, IfDeclared, bound_meaning, linked_meaning}
 use Rattle.c_typed_programs.specs.Declarations.Binding.{unlinked_meaning}
+use Rattle.c_typed_programs.proofs.Declarations.Bound.{Behind, Bound}
 use Rattle.c_typed_programs.proofs.Declarations.Completed.{size_binds}
 use Rattle.c_typed_programs.proofs.Declarations.Formed.{formed_behind}
 use Rattle.c_typed_programs.proofs.Declarations.Judged.{declared_as_declares}
@@ -63,7 +66,7 @@ use Rattle.c_typed_programs.specs.Bodies.Types.{is_type}
 use Rattle.c_typed_programs.proofs.Bodies.Standing.{either}
 use Rattle.c_typed_programs.proofs.Bodies.Types.{WholeShape, also_gives, built_type, shape_types, stored_type}
 use Rattle.c_typed_programs.proofs.Bodies.Types.{types_bound, types_extended}
-use Rattle.c_typed_programs.proofs.Common.{filed, first, second}
+use Rattle.c_typed_programs.proofs.Common.{filed}
 
 -- names at file scope
 
@@ -111,11 +114,8 @@ extended_outside s u h is = record {
 
 -- a declarator at file scope has linkage, or declares a typedef name
 
-abbrev Behind : Bool → Environment → Declaration → Environment
-Behind b env d = if b then linked_env env d else without_linkage d.storage env d
-
-abbrev Bound : Bool → Environment → Declaration → Meaning
-Bound b env d = if b then linked_meaning env d else unlinked_meaning d.storage env d
+pub same_type : {a b : List TypeWord} → Some (meaning.Typedef a) ≡ Some (meaning.Typedef b) → a ≡ b
+same_type e = cc
 
 named_linked : (env : Environment) (d : Declaration) → AreLinked env → IsLinkedIf (Some (linked_meaning env d))
 named_linked env d l c type g = ap is_linked (sym (the_same g)) ∙ declared_linked env d l
@@ -137,9 +137,6 @@ pub record IsLater (s u : State) : Type 0 where
 
 module _ (s u : State) (d : Declaration) (is : IsOutside s) (formed : IsFormed u)
     (whole : is_type d.type ≡ true) where
-  same_type : {a b : List TypeWord} → Some (meaning.Typedef a) ≡ Some (meaning.Typedef b) → a ≡ b
-  same_type e = cc
-
   by_storage : (z : Storage) → is_typedef z ≡ true → u ≡ record s { environment = without_linkage z s.environment d }
       → Binds d.name (unlinked_meaning z s.environment d) s u → IsLater s u
   by_storage storage.Typedef e at binds =
@@ -298,9 +295,6 @@ module _ (s : State) (is : IsOutside s) (n : ℕ) (name : Name) (at : IsEntity (
         };
       }
     where
-      the_same : {A : Type 0} {a b : A} → Some a ≡ Some b → a ≡ b
-      the_same e = cc
-
       linked_what : (d : Designated) (t : List TypeWord)
           → Some (meaning.Named (what.Object n) type) ≡ Some (meaning.Named d t) → is_linked d ≡ true
       linked_what d t e = ap is_linked (sym (what_is e))
@@ -409,15 +403,9 @@ meant_beyond e f is name x c (meaning.Constant w) g = is
 meant_beyond e f is name x c (meaning.Named (what.Function n) type) g = is
 meant_beyond e f is name x c (meaning.Named (what.Library r) type) g = is
 meant_beyond e f is name x c (meaning.Named (what.Static n) type) g =
-    absurd (conflict (is.outside.names.linked name.0 (what.Static n) type g))
-  where
-    conflict : false ≡ true → ⊥
-    conflict e = cc
+    absurd (false≢true (is.outside.names.linked name.0 (what.Static n) type g))
 meant_beyond e f is name x c (meaning.Named (what.Variable n) type) g =
-    absurd (conflict (is.outside.names.linked name.0 (what.Variable n) type g))
-  where
-    conflict : false ≡ true → ⊥
-    conflict e = cc
+    absurd (false≢true (is.outside.names.linked name.0 (what.Variable n) type g))
 
 named_from : (e f : File) → IsBeyond e f → (d : Declaration) → is_type d.type ≡ true
     → (line : ℕ) (x : Option Initializer)

@@ -2,6 +2,7 @@
 use Rattle.std.proofs.Common.{◌≡◌, ℕ, ◌+◌, Bool, true, false, ◌&&◌, ◌||◌, refl, sym, ap, ◌∙◌, subst, List, [], ◌∷◌}
 use Rattle.std.proofs.Common.{◌++◌}
 use Rattle.std.proofs.Common.{Option, Some, None, if◌then◌else◌, arith}
+use Rattle.std.proofs.lemmas.Bool.{true≢false}
 use Rattle.std.specs.Prelude.{Ok, Err, is_some, not, suc}
 use Rattle.c_syntax.specs.Formed.{is_plain_name}
 use Rattle.c_syntax.specs.Tree.{Declarator, MoreParameters, Parameters, TypedDeclarator}
@@ -43,21 +44,22 @@ use Rattle.c_typed_validity.specs.Regular.{are_regular_parameters, is_regular_de
 use Rattle.c_typed_validity.specs.Regular.{more_are_regular_parameters}
 use Rattle.c_typed_validity.specs.Sound.{IsFormed, is_sized_array}
 use Rattle.c_typed_validity.specs.Steps.{Structures}
+use Rattle.c_typed_validity.proofs.Common.{first, neither_left, neither_right, second, the_same}
 use Rattle.c_typed_validity.proofs.Kept.{extent_kept}
 use Rattle.c_typed_declarators.specs.Extending.{AreEnumerators, Extending, Extends, IsEnumerator}
 use Rattle.c_typed_declarators.specs.Given.{AreCounted, IsShapeOf, IsSpecified, ValueHasWords, anything}
-use Rattle.c_typed_declarators.proofs.Parameters.{behind, misplaced_by, no_function, plain_by, unlinked_is, within}
+use Rattle.c_typed_declarators.proofs.Parameters.{behind, no_function, plain_by, unlinked_is, within}
 use Rattle.c_typed_declarators.proofs.Parameters.{within_block}
 use Rattle.c_typed_declarators.proofs.Parameters.{within_formed}
 use Rattle.c_typed_declarators.proofs.Recursion.{parameter_extend, shape_extends, specification_extends}
 use Rattle.c_typed_declarators.proofs.Recursion.{parameters_extend}
 use Rattle.c_typed_declarators.proofs.Tags.{bound_last}
-use Rattle.c_typed_declarators.proofs.Types.{built_sized, neither_left, without_faults}
+use Rattle.c_typed_declarators.proofs.Types.{built_sized, without_faults}
 use Rattle.c_typed_programs.specs.Declarations.Binding.{IsObjectType}
 use Rattle.c_typed_programs.proofs.Declarations.Judged.{IsBuilt, declares_by}
 use Rattle.c_typed_programs.proofs.Scopes.Initializers.{value_extends}
 use Rattle.c_typed_programs.specs.Bodies.Parameters.{AreParameters, EntryThen, NumberedThen}
-use Rattle.c_typed_programs.proofs.Common.{first, passed, second}
+use Rattle.c_typed_programs.proofs.Common.{passed}
 
 -- lists of parameters, with more structures complete, and longer
 
@@ -92,10 +94,7 @@ enumerator_then : (es : Structures) (next : ℕ) (P : ℕ → Type 0) (m : Meani
     → EntryThen es next P m
 enumerator_then es next P (meaning.Constant w) is p = p
 enumerator_then es next P (meaning.Typedef type) is p = is
-enumerator_then es next P (meaning.Named d type) is p = absurd (conflict is)
-  where
-    conflict : true ≡ false → ⊥
-    conflict e = cc
+enumerator_then es next P (meaning.Named d type) is p = absurd (true≢false is)
 
 enumerators_only : (es : Structures) (last : ℕ) (entries : Names Meaning) → AreEnumerators entries
     → AreParameters es last entries last
@@ -225,7 +224,7 @@ module _ (first : ℕ) (s : State) (formed : IsFormed s) (inner : in_file s.envi
   named_by spec b sized name true e = tt
   named_by spec b sized name false e =
       let d = parameter_declaration true spec b name in
-      let plain = misplaced_by spec.has_two_storages (not_for_parameter spec.storage) e in
+      let plain = neither_right spec.has_two_storages (not_for_parameter spec.storage) e in
       judged_by d (unqualified (adjusted b.type)) refl
       (record { sized = λ g. adjusted_sized b.type (sized g); placed = λ g. refl }) plain
       (unlinked_is (in_file s.environment) (is_function (adjusted b.type)) (is_extern spec.storage)
@@ -332,9 +331,6 @@ choice_says : (first : ℕ) (u : State) (b : Bool) (scope : ParameterScope) (o :
     → AreParameters (extents u) p.variables p.names first
 choice_says first u true scope o h g p e =
     subst (λ z. AreParameters (extents u) z.variables z.names first) (the_same e) (h refl)
-  where
-    the_same : Some scope ≡ Some p → scope ≡ p
-    the_same e = cc
 choice_says first u false scope o h g p e = g p e
 
 -- a declarator in a definition

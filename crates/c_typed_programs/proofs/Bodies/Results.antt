@@ -9,9 +9,9 @@ use Rattle.c_tree.specs.Valid.{Scope}
 use Rattle.c_call_rules.specs.FineCalls.{Spells}
 use Rattle.c_call_rules.specs.FunctionTypes.{result_type}
 use Rattle.c_typed_validity.specs.Steps.{Structures}
+use Rattle.c_typed_validity.proofs.Common.{first, second}
 use Rattle.c_typed_validity.proofs.PointerCalls.{result_behind}
 use Rattle.c_typed_programs.specs.Bodies.Standing.{IsResult}
-use Rattle.c_typed_programs.proofs.Common.{first, second}
 
 result_by : (es : Structures) (ks : List Kind) (ws : List TypeWord) (k : Kind) → agrees es ws ks k ≡ true
     → is_kind_of (kind_of_type es (result_type 0 ws)) k ≡ true

@@ -2,6 +2,7 @@
 use Rattle.std.proofs.Common.{◌≡◌, ℕ, true, false, ◌&&◌, refl, sym, ap, ◌∙◌, subst, List, [], ◌++◌}
 use Rattle.std.proofs.Common.{Option, Some, None}
 use Rattle.std.specs.Prelude.{Ok, Err}
+use Rattle.std.proofs.lemmas.Bool.{and_from}
 use Rattle.std.proofs.lemmas.List.{append-nil}
 use Rattle.obj_memory.specs.declared.int_type.IntType.{IntType}
 use Rattle.c_syntax.specs.Statements.{Block, BlockItem, BlockItems, ForInit}
@@ -33,6 +34,7 @@ use Rattle.c_unit_typing.specs.Files.{File, FileTyping, finished, in_state, ◌~
 use Rattle.c_unit_typing.specs.Statements.{block, block_item, block_items, statement, switch_block, switch_item}
 use Rattle.c_unit_typing.specs.Statements.{switch_items}
 use Rattle.c_typed_validity.specs.Regular.{is_regular}
+use Rattle.c_typed_validity.proofs.Common.{first, second}
 use Rattle.c_typed_declarators.specs.Extending.{Extending}
 use Rattle.c_typed_declarators.specs.Given.{anything}
 use Rattle.c_typed_programs.specs.Scopes.Regular.{are_regular_block_items, is_regular_block, is_regular_block_item}
@@ -58,7 +60,6 @@ use Rattle.c_typed_programs.proofs.Bodies.Constructs.{SwitchParts, Switches, Typ
 use Rattle.c_typed_programs.proofs.Bodies.Constructs.{do_loop_typed, expression_statement_typed, head_made}
 use Rattle.c_typed_programs.proofs.Bodies.Constructs.{if_otherwise_typed, if_then_typed, jump_typed, labelled_typed}
 use Rattle.c_typed_programs.proofs.Bodies.Constructs.{loop_typed, made_by, opened_by, returned_typed, unlabelled_typed}
-use Rattle.c_typed_programs.proofs.Common.{both, first, second}
 
 -- the head of a `for`
 
@@ -92,7 +93,7 @@ module _ (result : List TypeWord) where
       ap first_variables e.1 ∙ sym (append-nil (first_variables r.1)) in
       typed_on result first_variables first_variables IsFirst none none HeadParts head_made head_made IsHead f r
       (record r.0 { state = q.0 }, q.1) q.1 h g same same
-      (λ scope is parts. both _ _ (ap (is_first scope) e.1 ∙ is) parts)
+      (λ scope is parts. and_from _ _ (ap (is_first scope) e.1 ∙ is) parts)
   head_from f r h (Err x) e g = tt
 
   head_by : (line : ℕ) (condition step : Option Expression) → is_regular_if condition ≡ true
@@ -124,7 +125,7 @@ module _ (result : List TypeWord) where
       (λ h s. tree.for line h.first h.condition h.step s) (λ h s. refl) (λ h s. sym (append-nil (head_made h)))
       (λ inner z s p q. λ scope same.
       subst (λ w. (is_valid_head w z.first z.condition z.step && has_valid_parts w s) ≡ true) same
-      (both (is_valid_head inner z.first z.condition z.step) (has_valid_parts inner s) p q)) g k
+      (and_from (is_valid_head inner z.first z.condition z.step) (has_valid_parts inner s) p q)) g k
       (head_typed line x condition step g) (λ z. body)
       (head_by line condition step d e g k (first_typed x g) (first_is x c g k)) (λ z j i. h j i))
       (λ scope s is. is scope refl)
@@ -255,7 +256,7 @@ mutual
   items_typed a (t.items x more) c f ready =
       two_typed a.result all_variables declared_by Parts each_variables block_variables AllParts each_variables
       block_variables AllParts (λ s ss. tree.statements s ss) (λ s ss. refl) (λ s ss. refl)
-      (λ scope s ss p q. both _ _ p q) f ready (block_item a x f) (λ s. block_items a more)
+      (λ scope s ss p q. and_from _ _ p q) f ready (block_item a x f) (λ s. block_items a more)
       (item_typed a x (first _ _ c) f ready) (λ s g k. items_typed a more (second (is_regular_block_item x) _ c) g k)
 
   item_typed : (a : Around) (x : BlockItem) → is_regular_block_item x ≡ true → (f : File) → IsReady f.state
@@ -277,7 +278,7 @@ mutual
       (λ scope is. items_have_valid_parts (within scope (switch_variables is)) is ≡ true) f ready
       (switch_items a type [] xs) (λ g k. switch_items_typed a type [] xs c g k) (λ scope is h. h))
       (λ is. refl) (λ is n h. h)
-      (λ scope is h fine. both (is_valid scope v.tree && is_promoted (kind_of v.tree)) _ fine h)
+      (λ scope is h fine. and_from (is_valid scope v.tree && is_promoted (kind_of v.tree)) _ fine h)
 
   switch_items_typed : (a : Around) (type : IntType) (earlier : List CaseLabel) (xs : BlockItems)
       → are_regular_block_items xs ≡ true → (f : File) → IsReady f.state
@@ -287,7 +288,7 @@ mutual
   switch_items_typed a type earlier (t.items x more) c f ready =
       two_typed a.result made_by opened_by ItemParts items_variables switch_variables SwitchParts items_variables
       switch_variables SwitchParts (λ s is. tree.items s.labels s.statement is) (λ s is. refl) (λ s is. refl)
-      (λ scope s is p q. both _ _ p q) f ready (switch_item a (labels_on type earlier) x f)
+      (λ scope s is p q. and_from _ _ p q) f ready (switch_item a (labels_on type earlier) x f)
       (λ s. switch_items a type (earlier ++ s.labels) more)
       (switch_item_typed a (labels_on type earlier) x (first _ _ c) f ready)
       (λ s g k. switch_items_typed a type (earlier ++ s.labels) more (second (is_regular_block_item x) _ c) g k)

@@ -1,6 +1,7 @@
 -- The kinds of parameters are those of the type of their function (C99 6.7.5.3).
-use Rattle.std.proofs.Common.{◌≡◌, ℕ, suc, true, false, ◌&&◌, refl, sym, ap, ◌∙◌, subst, List, [], ◌∷◌, ◌++◌}
+use Rattle.std.proofs.Common.{◌≡◌, ℕ, suc, true, ◌&&◌, refl, sym, ap, ◌∙◌, subst, List, [], ◌∷◌, ◌++◌}
 use Rattle.std.proofs.Common.{Option, Some, None}
+use Rattle.std.proofs.lemmas.Bool.{and_from}
 use Rattle.std.specs.List.{list_all}
 use Rattle.obj_memory.specs.declared.value.Scalar.{Scalar}
 use Rattle.obj_memory.specs.declared.value.Scalar.TheVariants as scalar
@@ -26,11 +27,12 @@ use Rattle.c_unit_typing.specs.Declarations.{kind_in, variable_in}
 use Rattle.c_unit_typing.specs.Units.{parameter_in, parameters_in}
 use Rattle.c_typed_validity.specs.More.{AreMore}
 use Rattle.c_typed_validity.specs.Steps.{Structures}
+use Rattle.c_typed_validity.proofs.Common.{first, no_value as none_is, second, the_same}
 use Rattle.c_typed_programs.specs.Declarations.Binding.{IsObjectType}
 use Rattle.c_typed_programs.specs.Bodies.Parameters.{AreParameters, EntryThen, NumberedThen}
 use Rattle.c_typed_programs.specs.Bodies.Types.{AreTypesOf, EntryTypes, KindsFit, NextType, is_type}
 use Rattle.c_typed_programs.proofs.Bodies.Types.{AllTypes, behind_type}
-use Rattle.c_typed_programs.proofs.Common.{both, first, no_value as none_is, second, the_same}
+use Rattle.c_typed_programs.proofs.Common.{conflict}
 
 -- the types of a function type, and the kinds of its signature
 
@@ -92,26 +94,23 @@ kind_made s last more (word.Const ∷ ws) is j e =
 kind_made s last more (word.Takes ∷ ws) is j e = absurd cc
 kind_made s last more (word.Gives ∷ ws) is j e = absurd cc
 
-no_value : {P : Type 0} → false ≡ true → P
-no_value e = cc
-
 value_kind : (j k : Kind) → is_kind j k ≡ true → is_value j ≡ true → is_value k ≡ true
-value_kind kind.Void k e g = no_value g
-value_kind (kind.Array m) k e g = no_value g
+value_kind kind.Void k e g = conflict g
+value_kind (kind.Array m) k e g = conflict g
 value_kind (kind.Scalar s) k e g = of_scalar s k e
   where
     of_scalar : (s : Scalar) (k : Kind) → is_kind (kind.Scalar s) k ≡ true → is_value k ≡ true
     of_scalar s (kind.Scalar t) e = refl
-    of_scalar (scalar.Integer i) kind.Void e = no_value e
-    of_scalar (scalar.Integer i) (kind.Structure n) e = no_value e
-    of_scalar (scalar.Integer i) (kind.Array n) e = no_value e
-    of_scalar scalar.Pointer kind.Void e = no_value e
-    of_scalar scalar.Pointer (kind.Structure n) e = no_value e
-    of_scalar scalar.Pointer (kind.Array n) e = no_value e
-value_kind (kind.Structure m) kind.Void e g = no_value e
-value_kind (kind.Structure m) (kind.Scalar t) e g = no_value e
+    of_scalar (scalar.Integer i) kind.Void e = conflict e
+    of_scalar (scalar.Integer i) (kind.Structure n) e = conflict e
+    of_scalar (scalar.Integer i) (kind.Array n) e = conflict e
+    of_scalar scalar.Pointer kind.Void e = conflict e
+    of_scalar scalar.Pointer (kind.Structure n) e = conflict e
+    of_scalar scalar.Pointer (kind.Array n) e = conflict e
+value_kind (kind.Structure m) kind.Void e g = conflict e
+value_kind (kind.Structure m) (kind.Scalar t) e g = conflict e
 value_kind (kind.Structure m) (kind.Structure n) e g = refl
-value_kind (kind.Structure m) (kind.Array n) e g = no_value e
+value_kind (kind.Structure m) (kind.Array n) e g = conflict e
 
 parameter_kind : (s : State) (last : Structures) → AreMore (extents s) last → (type : List TypeWord)
     → IsObjectType (extents s) type → (k : Kind) (o : Option Kind) → kind_of_type last type ≡ o
@@ -119,7 +118,7 @@ parameter_kind : (s : State) (last : Structures) → AreMore (extents s) last �
 parameter_kind s last more type is k None e g = absurd cc
 parameter_kind s last more type is k (Some j) e g =
     let has = kind_made s last more type is j e in
-    both (is_kind (kind_in s type) k) (is_value k) (ap (λ z. is_kind z k) has.is ∙ g) (value_kind j k g has.value)
+    and_from (is_kind (kind_in s type) k) (is_value k) (ap (λ z. is_kind z k) has.is ∙ g) (value_kind j k g has.value)
 
 module _ (s : State) (last : Structures) (more : AreMore (extents s) last) where
   next_fits : (vs : List Variable) (P : List (List TypeWord) → Type 0)
@@ -130,7 +129,7 @@ module _ (s : State) (last : Structures) (more : AreMore (extents s) last) where
   next_fits vs P h n type is [] ks next fit = absurd cc
   next_fits vs P h n type is (t ∷ ts) [] next fit = absurd cc
   next_fits vs P h n type is (t ∷ ts) (k ∷ ks) next fit =
-      both (is_kind (kind_in s type) k && is_value k) (are_parameters vs ks)
+      and_from (is_kind (kind_in s type) k && is_value k) (are_parameters vs ks)
       (parameter_kind s last more type is k (kind_of_type last type) refl
       (ap (λ o. is_kind_of o k) (sym (ap (kind_of_type last) next.0 ∙ unqualified_kind last type)) ∙ fit.0))
       (h ts ks next.1 fit.1)

@@ -1,5 +1,6 @@
 -- Statements that stand where they may and whose parts are valid are valid.
 use Rattle.std.proofs.Common.{◌≡◌, true, ◌&&◌, refl}
+use Rattle.std.proofs.lemmas.Bool.{and_from}
 use Rattle.std.specs.Prelude.{not}
 use Rattle.std.specs.List.{list_all}
 use Rattle.c_tree.specs.Blocks.{block_variables, first_variables, switch_variables}
@@ -11,10 +12,11 @@ use Rattle.c_tree.specs.Valid.{Scope, is_condition, is_valid, within}
 use Rattle.c_tree.specs.ValidProgram.{Inside, are_different, are_items, are_statements, in_loop, in_switch}
 use Rattle.c_tree.specs.ValidProgram.{is_condition_if, is_declaration, is_expression_if, is_first, is_label}
 use Rattle.c_tree.specs.ValidProgram.{is_statement, labels_of}
+use Rattle.c_typed_validity.proofs.Common.{first, second}
 use Rattle.c_typed_programs.specs.Places.Placed.{are_placed, are_placed_items, is_placed}
 use Rattle.c_typed_programs.specs.Bodies.Parts.{has_valid_parts, have_valid_parts, is_valid_head}
 use Rattle.c_typed_programs.specs.Bodies.Parts.{items_have_valid_parts}
-use Rattle.c_typed_programs.proofs.Common.{both, first, second, three}
+use Rattle.c_typed_programs.proofs.Common.{three}
 
 mutual
   pub statement_valid : (scope : Scope) (inside : Inside) (s : Statement) → is_placed inside s ≡ true
@@ -33,9 +35,9 @@ mutual
       let two = second (is_placed inside s && not (is_declaration s)) (is_placed inside other
       && not (is_declaration other)) p in
       let parts = second (is_condition scope e) (has_valid_parts scope s && has_valid_parts scope other) v in
-      both (is_condition scope e && is_statement scope inside s && not (is_declaration s)
+      and_from (is_condition scope e && is_statement scope inside s && not (is_declaration s)
       && is_statement scope inside other) (not (is_declaration other))
-      (both (is_condition scope e && is_statement scope inside s && not (is_declaration s))
+      (and_from (is_condition scope e && is_statement scope inside s && not (is_declaration s))
       (is_statement scope inside other)
       (three (is_condition scope e) (is_statement scope inside s) (not (is_declaration s))
       (first (is_condition scope e) (has_valid_parts scope s && has_valid_parts scope other) v)
@@ -57,9 +59,9 @@ mutual
       let w = within scope (first_variables x) in
       let head = first (is_valid_head w x condition step) (has_valid_parts w s) v in
       let rest = second (is_first w x) (is_condition_if w condition && is_expression_if w step) head in
-      both (is_first w x && is_condition_if w condition && is_expression_if w step && is_statement w in_loop s)
+      and_from (is_first w x && is_condition_if w condition && is_expression_if w step && is_statement w in_loop s)
       (not (is_declaration s))
-      (both (is_first w x && is_condition_if w condition && is_expression_if w step) (is_statement w in_loop s)
+      (and_from (is_first w x && is_condition_if w condition && is_expression_if w step) (is_statement w in_loop s)
       (three (is_first w x) (is_condition_if w condition) (is_expression_if w step)
       (first (is_first w x) (is_condition_if w condition && is_expression_if w step) head)
       (first (is_condition_if w condition) (is_expression_if w step) rest)
@@ -71,10 +73,10 @@ mutual
       let w = within scope (switch_variables is) in
       let labels = list_all (is_label (kind_of e)) (labels_of is) in
       let placed = first (labels && are_different (labels_of is)) (are_placed_items (in_switch inside) is) p in
-      both (is_valid scope e && is_promoted (kind_of e) && labels && are_different (labels_of is))
+      and_from (is_valid scope e && is_promoted (kind_of e) && labels && are_different (labels_of is))
       (are_items w (in_switch inside) is)
-      (both (is_valid scope e && is_promoted (kind_of e) && labels) (are_different (labels_of is))
-      (both (is_valid scope e && is_promoted (kind_of e)) labels
+      (and_from (is_valid scope e && is_promoted (kind_of e) && labels) (are_different (labels_of is))
+      (and_from (is_valid scope e && is_promoted (kind_of e)) labels
       (first (is_valid scope e && is_promoted (kind_of e)) (items_have_valid_parts w is) v)
       (first labels (are_different (labels_of is)) placed))
       (second labels (are_different (labels_of is)) placed))
@@ -89,7 +91,7 @@ mutual
       → have_valid_parts scope ss ≡ true → are_statements scope inside ss ≡ true
   statements_valid scope inside tree.no_statements p v = refl
   statements_valid scope inside (tree.statements s ss) p v =
-      both (is_statement scope inside s) (are_statements scope inside ss)
+      and_from (is_statement scope inside s) (are_statements scope inside ss)
       (statement_valid scope inside s (first _ _ p) (first _ _ v))
       (statements_valid scope inside ss (second (is_placed inside s) _ p) (second (has_valid_parts scope s) _ v))
 
@@ -97,6 +99,6 @@ mutual
       → items_have_valid_parts scope is ≡ true → are_items scope inside is ≡ true
   items_valid scope inside tree.no_items p v = refl
   items_valid scope inside (tree.items labels s is) p v =
-      both (is_statement scope inside s) (are_items scope inside is)
+      and_from (is_statement scope inside s) (are_items scope inside is)
       (statement_valid scope inside s (first _ _ p) (first _ _ v))
       (items_valid scope inside is (second (is_placed inside s) _ p) (second (has_valid_parts scope s) _ v))

@@ -1,6 +1,7 @@
 -- Specifiers and declarators make whole types of whole ones (C99 6.7.2, 6.7.5).
 use Rattle.std.proofs.Common.{◌≡◌, ℕ, zero, suc, ◌+◌, Bool, true, false, ◌&&◌, ◌||◌, refl, sym, ap, ◌∙◌, List, [], ◌∷◌}
 use Rattle.std.proofs.Common.{◌++◌, Option, Some, None, if◌then◌else◌, arith}
+use Rattle.std.proofs.lemmas.Bool.{and_from, true≢false}
 use Rattle.std.specs.Prelude.{Ok, Err}
 use Rattle.std.specs.List.{list_all}
 use Rattle.c_syntax.specs.Formed.{is_plain_name}
@@ -49,17 +50,18 @@ use Rattle.c_typed_validity.specs.Regular.{are_regular_parameters, are_regular_s
 use Rattle.c_typed_validity.specs.Regular.{is_regular_name, is_regular_specifier, more_are_regular_parameters}
 use Rattle.c_typed_validity.specs.Sound.{IsFormed}
 use Rattle.c_typed_validity.specs.Steps.{Structures}
+use Rattle.c_typed_validity.proofs.Common.{first, second}
 use Rattle.c_typed_declarators.specs.Extending.{Extending, Extends, IsNew}
 use Rattle.c_typed_declarators.specs.Given.{HasType, IsGathered, IsShapeOf, IsSpecified, anything}
 use Rattle.c_typed_declarators.proofs.Parameters.{found_last, within, within_block, within_formed}
-use Rattle.c_typed_declarators.proofs.Recursion.{parameter_extend, shape_extends, specification_extends}
+use Rattle.c_typed_declarators.proofs.Recursion.{parameter_extend, shape_extends, specification_extends, with_type}
 use Rattle.c_typed_declarators.proofs.Recursion.{specifier_extends}
 use Rattle.c_typed_programs.proofs.Places.Labels.{all_append}
 use Rattle.c_typed_programs.specs.Declarations.Binding.{Binds}
 use Rattle.c_unit_typing.specs.Declarations.{stored_once}
 use Rattle.c_typed_programs.specs.Bodies.Types.{IsTypeIf, NameTypes, TakeTypes, TakesTypes, are_types, is_type}
 use Rattle.c_typed_programs.proofs.Bodies.Standing.{either}
-use Rattle.c_typed_programs.proofs.Common.{IfGives, both, first, second}
+use Rattle.c_typed_programs.proofs.Common.{IfGives, then_gives}
 
 -- types that stand one behind the other
 
@@ -170,11 +172,6 @@ built_type es base e (d ∷ ds) is = derived_type es d (built es base ds) is.0 (
 
 -- what constructs give
 
-pub then_gives : {A B : Type 0} (p : B → Type 0) (a : Answer (State × A)) (next : A → Typing B)
-    → ((x : A) (u : State) → IfGives p (next x u)) → IfGives p (a >>= λ r. next r.1 r.0)
-then_gives p (Ok r) next h = h r.1 r.0
-then_gives p (Err e) next h = tt
-
 pub map_gives : {A B : Type 0} (p : A → Type 0) (q : B → Type 0) (a : Answer (State × A)) (f : A → B)
     → ((x : A) → p x → q (f x)) → IfGives p a → IfGives q (a >>= λ r. done (f r.1) r.0)
 map_gives p q (Ok r) f h is = h r.1 is
@@ -185,10 +182,7 @@ map_gives p q (Err e) f h is = tt
 new_type : (b : Bool) (m : Meaning) → IsNew b m → (type : List TypeWord) → Some m ≡ Some (meaning.Typedef type)
     → is_type type ≡ true
 new_type b (meaning.Constant w) is type e = absurd cc
-new_type b (meaning.Typedef x) is type e = absurd (conflict is)
-  where
-    conflict : true ≡ false → ⊥
-    conflict e = cc
+new_type b (meaning.Typedef x) is type e = absurd (true≢false is)
 new_type b (meaning.Named d x) is type e = absurd cc
 
 pub types_extended : (b : Bool) (s u : State) → Extends b s u → NameTypes s → NameTypes u
@@ -229,12 +223,9 @@ tag_is_type (tag.Enumeration n) = refl
 abbrev Whole : Gathered → Type 0
 Whole g = IsTypeIf g.type
 
-abbrev typed_in : State → List TypeWord → Answer (State × List TypeWord)
-typed_in s type = Ok (s, type)
-
 meant_whole : (s : State) (g : Gathered) (line : ℕ) (o : Option Meaning)
     → ((type : List TypeWord) → o ≡ Some (meaning.Typedef type) → is_type type ≡ true)
-    → IfGives Whole (typedef_meant line o >>= typed_in s >>= λ r. done (with_named r.1 g) r.0)
+    → IfGives Whole (typedef_meant line o >>= with_type s >>= λ r. done (with_named r.1 g) r.0)
 meant_whole s g line None h = tt
 meant_whole s g line (Some (meaning.Typedef type)) h = h type refl
 meant_whole s g line (Some (meaning.Constant w)) h = tt
@@ -346,7 +337,7 @@ types_inside s is = record {
 }
 
 unless_gives : (o : Option Rule) (line : ℕ) (s : State) (type : List TypeWord) → is_type type ≡ true
-    → IfGives IsWhole (unless o line type >>= typed_in s)
+    → IfGives IsWhole (unless o line type >>= with_type s)
 unless_gives None line s type e = e
 unless_gives (Some r) line s type e = tt
 
@@ -373,7 +364,7 @@ built_gives d spec b e (Some name) s = by (misplaced spec)
 
 all_more : (types : List (List TypeWord)) (type : List TypeWord) → AllTypes types → is_type type ≡ true
     → AllTypes (types ++ type ∷ [])
-all_more types type h e = all_append is_type types (type ∷ []) h (both (is_type type) true e refl)
+all_more types type h e = all_append is_type types (type ∷ []) h (and_from (is_type type) true e refl)
 
 function_gives : (s : State) (sh : Shape) → WholeShape sh → (a : Answer (State × List (List TypeWord)))
     → IfGives AllTypes a
@@ -421,7 +412,7 @@ mutual
       (λ type. more_types b more (type ∷ [])) (parameter_extend b x (first _ _ c) s formed inner)
       (parameter_is_type b x (first _ _ c) s formed types)
       (λ type e u h types is. more_parameter_types b more (second (is_regular_name x) _ c) (type ∷ [])
-      (both (is_type type) true e refl) u h.formed (ap is_empty h.outer ∙ inner) types)
+      (and_from (is_type type) true e refl) u h.formed (ap is_empty h.outer ∙ inner) types)
 
   more_parameter_types : (in_definition : Bool) (more : MoreParameters) → more_are_regular_parameters more ≡ true
       → (before : List (List TypeWord)) → AllTypes before → (s : State) → IsFormed s

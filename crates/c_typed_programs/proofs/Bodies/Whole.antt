@@ -36,7 +36,7 @@ use Rattle.c_typed_programs.specs.Bodies.Standing.{AreLinked, EntitiesLead}
 use Rattle.c_typed_programs.specs.Bodies.Whole.{IsDefinition}
 use Rattle.c_typed_programs.specs.Bodies.Types.{is_type}
 use Rattle.c_typed_programs.proofs.Bodies.Entities.{entities_on, entity_links, linked_bound}
-use Rattle.c_typed_programs.proofs.Bodies.Outside.{IsLinkedIf}
+use Rattle.c_typed_programs.proofs.Bodies.Outside.{IsLinkedIf, same_type}
 use Rattle.c_typed_programs.proofs.Bodies.Standing.{either}
 
 -- where a file begins
@@ -103,9 +103,6 @@ empty_start facts = record {
   names = record { linked = λ name d type e. absurd cc };
   linked = record { entities = λ name e is. absurd cc; names = λ name d type e l. absurd cc };
 }
-
-same_type : {a b : List TypeWord} → Some (meaning.Typedef a) ≡ Some (meaning.Typedef b) → a ≡ b
-same_type e = cc
 
 typedef_start : (s : State) → IsStart s.environment → (name : Name) (type : List TypeWord) → is_type type ≡ true
     → IsStart (with_name name (meaning.Typedef type) s.environment)

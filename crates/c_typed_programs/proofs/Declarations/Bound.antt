@@ -1,8 +1,8 @@
 -- What declarators bind their names to.
-use Rattle.std.proofs.Common.{◌≡◌, ℕ, ◌+◌, ◌≤◌, Bool, true, false, ◌&&◌, refl, [], ◌∷◌}
+use Rattle.std.proofs.Common.{◌≡◌, ℕ, ◌+◌, ◌≤◌, Bool, true, false, refl, [], ◌∷◌}
 use Rattle.std.proofs.Common.{Option, Some, None, if◌then◌else◌, arith}
 use Rattle.std.specs.Prelude.{nat_eq}
-use Rattle.std.proofs.lemmas.Bool.{eq-eqb}
+use Rattle.std.proofs.lemmas.Bool.{and_from, eq-eqb}
 use Rattle.c_scope.specs.declared.meaning.Designated.TheVariants as what
 use Rattle.c_scope.specs.declared.meaning.Entity.{Entity}
 use Rattle.c_scope.specs.declared.meaning.Meaning.{Meaning}
@@ -19,13 +19,17 @@ use Rattle.c_typed_programs.specs.Declarations.Binding.{Binds, bound_meaning, li
 
 -- a name that is bound is declared
 
-same_name : (name : Name) → is_name name name ≡ true
+pub same_name : (name : Name) → is_name name name ≡ true
 same_name [] = refl
-same_name (b ∷ name) = both (nat_eq b b) (is_name name name) (eq-eqb b b refl) (same_name name)
-  where
-    both : (a c : Bool) → a ≡ true → c ≡ true → (a && c) ≡ true
-    both true c e g = g
-    both false c e g = cc
+same_name (b ∷ name) = and_from (nat_eq b b) (is_name name name) (eq-eqb b b refl) (same_name name)
+
+-- what a name is bound to, and the environment behind it, by linkage and storage
+
+abbrev pub Bound : Bool → Environment → Declaration → Meaning
+Bound b env d = if b then linked_meaning env d else unlinked_meaning d.storage env d
+
+abbrev pub Behind : Bool → Environment → Declaration → Environment
+Behind b env d = if b then linked env d else without_linkage d.storage env d
 
 chosen_true : {A : Type 0} (b : Bool) (x : A) (other : Option A) → b ≡ true → (if b then Some x else other) ≡ Some x
 chosen_true true x other e = refl

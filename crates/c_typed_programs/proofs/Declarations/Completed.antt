@@ -18,6 +18,7 @@ use Rattle.c_scope.specs.Names.{Name, bound, declared}
 use Rattle.c_typing.specs.State.{State, extents}
 use Rattle.c_unit_typing.specs.Declarations.{completed, entity_with_type, is_same_object, with_entity, with_size}
 use Rattle.c_typed_validity.specs.Sound.{IsFormed, IsObjectExtent}
+use Rattle.c_typed_validity.proofs.Common.{the_same}
 use Rattle.c_typed_declarators.proofs.Types.{array_sized, object_type}
 use Rattle.c_typed_programs.specs.Declarations.Binding.{Binds, Completes, IfCompleted, IsCompleteFor, IsObjectType}
 use Rattle.c_typed_programs.proofs.Declarations.Bound.{named_binds}
@@ -71,9 +72,6 @@ array_object s formed count element some e is object small =
       is = known.1;
       object = object_type (extents s) formed.sizes (array_of count o ∷ element) sized known.0 known.1;
     }
-  where
-    the_same : {A : Type 0} {a b : A} → Some a ≡ Some b → a ≡ b
-    the_same e = cc
 
 object_behind : (s t : State) (type : List TypeWord) → extents t ≡ extents s → IsObjectType (extents s) type
     → IsObjectType (extents t) type

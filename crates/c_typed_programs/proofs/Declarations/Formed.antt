@@ -16,6 +16,7 @@ use Rattle.c_typed_validity.specs.Names.{IsMeant}
 use Rattle.c_typed_validity.specs.Sound.{IsFormed, IsNumbered, Knows, is_sized_array}
 use Rattle.c_typed_validity.specs.Steps.{Structures as Extents}
 use Rattle.c_typed_validity.specs.Typed.{HaveMembers}
+use Rattle.c_typed_validity.proofs.Common.{the_same}
 use Rattle.c_typed_declarators.specs.Extending.{IsSameOr, new, same}
 use Rattle.c_typed_declarators.proofs.Known.{meant_kept}
 use Rattle.c_typed_programs.specs.Declarations.Binding.{Binds}
@@ -27,9 +28,6 @@ stays : (P : Meaning → Type 0) (m : Meaning) → P m → (before behind around
 stays P m p before behind around (same e) h x is = h x (ap (λ z. or_else z around) (sym e) ∙ is)
 stays P m p before behind around (new y e g) h x is =
     subst P (sym g ∙ the_same (ap (λ z. or_else z around) (sym e) ∙ is)) p
-  where
-    the_same : Some y ≡ Some x → y ≡ x
-    the_same e = cc
 
 abbrev pub IsPlainMeaning : Meaning → Type 0
 IsPlainMeaning (meaning.Constant w) = fit Int w ≡ w

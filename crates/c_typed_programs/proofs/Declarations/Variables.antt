@@ -1,5 +1,6 @@
 -- Variables and static objects without linkage are of the kind of their type.
 use Rattle.std.proofs.Common.{◌≡◌, ℕ, Bool, true, false, ◌||◌, refl, ap, sym, ◌∙◌, List, Option, Some, get_or}
+use Rattle.std.proofs.lemmas.Bool.{or_left}
 use Rattle.c_tree.specs.declared.c_type.TypeWord.{TypeWord}
 use Rattle.c_tree.specs.declared.expression.Kind.{Kind}
 use Rattle.c_tree.specs.declared.expression.Kind.TheVariants as kind
@@ -19,7 +20,6 @@ use Rattle.c_typed_validity.specs.Names.{IsStaticOf, IsVariableOf, kind_among}
 use Rattle.c_typed_validity.specs.Sound.{IsObjectExtent}
 use Rattle.c_unit_typing.specs.Declarations.{kind_in, variable_in}
 use Rattle.c_typed_validity.proofs.Kept.{extent_kept}
-use Rattle.c_typed_validity.proofs.Moved.{or_left}
 use Rattle.c_typed_validity.proofs.Primaries.{scalar_by}
 use Rattle.c_typed_declarators.proofs.Types.{target_is}
 use Rattle.c_typed_programs.specs.Declarations.Binding.{HasStatic, HasVariable}
@@ -41,7 +41,7 @@ last_kind : (s : State) (last : List (Option TypeExtent)) (type : List TypeWord)
 last_kind s last type e k is later same =
     let named : k ≡ kind_among last type =
     same ∙ kind_is s type e is ∙ sym (ap (λ o. object_kind (size_or_zero o) type) later) in
-    ap (λ z. is_named_as z (kind_among last type)) named ∙ or_left _ (same_kind (kind_among last type))
+    ap (λ z. is_named_as z (kind_among last type)) named ∙ or_left _ _ (same_kind (kind_among last type))
 
 pub variable_is : (scope : Scope) (s : State) (last : List (Option TypeExtent)) → AreMore (extents s) last → (n : ℕ)
     (type : List TypeWord) (e : TypeExtent) → extent_of (extents s) type ≡ Some e → IsObjectExtent e

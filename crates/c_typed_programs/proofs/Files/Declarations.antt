@@ -35,6 +35,7 @@ use Rattle.c_unit_typing.specs.Files.{File, FileTyping}
 use Rattle.c_unit_typing.specs.Initializers.{initialized}
 use Rattle.c_unit_typing.specs.Lines.{initializer_line}
 use Rattle.c_typed_validity.specs.Sound.{IsFormed, is_sized_array}
+use Rattle.c_typed_validity.proofs.Common.{first, second}
 use Rattle.c_typed_declarators.specs.Extending.{Extending, below, one_if}
 use Rattle.c_typed_declarators.specs.Given.{AreCounted, IsShapeOf, IsSpecified, anything}
 use Rattle.c_typed_declarators.proofs.Chained.{judged_extends}
@@ -51,7 +52,7 @@ use Rattle.c_typed_programs.proofs.Scopes.Initializers.{initialized_extends}
 use Rattle.c_typed_programs.specs.Files.Numbers.{are_linked, owners, statics_at, waiting}
 use Rattle.c_typed_programs.proofs.Files.Numbers.{Counts, counts_by, counts_on, counts_same, declarator_counts}
 use Rattle.c_typed_programs.proofs.Files.Numbers.{size_counts}
-use Rattle.c_typed_programs.proofs.Common.{filed, first, second, unless_large}
+use Rattle.c_typed_programs.proofs.Common.{filed, unless_large}
 
 abbrev pub AreLinked : State → Type 0
 AreLinked s = are_linked s.environment.entities ≡ true

@@ -2,6 +2,7 @@
 -- kinds.
 use Rattle.std.proofs.Common.{◌≡◌, ◌⊎◌, inl, inr, ℕ, Bool, true, false, ◌||◌, refl, sym, ap, ◌∙◌, subst, List, [], ◌∷◌}
 use Rattle.std.proofs.Common.{Option, Some, None, if◌then◌else◌}
+use Rattle.std.proofs.lemmas.Bool.{false≢true}
 use Rattle.std.specs.Prelude.{Ok, Err}
 use Rattle.c_syntax.specs.Formed.{defines_function}
 use Rattle.c_syntax.specs.Statements as t
@@ -40,7 +41,8 @@ use Rattle.c_unit_typing.specs.Units.{externals, gives_incomplete, left, paramet
 use Rattle.c_typed_programs.specs.SpelledTypes.Spelled.{IsFunctionType}
 use Rattle.c_typed_programs.proofs.SpelledTypes.Composites.{none_first}
 use Rattle.c_typed_validity.specs.Sound.{IsFormed, is_sized_array}
-use Rattle.c_typed_validity.specs.More.{AreMore}
+use Rattle.c_typed_validity.specs.Steps.{Structures}
+use Rattle.c_typed_validity.proofs.Common.{first, neither_left, neither_right, second, the_same}
 use Rattle.c_typed_declarators.specs.Given.{AreCounted, HasScope, IsParameterScope, IsShapeOf, IsSpecified}
 use Rattle.c_typed_declarators.proofs.Recursion.{scope_kept, shape_extends}
 use Rattle.c_typed_declarators.proofs.Types.{NoFaults, without_faults}
@@ -55,11 +57,11 @@ use Rattle.c_typed_programs.proofs.Scopes.Files.{stored_extends}
 use Rattle.c_typed_programs.proofs.Scopes.Leading.{bound_leads, closed_leads, file_on, file_same, leads_by, state_leads}
 use Rattle.c_typed_programs.proofs.Scopes.Statements.{IfFileBehind, Walk, items_walk}
 use Rattle.c_typed_programs.specs.Types.Typed.{AreNamed, Each, IsDerived, IsNamed, IsSpelled, OfParameters}
-use Rattle.c_typed_programs.specs.Types.Typed.{OfSpecification, Structures, Types}
+use Rattle.c_typed_programs.specs.Types.Typed.{OfSpecification, Types}
 use Rattle.c_typed_programs.proofs.Types.Built.{built_spelled}
 use Rattle.c_typed_programs.proofs.Types.Calls.{gives_no_array, gives_no_function, result_fits}
-use Rattle.c_typed_programs.proofs.Types.Declarators.{HasKinds, IsDeclared}
-use Rattle.c_typed_programs.proofs.Types.Kept.{each_append, each_around, each_innermost, each_meaning, names_kept}
+use Rattle.c_typed_programs.proofs.Types.Declarators.{HasKinds, IsDeclared, parameters_kept}
+use Rattle.c_typed_programs.proofs.Types.Kept.{each_append, each_around, each_innermost, each_meaning}
 use Rattle.c_typed_programs.proofs.Types.Kept.{spelled_kept}
 use Rattle.c_typed_programs.proofs.Types.Parameters.{judged_known}
 use Rattle.c_typed_programs.proofs.Types.Recursion.{shape_typed}
@@ -68,8 +70,8 @@ use Rattle.c_typed_programs.specs.Scopes.Defined.{define_functions, defines}
 use Rattle.c_typed_programs.proofs.Files.FunctionWords.{composite_function_type, rest_spelled, result_kinded}
 use Rattle.c_typed_programs.proofs.Files.FunctionWords.{words_parameters, words_result}
 use Rattle.c_typed_programs.proofs.Files.Spelled.{IfTypes, Values, declaration_typed, state_then, stored_specification}
-use Rattle.c_typed_programs.proofs.Files.Spelled.{types_walk}
-use Rattle.c_typed_programs.proofs.Common.{filed, first, neither_left, neither_right, second, the_same}
+use Rattle.c_typed_programs.proofs.Files.Spelled.{type_is, types_walk}
+use Rattle.c_typed_programs.proofs.Common.{filed}
 
 -- blocks
 
@@ -229,10 +231,7 @@ library_function es s t (inl e) is =
     nothing_function : (es : Structures) (t : List TypeWord) (o : Option (List TypeWord)) → composite [] t ≡ o
         → IsFunctionType es t → IsFunctionType es (type_or o t)
     nothing_function es t None e is = is
-    nothing_function es [] (Some c) e is = absurd (no_words is.spelled)
-      where
-        no_words : false ≡ true → ⊥
-        no_words e = cc
+    nothing_function es [] (Some c) e is = absurd (false≢true is.spelled)
     nothing_function es (w ∷ t) (Some c) e is = none_first w t c _ e
 
 linked_function : (es : Structures) (d : Designated) (s t : List TypeWord) → IsNamed es (meaning.Named d s)
@@ -249,9 +248,6 @@ visible_type_function es t None h is = is
 visible_type_function es t (Some (meaning.Typedef s)) h is = is
 visible_type_function es t (Some (meaning.Constant w)) h is = is
 visible_type_function es t (Some (meaning.Named d s)) h is = linked_function es d s t (h (meaning.Named d s) refl) is
-
-type_is : {d e : Designated} {s t : List TypeWord} → meaning.Named d s ≡ meaning.Named e t → s ≡ t
-type_is e = cc
 
 unlinked_function : (s : State) (d : Declaration) (z : Storage) (n : ℕ) (type : List TypeWord)
     → unlinked_meaning z s.environment d ≡ meaning.Named (what.Function n) type → IsFunctionType (extents s) d.type
@@ -334,12 +330,7 @@ named_typed : (f : File) (d : Declaration) (name : Name) (o : Option ParameterSc
 named_typed f d name o line b c has own (Ok r) h is =
     let leads = bound_leads d.name (bound_meaning f.state.environment d) f.state r.0 h.0.binds h.0.formed in
     body_typed line o b c r.1 (record f { state = r.0 }) h.0.formed (scope_kept f.state r.0 leads.longer o has) is.types
-    (parameters_more (extents f.state) (extents r.0) leads.more o own) is.function
-  where
-    parameters_more : (es more : Structures) → AreMore es more → (o : Option ParameterScope) → OfParameters es o
-        → OfParameters more o
-    parameters_more es more h None is = tt
-    parameters_more es more h (Some p) is = names_kept es more h p.names is
+    (parameters_kept (extents f.state) (extents r.0) leads.more o own) is.function
 named_typed f d name o line b c has own (Err e) h is = tt
 
 defined_typed : (spec : Specification) → is_sized_array spec.type ≡ true → (d : Declarator)

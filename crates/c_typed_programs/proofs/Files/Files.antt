@@ -24,6 +24,7 @@ use Rattle.c_unit_typing.specs.Statements.{block_items}
 use Rattle.c_unit_typing.specs.Units.{around_body, body_of, defined_as, defined_by, definition_of, entered, external}
 use Rattle.c_unit_typing.specs.Units.{externals, left, parameters_in, scope_or_none, with_body}
 use Rattle.c_typed_validity.specs.Sound.{IsFormed, is_sized_array}
+use Rattle.c_typed_validity.proofs.Common.{first, second}
 use Rattle.c_typed_declarators.specs.Extending.{Extending, Extends}
 use Rattle.c_typed_declarators.specs.Given.{AreCounted, HasScope, IsParameterScope, IsShapeOf, IsSpecified}
 use Rattle.c_typed_declarators.proofs.Marks.{type_extends}
@@ -44,7 +45,7 @@ use Rattle.c_typed_programs.specs.Files.Numbers.{statics_at}
 use Rattle.c_typed_programs.proofs.Files.Declarations.{AddsFor, AreLinked, IfAdds, adds_on, adds_same}
 use Rattle.c_typed_programs.proofs.Files.Declarations.{declaration_adds, state_adds}
 use Rattle.c_typed_programs.proofs.Files.Numbers.{Counts, counts_by, linked_counts}
-use Rattle.c_typed_programs.proofs.Common.{filed, first, second}
+use Rattle.c_typed_programs.proofs.Common.{filed}
 
 -- blocks
 

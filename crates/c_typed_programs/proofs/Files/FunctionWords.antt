@@ -1,6 +1,7 @@
 -- Words of function types: their parameters and results, also in composite types, and their kinds.
-use Rattle.std.proofs.Common.{◌≡◌, ℕ, zero, suc, ◌+◌, arith, Bool, true, false, refl, sym, ap, ◌∙◌, subst, List, []}
+use Rattle.std.proofs.Common.{◌≡◌, ℕ, zero, suc, ◌+◌, arith, true, false, refl, sym, ap, ◌∙◌, subst, List, []}
 use Rattle.std.proofs.Common.{◌∷◌, ◌++◌, Option, Some, None}
+use Rattle.std.proofs.lemmas.Bool.{and_from, false≢true, not-true}
 use Rattle.std.specs.Prelude.{not, is_none, is_some}
 use Rattle.c_tree.specs.declared.c_type.TypeWord.{TypeWord}
 use Rattle.c_tree.specs.declared.c_type.TypeWord.TheVariants as word
@@ -16,14 +17,15 @@ use Rattle.c_scope.specs.Composite.{composite}
 use Rattle.c_scope.specs.Declaring.{is_function}
 use Rattle.c_unit_typing.specs.Programs.{kind_or_void, parameter_kinds, result_kind}
 use Rattle.c_unit_typing.specs.Units.{is_incomplete_structure}
+use Rattle.c_typed_validity.proofs.Common.{first as left, second as right}
+use Rattle.c_typed_validity.specs.Steps.{Structures}
 use Rattle.c_typed_programs.specs.SpelledTypes.Spelled.{IsFunctionType, fits, has_parameters, is_spelled}
 use Rattle.c_typed_programs.proofs.SpelledTypes.Composites.{IsJoint, alike, first_sized, composite_nothing}
 use Rattle.c_typed_programs.proofs.SpelledTypes.Composites.{composite_spelled, joins, none_first, none_second}
 use Rattle.c_typed_programs.proofs.SpelledTypes.Composites.{second_sized}
 use Rattle.c_typed_programs.proofs.SpelledTypes.Words.{spelled_end, still_more}
-use Rattle.c_typed_programs.specs.Types.Typed.{AreSpelled, Each, IsSpelled, Structures}
+use Rattle.c_typed_programs.specs.Types.Typed.{AreSpelled, Each, IsSpelled}
 use Rattle.c_typed_programs.proofs.Types.Parameters.{IsKinded}
-use Rattle.c_typed_programs.proofs.Common.{both, first as left, second as right}
 
 -- the words agree with the kinds (6.7.5.3)
 
@@ -37,11 +39,11 @@ agrees_from : (es : Structures) (n : ℕ) (ws : List TypeWord) → has_parameter
     ≡ true
 agrees_from es n [] p s r = absurd cc
 agrees_from es zero (word.Gives ∷ ws) p s r =
-    both (is_kind_of (kind_of_type es ws) (kind_or_void (kind_of_type es ws))) (is_end (behind_types 1 ws))
+    and_from (is_kind_of (kind_of_type es ws) (kind_or_void (kind_of_type es ws))) (is_end (behind_types 1 ws))
     (some_kind (kind_of_type es ws) r)
     (ap is_end (spelled_end es 1 ws (right (fits es word.Gives ws) _ s)))
 agrees_from es zero (word.Takes ∷ ws) p s r =
-    both (is_kind_of (kind_of_type es ws) (kind_or_void (kind_of_type es ws))) _
+    and_from (is_kind_of (kind_of_type es ws) (kind_or_void (kind_of_type es ws))) _
     (some_kind (kind_of_type es ws) (left (is_some (kind_of_type es ws)) (has_parameters es 1 ws) p))
     (agrees_from es 1 ws (right (is_some (kind_of_type es ws)) (has_parameters es 1 ws) p) s r)
 agrees_from es zero (word.Void ∷ ws) p s r = absurd cc
@@ -99,7 +101,7 @@ pub words_parameters : (es : Structures) (ps : List (List TypeWord)) (r : List T
     → Each (IsKinded es) ps → has_parameters es 0 (function_words ps r) ≡ true
 words_parameters es [] r s k = refl
 words_parameters es (p ∷ ps) r s k =
-    both (is_some (kind_of_type es (p ++ function_words ps r))) (has_parameters es 1 (p ++ function_words ps r))
+    and_from (is_some (kind_of_type es (p ++ function_words ps r))) (has_parameters es 1 (p ++ function_words ps r))
     (ap is_some (kind_append es 0 p (function_words ps r) s.0) ∙ k.0)
     (words_skip es p ps r s.0 ∙ words_parameters es ps r s.1 k.1)
 
@@ -121,11 +123,7 @@ unfolding extent_of
 result_kinded es [] s a i f = absurd cc
 result_kinded es (word.Structure n ∷ ws) s a i f = known_structure (structure_extent es n) i
 result_kinded es (word.Const ∷ ws) s a i f =
-    result_kinded es ws (right (not (is_array ws)) _ s) (not_true (is_array ws) (left (not (is_array ws)) _ s)) i f
-  where
-    not_true : (b : Bool) → not b ≡ true → b ≡ false
-    not_true true e = absurd cc
-    not_true false e = refl
+    result_kinded es ws (right (not (is_array ws)) _ s) (not-true (is_array ws) (left (not (is_array ws)) _ s)) i f
 result_kinded es (word.Void ∷ ws) s a i f = refl
 result_kinded es (word.Integer t ∷ ws) s a i f = refl
 result_kinded es (word.Enumeration n ∷ ws) s a i f = refl
@@ -157,15 +155,9 @@ kind_joint : (es : Structures) (v w x : TypeWord) (t c : List TypeWord) → IsJo
 kind_joint es v w x t c (alike e g) h k =
     ap (λ z. is_some (kind_of_type es (z ∷ c))) (g ∙ e) ∙ kind_behind es w t c h k
 kind_joint es v w x t c (first_sized n b e g i) h k =
-    absurd (no_kind (sym (ap (λ z. is_some (kind_of_type es (z ∷ t))) g) ∙ k))
-  where
-    no_kind : false ≡ true → ⊥
-    no_kind e = cc
+    absurd (false≢true (sym (ap (λ z. is_some (kind_of_type es (z ∷ t))) g) ∙ k))
 kind_joint es v w x t c (second_sized n b e g i) h k =
-    absurd (no_kind (sym (ap (λ z. is_some (kind_of_type es (z ∷ t))) g) ∙ k))
-  where
-    no_kind : false ≡ true → ⊥
-    no_kind e = cc
+    absurd (false≢true (sym (ap (λ z. is_some (kind_of_type es (z ∷ t))) g) ∙ k))
 
 composite_kind : (es : Structures) (s t c : List TypeWord) → composite s t ≡ Some c
     → is_some (kind_of_type es t) ≡ true → is_some (kind_of_type es c) ≡ true
@@ -196,7 +188,7 @@ parameters_behind : (es : Structures) (w : TypeWord) (t c : List TypeWord)
     → (has_parameters es 1 t ≡ true → has_parameters es 1 c ≡ true)
     → has_parameters es 0 (w ∷ t) ≡ true → has_parameters es 0 (w ∷ c) ≡ true
 parameters_behind es word.Takes t c h g e =
-    both (is_some (kind_of_type es c)) (has_parameters es 1 c)
+    and_from (is_some (kind_of_type es c)) (has_parameters es 1 c)
     (h (left (is_some (kind_of_type es t)) (has_parameters es 1 t) e))
     (g (right (is_some (kind_of_type es t)) (has_parameters es 1 t) e))
 parameters_behind es word.Gives t c h g e = refl
@@ -216,10 +208,7 @@ parameters_second : (es : Structures) (w x : TypeWord) (t c : List TypeWord) →
 parameters_second es w x t c (equal e) h g k =
     ap (λ z. has_parameters es 0 (z ∷ c)) e ∙ parameters_behind es w t c h g k
 parameters_second es w x t c (arrays n b e i) h g k =
-    absurd (no_function (sym (ap (λ z. has_parameters es 0 (z ∷ t)) e) ∙ k))
-  where
-    no_function : false ≡ true → ⊥
-    no_function e = cc
+    absurd (false≢true (sym (ap (λ z. has_parameters es 0 (z ∷ t)) e) ∙ k))
 
 composite_parameters : (es : Structures) (n : ℕ) (s t c : List TypeWord) → composite s t ≡ Some c
     → has_parameters es n t ≡ true → has_parameters es n c ≡ true
@@ -239,12 +228,9 @@ composite_parameters es (suc n) (v ∷ s) (w ∷ t) c e k =
 
 -- results
 
-abbrev HasSomeKind : Structures → List TypeWord → Type 0
-HasSomeKind es r = is_some (kind_of_type es r) ≡ true
-
-result_behind : (es : Structures) (w : TypeWord) (t c : List TypeWord) → (HasSomeKind es t → HasSomeKind es c)
-    → (HasSomeKind es (result_type 1 t) → HasSomeKind es (result_type 1 c))
-    → HasSomeKind es (result_type 0 (w ∷ t)) → HasSomeKind es (result_type 0 (w ∷ c))
+result_behind : (es : Structures) (w : TypeWord) (t c : List TypeWord) → (IsKinded es t → IsKinded es c)
+    → (IsKinded es (result_type 1 t) → IsKinded es (result_type 1 c))
+    → IsKinded es (result_type 0 (w ∷ t)) → IsKinded es (result_type 0 (w ∷ c))
 result_behind es word.Gives t c h g k = h k
 result_behind es word.Takes t c h g k = g k
 result_behind es word.Void t c h g k = k
@@ -257,30 +243,30 @@ result_behind es (word.Structure n) t c h g k = k
 result_behind es word.Const t c h g k = k
 
 result_second : (es : Structures) (w x : TypeWord) (t c : List TypeWord) → IsSecond w x
-    → (HasSomeKind es t → HasSomeKind es c)
-    → (HasSomeKind es (result_type 1 t) → HasSomeKind es (result_type 1 c))
-    → HasSomeKind es (result_type 0 (w ∷ t)) → HasSomeKind es (result_type 0 (x ∷ c))
+    → (IsKinded es t → IsKinded es c)
+    → (IsKinded es (result_type 1 t) → IsKinded es (result_type 1 c))
+    → IsKinded es (result_type 0 (w ∷ t)) → IsKinded es (result_type 0 (x ∷ c))
 result_second es w x t c (equal e) h g k =
-    subst (λ z. HasSomeKind es (result_type 0 (z ∷ c))) (sym e) (result_behind es w t c h g k)
+    subst (λ z. IsKinded es (result_type 0 (z ∷ c))) (sym e) (result_behind es w t c h g k)
 result_second es w x t c (arrays n b e i) h g k =
-    subst (λ z. HasSomeKind es (result_type 0 (z ∷ c))) (sym i)
-    (subst (λ z. HasSomeKind es (result_type 0 (z ∷ t))) e k)
+    subst (λ z. IsKinded es (result_type 0 (z ∷ c))) (sym i)
+    (subst (λ z. IsKinded es (result_type 0 (z ∷ t))) e k)
 
 composite_result : (es : Structures) (n : ℕ) (s t c : List TypeWord) → composite s t ≡ Some c
-    → HasSomeKind es (result_type n t) → HasSomeKind es (result_type n c)
+    → IsKinded es (result_type n t) → IsKinded es (result_type n c)
 composite_result es n [] [] c e k =
-    subst (λ z. HasSomeKind es (result_type n z)) (sym (composite_nothing c e)) k
+    subst (λ z. IsKinded es (result_type n z)) (sym (composite_nothing c e)) k
 composite_result es n [] (w ∷ t) c e k = none_first w t c _ e
 composite_result es n (v ∷ s) [] c e k = none_second v s c _ e
 composite_result es zero (v ∷ s) (w ∷ t) c e k =
     let j = joins v s w t c e in
-    subst (λ z. HasSomeKind es (result_type 0 z)) (sym j.is)
+    subst (λ z. IsKinded es (result_type 0 z)) (sym j.is)
     (result_second es w j.first t j.rest (second_of v w j.first j.joint)
     (composite_kind es s t j.rest j.behind) (composite_result es 1 s t j.rest j.behind) k)
 composite_result es (suc n) (v ∷ s) (w ∷ t) c e k =
     let j = joins v s w t c e in
-    subst (λ z. HasSomeKind es (result_type (suc n) z)) (sym j.is)
-    (subst (λ z. HasSomeKind es (result_type z j.rest))
+    subst (λ z. IsKinded es (result_type (suc n) z)) (sym j.is)
+    (subst (λ z. IsKinded es (result_type z j.rest))
     (sym (second_still w j.first n (second_of v w j.first j.joint)))
     (composite_result es (still w n) s t j.rest j.behind k))
 

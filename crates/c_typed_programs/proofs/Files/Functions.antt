@@ -1,6 +1,7 @@
 -- The types of functions of a typed program.
 use Rattle.std.proofs.Common.{◌≡◌, ◌⊎◌, inl, inr, ℕ, Bool, true, false, ◌&&◌, ◌||◌, refl, ap, ◌∙◌, subst, List, []}
 use Rattle.std.proofs.Common.{◌∷◌, map, Option}
+use Rattle.std.proofs.lemmas.Bool.{and_from}
 use Rattle.std.specs.Prelude.{Ok, Err, not, codes}
 use Rattle.std.specs.List.{list_all, list_any}
 use Rattle.obj_memory.specs.declared.int_type.IntType.TheVariants.{UnsignedLong}
@@ -27,11 +28,12 @@ use Rattle.c_typing.specs.State.{extents}
 use Rattle.c_unit_typing.specs.Files.{File}
 use Rattle.c_unit_typing.specs.Programs.{function_type, parameter_kinds, program_of, result_kind}
 use Rattle.c_unit_typing.specs.Units.{externals, file_before, file_with}
+use Rattle.c_typed_validity.specs.Steps.{Structures}
 use Rattle.c_typed_programs.specs.SpelledTypes.Spelled.{IsFunctionType}
 use Rattle.c_typed_programs.proofs.SpelledTypes.Words.{spelled_sized}
 use Rattle.c_typed_programs.specs.Scopes.Regular.{are_regular_externals}
 use Rattle.c_typed_programs.proofs.Scopes.Start.{file_formed}
-use Rattle.c_typed_programs.specs.Types.Typed.{Each, HaveTypes, IsEntity, IsNamed, IsSpelled, Structures, Types}
+use Rattle.c_typed_programs.specs.Types.Typed.{Each, HaveTypes, IsEntity, IsNamed, IsSpelled, Types}
 use Rattle.c_typed_programs.specs.Types.Typed.{are_different}
 use Rattle.c_typed_programs.proofs.Types.Calls.{routine_spelled}
 use Rattle.c_typed_programs.proofs.Types.Kept.{each_bound}
@@ -41,7 +43,6 @@ use Rattle.c_typed_programs.proofs.Files.Definitions.{externals_typed}
 use Rattle.c_typed_programs.proofs.Files.Ends.{answer, behind_all, same_ok}
 use Rattle.c_typed_programs.proofs.Files.FunctionWords.{function_agrees}
 use Rattle.c_typed_programs.proofs.Files.Spelled.{IfTypes}
-use Rattle.c_typed_programs.proofs.Common.{both}
 
 -- the start
 
@@ -107,10 +108,10 @@ all_valid program es same [] h = refl
 all_valid program es same (type ∷ types) h =
     let parameters = parameter_kinds es 0 type in
     let result = result_kind es type in
-    both (is_function_type program (function_type es type))
+    and_from (is_function_type program (function_type es type))
     (list_all (is_function_type program) (map (function_type es) types))
     (ap (λ z. is_sized z type && agrees z type parameters result) same
-    ∙ both (is_sized es type) (agrees es type parameters result) (spelled_sized es 1 type h.0.spelled)
+    ∙ and_from (is_sized es type) (agrees es type parameters result) (spelled_sized es 1 type h.0.spelled)
     (function_agrees es type h.0))
     (all_valid program es same types h.1)
 

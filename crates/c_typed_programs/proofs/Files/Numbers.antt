@@ -1,6 +1,7 @@
 -- Numbers of static objects: what each step of typing adds.
 use Rattle.std.proofs.Common.{◌≡◌, ℕ, ◌+◌, Bool, true, false, refl, sym, ap, ◌∙◌, List, [], ◌∷◌}
 use Rattle.std.proofs.Common.{Option, Some, None, if◌then◌else◌, arith}
+use Rattle.std.proofs.lemmas.Bool.{and_from}
 use Rattle.std.specs.Prelude.{option_map}
 use Rattle.c_tree.specs.declared.c_type.TypeWord.{TypeWord}
 use Rattle.c_scope.specs.declared.meaning.Designated.{Designated}
@@ -16,11 +17,12 @@ use Rattle.c_scope.specs.Environment.{without_linkage}
 use Rattle.c_scope.specs.Names.{Name, Names, bound, declared, is_name}
 use Rattle.c_typing.specs.State.{State}
 use Rattle.c_unit_typing.specs.Declarations.{entity_with_type, with_entity, with_size}
+use Rattle.c_typed_validity.proofs.Common.{first as left, second as right, the_same}
 use Rattle.c_typed_declarators.specs.Extending.{Extends, below, literals_at}
 use Rattle.c_typed_declarators.proofs.Marks.{next_below}
 use Rattle.c_typed_programs.specs.Declarations.Binding.{bound_meaning, linked_meaning, unlinked_meaning}
 use Rattle.c_typed_programs.specs.Files.Numbers.{are_linked, object_at, objects_at, waiting}
-use Rattle.c_typed_programs.proofs.Common.{both, first as left, second as right, the_same}
+use Rattle.c_typed_programs.proofs.Bodies.Entities.{new_is_linked}
 
 -- entities with one more, or one that is bound again
 
@@ -58,13 +60,13 @@ old_entity n name x old (e ∷ es) g same =
 bound_by : (name : Name) (x : Entity) (e : Name × Entity) (es : Names Entity) (b : Bool) → is_linked x.what ≡ true
     → are_linked (e ∷ es) ≡ true → are_linked (bound name x es) ≡ true → are_linked (one_bound name x e es b) ≡ true
 bound_by name x e es true is all h =
-    both (is_linked x.what) (are_linked es) is (right (is_linked e.1.what) (are_linked es) all)
+    and_from (is_linked x.what) (are_linked es) is (right (is_linked e.1.what) (are_linked es) all)
 bound_by name x e es false is all h =
-    both (is_linked e.1.what) (are_linked (bound name x es)) (left (is_linked e.1.what) (are_linked es) all) h
+    and_from (is_linked e.1.what) (are_linked (bound name x es)) (left (is_linked e.1.what) (are_linked es) all) h
 
 pub linked_bound : (name : Name) (x : Entity) (es : Names Entity) → is_linked x.what ≡ true → are_linked es ≡ true
     → are_linked (bound name x es) ≡ true
-linked_bound name x [] is all = both (is_linked x.what) true is refl
+linked_bound name x [] is all = and_from (is_linked x.what) true is refl
 linked_bound name x (e ∷ es) is all =
     bound_by name x e es (is_name name e.0) is all
     (linked_bound name x es is (right (is_linked e.1.what) (are_linked es) all))
@@ -120,10 +122,6 @@ new_numbers : (n count : ℕ) (b : Bool) (f : ℕ)
 new_numbers n count true f = omega arith
 new_numbers n count false f = let next = next_below n count in omega arith
 
-new_linked : (b : Bool) (f count : ℕ) → is_linked (if b then what.Function f else what.Object count) ≡ true
-new_linked true f count = refl
-new_linked false f count = refl
-
 none_waiting : (n : ℕ) (d : Designated) (type : List TypeWord) → is_linked d ≡ true
     → waiting n (Some (meaning.Named d type)) ≡ 0
 none_waiting n (what.Object k) type e = refl
@@ -144,7 +142,7 @@ linked_numbers : (s : State) (d : Declaration) (type : List TypeWord) → are_li
     ≡ objects_at n s.environment.entities + below n (declared_linked s d o).environment.statics)
 linked_numbers s d type all None e =
     let x = entity_with s.environment d None in
-    let is = new_linked (is_function d.type) _ s.environment.statics in (
+    let is = new_is_linked (is_function d.type) _ s.environment.statics in (
       linked_bound d.name x s.environment.entities is all,
       λ n. added_up (objects_at n (declared_linked s d None).environment.entities) _ (below n s.environment.statics)
           (objects_at n s.environment.entities) (below n (declared_linked s d None).environment.statics)
@@ -209,7 +207,7 @@ linked_waits : (s : State) (d : Declaration) (n : ℕ) (type : List TypeWord) �
     → (o : Option Entity) → declared d.name s.environment.entities ≡ o
     → waiting n (Some (meaning.Named (entity_with s.environment d o).what type)) ≡ 0
 linked_waits s d n type all None e =
-    none_waiting n (designated s.environment d) type (new_linked (is_function d.type) _ s.environment.statics)
+    none_waiting n (designated s.environment d) type (new_is_linked (is_function d.type) _ s.environment.statics)
 linked_waits s d n type all (Some old) e =
     none_waiting n old.what type (linked_found d.name old s.environment.entities all e)
 

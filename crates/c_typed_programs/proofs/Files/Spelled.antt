@@ -46,10 +46,12 @@ use Rattle.c_unit_typing.specs.Files.{File, FileTyping}
 use Rattle.c_unit_typing.specs.Initializers.{initialized}
 use Rattle.c_unit_typing.specs.Lines.{initializer_line}
 use Rattle.c_typed_programs.proofs.SpelledTypes.Composites.{IsJoint, alike, composite_second, first_sized, joins}
-use Rattle.c_typed_programs.proofs.SpelledTypes.Composites.{none_first, none_second, second_sized}
+use Rattle.c_typed_programs.proofs.SpelledTypes.Composites.{first_is, none_first, none_second, second_sized}
 use Rattle.c_typed_validity.specs.Regular.{are_regular_specifiers, is_regular}
 use Rattle.c_typed_validity.specs.More.{AreMore}
 use Rattle.c_typed_validity.specs.Sound.{IsFormed, is_sized_array}
+use Rattle.c_typed_validity.specs.Steps.{Structures}
+use Rattle.c_typed_validity.proofs.Common.{first, second, the_same}
 use Rattle.c_typed_validity.proofs.Kept.{extent_kept}
 use Rattle.c_typed_declarators.specs.Extending.{Extending, Extends}
 use Rattle.c_typed_declarators.specs.Given.{AreCounted, IsShapeOf, IsSpecified, ValueHasWords}
@@ -65,7 +67,7 @@ use Rattle.c_typed_programs.specs.Scopes.Regular.{is_regular_initializer_if, is_
 use Rattle.c_typed_programs.proofs.Scopes.Declarations.{declarator_leads, specified_extends}
 use Rattle.c_typed_programs.proofs.Scopes.Initializers.{IfBehind, ValueWalk, initialized_walks, value_extends}
 use Rattle.c_typed_programs.specs.Types.Typed.{HasType, IsEntity, IsNamed, IsSpelled, OfSpecification, OfValueType}
-use Rattle.c_typed_programs.specs.Types.Typed.{Structures, Typed, Types, nothing}
+use Rattle.c_typed_programs.specs.Types.Typed.{Typed, Types, nothing}
 use Rattle.c_typed_programs.proofs.Types.Built.{array_spelled, built_spelled}
 use Rattle.c_typed_programs.proofs.Types.Declarators.{IsDeclared}
 use Rattle.c_typed_programs.proofs.Types.Kept.{each_bound, each_declared, each_meaning, spelled_kept}
@@ -74,7 +76,7 @@ use Rattle.c_typed_programs.proofs.Types.Recursion.{shape_typed, specification_t
 use Rattle.c_typed_programs.proofs.Types.States.{declarator_extents, declarator_types, composite_type, library_visible}
 use Rattle.c_typed_programs.proofs.Types.States.{name_types, spelled_has, visible_spelled}
 use Rattle.c_typed_programs.proofs.Types.Steps.{then_typed, valued_typed}
-use Rattle.c_typed_programs.proofs.Common.{filed, first, second, the_same, unless_large}
+use Rattle.c_typed_programs.proofs.Common.{filed, unless_large}
 
 -- values
 
@@ -240,9 +242,6 @@ element_of : (es : Structures) (w : TypeWord) (t : List TypeWord) → w ≡ word
     → is_some (extent_of es (sized_by_initializer (w ∷ t))) ≡ true → is_some (extent_of es t) ≡ true
 element_of es w t e g = ap (λ z. is_some (extent_of es (sized_by_initializer (z ∷ t)))) (sym e) ∙ g
 
-first_is : {v w : TypeWord} {s t : List TypeWord} → v ∷ s ≡ w ∷ t → v ≡ w
-first_is e = cc
-
 rest_is : {v w : TypeWord} {s t : List TypeWord} → v ∷ s ≡ w ∷ t → s ≡ t
 rest_is e = cc
 
@@ -318,7 +317,7 @@ initialized_complete s d must known e =
     (not_tentative (in_file s.environment) (not (is_typedef d.storage)) (not (is_function d.type)) d.has_initializer
     (not (is_extern d.storage)) e) known.complete)
 
-type_is : {d e : Designated} {s t : List TypeWord} → meaning.Named d s ≡ meaning.Named e t → s ≡ t
+pub type_is : {d e : Designated} {s t : List TypeWord} → meaning.Named d s ≡ meaning.Named e t → s ≡ t
 type_is e = cc
 
 bound_to : (b : Bool) (es : Structures) (d : Designated) (type : List TypeWord) → IsSpelled es type

@@ -20,6 +20,7 @@ use Rattle.c_unit_typing.specs.Files.{File}
 use Rattle.c_unit_typing.specs.Programs.{final_type, linked_object, linked_objects, literal_object, parts_of}
 use Rattle.c_unit_typing.specs.Programs.{program_of, static_objects}
 use Rattle.c_typed_validity.specs.Sound.{Extended, IsLiteral}
+use Rattle.c_typed_validity.proofs.Common.{the_same}
 use Rattle.c_typed_validity.proofs.Sound.{get_extended}
 use Rattle.c_typed_programs.specs.Files.Numbers.{AreInOrder, HasKind, entries}
 
@@ -33,9 +34,6 @@ kinds_at : (os : List StaticObject) (n : ℕ) (o : StaticObject) → slice_get o
     → get_or (map (λ s. s.kind) os) n kind.Void ≡ o.kind
 kinds_at [] n o e = absurd cc
 kinds_at (x ∷ os) zero o e = ap (λ s. s.kind) (the_same e)
-  where
-    the_same : Some x ≡ Some o → x ≡ o
-    the_same e = cc
 kinds_at (x ∷ os) (suc n) o e = kinds_at os n o e
 
 pub entry_kind : (f : File) → AreInOrder f → (k : ℕ) (e : ℕ × StaticObject) → slice_get (entries f) k ≡ Some e
@@ -51,9 +49,6 @@ pub literal_got : (ls : List Literal) (n : ℕ) (l : Literal) → slice_get ls n
     → slice_get (map literal_object ls) n ≡ Some (literal_object l)
 literal_got [] n l e = absurd cc
 literal_got (x ∷ ls) zero l e = ap (λ z. Some (literal_object z)) (the_same e)
-  where
-    the_same : Some x ≡ Some l → x ≡ l
-    the_same e = cc
 literal_got (x ∷ ls) (suc n) l e = literal_got ls n l e
 
 pub literal_kind : (f : File) → AreInOrder f → (scope : Scope)
@@ -142,9 +137,6 @@ entity_entry f e es name x n true w h g =
     entry_before (linked_object f e.1.c_type e.1.what) (linked_objects f es) n kind
     (subst (λ z. HasEntryOf (linked_object f z.c_type z.what) n kind) (sym (the_same g))
     (object_entry f x.c_type x.what n w))
-  where
-    the_same : Some e.1 ≡ Some x → e.1 ≡ x
-    the_same e = cc
 entity_entry f e es name x n false w h g =
     entry_behind (linked_object f e.1.c_type e.1.what) (linked_objects f es) n
     (kind_in f.state (final_type (extents f.state) x.c_type)) (h g)

@@ -13,10 +13,11 @@ use Rattle.c_typing.specs.State.{Literal}
 use Rattle.c_unit_typing.specs.Files.{File}
 use Rattle.c_unit_typing.specs.Programs.{in_order, linked_object, linked_objects, literal_object, static_objects}
 use Rattle.c_unit_typing.specs.Programs.{with_number}
+use Rattle.c_typed_validity.proofs.Common.{the_same}
 use Rattle.c_typed_declarators.specs.Extending.{below, literals_at, one_if}
 use Rattle.c_typed_programs.specs.Files.Numbers.{AreInOrder, entries, object_at, objects_at, statics_at}
 use Rattle.c_typed_programs.proofs.Files.Ends.{OwnsAll}
-use Rattle.c_typed_programs.proofs.Common.{same_number, the_same}
+use Rattle.c_typed_programs.proofs.Common.{same_number}
 
 abbrev Entries : Type 0
 Entries = List (ℕ × StaticObject)

@@ -33,6 +33,7 @@ use Rattle.c_unit_typing.specs.Statements.{block_items}
 use Rattle.c_unit_typing.specs.Units.{around_body, entered, external}
 use Rattle.c_unit_typing.specs.Units.{left, parameters_in}
 use Rattle.c_typed_validity.specs.Sound.{IsFormed}
+use Rattle.c_typed_validity.proofs.Common.{first, no_value, second, the_same}
 use Rattle.c_typed_declarators.specs.Extending.{Extends}
 use Rattle.c_typed_declarators.proofs.Marks.{type_extends}
 use Rattle.c_typed_programs.specs.Scopes.Regular.{is_regular_external}
@@ -44,7 +45,7 @@ use Rattle.c_typed_programs.proofs.Functions.Declarations.{IfKept, declaration_k
 use Rattle.c_typed_programs.proofs.Functions.Entities.{compatible_words}
 use Rattle.c_typed_programs.proofs.Functions.Entities.{known_old}
 use Rattle.std.proofs.Common.{◌⊎◌, inl, inr}
-use Rattle.c_typed_programs.proofs.Functions.Entities.{none_some, some_is}
+use Rattle.std.proofs.lemmas.Bool.{or_left as or_first}
 use Rattle.c_typed_programs.specs.Scopes.Regular.{are_regular_externals}
 use Rattle.c_typed_programs.specs.Scopes.Leaving.{Growing}
 use Rattle.c_typed_programs.proofs.Scopes.Files.{external_grows}
@@ -55,7 +56,6 @@ use Rattle.c_typed_programs.proofs.Functions.Entities.{bound_either, unlinked_en
 use Rattle.c_typed_programs.proofs.Functions.Files.{KeepsFile, keeps_walk, visible_words}
 use Rattle.c_typed_programs.specs.Functions.Entities.{Keeps}
 use Rattle.c_typed_programs.proofs.Scopes.Definitions.{DefinitionWalk, definition_walks}
-use Rattle.c_typed_programs.proofs.Common.{first, or_left as or_first, second}
 
 still_same : (x : Entity) → IsStill x (Some x)
 still_same x = record {
@@ -67,7 +67,7 @@ still_same x = record {
   defined = λ d. d;
 }
 
-continues_same : (es : Names Entity) → Continue es es
+pub continues_same : (es : Names Entity) → Continue es es
 continues_same es = record { each = λ name x e. subst (IsStill x) (sym e) (still_same x) }
 
 pub continues_on : (es fs gs : Names Entity) → Continue es fs → Continue fs gs → Continue es gs
@@ -113,12 +113,12 @@ linked_continues : (env : Environment) (d : Declaration) → IsJudged (surroundi
     → has_linkage (in_file env) d ≡ true → (o : Option Entity) → declared d.name env.entities ≡ o
     → Continue env.entities (bound d.name (entity_with env d o) env.entities)
 linked_continues env d known linkage None e =
-    bound_continues env.entities d.name (entity_with env d None) (λ old g. none_some old (sym e ∙ g))
+    bound_continues env.entities d.name (entity_with env d None) (λ old g. no_value old _ (sym e ∙ g))
 linked_continues env d known linkage (Some y) e =
     let x = entity_with env d (Some y) in
     let h = known_old env d known linkage y e in
     bound_continues env.entities d.name x
-    (λ old g. subst (λ z. IsStill z (Some x)) (some_is (sym e ∙ g)) (record {
+    (λ old g. subst (λ z. IsStill z (Some x)) (the_same (sym e ∙ g)) (record {
       entity = x;
       there = refl;
       what = refl;

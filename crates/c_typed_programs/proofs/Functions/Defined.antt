@@ -10,12 +10,15 @@ use Rattle.c_scope.specs.Declaring.{is_function}
 use Rattle.c_scope.specs.Names.{Name, Names, bound, declared, is_name}
 use Rattle.c_unit_typing.specs.Files.{Definition}
 use Rattle.c_typed_validity.specs.Sound.{Extended}
+use Rattle.c_typed_validity.proofs.Common.{no_value, the_same}
 use Rattle.c_typed_validity.proofs.Sound.{get_extended}
+use Rattle.c_typed_declarators.proofs.Lists.{added_length}
+use Rattle.c_typed_programs.proofs.Common.{conflict}
 use Rattle.c_typed_programs.proofs.Declarations.Bound.{bound_here}
 use Rattle.c_typed_programs.specs.Functions.Entities.{AreNumbered, IsFirst, IsSame, Keeps, is_library, names_function}
 use Rattle.c_typed_programs.specs.Functions.Entities.{number_of, without_sizes}
 use Rattle.c_typed_programs.specs.Functions.Functions.{Defines, IsDefinition, Registered}
-use Rattle.c_typed_programs.proofs.Functions.Entities.{bound_either, conflict, function_words, none_some, some_is}
+use Rattle.c_typed_programs.proofs.Functions.Entities.{bound_either, function_words}
 
 -- declarations keep this
 
@@ -56,7 +59,7 @@ module _ (facts : Names ℕ) (ds : List Definition) (es more : Names Entity) (nu
   all_kept name x e =
       by_before (λ x. names_function x.what ≡ true → x.is_defined ≡ true → (n : ℕ) × (declared name numbers ≡ Some n))
       name x e
-      (λ y g s f d. let is = some_is s.there in
+      (λ y g s f d. let is = the_same s.there in
       let what = ap names_function (sym s.what ∙ ap (λ z. z.what) (sym is)) ∙ f in
       let function = sym (h.kinds name y g (no_library y.what what)) ∙ what in
       h.all name y g what
@@ -68,7 +71,7 @@ module _ (facts : Names ℕ) (ds : List Definition) (es more : Names Entity) (nu
       → names_function x.what ≡ is_function x.c_type
   kinds_kept name x e =
       by_before (λ x. is_library x.what ≡ false → names_function x.what ≡ is_function x.c_type) name x e
-      (λ y g s l. let is = some_is s.there in
+      (λ y g s l. let is = the_same s.there in
       let what = ap (λ z. z.what) is ∙ s.what in
       ap names_function what ∙ h.kinds name y g (ap is_library (sym what) ∙ l)
       ∙ sym (function_words s.entity.c_type y.c_type s.words) ∙ ap (λ z. is_function z.c_type) (sym is))
@@ -78,7 +81,7 @@ module _ (facts : Names ℕ) (ds : List Definition) (es more : Names Entity) (nu
       → x.is_defined ≡ true
   library_kept name x e =
       by_before (λ x. is_library x.what ≡ true → x.is_defined ≡ true) name x e
-      (λ y g s l. let is = some_is s.there in
+      (λ y g s l. let is = the_same s.there in
       let what = ap (λ z. z.what) is ∙ s.what in
       ap (λ z. z.is_defined) is ∙ s.defined (h.library name y g (ap is_library (sym what) ∙ l)))
       (λ n l. conflict (sym n.own ∙ l))
@@ -91,7 +94,7 @@ module _ (facts : Names ℕ) (ds : List Definition) (es more : Names Entity) (nu
     kinds = kinds_kept;
     library = library_kept;
     main = λ x e. by_before (λ x. is_library x.what ≡ false) (codes "main") x e
-        (λ y g s. ap (λ z. is_library z.what) (some_is s.there) ∙ ap is_library s.what ∙ h.main y g)
+        (λ y g s. ap (λ z. is_library z.what) (the_same s.there) ∙ ap is_library s.what ∙ h.main y g)
         (λ n. n.own);
   }
 
@@ -104,7 +107,7 @@ numbered_kept facts es more h k = record { each = λ name x n e w. by name x n e
     old : (name : Name) (x y : Entity) (n : ℕ) → declared name es ≡ Some y → IsSame y (Some x)
         → x.what ≡ whats.Function n → n ≡ number_of name facts
     old name x y n g s w =
-        h.each name y n g (sym s.what ∙ ap (λ z. z.what) (sym (some_is s.there)) ∙ w)
+        h.each name y n g (sym s.what ∙ ap (λ z. z.what) (sym (the_same s.there)) ∙ w)
 
     by : (name : Name) (x : Entity) (n : ℕ) → declared name more ≡ Some x → x.what ≡ whats.Function n
         → (o : Option Entity) → declared name es ≡ o → n ≡ number_of name facts
@@ -122,7 +125,7 @@ numbered_more facts es name x h own = record {
         ⊎ ((other ≡ name) × (declared other (bound name x es) ≡ Some x)) → n ≡ number_of other facts
     by other y n e w (inl g) = h.each other y n (sym g ∙ e) w
     by other y n e w (inr g) =
-        own n (ap (λ z. z.what) (some_is (sym g.1 ∙ e)) ∙ w) ∙ ap (λ z. number_of z facts) (sym g.0)
+        own n (ap (λ z. z.what) (the_same (sym g.1 ∙ e)) ∙ w) ∙ ap (λ z. number_of z facts) (sym g.0)
 
 -- one more definition
 
@@ -138,15 +141,11 @@ get_last [] y (suc n) e = absurd (omega (arith, e))
 get_last (z ∷ xs) y zero e = absurd (omega (arith, e))
 get_last (z ∷ xs) y (suc n) e = get_last xs y n (omega (arith, e))
 
-pub one_longer : {A : Type 0} (xs : List A) (y : A) → length (xs ++ y ∷ []) ≡ suc (length xs)
-one_longer [] y = refl
-one_longer (x ∷ xs) y = ap suc (one_longer xs y)
-
 longer_by : {A : Type 0} (name : Name) (v : A) (e : Name × A) (es : Names A) (b : Bool)
     → (if b then Some e.1 else declared name es) ≡ None
     → (declared name es ≡ None → length (bound name v es) ≡ suc (length es))
     → length (if b then (e.0, v) ∷ es else e ∷ bound name v es) ≡ suc (suc (length es))
-longer_by name v e es true g h = none_some e.1 (sym g)
+longer_by name v e es true g h = no_value e.1 _ (sym g)
 longer_by name v e es false g h = ap suc (h g)
 
 bound_longer : {A : Type 0} (name : Name) (v : A) (es : Names A) → declared name es ≡ None
@@ -165,7 +164,7 @@ module _ (ds : List Definition) (es : Names Entity) (numbers : Names ℕ) (h : D
       by : (declared other (bound name x es) ≡ declared other es)
           ⊎ ((other ≡ name) × (declared other (bound name x es) ≡ Some x)) → P y
       by (inl g) = old (sym g ∙ e)
-      by (inr g) = subst P (some_is (sym g.1 ∙ e)) (new g.0)
+      by (inr g) = subst P (the_same (sym g.1 ∙ e)) (new g.0)
 
   each_more : (other : Name) (k : ℕ) → declared other (bound name (length numbers) numbers) ≡ Some k
       → IsDefinition (ds ++ d ∷ []) (bound name x es) other k
@@ -183,7 +182,7 @@ module _ (ds : List Definition) (es : Names Entity) (numbers : Names ℕ) (h : D
         defined = is.defined;
         words = is.words;
       }
-      before is (inr g) i = none_some k (sym fresh ∙ ap (λ z. declared z numbers) (sym g.0) ∙ i)
+      before is (inr g) i = no_value k _ (sym fresh ∙ ap (λ z. declared z numbers) (sym g.0) ∙ i)
 
       by : (declared other (bound name (length numbers) numbers) ≡ declared other numbers)
           ⊎ ((other ≡ name) × (declared other (bound name (length numbers) numbers) ≡ Some (length numbers)))
@@ -191,7 +190,7 @@ module _ (ds : List Definition) (es : Names Entity) (numbers : Names ℕ) (h : D
       by (inl g) = before (h.each other k (sym g ∙ e)) (bound_either other name x es) (sym g ∙ e)
       by (inr g) = record {
         definition = d;
-        there = get_last ds d k (sym (some_is (sym g.1 ∙ e)) ∙ h.count);
+        there = get_last ds d k (sym (the_same (sym g.1 ∙ e)) ∙ h.count);
         entity = x;
         linked = ap (λ z. declared z (bound name x es)) g.0 ∙ bound_here name x es;
         defined = defined;
@@ -210,7 +209,7 @@ module _ (ds : List Definition) (es : Names Entity) (numbers : Names ℕ) (h : D
 
   pub defines_more : Defines (ds ++ d ∷ []) (bound name x es) (bound name (length numbers) numbers)
   defines_more = record {
-    count = bound_longer name (length numbers) numbers fresh ∙ ap suc h.count ∙ sym (one_longer ds d);
+    count = bound_longer name (length numbers) numbers fresh ∙ ap suc h.count ∙ sym (added_length ds d);
     each = each_more;
     all = λ other y e. new_there other y
         (λ y. names_function y.what ≡ true → y.is_defined ≡ true
@@ -238,8 +237,8 @@ registered_more ds types more h e = record {
 
 either_got : {A : Type 0} (xs : List A) (y : A) (n : ℕ) (x : A) → slice_get (xs ++ y ∷ []) n ≡ Some x
     → (slice_get xs n ≡ Some x) ⊎ (y ≡ x)
-either_got [] y zero x e = inr (some_is e)
-either_got [] y (suc n) x e = none_some x e
+either_got [] y zero x e = inr (the_same e)
+either_got [] y (suc n) x e = no_value x _ e
 either_got (z ∷ xs) y zero x e = inl e
 either_got (z ∷ xs) y (suc n) x e = either_got xs y n x e
 

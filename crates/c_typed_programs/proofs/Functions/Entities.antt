@@ -2,7 +2,7 @@
 use Rattle.std.proofs.Common.{◌≡◌, ◌⊎◌, inl, inr, ℕ, Bool, true, false, ◌&&◌, ◌||◌, refl, sym, ap, ◌∙◌, subst}
 use Rattle.std.proofs.Common.{List, [], ◌∷◌, Option, Some, None, if◌then◌else◌}
 use Rattle.std.specs.Prelude.{not, is_some, nat_eq, option_map}
-use Rattle.std.proofs.lemmas.Bool.{eqb-true}
+use Rattle.std.proofs.lemmas.Bool.{eqb-true, or_left}
 use Rattle.c_tree.specs.declared.c_type.TypeWord.{TypeWord}
 use Rattle.c_tree.specs.declared.c_type.TypeWord.TheVariants as word
 use Rattle.c_scope.specs.declared.meaning.Designated.{Designated}
@@ -17,12 +17,12 @@ use Rattle.c_scope.specs.Environment.{Environment, entity_with, in_file, linked,
 use Rattle.c_scope.specs.Environment.{with_declarator, without_linkage}
 use Rattle.c_scope.specs.Names.{Name, Names, bound, declared, is_name}
 use Rattle.c_unit_typing.specs.Declarations.{entity_with_type, is_of_type, is_same_object, with_entity, with_size}
+use Rattle.c_typed_validity.proofs.Common.{first, no_value, second, the_same}
 use Rattle.c_typed_programs.proofs.SpelledTypes.Composites.{IsJoint, alike, composite_nothing, first_sized, joins}
 use Rattle.c_typed_programs.proofs.SpelledTypes.Composites.{none_first, none_second, second_sized}
 use Rattle.c_typed_programs.proofs.Types.Parameters.{IsJudged}
 use Rattle.c_typed_programs.specs.Functions.Entities.{Fills, FillsWord, IsFirst, IsSame, Keeps, is_library}
 use Rattle.c_typed_programs.specs.Functions.Entities.{names_function, number_of, without_sizes}
-use Rattle.c_typed_programs.proofs.Common.{first, or_left, second}
 
 -- names
 
@@ -190,18 +190,9 @@ fills_on (v ∷ s) (w ∷ t) (x ∷ u) h g = (word_on v w x h.0 g.0, fills_on s 
 
 -- lists
 
-pub some_is : {A : Type 0} {x y : A} → Some x ≡ Some y → x ≡ y
-some_is e = cc
-
-pub conflict : {P : Type 0} → false ≡ true → P
-conflict e = cc
-
 not_true : (b : Bool) → (b ≡ true → false ≡ true) → b ≡ false
 not_true true h = sym (h refl)
 not_true false h = refl
-
-pub none_some : {A P : Type 0} (x : A) → None ≡ Some x → P
-none_some x e = cc
 
 pub keeps_same : (numbers : Names ℕ) (es : Names Entity) → Keeps numbers es es
 keeps_same numbers es = record {
@@ -214,7 +205,7 @@ keeps_same numbers es = record {
     defined = λ d. d;
     only = λ f d. d;
   };
-  first = λ name x e g. none_some x (sym e ∙ g);
+  first = λ name x e g. no_value x _ (sym e ∙ g);
 }
 
 pub keeps_on : (numbers : Names ℕ) (es fs gs : Names Entity) → Keeps numbers es fs → Keeps numbers fs gs
@@ -241,7 +232,7 @@ keeps_on numbers es fs gs h k = record {
     by name x e g (Some y) i =
         let own = h.first name y e i in
         let b = k.same name y i in
-        let same = some_is (sym b.there ∙ g) in
+        let same = the_same (sym b.there ∙ g) in
         subst (IsFirst (number_of name numbers)) same (record {
           own = ap is_library b.what ∙ own.own;
           kind = ap names_function b.what ∙ own.kind
@@ -282,10 +273,11 @@ bound_keeps numbers es name x old new = record {
     fresh : (other : Name) (y : Entity) → declared other es ≡ None → declared other (bound name x es) ≡ Some y
         → (declared other (bound name x es) ≡ declared other es)
         ⊎ ((other ≡ name) × (declared other (bound name x es) ≡ Some x)) → IsFirst (number_of other numbers) y
-    fresh other y e g (inl i) = none_some y (sym e ∙ sym i ∙ g)
+    fresh other y e g (inl i) = no_value y _ (sym e ∙ sym i ∙ g)
     fresh other y e g (inr i) =
         subst (λ z. IsFirst (number_of z numbers) y) (sym i.0)
-        (subst (IsFirst (number_of name numbers)) (some_is (sym i.1 ∙ g)) (new (ap (λ z. declared z es) (sym i.0) ∙ e)))
+        (subst (IsFirst (number_of name numbers)) (the_same (sym i.1 ∙ g))
+        (new (ap (λ z. declared z es) (sym i.0) ∙ e)))
 
 -- a declarator without a body that violates no rule
 
@@ -342,7 +334,7 @@ linked_keeps : (env : Environment) (d : Declaration) → IsJudged (surroundings 
 linked_keeps env d known bodiless linkage None e =
     let x = entity_with env d None in
     let kind = new_kind (is_function d.type) _ env.statics in
-    bound_keeps env.facts.functions env.entities d.name x (λ old g. none_some old (sym e ∙ g))
+    bound_keeps env.facts.functions env.entities d.name x (λ old g. no_value old _ (sym e ∙ g))
     (λ g. record {
       own = kind.0;
       kind = kind.1;
@@ -356,7 +348,7 @@ linked_keeps env d known bodiless linkage (Some y) e =
     let h = known_old env d known linkage y e in
     let words = compatible_words y.c_type d.type y.c_type h.0 in
     bound_keeps env.facts.functions env.entities d.name x
-    (λ old g. subst (λ z. IsSame z (Some x)) (some_is (sym e ∙ g)) (record {
+    (λ old g. subst (λ z. IsSame z (Some x)) (the_same (sym e ∙ g)) (record {
       entity = x;
       there = refl;
       what = refl;
@@ -367,7 +359,7 @@ linked_keeps env d known bodiless linkage (Some y) e =
           (no_initializer d.has_initializer (is_typedef d.storage) (is_extern d.storage) (is_function d.type)
           (sym (function_words x.c_type d.type words.1) ∙ f) known.initialized) bodiless i;
     }))
-    (λ g. none_some y (sym g ∙ e))
+    (λ g. no_value y _ (sym g ∙ e))
 
 pub unlinked_entities : (env : Environment) (d : Declaration) (z : Storage)
     → (without_linkage z env d).entities ≡ env.entities
@@ -400,7 +392,7 @@ sized_by env name type None e h = keeps_same env.facts.functions env.entities
 sized_by env name type (Some y) e h =
     let words = compatible_words y.c_type type type (h y refl) in
     bound_keeps env.facts.functions env.entities name (entity_with_type type y)
-    (λ old g. subst (λ z. IsSame z (Some (entity_with_type type y))) (some_is (sym e ∙ g)) (record {
+    (λ old g. subst (λ z. IsSame z (Some (entity_with_type type y))) (the_same (sym e ∙ g)) (record {
       entity = entity_with_type type y;
       there = refl;
       what = refl;
@@ -409,12 +401,12 @@ sized_by env name type (Some y) e h =
       defined = λ d. d;
       only = λ f d. d;
     }))
-    (λ g. none_some y (sym g ∙ e))
+    (λ g. no_value y _ (sym g ∙ e))
 
 is_of : (type : List TypeWord) (o : Option Entity) → is_of_type type o ≡ true → (y : Entity) → o ≡ Some y
     → are_compatible y.c_type type ≡ true
-is_of type None e y g = none_some y g
-is_of type (Some x) e y g = subst (λ z. are_compatible z.c_type type ≡ true) (some_is g) e
+is_of type None e y g = no_value y _ g
+is_of type (Some x) e y g = subst (λ z. are_compatible z.c_type type ≡ true) (the_same g) e
 
 pub size_keeps : (env : Environment) (d : Designated) (name : Name) (type : List TypeWord)
     → is_same_object d name type env ≡ true

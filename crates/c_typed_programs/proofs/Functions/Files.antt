@@ -1,6 +1,7 @@
 -- Definitions of a file number the functions that it defines.
 use Rattle.std.proofs.Common.{◌≡◌, ℕ, Bool, true, false, ◌&&◌, ◌||◌, refl, sym, ap, ◌∙◌, subst}
 use Rattle.std.proofs.Common.{List, [], ◌∷◌, ◌++◌, length, Option, Some, None, if◌then◌else◌}
+use Rattle.std.proofs.lemmas.Bool.{or_right as or_true}
 use Rattle.std.specs.Prelude.{Ok, Err, is_some}
 use Rattle.c_syntax.specs.Formed as formed
 use Rattle.c_syntax.specs.Formed.{defines_function}
@@ -38,6 +39,8 @@ use Rattle.c_unit_typing.specs.Units.{around_body, defined_by, definition_of, en
 use Rattle.c_unit_typing.specs.Units.{left, parameters_in, scope_or_none, with_body}
 use Rattle.c_typed_programs.specs.SpelledTypes.Spelled.{has_parameters}
 use Rattle.c_typed_validity.specs.Sound.{IsFormed, is_sized_array}
+use Rattle.c_typed_validity.specs.Steps.{Structures}
+use Rattle.c_typed_validity.proofs.Common.{first, second}
 use Rattle.c_typed_validity.proofs.PointerCalls.{type_there}
 use Rattle.c_typed_declarators.specs.Extending.{Extending, Extends}
 use Rattle.c_typed_declarators.specs.Given.{AreCounted, HasScope, IsParameterScope, IsShapeOf, IsSpecified}
@@ -60,7 +63,7 @@ use Rattle.c_typed_programs.specs.Scopes.Defined.{defines}
 use Rattle.c_typed_programs.proofs.Files.Definitions.{definition_function}
 use Rattle.c_typed_programs.proofs.Files.Files.{IsOutside, outside_by, linkage_by}
 use Rattle.c_typed_programs.proofs.Files.Spelled.{stored_specification}
-use Rattle.c_typed_programs.specs.Types.Typed.{OfSpecification, Structures, Typed, Types}
+use Rattle.c_typed_programs.specs.Types.Typed.{OfSpecification, Typed, Types}
 use Rattle.c_typed_programs.proofs.Types.Declarators.{IsDeclared}
 use Rattle.c_typed_programs.proofs.Types.Kept.{spelled_kept}
 use Rattle.c_typed_programs.proofs.Types.Parameters.{IsJudged, judged_known}
@@ -71,9 +74,9 @@ use Rattle.c_typed_programs.proofs.Functions.Declarations.{same_in}
 use Rattle.c_typed_programs.specs.Functions.Functions.{Defines, Functions, Registered}
 use Rattle.c_typed_programs.proofs.Functions.Defined.{defines_kept, defines_more, numbered_kept, numbered_more}
 use Rattle.c_typed_programs.proofs.Functions.Defined.{registered_add, registered_more}
-use Rattle.c_typed_programs.proofs.Functions.Entities.{compatible_words, composite_words, conflict, function_words}
+use Rattle.c_typed_programs.proofs.Functions.Entities.{compatible_words, composite_words, function_words}
 use Rattle.c_typed_programs.proofs.Functions.Entities.{declarator_facts, known_old, new_number}
-use Rattle.c_typed_programs.proofs.Common.{IfGives, filed, first, or_right as or_true, second}
+use Rattle.c_typed_programs.proofs.Common.{IfGives, conflict, filed}
 
 -- blocks
 
@@ -267,7 +270,7 @@ function_type es (word.OpenArray ∷ ws) e = absurd cc
 function_type es (word.Structure k ∷ ws) e = absurd cc
 function_type es (word.Const ∷ ws) e = absurd cc
 
-declared_entities : (env : Environment) (d : Declaration) (b : Bool) → b ≡ true
+pub declared_entities : (env : Environment) (d : Declaration) (b : Bool) → b ≡ true
     → (if b then linked env d else without_linkage d.storage env d).entities
     ≡ bound d.name (entity_with env d (declared d.name env.entities)) env.entities
 declared_entities env d true e = refl

@@ -2,7 +2,7 @@
 use Rattle.std.proofs.Common.{◌≡◌, ℕ, zero, suc, ◌+◌, ◌<◌, Bool, true, false, ◌&&◌, ◌==◌, refl, sym, ap}
 use Rattle.std.proofs.Common.{◌∙◌, subst, List, [], ◌∷◌, length, map, Option, Some, None, if◌then◌else◌, arith}
 use Rattle.std.specs.Prelude.{Ok, Err, codes, get_or, slice_get, nat_le}
-use Rattle.std.proofs.lemmas.Bool.{le-leb, lt-ltb}
+use Rattle.std.proofs.lemmas.Bool.{and_from, le-leb, lt-ltb}
 use Rattle.obj_memory.specs.declared.int_type.IntType.TheVariants.{Int}
 use Rattle.c_syntax.specs.Statements as t
 use Rattle.c_tree.specs.declared.c_type.TypeWord.{TypeWord}
@@ -34,13 +34,14 @@ use Rattle.c_unit_typing.specs.Programs.{result_kind, room_of}
 use Rattle.c_unit_typing.specs.Programs.{static_objects}
 use Rattle.c_unit_typing.specs.Units as units
 use Rattle.c_unit_typing.specs.Units.{external, externals, file_before, file_with}
+use Rattle.c_typed_validity.proofs.Common.{first, no_value, second, the_same}
 use Rattle.c_typed_validity.proofs.PointerCalls.{place_get}
 use Rattle.c_typed_validity.specs.Names.{IsFunctionOf}
 use Rattle.c_typed_validity.specs.Sound.{IsTypeOf}
 use Rattle.c_typed_programs.specs.Scopes.Leaving.{Grows, Growing}
 use Rattle.c_typed_programs.specs.Scopes.Regular.{are_regular_externals}
 use Rattle.c_typed_programs.proofs.Scopes.Files.{external_grows, externals_grow}
-use Rattle.c_typed_programs.proofs.Scopes.Start.{file_formed}
+use Rattle.c_typed_programs.proofs.Scopes.Start.{file_formed, start_facts}
 use Rattle.c_typed_programs.specs.Scopes.Defined.{define_functions}
 use Rattle.c_typed_programs.proofs.Files.Definitions.{external_typed}
 use Rattle.c_typed_programs.proofs.Files.Ends.{IsEnded, answer, behind_all, file_outside, same_ok}
@@ -50,14 +51,14 @@ use Rattle.c_typed_programs.proofs.Files.FunctionWords.{function_agrees}
 use Rattle.c_typed_programs.proofs.Files.Spelled.{IfTypes}
 use Rattle.c_typed_programs.proofs.Files.Statics.{get_low}
 use Rattle.c_typed_programs.specs.SpelledTypes.Spelled.{IsFunctionType}
-use Rattle.c_typed_programs.specs.Types.Typed.{Each, Types}
+use Rattle.c_typed_programs.specs.Types.Typed.{Types}
 use Rattle.c_typed_programs.proofs.Types.States.{words_same}
 use Rattle.c_typed_programs.specs.Functions.Entities.{is_library, names_function, number_of, without_sizes}
 use Rattle.c_typed_programs.specs.Functions.Functions.{Functions, HasTypeAndRoom, IsDefinition, Registered}
-use Rattle.c_typed_programs.proofs.Functions.Entities.{conflict, none_some, some_is}
 use Rattle.c_typed_programs.proofs.Functions.Words.{spells_alike}
 use Rattle.c_typed_programs.proofs.Functions.Files.{FunctionsOf, IfDefines, external_defines}
-use Rattle.c_typed_programs.proofs.Common.{first, same_number, second}
+use Rattle.c_typed_programs.proofs.Common.{conflict, same_number}
+use Rattle.c_typed_programs.proofs.Types.Steps.{each_got}
 
 -- one behind the other
 
@@ -91,13 +92,13 @@ library_by : (name : Name) (x : Entity) (e : Name × Entity) (es : Names Entity)
     → (all_library es ≡ true → declared name es ≡ Some x → (is_library x.what && x.is_defined) ≡ true)
     → (if b then Some e.1 else declared name es) ≡ Some x → (is_library x.what && x.is_defined) ≡ true
 library_by name x e es true all h g =
-    ap (λ z. is_library z.what && z.is_defined) (sym (some_is g))
+    ap (λ z. is_library z.what && z.is_defined) (sym (the_same g))
     ∙ (both_true (is_library e.1.what && e.1.is_defined) (all_library es) all).0
 library_by name x e es false all h g = h (both_true (is_library e.1.what && e.1.is_defined) (all_library es) all).1 g
 
 library_found : (name : Name) (x : Entity) (es : Names Entity) → all_library es ≡ true → declared name es ≡ Some x
     → (is_library x.what && x.is_defined) ≡ true
-library_found name x [] all g = none_some x g
+library_found name x [] all g = no_value x _ g
 library_found name x (e ∷ es) all g =
     library_by name x e es (is_name name e.0) all (library_found name x es) g
 
@@ -127,13 +128,13 @@ start_defines objects facts = (
   record {
     defines = record {
       count = refl;
-      each = λ name k e. none_some k e;
+      each = λ name k e. no_value k _ e;
       all = λ name x e f d. conflict (no_function x.what (library_of facts name x e).0 f);
       kinds = λ name x e l. conflict (sym l ∙ (library_of facts name x e).0);
       library = λ name x e l. (library_of facts name x e).1;
-      main = λ x e. none_some x (sym (start_main facts) ∙ e);
+      main = λ x e. no_value x _ (sym (start_main facts) ∙ e);
     };
-    registered = record { each = λ k d e. none_some d e };
+    registered = record { each = λ k d e. no_value d _ e };
   },
   record {
     each = λ name x n e w. conflict (no_function x.what (library_of facts name x e).0 (ap names_function w));
@@ -193,16 +194,16 @@ found_by type t ts false e h = let low = h refl in omega arith
 
 place_found : (type : List TypeWord) (ts : List (List TypeWord)) (n : ℕ) → slice_get ts n ≡ Some type
     → place_among type ts < length ts
-place_found type [] n e = none_some type e
+place_found type [] n e = no_value type _ e
 place_found type (t ∷ ts) zero e =
     found_by type t ts (same_words type t) refl
-    (λ g. conflict (sym g ∙ ap (same_words type) (some_is e) ∙ words_same type))
+    (λ g. conflict (sym g ∙ ap (same_words type) (the_same e) ∙ words_same type))
 place_found type (t ∷ ts) (suc n) e = found_by type t ts (same_words type t) refl (λ g. place_found type ts n e)
 
 got_or : {A B : Type 0} (h : A → B) (xs : List A) (n : ℕ) (x : A) (d : B) → slice_get xs n ≡ Some x
     → get_or (map h xs) n d ≡ h x
-got_or h [] n x d e = none_some x e
-got_or h (y ∷ ys) zero x d e = ap h (some_is e)
+got_or h [] n x d e = no_value x _ e
+got_or h (y ∷ ys) zero x d e = ap h (the_same e)
 got_or h (y ∷ ys) (suc n) x d e = got_or h ys n x d e
 
 map_map : {A B C : Type 0} (g : B → C) (h : A → B) (xs : List A) → map g (map h xs) ≡ map (λ x. g (h x)) xs
@@ -221,7 +222,7 @@ signature_is f type n e =
 
 -- the function with a number
 
-functions_count : (f : File) (os : List StaticObject) (n : ℕ) (ds : List Definition)
+pub functions_count : (f : File) (os : List StaticObject) (n : ℕ) (ds : List Definition)
     → length (functions_from f os n ds) ≡ length ds
 functions_count f os n [] = refl
 functions_count f os n (d ∷ ds) = ap suc (functions_count f os (suc n) ds)
@@ -230,9 +231,9 @@ function_signature : (f : File) (program : Program) (os : List StaticObject) (n 
     (d : Definition) → slice_get ds k ≡ Some d
     → get_or (map (λ g. signature_at program g.type_number) (functions_from f os n ds)) k no_signature
     ≡ signature_at program (place_among d.type f.state.function_types)
-function_signature f program os n [] k d e = none_some d e
+function_signature f program os n [] k d e = no_value d _ e
 function_signature f program os n (x ∷ ds) zero d e =
-    ap (λ z. signature_at program (place_among z.type f.state.function_types)) (some_is e)
+    ap (λ z. signature_at program (place_among z.type f.state.function_types)) (the_same e)
 function_signature f program os n (x ∷ ds) (suc k) d e = function_signature f program os (suc n) ds k d e
 
 -- at the end
@@ -261,7 +262,7 @@ main_by f numbers h same ended =
     let is = h.0.defines.each (codes "main") k.0 k.1 in
     let d = is.definition in
     let type = int_words d.type
-    (is.words ∙ ap without_sizes (ap (λ z. z.c_type) (some_is (sym is.linked ∙ main.there)) ∙ main.type)) in
+    (is.words ∙ ap without_sizes (ap (λ z. z.c_type) (the_same (sym is.linked ∙ main.there)) ∙ main.type)) in
     let number : (program_of f).main ≡ k.0 = ap (λ z. number_or_zero (declared (codes "main") z)) same
     ∙ ap number_or_zero k.1 in
     let there = h.0.registered.each k.0 d is.there in
@@ -270,20 +271,12 @@ main_by f numbers h same ended =
     ∙ ap (λ z. signature_of (function_type (extents f.state) z)) type in
     let count = functions_count f (static_objects f) 0 f.definitions in
     let low = get_low f.definitions k.0 d is.there in
-    both (has_number (program_of f).functions (program_of f).main)
+    and_from (has_number (program_of f).functions (program_of f).main)
     (is_main_signature (get_or (scope_in (program_of f) [] [] kind.Void).functions (program_of f).main no_signature))
     (ap (has_number (program_of f).functions) number ∙ lt-ltb k.0 (length (program_of f).functions)
     (subst (λ z. k.0 < z) (sym count) low))
     (ap (λ z. is_main_signature (get_or (scope_in (program_of f) [] [] kind.Void).functions z no_signature)) number
     ∙ ap is_main_signature signature)
-  where
-    both : (a b : Bool) → a ≡ true → b ≡ true → (a && b) ≡ true
-    both true b e g = g
-    both false b e g = absurd cc
-
-pub start_facts : (facts : Facts) → (start facts).facts ≡ facts
-unfolding start
-start_facts facts = refl
 
 facts_are : (objects : Option (List (List Bool))) (facts : Facts) (g : File) → Grows (file_before objects facts) g
     → g.state.environment.facts ≡ facts
@@ -394,11 +387,11 @@ functions_by : (f : File) → Registered f.definitions f.state.function_types �
     → ((k : ℕ) (d : Definition) → slice_get ds k ≡ Some d → (j : ℕ) × (slice_get f.definitions j ≡ Some d))
     → (k : ℕ) (g : Function) → slice_get (functions_from f (static_objects f) first ds) k ≡ Some g
     → HasTypeAndRoom (program_of f) (first + k) g
-functions_by f h first [] all k g e = none_some g e
+functions_by f h first [] all k g e = no_value g _ e
 functions_by f h first (d ∷ ds) all zero g e =
     let at = all 0 d refl in
     subst (λ z. HasTypeAndRoom (program_of f) z g) (omega arith)
-    (subst (HasTypeAndRoom (program_of f) first) (some_is e) (one_function f h first d at.0 at.1))
+    (subst (HasTypeAndRoom (program_of f) first) (the_same e) (one_function f h first d at.0 at.1))
 functions_by f h first (d ∷ ds) all (suc k) g e =
     subst (λ z. HasTypeAndRoom (program_of f) z g) (omega arith)
     (functions_by f h (suc first) ds (λ j x i. all (suc j) x i) k g e)
@@ -418,12 +411,6 @@ signatures_count : (es : List (Option TypeExtent)) (types : List (List TypeWord)
 signatures_count es [] = refl
 signatures_count es (t ∷ types) = ap suc (signatures_count es types)
 
-each_got : (es : List (Option TypeExtent)) (types : List (List TypeWord)) → Each (IsFunctionType es) types → (n : ℕ)
-    (type : List TypeWord) → slice_get types n ≡ Some type → IsFunctionType es type
-each_got es [] h n type e = none_some type e
-each_got es (t ∷ types) h zero type e = subst (IsFunctionType es) (some_is e) h.0
-each_got es (t ∷ types) h (suc n) type e = each_got es types h.1 n type e
-
 pub type_signature : (f : File) → Types f.state → (scope : Scope) → scope.types ≡ signatures_of (program_of f)
     → (n : ℕ) (type : List TypeWord) → slice_get f.state.function_types n ≡ Some type
     → IsTypeOf scope (extents f.state) n type
@@ -440,7 +427,8 @@ type_signature f h scope same n type e =
             ∙ ap (λ z. get_or z n no_signature) (map_map signature_of (function_type (extents f.state)) types)
             ∙ got_or (λ t. signature_of (function_type (extents f.state) t)) types n type no_signature e;
       };
-      spelled = function_agrees (extents f.state) type (each_got (extents f.state) types h.functions n type e);
+      spelled = function_agrees (extents f.state) type
+          (each_got (IsFunctionType (extents f.state)) types h.functions n type e);
     }
 
 pub types_are_those : (objects : Option (List (List Bool))) (end : ℕ) (es : List t.External) (f : File)
@@ -460,7 +448,7 @@ pub function_designated : (objects : Option (List (List Bool))) (end : ℕ) (es 
 function_designated objects end es f c d is scope same name x n e w type alike known =
     let at = definition_at objects end es f c d is name x n e w known in
     let own = at.definition in
-    let words = at.words ∙ ap (λ z. without_sizes z.c_type) (some_is (sym at.linked ∙ e)) ∙ sym alike in
+    let words = at.words ∙ ap (λ z. without_sizes z.c_type) (the_same (sym at.linked ∙ e)) ∙ sym alike in
     let there = (functions_stand objects end es f c d is).registered.each n own at.there in
     let types = types_end objects end es f c d is in
     let signature = signature_of (function_type (extents f.state) own.type) in
@@ -478,7 +466,8 @@ function_designated objects end es f c d is scope same name x n e w type alike k
       };
       spelled = spells_alike (extents f.state) own.type type signature words
           (function_agrees (extents f.state) own.type
-          (each_got (extents f.state) f.state.function_types types.functions there.0 own.type there.1));
+          (each_got (IsFunctionType (extents f.state)) f.state.function_types types.functions there.0 own.type
+          there.1));
     }
   where
     mapped_count : {A B : Type 0} (h : A → B) (xs : List A) → length (map h xs) ≡ length xs

@@ -9,13 +9,14 @@ use Rattle.c_facts.specs.Facts as facts
 use Rattle.c_scope.specs.Environment.{Facts, number_or}
 use Rattle.c_scope.specs.Names.{Name, Names, bound, declared}
 use Rattle.c_unit_typing.specs.Files.{File}
+use Rattle.c_typed_validity.proofs.Common.{no_value}
+use Rattle.c_typed_declarators.proofs.Lists.{added_length}
 use Rattle.c_typed_programs.proofs.Declarations.Bound.{bound_here}
 use Rattle.c_typed_programs.proofs.Declarations.Facts.{declarators_keep_facts}
 use Rattle.c_typed_programs.specs.Bodies.Defined.{Defines}
 use Rattle.c_typed_programs.specs.Bodies.Whole.{definition_made}
 use Rattle.c_typed_programs.proofs.Bodies.Definitions.{DefinesNamed, made_behind}
-use Rattle.c_typed_programs.proofs.Functions.Defined.{one_longer}
-use Rattle.c_typed_programs.proofs.Functions.Entities.{bound_either, none_some}
+use Rattle.c_typed_programs.proofs.Functions.Entities.{bound_either}
 use Rattle.c_typed_programs.proofs.Functions.Files.{FunctionsOf}
 
 -- a name that has a number keeps it
@@ -38,7 +39,7 @@ numbered_kept own numbers None is = record {
         ⊎ ((name ≡ own) × (declared name (bound own (length numbers) numbers) ≡ Some (length numbers)))
         → declared name (bound own (length numbers) numbers) ≡ Some k
     by name k e (inl g) = g ∙ e
-    by name k e (inr g) = none_some k (sym is ∙ ap (λ z. declared z numbers) (sym g.0) ∙ e)
+    by name k e (inr g) = no_value k _ (sym is ∙ ap (λ z. declared z numbers) (sym g.0) ∙ e)
 
 defined_kept : (o : Option Name) (x : Facts) → Kept x.functions (facts.defined o x).functions
 defined_kept None x = kept_same x.functions x.functions refl
@@ -83,7 +84,7 @@ module _ (name : Option Name) (f behind : File) (d : DefinesNamed name f behind)
   longer : length (numbered d.own earlier) ≡ suc (length earlier)
   longer =
       ap length (sym same_numbers) ∙ after.0.defines.count ∙ ap length (made_behind f behind d.defines)
-      ∙ one_longer f.definitions (definition_made f behind d.defines) ∙ ap suc (sym before.0.defines.count)
+      ∙ added_length f.definitions (definition_made f behind d.defines) ∙ ap suc (sym before.0.defines.count)
 
   own_number : declared d.own behind.state.environment.facts.functions ≡ Some (length earlier)
   own_number =

@@ -6,7 +6,7 @@ use Rattle.c_tree.specs.declared.expression.Kind.{Kind}
 use Rattle.c_tree.specs.Kinds.{Signature}
 use Rattle.c_tree.specs.TypesAgree.{agrees, behind_types, gives_kind, is_end, is_kind_of, kind_of_type, still}
 use Rattle.c_call_rules.specs.FineCalls.{Spells}
-use Rattle.c_typed_programs.specs.Types.Typed.{Structures}
+use Rattle.c_typed_validity.specs.Steps.{Structures}
 use Rattle.c_typed_programs.specs.Functions.Entities.{without_sizes}
 
 kind_sizes : (es : Structures) (ws : List TypeWord) → kind_of_type es (without_sizes ws) ≡ kind_of_type es ws

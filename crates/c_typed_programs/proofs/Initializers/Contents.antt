@@ -1,9 +1,10 @@
 -- What is stored in an object has its bytes: a value of its kind, and a literal that fills it (C99 6.7.8 paragraphs 11
 -- and 14).
 use Rattle.std.proofs.Common.{◌≡◌, ℕ, ◌*◌, ◌≤◌, true, refl, sym, ap, ◌∙◌, List, [], ◌∷◌}
-use Rattle.std.proofs.Common.{◌++◌, length, Option, Some, None, arith, take}
+use Rattle.std.proofs.Common.{◌++◌, length, Option, Some, arith, take}
 use Rattle.std.specs.Prelude.{◌==◌}
 use Rattle.std.proofs.lemmas.List.{length-take}
+use Rattle.std.proofs.lemmas.Option.{none-some}
 use Rattle.obj_memory.specs.declared.int_type.IntType.{IntType}
 use Rattle.obj_memory.specs.declared.int_type.IntType.TheVariants as int
 use Rattle.obj_memory.specs.Integers.{rank, size_of}
@@ -16,10 +17,10 @@ use Rattle.c_tree.specs.TypesAgree.{kind_of_type, structure_kind}
 use Rattle.c_rules.specs.Types.{unqualified}
 use Rattle.c_current_object.specs.Types.{is_character_array_as, is_character_as}
 use Rattle.c_initializer_rules.specs.Literals.{filling_as}
+use Rattle.c_typed_validity.proofs.Common.{the_same}
 use Rattle.c_typed_declarators.proofs.Types.{size_low}
 use Rattle.c_typed_programs.specs.Initializers.Placing.{HasExtent}
 use Rattle.c_typed_programs.proofs.Initializers.Extents.{array_elements, unqualified_extent}
-use Rattle.c_typed_programs.proofs.Common.{the_same}
 
 -- the bytes of the kind of a type
 
@@ -109,10 +110,7 @@ literal_bytes es size (word.Array count bytes ∷ ws) spelled h c =
     ∙ character_extent es (unqualified ws) all.has.extent (unqualified_extent es ws ∙ all.has.complete) c in
     taken_bytes count size (spelled ++ 0 ∷ []) (some_bytes spelled) (ap (λ n. count * n) (sym one) ∙ all.all)
     (size_low size h.object)
-literal_bytes es size (word.OpenArray ∷ ws) spelled h c = absurd (none h.complete)
-  where
-    none : None ≡ Some h.extent → ⊥
-    none e = cc
+literal_bytes es size (word.OpenArray ∷ ws) spelled h c = absurd (none-some _ h.complete)
 literal_bytes es size (word.Structure n ∷ ws) spelled h c = absurd cc
 literal_bytes es size (word.Const ∷ ws) spelled h c = absurd cc
 literal_bytes es size (word.Takes ∷ ws) spelled h c = absurd cc

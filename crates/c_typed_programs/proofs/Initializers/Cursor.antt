@@ -27,15 +27,11 @@ use Rattle.c_initializer_rules.specs.Initializing.{designated_by, designated_in,
 use Rattle.c_initializer_rules.specs.Initializing.{from_whole_list, is_literal, last_list, next_behind, opened_for}
 use Rattle.c_initializer_rules.specs.Initializing.{place_in_list, place_of, place_standing, stored_at, with_index}
 use Rattle.c_initializer_rules.specs.Initializing.{with_name, with_one_too_many}
+use Rattle.c_typed_validity.proofs.Sound.{IfAnswer}
 use Rattle.c_typed_programs.specs.Initializers.Cursor.{AreLists, AreOpen, HasIf, IsCurrent, HoldsOfAll, IsList, IsNext}
 
--- what an answer gives has a property
-abbrev pub If : {A : Type 0} → (A → Type 0) → Answer A → Type 0
-If P (Ok x) = P x
-If P (Err f) = Unit {0}
-
-pub if_then : {A B : Type 0} (P : A → Type 0) (Q : B → Type 0) (a : Answer A) (next : A → Answer B) → If P a
-    → ((x : A) → P x → If Q (next x)) → If Q (a >>= next)
+pub if_then : {A B : Type 0} (P : A → Type 0) (Q : B → Type 0) (a : Answer A) (next : A → Answer B) → IfAnswer P a
+    → ((x : A) → P x → IfAnswer Q (next x)) → IfAnswer Q (a >>= next)
 if_then P Q (Ok x) next h g = g x h
 if_then P Q (Err f) next h g = tt
 
@@ -90,16 +86,16 @@ module _ (P : Subobject → Type 0) where
   designation_objects i h = next_objects i h _ (from_list i.list.object h.list.object)
 
   designated_next : (line : ℕ) (choose : CurrentObject → Answer CurrentObject)
-      → ((c : CurrentObject) → IsCurrent P c → If (IsCurrent P) (choose c)) → (next : Option Next) → IsNext P next
-      → If (IsNext P) (designated_in line choose next)
+      → ((c : CurrentObject) → IsCurrent P c → IfAnswer (IsCurrent P) (choose c)) → (next : Option Next) → IsNext P next
+      → IfAnswer (IsNext P) (designated_in line choose next)
   designated_next line choose h None is = tt
   designated_next line choose h (Some n) is =
       if_then (IsCurrent P) (IsNext P) (choose n.current) (λ c. Ok (Some (at_object c Further))) (h n.current is)
       (λ c g. g)
 
   designated_objects : (line : ℕ) (choose : CurrentObject → Answer CurrentObject)
-      → ((c : CurrentObject) → IsCurrent P c → If (IsCurrent P) (choose c)) → (i : Initializing) → HoldsOfAll P i
-      → If (λ j. HoldsOfAll P j × (j.parts ≡ i.parts)) (designated_by line choose i)
+      → ((c : CurrentObject) → IsCurrent P c → IfAnswer (IsCurrent P) (choose c)) → (i : Initializing) → HoldsOfAll P i
+      → IfAnswer (λ j. HoldsOfAll P j × (j.parts ≡ i.parts)) (designated_by line choose i)
   designated_objects line choose g i h =
       if_then (IsNext P) (λ j. HoldsOfAll P j × (j.parts ≡ i.parts)) (designated_in line choose i.next)
       (λ next. Ok (record i { next = next })) (designated_next line choose g i.next h.next)
@@ -199,23 +195,23 @@ module _ (P : Subobject → Type 0) where
     -- designators
 
     chosen_is : (line : ℕ) (c : CurrentObject) (n : ℕ) → IsCurrent P c → (x : Option Subobject) → HasIf P x
-        → If (IsCurrent P) (chosen lists line c n x)
+        → IfAnswer (IsCurrent P) (chosen lists line c n x)
     chosen_is line c n h None is = tt
     chosen_is line c n h (Some p) is = within_is c n p h is
 
     designated_is : (line : ℕ) (c : CurrentObject) → IsCurrent P c → (n : Option ℕ)
-        → If (IsCurrent P) (designated es lists line c n)
+        → IfAnswer (IsCurrent P) (designated es lists line c n)
     designated_is line c h None = tt
     designated_is line c h (Some n) = chosen_is line c n h (part es lists c.object n) (parts c.object n h.object)
 
     pub index_objects : (line : ℕ) (index : Option ℕ) (i : Initializing) → HoldsOfAll P i
-        → If (λ j. HoldsOfAll P j × (j.parts ≡ i.parts)) (with_index es lists line index i)
+        → IfAnswer (λ j. HoldsOfAll P j × (j.parts ≡ i.parts)) (with_index es lists line index i)
     index_objects line index i h =
         designated_objects line (by_index es lists line index)
         (λ c is. designated_is line c is (element_number c.object.c_type index)) i h
 
     pub name_objects : (line : ℕ) (name : Name) (i : Initializing) → HoldsOfAll P i
-        → If (λ j. HoldsOfAll P j × (j.parts ≡ i.parts)) (with_name es lists line name i)
+        → IfAnswer (λ j. HoldsOfAll P j × (j.parts ≡ i.parts)) (with_name es lists line name i)
     name_objects line name i h =
         designated_objects line (by_name es lists line name)
         (λ c is. designated_is line c is (member_number lists c.object.c_type name)) i h

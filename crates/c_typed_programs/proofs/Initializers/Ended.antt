@@ -3,7 +3,7 @@
 use Rattle.std.proofs.Common.{◌≡◌, ℕ, zero, suc, ◌+◌, ◌*◌, ◌^◌, ◌≤◌, max, true, false, refl}
 use Rattle.std.proofs.Common.{List, [], ◌∷◌, length, nat_le, arith, mul-le-mul_right}
 use Rattle.std.specs.List.{list_all}
-use Rattle.std.proofs.lemmas.Bool.{le-leb}
+use Rattle.std.proofs.lemmas.Bool.{and_from, le-leb}
 use Rattle.c_tree.specs.Extents.{capped}
 use Rattle.c_tree.specs.Statements.{Content, value_content, literal_content}
 use Rattle.c_tree.specs.Valid.{Scope}
@@ -13,7 +13,6 @@ use Rattle.c_initializer_rules.specs.Placed.{PlacedPart, count_of, count_with, g
 use Rattle.c_typed_programs.specs.Initializers.Cursor.{Every}
 use Rattle.c_typed_programs.specs.Initializers.Initialized.{IsValidPart}
 use Rattle.c_typed_programs.specs.Initializers.Placing.{FitsIn, reach}
-use Rattle.c_typed_programs.proofs.Common.{both}
 
 -- parts that end within so many bytes
 
@@ -24,8 +23,8 @@ all_parts : (scope : Scope) (total : ℕ) (ps : List PlacedPart) → Every (IsVa
     → Every (EndsIn total) ps → are_parts scope total (parts_in ps) ≡ true
 all_parts scope total [] valid ends = refl
 all_parts scope total (p ∷ ps) valid ends =
-    both (is_part scope total p.part) (list_all (is_part scope total) (parts_in ps))
-    (both (is_content scope p.part.content) (nat_le (p.part.offset + content_size p.part.content) total) valid.0
+    and_from (is_part scope total p.part) (list_all (is_part scope total) (parts_in ps))
+    (and_from (is_content scope p.part.content) (nat_le (p.part.offset + content_size p.part.content) total) valid.0
     (le-leb (p.part.offset + content_size p.part.content) total ends.0))
     (all_parts scope total ps valid.1 ends.1)
 

@@ -12,10 +12,11 @@ use Rattle.c_tree.specs.Layout.{array_size}
 use Rattle.c_rules.specs.declared.class.Target.TheVariants as target
 use Rattle.c_rules.specs.Types.{target_of, unqualified}
 use Rattle.c_place_laws.proofs.Sizes.{Complete, complete}
-use Rattle.c_typed_declarators.proofs.Types.{is_size_of, size_high, size_low}
+use Rattle.c_typed_validity.proofs.Common.{first, second, the_same}
+use Rattle.c_typed_validity.proofs.Moved.{size_high}
+use Rattle.c_typed_declarators.proofs.Types.{is_size_of, size_low}
 use Rattle.c_typed_programs.specs.Layouts.Listed.{has_array_bytes}
 use Rattle.c_typed_programs.specs.Initializers.Placing.{HasExtent}
-use Rattle.c_typed_programs.proofs.Common.{first, second, the_same}
 
 -- qualifiers change no extent
 

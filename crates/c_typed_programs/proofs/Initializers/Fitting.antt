@@ -1,6 +1,7 @@
 -- What is stored in a subobject lies in the object that is initialized (C99 6.7.8).
 use Rattle.std.proofs.Common.{◌≡◌, ℕ, zero, suc, ◌+◌, ◌*◌, ◌≤◌, Bool, true, false, refl, sym, ap, ◌∙◌}
-use Rattle.std.proofs.Common.{subst, List, [], ◌∷◌, ◌++◌, length, Option, Some, None, arith}
+use Rattle.std.proofs.Common.{subst, List, [], ◌∷◌, ◌++◌, length, Option, Some, arith}
+use Rattle.std.proofs.lemmas.Option.{none-some}
 use Rattle.c_tree.specs.declared.c_type.TypeWord.{TypeWord}
 use Rattle.c_tree.specs.declared.c_type.TypeWord.TheVariants as word
 use Rattle.c_tree.specs.Extents.{TypeExtent}
@@ -61,10 +62,7 @@ module _ (es : List (Option TypeExtent)) (b : Bool) (size : ℕ) (base : List Ty
   -- a value is stored in no array of unknown size
   value_fits : (o : Subobject) (e : Expression) → IsPlaced b size base es o
       → kind_of_type es o.c_type ≡ Some (kind_of e) → FitsIn b size (placed o (value_content e))
-  value_fits o e (as_whole t has at) kind = absurd (none (ap (λ o. kind_of_type es o.c_type) (sym at) ∙ kind))
-    where
-      none : None ≡ Some (kind_of e) → ⊥
-      none e = cc
+  value_fits o e (as_whole t has at) kind = absurd (none-some _ (ap (λ o. kind_of_type es o.c_type) (sym at) ∙ kind))
   value_fits o e (as_part h) kind =
       let same = value_bytes es h.size o.c_type e h.has kind in
       let low = size_low h.size h.has.object in

@@ -16,11 +16,10 @@ use Rattle.c_typed_validity.specs.Sound.{Covers, IsFormed, Keeps, Knows, Sound}
 use Rattle.c_typed_validity.specs.Steps.{FineValue, Structures, nothing}
 use Rattle.c_typed_validity.proofs.Expressions.{typed_sound}
 use Rattle.c_typed_validity.proofs.PointerCalls.{pointer_calls}
-use Rattle.c_typed_validity.proofs.Sound.{Stays, both, covers_back, keeps_on, keeps_same}
+use Rattle.c_typed_validity.proofs.Sound.{IfAnswer, Stays, both, covers_back, keeps_on, keeps_same}
 use Rattle.c_typed_validity.proofs.Steps.{nothing_stays, valued_sound}
 use Rattle.c_typed_declarators.proofs.Known.{type_names}
 use Rattle.c_typed_programs.specs.Initializers.Giving.{AreKnown, ExpressionsKeep, Gives, Giving, IfKept, IsFineIf}
-use Rattle.c_typed_programs.proofs.Initializers.Cursor.{If}
 
 -- what is known of names in a state and behind one after it
 
@@ -97,7 +96,7 @@ module _ (is_known : Bool) (scope : Scope) (last : Structures) (Known : State �
   -- what leaves the state
 
   pub giving_judged : {A : Type 0} (s : State) (given : Structures → Type 0) (p : Structures → A → Type 0)
-      (a : Answer A) → (Known s → given (extents s) → If (p (extents s)) a)
+      (a : Answer A) → (Known s → given (extents s) → IfAnswer (p (extents s)) a)
       → Giving is_known scope last Known s given p (a >>= λ x. Ok (s, x))
   giving_judged s given p (Ok x) is = λ formed. record {
     keeps = keeps_same scope last s formed;

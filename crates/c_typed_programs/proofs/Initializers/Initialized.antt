@@ -1,6 +1,7 @@
 -- What declared objects are initialized with (C99 6.7.8).
 use Rattle.std.proofs.Common.{arith, ◌≡◌, ◌⊎◌, inl, inr, ℕ, ◌≤◌, Bool, true, false, refl, sym, ap, ◌∙◌, subst, List}
 use Rattle.std.proofs.Common.{Option, Some, None, [], ◌∷◌}
+use Rattle.std.proofs.lemmas.Option.{none-some}
 use Rattle.std.specs.Prelude.{Ok, Err, is_some, option_map}
 use Rattle.c_syntax.specs.Tree.{Initializer}
 use Rattle.c_tree.specs.declared.c_type.TypeWord.{TypeWord}
@@ -29,11 +30,13 @@ use Rattle.c_unit_typing.specs.Declarations.{parts_initializer}
 use Rattle.c_unit_typing.specs.Initializers.{initialized, member_lists}
 use Rattle.c_typed_validity.specs.Sound.{Covers, IsFormed, Keeps, Knows, Sound, is_sized_array}
 use Rattle.c_typed_validity.specs.Steps.{Structures}
-use Rattle.c_typed_validity.proofs.Sound.{keeps_same}
+use Rattle.c_typed_validity.proofs.Common.{the_same}
+use Rattle.c_typed_validity.proofs.Moved.{size_high}
+use Rattle.c_typed_validity.proofs.Sound.{IfAnswer, keeps_same}
 use Rattle.c_typed_declarators.specs.Given.{anything}
 use Rattle.c_typed_programs.specs.Declarations.Binding.{Binds, Completes, IfCompleted, IsCompleteFor}
 use Rattle.c_typed_programs.specs.Scopes.Regular.{is_regular_initializer, is_regular_initializer_if}
-use Rattle.c_typed_declarators.proofs.Types.{size_high, size_low}
+use Rattle.c_typed_declarators.proofs.Types.{size_low}
 use Rattle.c_typed_programs.proofs.Layouts.Behind.{expression_behind}
 use Rattle.c_typed_programs.proofs.Layouts.Declared.{laid_out_binds}
 use Rattle.c_typed_programs.specs.Initializers.Cursor.{Every, IsPlacing}
@@ -42,7 +45,7 @@ use Rattle.c_typed_programs.specs.Initializers.Initialized.{IfInitialized, IfSca
 use Rattle.c_typed_programs.specs.Layouts.Listed.{HasSizes, IfLaidOut, IsLaidOut}
 use Rattle.c_typed_programs.specs.Initializers.Placing.{FitsIn, HasExtent, IsPlaced, whole_type}
 use Rattle.c_typed_programs.proofs.Initializers.Counted.{IsCounted, keeps_counted, some_elements}
-use Rattle.c_typed_programs.proofs.Initializers.Cursor.{If, begun_objects}
+use Rattle.c_typed_programs.proofs.Initializers.Cursor.{begun_objects}
 use Rattle.c_typed_programs.proofs.Initializers.Ended.{closed_parts, open_parts}
 use Rattle.c_typed_programs.proofs.Initializers.Fitting.{has_kept, keeps_fitting, placed_kept, whole_placed}
 use Rattle.c_typed_programs.proofs.Initializers.Objects.{IsBase, IsSized, base_of, complete_kept, completed_sized}
@@ -55,7 +58,6 @@ use Rattle.c_typed_programs.proofs.Initializers.Scalars.{none, parts_whole, same
 use Rattle.c_typed_programs.proofs.Initializers.Some.{At, HasSome, IsAwaited, IsStored, begun_awaited, ended_some}
 use Rattle.c_typed_programs.proofs.Initializers.Some.{some_steps}
 use Rattle.c_typed_programs.proofs.Initializers.Valid.{initialized_valid, nothing_kept}
-use Rattle.c_typed_programs.proofs.Common.{the_same}
 
 -- expressions keep the arrays of names and members laid out
 
@@ -131,10 +133,7 @@ extent_sized es size (word.Enumeration n ∷ ws) h = refl
 extent_sized es size (word.Pointer ∷ ws) h = refl
 extent_sized es size (word.Array count bytes ∷ ws) h =
     array_sized (extent_of es ws) bytes size h.extent h.complete h.bytes h.object
-extent_sized es size (word.OpenArray ∷ ws) h = absurd (none h.complete)
-  where
-    none : None ≡ Some h.extent → ⊥
-    none e = cc
+extent_sized es size (word.OpenArray ∷ ws) h = absurd (none-some _ h.complete)
 extent_sized es size (word.Structure n ∷ ws) h = refl
 extent_sized es size (word.Const ∷ ws) h =
     extent_sized es size ws (record {
@@ -171,7 +170,7 @@ module _ (scope : Scope) (last : Structures) (what : Designated) (name : Name ×
       (λ es j. IsPlacing (IsPlaced true w.size w.base es) (Every IsCounted) j) a
       → Giving false scope last (λ s. Unit {0}) s (λ es. At 0 IsAwaited (begun type)) (λ es. At 0 IsStored) a
       → Sound scope last s (λ es. Every (IsValidPart scope) (begun type).parts)
-      (λ es j. Every (IsValidPart scope) j.parts) a → If (IsRead scope last w.is_open w.size s) a
+      (λ es j. Every (IsValidPart scope) j.parts) a → IfAnswer (IsRead scope last w.is_open w.size s) a
   read_by w (Ok r) placing counted stored valid =
       let p = placing formed in
       record {
@@ -208,7 +207,7 @@ module _ (scope : Scope) (last : Structures) (what : Designated) (name : Name ×
           (λ linked. subst (λ z. HasSizes z.extents q.1) binds.structures has) is
 
   ended_by : (w : IsBase (extents s) type) (r : State × Initializing) → IsRead scope last w.is_open w.size s r
-      → (a : Answer (State × List TypeWord)) → If (IsSized w.is_open w.size (count_of r.1.parts) r.0) a
+      → (a : Answer (State × List TypeWord)) → IfAnswer (IsSized w.is_open w.size (count_of r.1.parts) r.0) a
       → ((w.is_open ≡ true → 1 ≤ count_of r.1.parts) → IfCompleted what name.0 r.0 a)
       → IfInitialized scope last what name.0 s (a >>= λ q. Ok (q.0, (q.1, parts_in r.1.parts)))
   ended_by w r h (Ok q) sized completes =
@@ -235,7 +234,7 @@ module _ (scope : Scope) (last : Structures) (what : Designated) (name : Name ×
   ended_by w r h (Err f) sized completes = tt
 
   then_completed : (w : IsBase (extents s) type) (a : Answer (State × Initializing))
-      → If (IsRead scope last w.is_open w.size s) a
+      → IfAnswer (IsRead scope last w.is_open w.size s) a
       → IfInitialized scope last what name.0 s (a >>= λ r.
       (completed what name type (count_of r.1.parts) r.0 >>= λ q. Ok (q.0, (q.1, parts_in r.1.parts))))
   then_completed w (Ok r) h =
@@ -291,7 +290,7 @@ module _ (scope : Scope) (last : Structures) (what : Designated) (name : Name ×
       (λ es. IsPlacing (λ o. o ≡ whole type) (IsAtMostOne scope type es) (begun type))
       (λ es j. IsPlacing (λ o. o ≡ whole type) (IsAtMostOne scope type es) j) a
       → Giving false scope last (λ s. Unit {0}) s (λ es. At 0 IsAwaited (begun type)) (λ es. At 0 IsStored) a
-      → If IsReadOne a
+      → IfAnswer IsReadOne a
   read_one (Ok r) placing stored = record {
     one = λ knows covers.
         exactly_one scope type (extents r.0) r.1.parts
@@ -320,7 +319,7 @@ module _ (scope : Scope) (last : Structures) (what : Designated) (name : Name ×
       subst (λ a. IfScalar scope last type s (a >>= λ q. Ok (q.0, (q.1, parts_in r.1.parts)))) (sym is)
       (record { same = refl; value = λ knows covers. value_of r.0 r.1.parts (h.one knows covers) })
 
-  then_scalar : (a : Answer (State × Initializing)) → If IsReadOne a
+  then_scalar : (a : Answer (State × Initializing)) → IfAnswer IsReadOne a
       → IfScalar scope last type s (a >>= λ r.
       (completed what name type (count_of r.1.parts) r.0 >>= λ q. Ok (q.0, (q.1, parts_in r.1.parts))))
   then_scalar (Ok r) h =

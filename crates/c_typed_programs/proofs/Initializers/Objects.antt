@@ -1,8 +1,9 @@
 -- An object of a complete type behind its initializer (C99 6.7.8 paragraph 22).
-use Rattle.std.proofs.Common.{◌≡◌, ℕ, zero, suc, ◌*◌, ◌^◌, ◌≤◌, Bool, true, false, not, refl}
+use Rattle.std.proofs.Common.{◌≡◌, ℕ, ◌*◌, ◌^◌, ◌≤◌, Bool, true, false, not, refl}
 use Rattle.std.proofs.Common.{sym, ap, ◌∙◌, subst, List, [], ◌∷◌, Option, Some, None, if◌then◌else◌, arith}
 use Rattle.std.specs.Prelude.{Ok, option_map, slice_get}
 use Rattle.std.proofs.lemmas.Bool.{ltb-false}
+use Rattle.std.proofs.lemmas.Option.{none-some}
 use Rattle.c_tree.specs.declared.c_type.TypeWord.{TypeWord}
 use Rattle.c_tree.specs.declared.c_type.TypeWord.TheVariants as word
 use Rattle.c_tree.specs.Extents.{TypeExtent, array_extent, capped, extent_of, structure_extent}
@@ -23,15 +24,15 @@ use Rattle.c_unit_typing.specs.Declarations.{completed, is_same_object, kind_in,
 use Rattle.c_typed_validity.specs.Sound.{Covers, IsFormed}
 use Rattle.c_typed_validity.specs.More.{AreMore}
 use Rattle.c_typed_validity.specs.Steps.{Structures}
+use Rattle.c_typed_validity.proofs.Common.{the_same}
 use Rattle.c_typed_validity.proofs.Kept.{extent_kept}
+use Rattle.c_typed_validity.proofs.Sound.{IfAnswer}
 use Rattle.c_typed_programs.specs.Declarations.Binding.{IfCompleted, IsCompleteFor}
 use Rattle.c_typed_programs.proofs.Declarations.Completed.{completed_by, size_binds}
-use Rattle.c_typed_declarators.proofs.Types.{is_size_of, size_low, target_is}
+use Rattle.c_typed_declarators.proofs.Types.{is_size_of, positive_product, size_low, target_is}
 use Rattle.c_typed_programs.specs.Layouts.Listed.{has_array_bytes}
 use Rattle.c_typed_programs.proofs.Layouts.Arrays.{array_arrays}
 use Rattle.c_typed_programs.specs.Initializers.Placing.{HasExtent, whole_type}
-use Rattle.c_typed_programs.proofs.Initializers.Cursor.{If}
-use Rattle.c_typed_programs.proofs.Common.{the_same}
 
 -- what is initialized is of a complete type, or an array of unknown size with elements of one
 
@@ -82,11 +83,6 @@ kind_total t size ws h =
 
 -- the array behind its initializer
 
-some_rows : (count size : ℕ) → 1 ≤ count → 1 ≤ size → 1 ≤ count * size
-some_rows (suc count) (suc size) low more = grind arith
-some_rows zero size low more = absurd (omega (arith, low))
-some_rows (suc count) zero low more = absurd (omega (arith, more))
-
 open_by : (es : List (Option TypeExtent)) (count size : ℕ) (element : List TypeWord) (o : Option TypeExtent)
     → extent_of es element ≡ o → (e : TypeExtent) → o ≡ Some e → e.size ≡ size → is_size size ≡ true
     → has_array_bytes es element ≡ true → 1 ≤ count → is_large (array_of count o) ≡ false
@@ -97,7 +93,7 @@ open_by es count size element (Some x) is e known bytes object arrays some small
     let same : x.size ≡ size = ap (λ e. e.size) (the_same known) ∙ bytes in
     let product : count * x.size ≡ count * size = ap (λ n. count * n) same in
     let low : capped (count * x.size) ≤ 2 ^ 32 = ltb-false (2 ^ 32) (capped (count * x.size)) small in
-    let least = some_rows count size some (size_low size object) in
+    let least = positive_product count size some (size_low size object) in
     record {
       extent = array_extent (capped (count * x.size)) x;
       complete = ap (option_map (array_extent (capped (count * x.size)))) is;
@@ -122,7 +118,7 @@ closed_sized s size count type h = record { same = (refl, refl, refl, refl); has
 unless_large : (s : State) (d : Designated) (name : Name × ℕ) (count size : ℕ) (element : List TypeWord)
     → HasExtent (extents s) size element → (large : Bool)
     → is_large (array_of count (extent_of (extents s) element)) ≡ large
-    → If (IsSized true size count s)
+    → IfAnswer (IsSized true size count s)
     (if large then violates LargeType name.1
     else Ok (
       record s {
@@ -144,7 +140,7 @@ unless_large s d name count size element h false e =
 
 unless_redeclared : (s : State) (d : Designated) (name : Name × ℕ) (count size : ℕ) (element : List TypeWord)
     → HasExtent (extents s) size element → (b : Bool)
-    → If (IsSized true size count s)
+    → IfAnswer (IsSized true size count s)
     (if not b then violates Redeclared name.1
     else if is_large (array_of count (extent_of (extents s) element)) then violates LargeType name.1
     else Ok (
@@ -158,13 +154,10 @@ unless_redeclared s d name count size element h true =
     unless_large s d name count size element h (is_large (array_of count (extent_of (extents s) element))) refl
 
 closed_by : (s : State) (d : Designated) (name : Name × ℕ) (count size : ℕ) (type : List TypeWord)
-    → HasExtent (extents s) size type → If (IsSized false size count s) (completed d name type count s)
+    → HasExtent (extents s) size type → IfAnswer (IsSized false size count s) (completed d name type count s)
 unfolding extent_of
 closed_by s d name count size [] h = closed_sized s size count [] h
-closed_by s d name count size (word.OpenArray ∷ ws) h = absurd (none h.complete)
-  where
-    none : None ≡ Some h.extent → ⊥
-    none e = cc
+closed_by s d name count size (word.OpenArray ∷ ws) h = absurd (none-some _ h.complete)
 closed_by s d name count size (word.Void ∷ ws) h = closed_sized s size count _ h
 closed_by s d name count size (word.Integer t ∷ ws) h = closed_sized s size count _ h
 closed_by s d name count size (word.Enumeration n ∷ ws) h = closed_sized s size count _ h
@@ -176,7 +169,7 @@ closed_by s d name count size (word.Takes ∷ ws) h = closed_sized s size count 
 closed_by s d name count size (word.Gives ∷ ws) h = closed_sized s size count _ h
 
 whole_sized : (s : State) (d : Designated) (name : Name × ℕ) (count : ℕ) (b : Bool) (size : ℕ) (base : List TypeWord)
-    → HasExtent (extents s) size base → If (IsSized b size count s) (completed d name (whole_type b base) count s)
+    → HasExtent (extents s) size base → IfAnswer (IsSized b size count s) (completed d name (whole_type b base) count s)
 whole_sized s d name count false size base h = closed_by s d name count size base h
 whole_sized s d name count true size base h =
     unless_redeclared s d name count size base h
@@ -184,9 +177,9 @@ whole_sized s d name count true size base h =
 
 pub completed_sized : (s : State) (d : Designated) (name : Name × ℕ) (type : List TypeWord) (count : ℕ)
     (b : Bool) (size : ℕ) (base : List TypeWord) → type ≡ whole_type b base → HasExtent (extents s) size base
-    → If (IsSized b size count s) (completed d name type count s)
+    → IfAnswer (IsSized b size count s) (completed d name type count s)
 completed_sized s d name type count b size base is h =
-    subst (λ z. If (IsSized b size count s) (completed d name z count s)) (sym is)
+    subst (λ z. IfAnswer (IsSized b size count s) (completed d name z count s)) (sym is)
     (whole_sized s d name count b size base h)
 
 -- the size of a complete type does not come of the initializer
@@ -194,10 +187,7 @@ same_count : (s : State) (d : Designated) (name : Name × ℕ) (count size : ℕ
     → HasExtent (extents s) size type → completed d name type 1 s ≡ completed d name type count s
 unfolding extent_of
 same_count s d name count size [] h = refl
-same_count s d name count size (word.OpenArray ∷ ws) h = absurd (none h.complete)
-  where
-    none : None ≡ Some h.extent → ⊥
-    none e = cc
+same_count s d name count size (word.OpenArray ∷ ws) h = absurd (none-some _ h.complete)
 same_count s d name count size (word.Void ∷ ws) h = refl
 same_count s d name count size (word.Integer t ∷ ws) h = refl
 same_count s d name count size (word.Enumeration n ∷ ws) h = refl

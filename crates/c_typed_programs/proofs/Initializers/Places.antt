@@ -3,6 +3,7 @@ use Rattle.std.proofs.Common.{nat_le, ◌≡◌, ℕ, ◌+◌, ◌*◌, ◌<◌,
 use Rattle.std.proofs.Common.{subst, List, [], ◌∷◌, ◌++◌, map, Option, Some, None, if◌then◌else◌, arith, nat_lt}
 use Rattle.std.specs.Prelude.{slice_get, ◌==◌}
 use Rattle.std.proofs.lemmas.Bool.{leb-true, ltb-true}
+use Rattle.std.proofs.lemmas.Option.{none-some}
 use Rattle.c_tree.specs.declared.c_type.TypeWord.{TypeWord}
 use Rattle.c_tree.specs.declared.c_type.TypeWord.TheVariants as word
 use Rattle.c_tree.specs.Extents.{TypeExtent, capped, extent_of, structure_extent}
@@ -14,11 +15,11 @@ use Rattle.c_current_object.specs.declared.subobject.Step.{Step}
 use Rattle.c_current_object.specs.declared.subobject.Subobject.{Subobject}
 use Rattle.c_current_object.specs.Members.{MemberList, MemberLists}
 use Rattle.c_current_object.specs.Subobjects.{element_in, member_in, member_of, part, part_as, size_or_0, whole}
+use Rattle.c_typed_validity.proofs.Common.{the_same}
 use Rattle.c_typed_programs.specs.Initializers.Cursor.{HasIf}
 use Rattle.c_typed_programs.specs.Layouts.Listed.{AreListed, IsListed}
 use Rattle.c_typed_programs.specs.Initializers.Placing.{HasExtent, IsPlaced, LiesWithin, as_part, as_whole, bound}
 use Rattle.c_typed_programs.proofs.Initializers.Extents.{array_elements, rows, target_extent, unqualified_has}
-use Rattle.c_typed_programs.proofs.Common.{the_same}
 
 -- the part is the object itself, or lies within the same limit, one step below it
 pub data IsPartOf (es : List (Option TypeExtent)) (limit : ℕ) (o p : Subobject) : Type 0 where
@@ -119,10 +120,7 @@ part_by es lists h limit start size (word.Enumeration m ∷ ws) o p n at inside 
 part_by es lists h limit start size (word.Pointer ∷ ws) o p n at inside has is = scalar_part es limit o p (n == 0) is
 part_by es lists h limit start size (word.Array count bytes ∷ ws) o p n at inside has is =
     element_part es limit start count bytes size ws o p n at inside has (nat_lt n count) refl is
-part_by es lists h limit start size (word.OpenArray ∷ ws) o p n at inside has is = absurd (none has.complete)
-  where
-    none : None ≡ Some has.extent → ⊥
-    none e = cc
+part_by es lists h limit start size (word.OpenArray ∷ ws) o p n at inside has is = absurd (none-some _ has.complete)
 part_by es lists h limit start size (word.Structure m ∷ ws) o p n at inside has is =
     member_part es lists h limit start size m (lists m) refl o n at inside has.extent has.complete has.bytes p is
 part_by es lists h limit start size (word.Const ∷ ws) o p n at inside has is = scalar_part es limit o p (n == 0) is

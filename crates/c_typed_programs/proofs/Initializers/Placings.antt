@@ -13,9 +13,8 @@ use Rattle.c_initializer_rules.specs.Placed.{PlacedPart}
 use Rattle.c_typing.specs.State.{State, extents}
 use Rattle.c_unit_typing.specs.Initializers.{member_lists}
 use Rattle.c_typed_validity.specs.Steps.{Structures}
-use Rattle.c_typed_validity.proofs.Sound.{Stays}
+use Rattle.c_typed_validity.proofs.Sound.{IfAnswer, Stays}
 use Rattle.c_typed_programs.specs.Initializers.Cursor.{AreLists, AreOpen, HasIf, HoldsOfAll, IsList, IsNext, IsPlacing}
-use Rattle.c_typed_programs.proofs.Initializers.Cursor.{If}
 use Rattle.c_typed_programs.proofs.Initializers.Recursion.{Filled, FilledIf, Steps}
 use Rattle.c_typed_programs.proofs.Initializers.Steps.{KeepsParts, closed_placing, designation_placing, index_placing}
 use Rattle.c_typed_programs.proofs.Initializers.Steps.{literal_placing, name_placing, opened_placing, value_placing}
@@ -95,8 +94,8 @@ module _ (is_known : Bool) (scope : Scope) (Known : State → Type 0) (P : Struc
   filled_by es true i h = h
   filled_by es false i h = h
 
-  filled_in : (es : Structures) (a : Answer (Initializing × Bool)) → If (λ r. Placing es r.0) a
-      → If (Filled Placing Placing es) a
+  filled_in : (es : Structures) (a : Answer (Initializing × Bool)) → IfAnswer (λ r. Placing es r.0) a
+      → IfAnswer (Filled Placing Placing es) a
   filled_in es (Ok r) h = filled_by es r.1 r.0 h
   filled_in es (Err f) h = tt
 

@@ -22,14 +22,13 @@ use Rattle.c_unit_typing.specs.Initializers.{member_lists, stepped, unless_fille
 use Rattle.c_unit_typing.specs.Lines.{expression_line}
 use Rattle.c_typed_validity.specs.Regular.{is_regular}
 use Rattle.c_typed_validity.specs.Steps.{Structures}
-use Rattle.c_typed_validity.proofs.Sound.{Stays, both}
+use Rattle.c_typed_validity.proofs.Common.{first, second}
+use Rattle.c_typed_validity.proofs.Sound.{IfAnswer, Stays, both}
 use Rattle.c_typed_programs.specs.Scopes.Regular.{are_regular_items, is_regular_designation, is_regular_designator}
 use Rattle.c_typed_programs.specs.Scopes.Regular.{is_regular_initializer, is_regular_item}
 use Rattle.c_typed_programs.specs.Initializers.Giving.{ExpressionsKeep, Giving, IsFineIf}
-use Rattle.c_typed_programs.proofs.Initializers.Cursor.{If}
 use Rattle.c_typed_programs.proofs.Initializers.Giving.{IsFineValue, giving_done, giving_judged, giving_then, then_only}
 use Rattle.c_typed_programs.proofs.Initializers.Giving.{value_given, weaker_given}
-use Rattle.c_typed_programs.proofs.Common.{first, second}
 
 -- behind a literal that fills an array, or before an initializer that is no such literal
 abbrev pub FilledIf : (Before Behind : Structures → Initializing → Type 0) → (is_filled : Bool) → Structures
@@ -51,19 +50,19 @@ pub record Steps (is_known : Bool) (scope : Scope) (Known : State → Type 0)
   pub undesignated : (n : ℕ) (es : Structures) (i : Initializing) → Item n es i → Before n es i
   pub designation : (n : ℕ) (es : Structures) (i : Initializing) → Item n es i → Chosen n es (designation_begun i)
   pub index : (n : ℕ) (s : State) (line : ℕ) (index : Option ℕ) (i : Initializing) → Known s
-      → Chosen n (extents s) i → If (Chosen n (extents s)) (with_index (extents s) (member_lists s) line index i)
+      → Chosen n (extents s) i → IfAnswer (Chosen n (extents s)) (with_index (extents s) (member_lists s) line index i)
   pub name : (n : ℕ) (s : State) (line : ℕ) (name : Name) (i : Initializing) → Known s → Chosen n (extents s) i
-      → If (Chosen n (extents s)) (with_name (extents s) (member_lists s) line name i)
+      → IfAnswer (Chosen n (extents s)) (with_name (extents s) (member_lists s) line name i)
   pub chosen : (n : ℕ) (es : Structures) (i : Initializing) → Chosen n es i → Before n es i
   pub value : (n : ℕ) (s : State) (line : ℕ) (v : Value) (i : Initializing) → Known s
       → IsFineIf is_known scope (extents s) v
-      → Before n (extents s) i → If (Behind n (extents s)) (with_value (extents s) (member_lists s) line v i)
+      → Before n (extents s) i → IfAnswer (Behind n (extents s)) (with_value (extents s) (member_lists s) line v i)
   pub literal : (n : ℕ) (s : State) (line : ℕ) (spelled : List ℕ) (i : Initializing) → Known s
       → Before n (extents s) i
-      → If (Filled (Before n) (Behind n) (extents s)) (with_literal (extents s) (member_lists s) line spelled i)
+      → IfAnswer (Filled (Before n) (Behind n) (extents s)) (with_literal (extents s) (member_lists s) line spelled i)
   pub further : (n : ℕ) (es : Structures) (i : Initializing) → Behind n es i → Item n es i
   pub closed : (n : ℕ) (s : State) (line : ℕ) (i : Initializing) → Known s → Behind (suc n) (extents s) i
-      → If (Behind n (extents s)) (closed (extents s) (member_lists s) line i)
+      → IfAnswer (Behind n (extents s)) (closed (extents s) (member_lists s) line i)
 
 module _ (is_known : Bool) (scope : Scope) (last : Structures) (Known : State → Type 0)
     (keep : ExpressionsKeep Known)

@@ -20,11 +20,11 @@ use Rattle.c_current_object.specs.Types.{is_aggregate_as, is_character_array, is
 use Rattle.c_initializer_rules.specs.Placed.{PlacedPart, placed, with_part, without}
 use Rattle.c_typing.specs.Primaries.{is_aggregate}
 use Rattle.c_typed_validity.specs.More.{AreMore}
+use Rattle.c_typed_validity.proofs.Common.{the_same}
 use Rattle.c_typed_validity.proofs.Kept.{kind_kept}
 use Rattle.c_typed_programs.specs.Initializers.Cursor.{HasIf}
 use Rattle.c_typed_programs.proofs.Initializers.Some.{HasSome}
 use Rattle.c_typed_programs.proofs.Initializers.Steps.{KeepsParts}
-use Rattle.c_typed_programs.proofs.Common.{the_same}
 
 -- a scalar type
 

@@ -1,6 +1,7 @@
 -- An initializer that violates no rule stores at least one part (C99 6.7.8).
 use Rattle.std.proofs.Common.{◌≡◌, ◌⊎◌, inl, inr, ℕ, zero, suc, ◌-◌, Bool, true, false, refl, sym, ap, ◌∙◌}
 use Rattle.std.proofs.Common.{subst, List, [], ◌∷◌, ◌++◌, length, take, Option, Some, None, if◌then◌else◌, arith}
+use Rattle.std.proofs.lemmas.Bool.{true≢false}
 use Rattle.std.specs.Prelude.{Ok, Err, is_some, slice_index_or}
 use Rattle.c_tree.specs.declared.c_type.TypeWord.{TypeWord}
 use Rattle.c_tree.specs.Extents.{TypeExtent}
@@ -29,9 +30,9 @@ use Rattle.c_initializer_rules.specs.Placed.{PlacedPart, placed, without}
 use Rattle.c_typing.specs.State.{State, extents}
 use Rattle.c_unit_typing.specs.Initializers.{member_lists}
 use Rattle.c_typed_validity.specs.Steps.{Structures}
-use Rattle.c_typed_programs.proofs.Initializers.Cursor.{If}
+use Rattle.c_typed_validity.proofs.Common.{second}
+use Rattle.c_typed_validity.proofs.Sound.{IfAnswer}
 use Rattle.c_typed_programs.proofs.Initializers.Recursion.{Filled, FilledIf, Steps}
-use Rattle.c_typed_programs.proofs.Common.{second}
 
 pub record HasSome (ps : List PlacedPart) : Type 0 where
   pub part : PlacedPart
@@ -157,7 +158,7 @@ with_next n i x h = record {
 }
 
 designated_at : (n : ℕ) (i : Initializing) → At n IsWanted i → (a : Answer (Option Next))
-    → If (At n IsWanted) (a >>= λ next. Ok (record i { next = next }))
+    → IfAnswer (At n IsWanted) (a >>= λ next. Ok (record i { next = next }))
 designated_at n i h (Ok x) = with_next n i x h
 designated_at n i h (Err f) = tt
 
@@ -220,10 +221,7 @@ opened_at es lists n i h = opened_by es lists n i h i.next refl
 stored_closed : (es : List (Option TypeExtent)) (lists : MemberLists) (i : Initializing) → IsStored i
     → has_misplaced i.list ≡ false → IsStored (closed_list es lists i)
 stored_closed es lists i (some h) e = some h
-stored_closed es lists i (misplaced g) e = absurd (conflict (sym g ∙ e))
-  where
-    conflict : true ≡ false → ⊥
-    conflict e = cc
+stored_closed es lists i (misplaced g) e = absurd (true≢false (sym g ∙ e))
 stored_closed es lists i (around h) e = by (last_or_other i.outer h)
   where
     by : LastOrOther i.outer (length i.outer - 1) → IsStored (closed_list es lists i)
@@ -232,7 +230,7 @@ stored_closed es lists i (around h) e = by (last_or_other i.outer h)
 
 closed_by : (es : List (Option TypeExtent)) (lists : MemberLists) (line n : ℕ) (i : Initializing)
     → At (suc n) IsStored i → (test : Bool) → has_misplaced i.list ≡ test
-    → If (At n IsStored) (if test then violates MisplacedItem line else Ok (closed_list es lists i))
+    → IfAnswer (At n IsStored) (if test then violates MisplacedItem line else Ok (closed_list es lists i))
 closed_by es lists line n i h true e = tt
 closed_by es lists line n i h false e = record {
   inside = record {
@@ -243,7 +241,7 @@ closed_by es lists line n i h false e = record {
 }
 
 closed_at : (es : List (Option TypeExtent)) (lists : MemberLists) (line n : ℕ) (i : Initializing)
-    → At (suc n) IsStored i → If (At n IsStored) (closed es lists line i)
+    → At (suc n) IsStored i → IfAnswer (At n IsStored) (closed es lists line i)
 unfolding closed
 closed_at es lists line n i h = closed_by es lists line n i h (has_misplaced i.list) refl
 
@@ -269,12 +267,12 @@ stored_here es lists n i h content c = record {
 
 value_stored : (es : List (Option TypeExtent)) (lists : MemberLists) (n : ℕ) (i : Initializing) → IsInside n i
     → (c : CurrentObject) (a : Answer Expression)
-    → If (At n IsStored) (a >>= λ e. Ok (stored_at es lists (value_content e) c i))
+    → IfAnswer (At n IsStored) (a >>= λ e. Ok (stored_at es lists (value_content e) c i))
 value_stored es lists n i h c (Ok e) = stored_here es lists n i h (value_content e) c
 value_stored es lists n i h c (Err f) = tt
 
 value_by : (es : List (Option TypeExtent)) (lists : MemberLists) (line : ℕ) (v : Value) (n : ℕ) (i : Initializing)
-    → At n IsAwaited i → (x : Option Next) → i.next ≡ x → If (At n IsStored) (value_next es lists line v i x)
+    → At n IsAwaited i → (x : Option Next) → i.next ≡ x → IfAnswer (At n IsStored) (value_next es lists line v i x)
 value_by es lists line v n i h None e = record {
   inside = record { depth = h.inside.depth; no_object = too_many_outermost i.list i.outer h.inside.no_object };
   is = too_many i (not_awaited i e h.is);
@@ -284,7 +282,7 @@ value_by es lists line v n i h (Some x) e =
     value_stored es lists n i h.inside c (assigned es line c.object.c_type v)
 
 value_at : (es : List (Option TypeExtent)) (lists : MemberLists) (line : ℕ) (v : Value) (n : ℕ) (i : Initializing)
-    → At n IsAwaited i → If (At n IsStored) (with_value es lists line v i)
+    → At n IsAwaited i → IfAnswer (At n IsStored) (with_value es lists line v i)
 unfolding with_value
 value_at es lists line v n i h = value_by es lists line v n i h i.next refl
 
@@ -293,7 +291,7 @@ IsFilled n r = FilledIf (λ es. At n IsAwaited) (λ es. At n IsStored) r.1 [] r.
 
 literal_by : (es : List (Option TypeExtent)) (lists : MemberLists) (line : ℕ) (spelled : List ℕ) (n : ℕ)
     (i : Initializing) → IsInside n i → (c : CurrentObject) (test : Bool)
-    → If (IsFilled n) (if test then violates MisplacedItem line
+    → IfAnswer (IsFilled n) (if test then violates MisplacedItem line
     else Ok (stored_at es lists (literal_content (filling c.object.c_type spelled)) c i, true))
 literal_by es lists line spelled n i h c true = tt
 literal_by es lists line spelled n i h c false =
@@ -301,7 +299,7 @@ literal_by es lists line spelled n i h c false =
 
 literal_in : (es : List (Option TypeExtent)) (lists : MemberLists) (line : ℕ) (spelled : List ℕ) (n : ℕ)
     (i : Initializing) → IsInside n i → (c : CurrentObject) (test : Bool)
-    → If (IsFilled n) (if test then literal_at es lists line spelled c i
+    → IfAnswer (IsFilled n) (if test then literal_at es lists line spelled c i
     else Ok (record i { next = Some (at_object c Whole) }, false))
 literal_in es lists line spelled n i h c true =
     literal_by es lists line spelled n i h c (is_too_long c.object.c_type spelled)
@@ -310,14 +308,14 @@ literal_in es lists line spelled n i h c false =
 
 literal_next_at : (es : List (Option TypeExtent)) (lists : MemberLists) (line : ℕ) (spelled : List ℕ) (n : ℕ)
     (i : Initializing) → At n IsAwaited i → (x : Option Next)
-    → If (IsFilled n) (literal_next es lists line spelled i x)
+    → IfAnswer (IsFilled n) (literal_next es lists line spelled i x)
 literal_next_at es lists line spelled n i h None = h
 literal_next_at es lists line spelled n i h (Some x) =
     let c = place_of es lists i filler.Literal x in
     literal_in es lists line spelled n i h.inside c (is_character_array c.object.c_type)
 
 literal_at_next : (es : List (Option TypeExtent)) (lists : MemberLists) (line : ℕ) (spelled : List ℕ) (n : ℕ)
-    (i : Initializing) → At n IsAwaited i → If (IsFilled n) (with_literal es lists line spelled i)
+    (i : Initializing) → At n IsAwaited i → IfAnswer (IsFilled n) (with_literal es lists line spelled i)
 unfolding with_literal
 literal_at_next es lists line spelled n i h = literal_next_at es lists line spelled n i h i.next
 
@@ -333,8 +331,8 @@ filled_by : (n : ℕ) (es : Structures) (i : Initializing) (is_filled : Bool)
 filled_by n es i true h = h
 filled_by n es i false h = h
 
-filled_in : (n : ℕ) (es : Structures) (a : Answer (Initializing × Bool)) → If (IsFilled n) a
-    → If (Filled (λ es. At n IsAwaited) (λ es. At n IsStored) es) a
+filled_in : (n : ℕ) (es : Structures) (a : Answer (Initializing × Bool)) → IfAnswer (IsFilled n) a
+    → IfAnswer (Filled (λ es. At n IsAwaited) (λ es. At n IsStored) es) a
 filled_in n es (Ok r) h = filled_by n es r.0 r.1 h
 filled_in n es (Err f) h = tt
 

@@ -29,26 +29,27 @@ use Rattle.c_initializer_rules.specs.Initializing.{opened_for, place_of, stored_
 use Rattle.c_initializer_rules.specs.Initializing.{with_literal, with_name, with_value}
 use Rattle.c_initializer_rules.specs.Literals.{filling, is_too_long}
 use Rattle.c_initializer_rules.specs.Placed.{PlacedPart, overrides, placed, with_part, without}
+use Rattle.c_typed_validity.proofs.Sound.{IfAnswer}
 use Rattle.c_typed_programs.specs.Initializers.Cursor.{Every, HasIf, IsCurrent, HoldsOfAll, IsNext, IsPlacing}
 use Rattle.c_typed_programs.specs.Initializers.Giving.{IsFineIf, IsStored}
-use Rattle.c_typed_programs.proofs.Initializers.Cursor.{If, closed_objects, designation_objects, index_objects}
+use Rattle.c_typed_programs.proofs.Initializers.Cursor.{closed_objects, designation_objects, index_objects}
 use Rattle.c_typed_programs.proofs.Initializers.Cursor.{name_objects, next_objects, opened_objects, place_is}
 use Rattle.c_typed_programs.proofs.Initializers.Cursor.{stored_objects, too_many_objects}
 
 -- a value that is converted as by assignment
 
 stored_if : (scope : Scope) (es : List (Option TypeExtent)) (type : List TypeWord) (a : Answer Expression)
-    → IfFineAs scope es type a → If (IsStored true scope es type) a
+    → IfFineAs scope es type a → IfAnswer (IsStored true scope es type) a
 stored_if scope es type (Ok e) h = h
 stored_if scope es type (Err f) h = tt
 
 assigned_if : (scope : Scope) (es : List (Option TypeExtent)) (line : ℕ) (type : List TypeWord) (v : Value)
-    (a : Answer Expression) → assigned es line type v ≡ a → If (IsStored false scope es type) a
+    (a : Answer Expression) → assigned es line type v ≡ a → IfAnswer (IsStored false scope es type) a
 assigned_if scope es line type v (Ok e) is = record { line = line; value = v; is = is }
 assigned_if scope es line type v (Err f) is = tt
 
 assigned_stored : (is_known : Bool) (scope : Scope) (es : List (Option TypeExtent)) (line : ℕ) (type : List TypeWord)
-    (v : Value) → IsFineIf is_known scope es v → If (IsStored is_known scope es type) (assigned es line type v)
+    (v : Value) → IsFineIf is_known scope es v → IfAnswer (IsStored is_known scope es type) (assigned es line type v)
 assigned_stored true scope es line type v fine =
     stored_if scope es type (assigned es line type v) (assigned_fine scope es line type v fine)
 assigned_stored false scope es line type v fine = assigned_if scope es line type v (assigned es line type v) refl
@@ -112,8 +113,8 @@ module _ (is_known : Bool) (scope : Scope) (es : List (Option TypeExtent)) (list
   -- values
 
   value_stored : (c : CurrentObject) (i : Initializing) → IsPlacing P R i → IsCurrent P c → (a : Answer Expression)
-      → If (IsStored is_known scope es c.object.c_type) a
-      → If (IsPlacing P R) (a >>= λ e. Ok (stored_at es lists (value_content e) c i))
+      → IfAnswer (IsStored is_known scope es c.object.c_type) a
+      → IfAnswer (IsPlacing P R) (a >>= λ e. Ok (stored_at es lists (value_content e) c i))
   value_stored c i h is (Ok e) fine = record {
     objects = stored_objects P es lists parts (value_content e) c i h.objects is;
     parts = keeps.value c.object e i.parts is.object fine h.parts;
@@ -121,7 +122,7 @@ module _ (is_known : Bool) (scope : Scope) (es : List (Option TypeExtent)) (list
   value_stored c i h is (Err f) fine = tt
 
   next_value : (line : ℕ) (v : Value) → IsFineIf is_known scope es v → (i : Initializing) → IsPlacing P R i
-      → (x : Option Next) → IsNext P x → If (IsPlacing P R) (value_next es lists line v i x)
+      → (x : Option Next) → IsNext P x → IfAnswer (IsPlacing P R) (value_next es lists line v i x)
   next_value line v fine i h None is = record { objects = too_many_objects P i h.objects; parts = h.parts }
   next_value line v fine i h (Some n) is =
       let c = place_of es lists i (filler_of v.type) n in
@@ -129,7 +130,7 @@ module _ (is_known : Bool) (scope : Scope) (es : List (Option TypeExtent)) (list
       (assigned es line c.object.c_type v) (assigned_stored is_known scope es line c.object.c_type v fine)
 
   pub value_placing : (line : ℕ) (v : Value) → IsFineIf is_known scope es v → (i : Initializing) → IsPlacing P R i
-      → If (IsPlacing P R) (with_value es lists line v i)
+      → IfAnswer (IsPlacing P R) (with_value es lists line v i)
   unfolding with_value
   value_placing line v fine i h = next_value line v fine i h i.next h.objects.next
 
@@ -140,7 +141,7 @@ module _ (is_known : Bool) (scope : Scope) (es : List (Option TypeExtent)) (list
 
   literal_by : (line : ℕ) (spelled : List ℕ) (c : CurrentObject) (i : Initializing) → IsPlacing P R i
       → IsCurrent P c → is_character_array c.object.c_type ≡ true → (test : Bool)
-      → If OfFirst (if test then violates MisplacedItem line
+      → IfAnswer OfFirst (if test then violates MisplacedItem line
       else Ok (stored_at es lists (literal_content (filling c.object.c_type spelled)) c i, true))
   literal_by line spelled c i h is chars true = tt
   literal_by line spelled c i h is chars false = record {
@@ -150,14 +151,14 @@ module _ (is_known : Bool) (scope : Scope) (es : List (Option TypeExtent)) (list
 
   literal_in : (line : ℕ) (spelled : List ℕ) (c : CurrentObject) (i : Initializing) → IsPlacing P R i
       → IsCurrent P c → (test : Bool) → is_character_array c.object.c_type ≡ test
-      → If OfFirst (if test then literal_at es lists line spelled c i
+      → IfAnswer OfFirst (if test then literal_at es lists line spelled c i
       else Ok (record i { next = Some (at_object c Whole) }, false))
   literal_in line spelled c i h is true e = literal_by line spelled c i h is e (is_too_long c.object.c_type spelled)
   literal_in line spelled c i h is false e =
       record { objects = next_objects P i h.objects (Some (at_object c Whole)) is; parts = h.parts }
 
   next_literal : (line : ℕ) (spelled : List ℕ) (i : Initializing) → IsPlacing P R i → (x : Option Next)
-      → IsNext P x → If OfFirst (literal_next es lists line spelled i x)
+      → IsNext P x → IfAnswer OfFirst (literal_next es lists line spelled i x)
   next_literal line spelled i h None is = h
   next_literal line spelled i h (Some n) is =
       let c = place_of es lists i filler.Literal n in
@@ -165,24 +166,24 @@ module _ (is_known : Bool) (scope : Scope) (es : List (Option TypeExtent)) (list
       (is_character_array c.object.c_type) refl
 
   pub literal_placing : (line : ℕ) (spelled : List ℕ) (i : Initializing) → IsPlacing P R i
-      → If OfFirst (with_literal es lists line spelled i)
+      → IfAnswer OfFirst (with_literal es lists line spelled i)
   unfolding with_literal
   literal_placing line spelled i h = next_literal line spelled i h i.next h.objects.next
 
   -- designators
 
   with_parts : (i : Initializing) → R i.parts → (a : Answer Initializing)
-      → If (λ j. HoldsOfAll P j × (j.parts ≡ i.parts)) a → If (IsPlacing P R) a
+      → IfAnswer (λ j. HoldsOfAll P j × (j.parts ≡ i.parts)) a → IfAnswer (IsPlacing P R) a
   with_parts i h (Ok j) is = record { objects = is.0; parts = subst R (sym is.1) h }
   with_parts i h (Err f) is = tt
 
   pub index_placing : (line : ℕ) (index : Option ℕ) (i : Initializing) → IsPlacing P R i
-      → If (IsPlacing P R) (with_index es lists line index i)
+      → IfAnswer (IsPlacing P R) (with_index es lists line index i)
   index_placing line index i h =
       with_parts i h.parts (with_index es lists line index i) (index_objects P es lists parts line index i h.objects)
 
   pub name_placing : (line : ℕ) (name : Name) (i : Initializing) → IsPlacing P R i
-      → If (IsPlacing P R) (with_name es lists line name i)
+      → IfAnswer (IsPlacing P R) (with_name es lists line name i)
   name_placing line name i h =
       with_parts i h.parts (with_name es lists line name i) (name_objects P es lists parts line name i h.objects)
 
@@ -201,11 +202,11 @@ module _ (is_known : Bool) (scope : Scope) (es : List (Option TypeExtent)) (list
   opened_placing i h = opened_by i h i.next h.objects.next
 
   closed_by : (line : ℕ) (i : Initializing) → IsPlacing P R i → (test : Bool)
-      → If (IsPlacing P R) (if test then violates MisplacedItem line else Ok (closed_list es lists i))
+      → IfAnswer (IsPlacing P R) (if test then violates MisplacedItem line else Ok (closed_list es lists i))
   closed_by line i h true = tt
   closed_by line i h false = record { objects = closed_objects P es lists parts i h.objects; parts = h.parts }
 
   pub closed_placing : (line : ℕ) (i : Initializing) → IsPlacing P R i
-      → If (IsPlacing P R) (closed es lists line i)
+      → IfAnswer (IsPlacing P R) (closed es lists line i)
   unfolding closed
   closed_placing line i h = closed_by line i h (has_misplaced i.list)

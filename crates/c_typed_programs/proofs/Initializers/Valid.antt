@@ -1,5 +1,6 @@
 -- What an initializer stores is valid (C99 6.7.8).
 use Rattle.std.proofs.Common.{◌≡◌, true, refl}
+use Rattle.std.proofs.lemmas.Bool.{and_from}
 use Rattle.std.specs.Prelude.{Ok, Err}
 use Rattle.c_syntax.specs.Tree.{Initializer}
 use Rattle.c_tree.specs.Kinds.{is_value}
@@ -20,13 +21,13 @@ use Rattle.c_typed_programs.specs.Initializers.Initialized.{IsValidPart}
 use Rattle.c_typed_programs.proofs.Initializers.Placings.{any_objects, placing_steps, any_object}
 use Rattle.c_typed_programs.proofs.Initializers.Recursion.{initialized_given}
 use Rattle.c_typed_programs.proofs.Initializers.Steps.{KeepsParts, keeps_every}
-use Rattle.c_typed_programs.proofs.Common.{both}
 
 pub keeps_valid : (scope : Scope) (es : Structures) (P : Subobject → Type 0)
     → KeepsParts true scope es P (Every (IsValidPart scope))
 keeps_valid scope es P =
     keeps_every true scope es P (IsValidPart scope)
-    (λ o e is fine. both (is_valid scope e) (is_value (kind_of e)) fine.valid fine.value) (λ o spelled is chars. refl)
+    (λ o e is fine. and_from (is_valid scope e) (is_value (kind_of e)) fine.valid fine.value)
+    (λ o spelled is chars. refl)
 
 pub nothing_kept : ExpressionsKeep (λ s. Unit {0})
 nothing_kept = record { each = λ is e c s formed. by s (typed is e s) }

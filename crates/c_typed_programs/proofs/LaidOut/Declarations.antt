@@ -1,5 +1,5 @@
 -- Declarations leave a file laid out.
-use Rattle.std.proofs.Common.{◌≡◌, ℕ, Bool, true, false, refl, subst, List, [], ◌∷◌, ◌++◌, Option, Some, None}
+use Rattle.std.proofs.Common.{◌≡◌, ℕ, Bool, true, false, subst, List, [], ◌∷◌, ◌++◌, Option, Some, None}
 use Rattle.std.proofs.Common.{if◌then◌else◌}
 use Rattle.std.specs.Prelude.{Ok, Err, is_none, is_some, option_map}
 use Rattle.std.specs.List.{list_all}
@@ -25,8 +25,9 @@ use Rattle.c_unit_typing.specs.Declarations.{with_others, with_parts, with_stati
 use Rattle.c_unit_typing.specs.Files.{File, FileTyping, in_state}
 use Rattle.c_unit_typing.specs.Lines.{initializer_line}
 use Rattle.c_typed_validity.specs.Sound.{IsFormed, is_sized_array}
+use Rattle.c_typed_validity.proofs.Common.{first, second}
+use Rattle.c_typed_validity.proofs.Sound.{IfAnswer}
 use Rattle.c_typed_declarators.specs.Given.{AreCounted, IsShapeOf, IsSpecified, anything}
-use Rattle.c_typed_declarators.proofs.Chained.{IfAnswer}
 use Rattle.c_typed_declarators.proofs.Recursion.{shape_extends}
 use Rattle.c_typed_programs.specs.Layouts.Listed.{HasArrays, IfLaidOut, IsDeclared, IsLaidOut}
 use Rattle.c_typed_programs.proofs.Layouts.Arrays.{arrays_kept}
@@ -44,7 +45,7 @@ use Rattle.c_typed_programs.proofs.Initializers.Initialized.{initialized_if_is}
 use Rattle.c_typed_programs.specs.LaidOut.Behind.{IfLaid}
 use Rattle.c_typed_programs.proofs.LaidOut.Chained.{StateLaid, both_laid, from_file, in_state_then, judged_lays}
 use Rattle.c_typed_programs.proofs.LaidOut.Chained.{state_lays, then_lays}
-use Rattle.c_typed_programs.proofs.Common.{first, second, some_scope}
+use Rattle.c_typed_programs.proofs.Common.{some_mapped, some_scope}
 
 -- an object with its initializer
 
@@ -99,10 +100,6 @@ declared_lays name x c (Some (meaning.Named (what.Library r) type)) f formed lai
 
 -- declarators
 
-same_test : {A B : Type 0} (g : A → B) (o : Option A) → is_some (option_map g o) ≡ is_some o
-same_test g None = refl
-same_test g (Some x) = refl
-
 declared_then : (name : Name × ℕ) (x : Option Initializer) → is_regular_initializer_if x ≡ true → (f : File)
     → (a : Answer (State × Option Meaning)) → StateLeads f.state a
     → IfLaidOut (IsDeclared (is_some (option_map initializer_line x))) a
@@ -111,7 +108,7 @@ declared_then name x c f (Ok r) h is =
     let g = record f { state = r.0 } in
     from_file f g (state_leads f r.0 h) (declared_with name x r.1 g)
     (declared_lays name x c r.1 g h.formed is.0
-    (subst (λ b. IsDeclared b r.0 r.1) (same_test initializer_line x) is.1))
+    (subst (λ b. IsDeclared b r.0 r.1) (some_mapped initializer_line x) is.1))
 declared_then name x c f (Err e) h is = tt
 
 named_lays : (in_head : Bool) (spec : Specification) → is_sized_array spec.type ≡ true → (x : Option Initializer)
@@ -180,7 +177,7 @@ pub stored_laid : (s : State) (spec : Specification) → HasArrays s spec → (b
 stored_laid s spec h true = tt
 stored_laid s spec h false = h
 
-specified_laid : (is_alone : Bool) (d : t.Declaration) → is_regular_declaration d ≡ true → (s : State) → IsFormed s
+pub specified_laid : (is_alone : Bool) (d : t.Declaration) → is_regular_declaration d ≡ true → (s : State) → IsFormed s
     → IsLaidOut s → Laid HasArrays (specified is_alone d s)
 specified_laid is_alone d c s formed laid =
     then_lists HasArrays HasArrays (specification is_alone d.specifiers s) (λ spec. judged (stored_once spec))

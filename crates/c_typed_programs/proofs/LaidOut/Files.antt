@@ -14,7 +14,7 @@ use Rattle.c_scope.specs.declared.meaning.Meaning.TheVariants as meaning
 use Rattle.c_scope.specs.Declaring.{Declaration, is_typedef}
 use Rattle.c_scope.specs.Declaring as declaring
 use Rattle.c_scope.specs.Environment.{surroundings}
-use Rattle.c_scope.specs.Names.{Name, declared, found, or_else}
+use Rattle.c_scope.specs.Names.{Name, declared, found}
 use Rattle.c_scope.specs.Parameters.{ParameterScope}
 use Rattle.c_typing.specs.Calls.{place_among, with_type}
 use Rattle.c_typing.specs.Declarators.{Shape, built_in}
@@ -28,6 +28,7 @@ use Rattle.c_unit_typing.specs.Units.{around_body, body_of, defined_as, defined_
 use Rattle.c_unit_typing.specs.Units.{externals, gives_incomplete, left, parameters_in, scope_or_none, with_body}
 use Rattle.c_typed_validity.specs.Sound.{IsFormed, is_sized_array}
 use Rattle.c_typed_validity.specs.Regular.{are_regular_specifiers, is_regular_declarator}
+use Rattle.c_typed_validity.proofs.Common.{first, neither_left, second}
 use Rattle.c_typed_declarators.specs.Extending.{Extending}
 use Rattle.c_typed_declarators.specs.Given.{AreCounted, HasScope, IsParameterScope, IsShapeOf, IsSpecified, anything}
 use Rattle.c_typed_declarators.proofs.Parameters.{found_last}
@@ -51,14 +52,9 @@ use Rattle.c_typed_programs.specs.LaidOut.Behind.{IfLaid, IsLaidIf}
 use Rattle.c_typed_programs.proofs.LaidOut.Chained.{StateLaid}
 use Rattle.c_typed_programs.proofs.LaidOut.Declarations.{declaration_laid, stored_laid}
 use Rattle.c_typed_programs.proofs.LaidOut.Statements.{items_laid}
-use Rattle.c_typed_programs.proofs.Common.{filed, first, neither_left, second}
+use Rattle.c_typed_programs.proofs.Common.{filed, inner_or}
 
 -- in the block of a function names stand for its parameters too
-
-inner_or : (P : Meaning → Type 0) (a b : Option Meaning) → ((x : Meaning) → a ≡ Some x → P x)
-    → ((x : Meaning) → b ≡ Some x → P x) → (x : Meaning) → or_else a b ≡ Some x → P x
-inner_or P None b h g x e = g x e
-inner_or P (Some y) b h g x e = h x e
 
 inside_laid : (f : File) → IsLaidOut f.state → (n : ℕ) (p : ParameterScope) → IsParameterScope f.state p
     → IsLaidOut (inside n p f)
@@ -124,7 +120,7 @@ body_laid line o b c (Some (meaning.Named (what.Variable n) type)) f formed laid
 
 -- a definition
 
-definition_arrays : (s : State) (spec : Specification) → HasArrays s spec → (sh : Shape) (name : Name × ℕ)
+pub definition_arrays : (s : State) (spec : Specification) → HasArrays s spec → (sh : Shape) (name : Name × ℕ)
     → (definition_of (extents s) spec (built_in s spec sh) name).type_rule ≡ None
     → has_array_bytes (extents s) (built_in s spec sh).type ≡ true
 definition_arrays s spec arrays sh name e =
@@ -181,7 +177,7 @@ state_then : {A B : Type 0} (q : State → A → Type 0) (f : File) (a : Answer 
 state_then q f (Ok r) next is k = k r.1 (record f { state = r.0 }) is.0.formed is.1 is.2
 state_then q f (Err e) next is k = tt
 
-stored_specified : (specs : Specifiers) (s : State) → Laid HasArrays (specification false specs s)
+pub stored_specified : (specs : Specifiers) (s : State) → Laid HasArrays (specification false specs s)
     → Laid HasArrays ((specification false specs >>> λ spec. judged (stored_once spec)) s)
 stored_specified specs s h =
     then_lists HasArrays HasArrays (specification false specs s) (λ spec. judged (stored_once spec)) h

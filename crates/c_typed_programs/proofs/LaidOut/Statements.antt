@@ -32,6 +32,7 @@ use Rattle.c_unit_typing.specs.Statements.{block, block_item, block_items, state
 use Rattle.c_unit_typing.specs.Statements.{switch_items}
 use Rattle.c_typed_validity.specs.Regular.{is_regular}
 use Rattle.c_typed_validity.specs.Sound.{IsFormed}
+use Rattle.c_typed_validity.proofs.Common.{first, second}
 use Rattle.c_typed_programs.specs.Layouts.Listed.{IsLaidOut}
 use Rattle.c_typed_programs.specs.Scopes.Regular.{are_regular_block_items, is_regular_block, is_regular_block_item}
 use Rattle.c_typed_programs.specs.Scopes.Regular.{is_regular_declaration, is_regular_first, is_regular_if}
@@ -41,7 +42,6 @@ use Rattle.c_typed_programs.specs.LaidOut.Behind.{IfLaid}
 use Rattle.c_typed_programs.proofs.LaidOut.Chained.{Lays, StateLays, chain, done_lays, finished_lays, judged_lays}
 use Rattle.c_typed_programs.proofs.LaidOut.Chained.{scoped, state_chain, state_lays, then_lays, value_lays}
 use Rattle.c_typed_programs.proofs.LaidOut.Declarations.{declaration_laid}
-use Rattle.c_typed_programs.proofs.Common.{first, second}
 
 labelled_lays : (ls : Labels) (typing : FileTyping Statement) → Lays typing → Lays (labelled ls typing)
 labelled_lays ls typing h =
@@ -56,7 +56,7 @@ controlled_lays typing h = scoped (without_labels typing) (unlabelled_lays typin
 
 -- expressions of statements
 
-evaluated_lays : (e : Expression) → is_regular e ≡ true → StateLays (evaluated e)
+pub evaluated_lays : (e : Expression) → is_regular e ≡ true → StateLays (evaluated e)
 evaluated_lays e c =
     state_chain (valued (typed true e)) (λ v. done v.tree) (value_lays true e c) (λ v. done_lays v.tree)
 
@@ -65,30 +65,30 @@ evaluated_if_lays None c = done_lays {A = Option tree_of.Expression} None
 evaluated_if_lays (Some e) c =
     state_chain (evaluated e) (λ e. done (Some e)) (evaluated_lays e c) (λ e. done_lays (Some e))
 
-expression_lays : (e : Option Expression) → is_regular_if e ≡ true → StateLays (expression_typed e)
+pub expression_lays : (e : Option Expression) → is_regular_if e ≡ true → StateLays (expression_typed e)
 expression_lays None c = done_lays tree.empty
 expression_lays (Some e) c =
     state_chain (evaluated e) (λ e. done (tree.expression_statement e)) (evaluated_lays e c)
     (λ e. done_lays (tree.expression_statement e))
 
-controlling_lays : (line : ℕ) (e : Expression) → is_regular e ≡ true → StateLays (controlling line e)
+pub controlling_lays : (line : ℕ) (e : Expression) → is_regular e ≡ true → StateLays (controlling line e)
 controlling_lays line e c =
     state_chain (valued (typed true e)) (λ v. judged (controls line v)) (value_lays true e c)
     (λ v. judged_lays (controls line v))
 
-switching_lays : (line : ℕ) (e : Expression) → is_regular e ≡ true → StateLays (switching_on line e)
+pub switching_lays : (line : ℕ) (e : Expression) → is_regular e ≡ true → StateLays (switching_on line e)
 switching_lays line e c =
     state_chain (valued (typed true e)) (λ v. judged (switches line v)) (value_lays true e c)
     (λ v. judged_lays (switches line v))
 
-returned_lays : (line : ℕ) (result : List TypeWord) (e : Option Expression) → is_regular_if e ≡ true
+pub returned_lays : (line : ℕ) (result : List TypeWord) (e : Option Expression) → is_regular_if e ≡ true
     → StateLays (returned line result e)
 returned_lays line result None c = judged_lays (returned_nothing line result)
 returned_lays line result (Some e) c =
     state_chain (valued (typed true e)) (λ v. judged (returned_value line result v)) (value_lays true e c)
     (λ v. judged_lays (returned_value line result v))
 
-case_lays : (ls : Labels) (line : ℕ) (e : Expression) → is_regular e ≡ true → StateLays (case_label ls line e)
+pub case_lays : (ls : Labels) (line : ℕ) (e : Expression) → is_regular e ≡ true → StateLays (case_label ls line e)
 case_lays ls line e c =
     state_chain (valued (typed false e)) (λ v. judged (λ s. case_with line (constant_word v.tree) ls))
     (value_lays false e c) (λ v. judged_lays (λ s. case_with line (constant_word v.tree) ls))
@@ -98,7 +98,7 @@ valued_if_lays None c = done_lays {A = Option Value} None
 valued_if_lays (Some e) c =
     state_chain (valued (typed true e)) (λ v. done (Some v)) (value_lays true e c) (λ v. done_lays (Some v))
 
-behind_first_lays : (line : ℕ) (condition step : Option Expression) → is_regular_if condition ≡ true
+pub behind_first_lays : (line : ℕ) (condition step : Option Expression) → is_regular_if condition ≡ true
     → is_regular_if step ≡ true → (x : First) → StateLays (behind_first line condition step x)
 behind_first_lays line condition step c d x =
     state_chain (valued_if condition)

@@ -1,7 +1,7 @@
 -- Arrays have the bytes of their elements in the types that declarators and specifiers make, and keep them where more
 -- structures are complete (C99 6.7.5.2).
 use Rattle.std.proofs.Common.{◌≡◌, ℕ, Bool, true, false, ◌&&◌, refl, ap, ◌∙◌, List, [], ◌∷◌, Option, Some, None}
-use Rattle.std.proofs.lemmas.Bool.{eq-eqb}
+use Rattle.std.proofs.lemmas.Bool.{eq-eqb, true≢false}
 use Rattle.c_tree.specs.declared.c_type.TypeWord.{TypeWord}
 use Rattle.c_tree.specs.declared.c_type.TypeWord.TheVariants as word
 use Rattle.c_tree.specs.Arrays.{has_bytes}
@@ -23,6 +23,7 @@ use Rattle.c_scope.specs.declared.meaning.Tag.{Tag}
 use Rattle.c_scope.specs.declared.meaning.Tag.TheVariants as tag
 use Rattle.c_typing.specs.Specifications.{Gathered, specified, tag_type, type_or_basic}
 use Rattle.c_typed_validity.specs.More.{AreMore}
+use Rattle.c_typed_validity.proofs.Common.{both_true}
 use Rattle.c_typed_validity.proofs.Kept.{extent_kept}
 use Rattle.c_typed_declarators.proofs.Tags.{member_kept}
 use Rattle.c_typed_declarators.proofs.Types.{NoFaults, element_known, first_faultless, second_faultless}
@@ -34,10 +35,6 @@ pub bytes_kept : (count bytes : ℕ) (o more : Option TypeExtent) → ((e : Type
     → has_bytes count bytes o ≡ true → has_bytes count bytes more ≡ true
 bytes_kept count bytes None more h e = absurd cc
 bytes_kept count bytes (Some x) more h e = ap (has_bytes count bytes) (h x refl) ∙ e
-
-pub both_true : (a b c d : Bool) → (a ≡ true → c ≡ true) → (b ≡ true → d ≡ true) → (a && b) ≡ true → (c && d) ≡ true
-both_true true b c d h g e = ap (λ z. z && d) (h refl) ∙ g e
-both_true false b c d h g e = absurd cc
 
 pub arrays_kept : (es more : List (Option TypeExtent)) → AreMore es more → (ws : List TypeWord)
     → has_array_bytes es ws ≡ true → has_array_bytes more ws ≡ true
@@ -90,10 +87,8 @@ derived_arrays : (es : List (Option TypeExtent)) (d : Derivation) (b : BuiltType
 derived_arrays es (to_pointer is_const) b h good = pointer_arrays es is_const b.type
 derived_arrays es to_open_array b h good = h (first_faultless b.faults (element_faults es b.type) good)
 derived_arrays es (to_array None) b h good =
-    absurd (no_count (second_faultless b.faults (record (element_faults es b.type) { miscounted = true }) good).counted)
-  where
-    no_count : true ≡ false → ⊥
-    no_count e = cc
+    absurd (true≢false
+    (second_faultless b.faults (record (element_faults es b.type) { miscounted = true }) good).counted)
 derived_arrays es (to_array (Some count)) b h good =
     let w = array_of count (extent_of es b.type) in
     let own = second_faultless b.faults (record (element_faults es b.type) { large = is_large w }) good in

@@ -10,8 +10,9 @@ use Rattle.c_scope.specs.Names.{declared, found, or_else}
 use Rattle.c_current_object.specs.Members.{lists_in}
 use Rattle.c_typing.specs.State.{State, Typing, extents}
 use Rattle.c_typed_validity.specs.More.{AreMore}
+use Rattle.c_typed_validity.proofs.Common.{the_same}
+use Rattle.c_typed_validity.proofs.Sound.{IfAnswer}
 use Rattle.c_typed_declarators.specs.Extending.{Extending, Extends, IsNew, IsSameOr, new, same}
-use Rattle.c_typed_declarators.proofs.Chained.{IfAnswer}
 use Rattle.c_typed_programs.specs.Layouts.Listed.{AreListed, HasArraysIn, IfLaidOut, IsLaidOut}
 use Rattle.c_typed_programs.proofs.Layouts.Arrays.{arrays_kept}
 
@@ -51,9 +52,6 @@ pub either_meaning : (N : Meaning → Type 0) (P : Meaning → Type 0) (before b
 either_meaning N P before behind around (same e) h g m is = h m (ap (λ z. or_else z around) (sym e) ∙ is)
 either_meaning N P before behind around (new x e p) h g m is =
     subst P (the_same (ap (λ z. or_else z around) (sym e) ∙ is)) (g x p)
-  where
-    the_same : Some x ≡ Some m → x ≡ m
-    the_same e = cc
 
 pub laid_out_behind : (b : Bool) (s t : State) → Extends b s t → IsLaidOut s → HasLists t → IsLaidOut t
 laid_out_behind b s t h laid lists = record {

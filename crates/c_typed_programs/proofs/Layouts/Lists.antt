@@ -8,7 +8,7 @@ use Rattle.std.proofs.lemmas.Bool.{ltb-false}
 use Rattle.c_tree.specs.declared.c_type.TypeWord.{TypeWord}
 use Rattle.c_tree.specs.Extents.{TypeExtent, extent_of}
 use Rattle.c_rules.specs.declared.fault.Rule.TheVariants as rule
-use Rattle.c_rules.specs.Answer.{Answer, violates, ◌>>=◌}
+use Rattle.c_rules.specs.Answer.{violates, ◌>>=◌}
 use Rattle.c_place_rules.specs.declared.place.Member.{Member}
 use Rattle.c_declarators.specs.Derivations.{BuiltType, element_faults}
 use Rattle.c_declarators.specs.Faults.{and_faults, rule_of}
@@ -31,18 +31,18 @@ use Rattle.c_typing.specs.State.{State, extents}
 use Rattle.c_expression_typing.specs.Constructs.{begun_as, tagged_as}
 use Rattle.c_typed_validity.specs.More.{AreMore}
 use Rattle.c_typed_validity.specs.Sound.{IsFormed, IsPending}
+use Rattle.c_typed_validity.proofs.Common.{the_same}
+use Rattle.c_typed_validity.proofs.Sound.{IfAnswer}
 use Rattle.c_typed_declarators.specs.Given.{AreEntries, IsBegun, anything}
-use Rattle.c_typed_declarators.proofs.Chained.{IfAnswer}
 use Rattle.c_typed_declarators.proofs.Completed.{filled, filled_more, inside}
 use Rattle.c_typed_declarators.proofs.Lists.{got_there, other_changed, read_changed, same_or}
 use Rattle.c_typed_declarators.proofs.Lists.{get_added}
-use Rattle.c_typed_declarators.proofs.Members.{Each, Members, each_by}
+use Rattle.c_typed_declarators.proofs.Members.{Each, Members, each_by, no_rule, unless_by}
+use Rattle.c_typed_declarators.proofs.Tags.{in_environment}
 use Rattle.c_typed_declarators.proofs.Types.{NoFaults, first_faultless, without_faults}
 use Rattle.c_typed_programs.specs.Layouts.Listed.{AreListed, IsListed, has_array_bytes}
 use Rattle.c_typed_programs.proofs.Layouts.Arrays.{arrays_kept, built_arrays, listed_kept}
 use Rattle.c_typed_programs.proofs.Layouts.Chained.{HasLists, Laid}
-use Rattle.c_typed_programs.proofs.Types.Declarators.{no_rule, unless_by}
-use Rattle.c_typed_programs.proofs.Common.{the_same}
 
 -- a list of members, each with a property
 
@@ -298,9 +298,6 @@ marked_lists s h (tag.Union n) = begun_lists s.environment.structures n h
 marked_lists s h (tag.Enumeration n) = h
 
 -- tags
-
-abbrev in_environment : State → Environment × Tag → Answer (State × Tag)
-in_environment s r = Ok (record s { environment = r.0 }, r.1)
 
 unless_mistaken : (s : State) (line : ℕ) (r : Environment × Tag) → HasLists (record s { environment = r.0 })
     → (is : Bool)

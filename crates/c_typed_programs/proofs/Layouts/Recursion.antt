@@ -47,18 +47,19 @@ use Rattle.c_typed_validity.specs.Regular.{is_regular_enumerator, is_regular_mem
 use Rattle.c_typed_validity.specs.Regular.{is_regular_specifier, more_are_regular, more_are_regular_declarators}
 use Rattle.c_typed_validity.specs.Regular.{more_are_regular_enumerators, more_are_regular_parameters}
 use Rattle.c_typed_validity.specs.Sound.{IsFormed, is_sized_array}
-use Rattle.c_typed_validity.proofs.Sound.{more_more}
+use Rattle.c_typed_validity.proofs.Common.{first, second}
+use Rattle.c_typed_validity.proofs.Sound.{IfAnswer, more_more}
 use Rattle.c_typed_declarators.specs.Extending.{Extending, Extends}
 use Rattle.c_typed_declarators.specs.Given.{HasType, IsGathered, IsIntIf, IsShapeOf, IsSpecified}
 use Rattle.c_typed_declarators.specs.Given.{HasWords, OperandHasWords, ValueHasWords, anything}
-use Rattle.c_typed_declarators.proofs.Chained.{IfAnswer, judged_extends}
+use Rattle.c_typed_declarators.proofs.Chained.{judged_extends}
 use Rattle.c_typed_declarators.proofs.Members.{Members, members_kept}
 use Rattle.c_typed_declarators.proofs.Parameters.{found_last, within, within_block, within_formed}
 use Rattle.c_typed_declarators.proofs.Recursion.{after, begun_stays, enumerator_extend, gathered_extends, member_by}
 use Rattle.c_typed_declarators.proofs.Recursion.{member_extend, members_extend, name_extends, parameter_extend}
-use Rattle.c_typed_declarators.proofs.Recursion.{shape_extends, shape_then, some_members, specified_extends}
+use Rattle.c_typed_declarators.proofs.Recursion.{shape_extends, shape_then, some_members, specified_extends, with_type}
 use Rattle.c_typed_declarators.proofs.Recursion.{specifier_extends, typed_extends}
-use Rattle.c_typed_declarators.proofs.Steps.{called_extends, format_extends, valued_extends}
+use Rattle.c_typed_declarators.proofs.Steps.{called_extends, format_extends, valued_extends, whatever}
 use Rattle.c_typed_declarators.proofs.Tags.{BegunFrom, begun_extends}
 use Rattle.c_typed_declarators.proofs.Words.{int_word}
 use Rattle.c_typed_programs.specs.Layouts.Listed.{HasArrays, IsLaidOut, has_array_bytes}
@@ -69,11 +70,6 @@ use Rattle.c_typed_programs.proofs.Layouts.Lists.{tagged_laid}
 use Rattle.c_typed_programs.proofs.Layouts.Standing.{accessed_stands, applied_stands, enumerated_stands, literal_stands}
 use Rattle.c_typed_programs.proofs.Layouts.Standing.{name_called_stands, named_stands, parameter_stands}
 use Rattle.c_typed_programs.proofs.Layouts.Standing.{prefixed_stands, stands_laid, value_stands}
-use Rattle.c_typed_programs.proofs.Common.{first, second}
-
-whatever : {A : Type 0} (s : State) (a : Answer A) → IfAnswer (anything s) a
-whatever s (Ok x) = tt
-whatever s (Err f) = tt
 
 -- what is judged in a state
 pub rule_laid : {A : Type 0} (s : State) → IsLaidOut s → (a : Answer A) → Laid anything (a >>= λ x. Ok (s, x))
@@ -133,9 +129,6 @@ typedef_by s line (Some (meaning.Named what type)) h = tt
 
 abbrev Arrays : State → Gathered → Type 0
 Arrays s g = HasArraysIf (extents s) g.type
-
-abbrev with_type : State → List TypeWord → Answer (State × List TypeWord)
-with_type s type = Ok (s, type)
 
 named_then : (s : State) → IsLaidOut s → (g : Gathered) (a : Answer (List TypeWord))
     → IfAnswer (λ type. has_array_bytes (extents s) type ≡ true) a

@@ -39,11 +39,11 @@ use Rattle.c_typing.specs.Specifications.{Specification}
 use Rattle.c_typing.specs.State.{State, Typing, extents, judged, ◌>>>◌}
 use Rattle.c_expression_typing.specs.Constructs.{accessed, enumerated_as, prefixed}
 use Rattle.c_typed_declarators.specs.Given.{anything}
-use Rattle.c_typed_declarators.proofs.Chained.{IfAnswer}
 use Rattle.c_typed_programs.proofs.Declarations.Bound.{declarator_binds}
 use Rattle.c_typed_programs.specs.Layouts.Listed.{AreListed}
 use Rattle.c_typed_programs.proofs.Layouts.Chained.{HasLists, Laid}
 use Rattle.c_current_object.specs.Members.{lists_in}
+use Rattle.c_typed_validity.proofs.Sound.{IfAnswer}
 
 abbrev pub Stands : {A : Type 0} → State → Answer (State × A) → Type 0
 Stands s (Ok r) = r.0.environment.structures ≡ s.environment.structures

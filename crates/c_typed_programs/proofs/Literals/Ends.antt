@@ -1,18 +1,17 @@
 -- String literals of a file that is accepted stand outside of functions or in functions of its program (C99 6.4.5).
-use Rattle.std.proofs.Common.{◌≡◌, ℕ, ◌≤◌, ◌<◌, zero, suc, Bool, true, refl, sym, ap, ◌∙◌, subst, List, [], ◌∷◌, length}
+use Rattle.std.proofs.Common.{◌≡◌, ℕ, ◌≤◌, ◌<◌, Bool, true, refl, sym, ap, ◌∙◌, subst, List, [], ◌∷◌, length}
 use Rattle.std.proofs.Common.{Option, Some, None}
 use Rattle.std.specs.Prelude.{Ok, Err, slice_get}
-use Rattle.std.proofs.lemmas.Bool.{lt-ltb}
+use Rattle.std.proofs.lemmas.Bool.{and_from, lt-ltb}
 use Rattle.c_syntax.specs.Statements as t
-use Rattle.c_tree.specs.Programs.{StaticObject}
 use Rattle.c_tree.specs.ValidProgram.{is_function_number}
 use Rattle.c_facts.specs.Facts.{facts_in}
 use Rattle.c_rules.specs.Answer.{Answer}
 use Rattle.c_scope.specs.Environment.{Facts, number_or}
 use Rattle.c_scope.specs.Names.{Names, declared}
 use Rattle.c_typing.specs.State.{Literal}
-use Rattle.c_unit_typing.specs.Files.{Definition, File}
-use Rattle.c_unit_typing.specs.Programs.{functions_from, program_of, static_objects}
+use Rattle.c_unit_typing.specs.Files.{File}
+use Rattle.c_unit_typing.specs.Programs.{program_of, static_objects}
 use Rattle.c_unit_typing.specs.Units.{externals, file_before, file_with}
 use Rattle.c_typed_programs.specs.Scopes.Defined.{define_functions}
 use Rattle.c_typed_programs.specs.Scopes.Regular.{are_regular_externals}
@@ -21,12 +20,11 @@ use Rattle.c_typed_programs.proofs.Files.Ends.{answer, behind_all, same_ok}
 use Rattle.c_typed_programs.proofs.Files.Statics.{get_low}
 use Rattle.c_typed_programs.specs.Types.Typed.{Each}
 use Rattle.c_typed_programs.specs.Functions.Entities.{names_function}
-use Rattle.c_typed_programs.proofs.Functions.Entities.{none_some, some_is}
-use Rattle.c_typed_programs.proofs.Functions.Main.{HasFunctions, functions_end}
+use Rattle.c_typed_programs.proofs.Functions.Main.{HasFunctions, functions_count, functions_end}
 use Rattle.c_typed_programs.specs.Statics.Program.{stand_in_functions}
 use Rattle.c_typed_programs.specs.Literals.Added.{IsDefinedFunction, IsOutsideOrDefined, IsPlaced, PlacesLiterals}
 use Rattle.c_typed_programs.proofs.Literals.Files.{IfPlaces, externals_place}
-use Rattle.c_typed_programs.proofs.Common.{both}
+use Rattle.c_typed_programs.proofs.Types.Steps.{each_got}
 
 -- a function that is defined has a number of the program
 
@@ -40,24 +38,19 @@ defined_number f numbers h n is =
     ∙ ap (λ z. number_or z (length numbers)) k.1 in
     subst (λ z. z < length f.definitions) (sym same) (get_low f.definitions k.0 own.definition own.there)
 
-count_of_functions : (f : File) (os : List StaticObject) (n : ℕ) (ds : List Definition)
-    → length (functions_from f os n ds) ≡ length ds
-count_of_functions f os n [] = refl
-count_of_functions f os n (d ∷ ds) = ap suc (count_of_functions f os (suc n) ds)
-
 function_by : (f : File) (numbers : Names ℕ) → HasFunctions numbers f → (o : Option ℕ)
     → IsOutsideOrDefined f.state.environment.entities o → is_function_number (program_of f) o ≡ true
 function_by f numbers h None is = refl
 function_by f numbers h (Some n) is =
     lt-ltb n (length (program_of f).functions)
-    (subst (λ z. n < z) (sym (count_of_functions f (static_objects f) 0 f.definitions))
+    (subst (λ z. n < z) (sym (functions_count f (static_objects f) 0 f.definitions))
     (defined_number f numbers h n is))
 
 all_stand : (f : File) (numbers : Names ℕ) → HasFunctions numbers f → (ls : List Literal)
     → Each (IsPlaced f.state.environment.entities) ls → stand_in_functions (program_of f) ls ≡ true
 all_stand f numbers h [] is = refl
 all_stand f numbers h (l ∷ ls) is =
-    both (is_function_number (program_of f) l.function) (stand_in_functions (program_of f) ls)
+    and_from (is_function_number (program_of f) l.function) (stand_in_functions (program_of f) ls)
     (function_by f numbers h l.function is.0.function) (all_stand f numbers h ls is.1)
 
 -- at the end
@@ -83,11 +76,6 @@ pub literals_stand : (objects : Option (List (List Bool))) (end : ℕ) (es : Lis
 literals_stand objects end es f c d is =
     all_stand f (facts_in es).functions (functions_end objects end es f c d is) f.state.literals
     (places_end objects end es f c is).each
-
-each_got : {A : Type 0} (p : A → Type 0) (xs : List A) → Each p xs → (n : ℕ) (x : A) → slice_get xs n ≡ Some x → p x
-each_got p [] h n x e = none_some x e
-each_got p (y ∷ ys) h zero x e = subst p (some_is e) h.0
-each_got p (y ∷ ys) h (suc n) x e = each_got p ys h.1 n x e
 
 pub literals_bytes : (objects : Option (List (List Bool))) (end : ℕ) (es : List t.External) (f : File)
     → are_regular_externals es ≡ true → define_functions es ≡ true → file_with objects end es ≡ Ok f

@@ -1,6 +1,7 @@
 -- String literals of a file stand outside of functions, or in functions that it defines (C99 6.4.5, 6.9.1).
 use Rattle.std.proofs.Common.{◌≡◌, ℕ, Bool, true, false, ◌||◌, refl, sym, ◌∙◌, subst, List, [], ◌∷◌, Option, Some, None}
 use Rattle.std.proofs.Common.{if◌then◌else◌}
+use Rattle.std.proofs.lemmas.Bool.{or_right}
 use Rattle.std.specs.Prelude.{Ok, Err}
 use Rattle.c_syntax.specs.Statements as t
 use Rattle.c_syntax.specs.Tree.{Declarator, Specifiers}
@@ -31,6 +32,7 @@ use Rattle.c_unit_typing.specs.Statements.{block_items}
 use Rattle.c_unit_typing.specs.Units.{around_body, defined_by, definition_of, entered, external, externals, left}
 use Rattle.c_unit_typing.specs.Units.{parameters_in, scope_or_none, with_body}
 use Rattle.c_typed_validity.specs.Sound.{IsFormed, is_sized_array}
+use Rattle.c_typed_validity.proofs.Common.{first, second}
 use Rattle.c_typed_declarators.specs.Extending.{Extending}
 use Rattle.c_typed_declarators.specs.Given.{AreCounted, HasScope, IsParameterScope, IsShapeOf, IsSpecified}
 use Rattle.c_typed_declarators.proofs.Marks.{type_extends}
@@ -60,7 +62,7 @@ use Rattle.c_typed_programs.proofs.Walks.Recursion.{shape_walks}
 use Rattle.c_typed_programs.proofs.Walks.States.{IfFileWalks}
 use Rattle.c_typed_programs.proofs.Walks.Statements.{BothFiles}
 use Rattle.c_typed_programs.proofs.Walks.Steps.{type_stands}
-use Rattle.c_typed_programs.proofs.Common.{filed, first, or_right, second}
+use Rattle.c_typed_programs.proofs.Common.{filed}
 
 -- literals where more is declared
 

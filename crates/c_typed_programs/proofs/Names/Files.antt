@@ -17,11 +17,13 @@ use Rattle.c_unit_typing.specs.Declarations.{declaration}
 use Rattle.c_unit_typing.specs.Files.{Definition, File, FileTyping, finished}
 use Rattle.c_unit_typing.specs.Units.{definition, external, externals, file_before, file_in, file_with}
 use Rattle.c_typed_validity.specs.Typed.{HaveMembers}
+use Rattle.c_typed_validity.proofs.Common.{first, second}
+use Rattle.c_typed_declarators.proofs.Lists.{added_length}
 use Rattle.c_typed_programs.specs.Scopes.Defined.{define_functions, defines}
 use Rattle.c_typed_programs.specs.Scopes.Leaving.{Growing, Grows}
 use Rattle.c_typed_programs.specs.Scopes.Regular.{are_regular_externals, is_regular_external}
 use Rattle.c_typed_programs.proofs.Scopes.Files.{external_grows, grows_on, grows_same}
-use Rattle.c_typed_programs.proofs.Scopes.Start.{file_members}
+use Rattle.c_typed_programs.proofs.Scopes.Start.{file_members, start_facts}
 use Rattle.c_typed_programs.specs.Types.Typed.{Types}
 use Rattle.c_typed_programs.specs.Layouts.Listed.{IsLaidOut}
 use Rattle.c_typed_programs.proofs.Layouts.Start.{file_laid}
@@ -43,16 +45,14 @@ use Rattle.c_typed_programs.proofs.Bodies.Definitions.{DefinesNamed, IfNamed, de
 use Rattle.c_typed_programs.proofs.Bodies.Entities.{entities_on, entities_same}
 use Rattle.c_typed_programs.proofs.Bodies.Outside.{IfBeyond, declaration_beyond}
 use Rattle.c_typed_programs.proofs.Bodies.Whole.{file_outside}
-use Rattle.c_typed_programs.proofs.Functions.Defined.{one_longer}
 use Rattle.c_typed_programs.proofs.Functions.Files.{FunctionsOf, IfDefines, external_defines}
-use Rattle.c_typed_programs.proofs.Functions.Main.{start_defines, start_facts}
+use Rattle.c_typed_programs.proofs.Functions.Main.{start_defines}
 use Rattle.c_typed_programs.proofs.Functions.Places.{DefinesAt, Kept, defines_at, found_kept}
 use Rattle.c_typed_programs.specs.Names.Known.{AreKnown}
 use Rattle.c_typed_programs.specs.Names.Linked.{AreFilled}
 use Rattle.c_typed_programs.proofs.Names.Definitions.{external_filled}
 use Rattle.c_typed_programs.proofs.Names.Filled.{IfFileFilled}
 use Rattle.c_typed_programs.proofs.Names.Start.{start_filled}
-use Rattle.c_typed_programs.proofs.Common.{first, second}
 
 -- definitions in turn, from one place on
 
@@ -140,7 +140,7 @@ on_on f g end members h on = by h.is
               members = members;
             },
             subst (λ z. StandAt end z on.rest d.defines.end.statics end.statics)
-                (ap length more ∙ one_longer f.definitions made)
+                (ap length more ∙ added_length f.definitions made)
                 (subst (λ z. StandAt end (length g.definitions) on.rest z end.statics)
                 (ap (λ z. z.statics) d.defines.is) on.stand),
           );

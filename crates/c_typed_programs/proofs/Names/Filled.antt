@@ -41,6 +41,7 @@ use Rattle.c_unit_typing.specs.Files.{File, FileTyping}
 use Rattle.c_unit_typing.specs.Initializers.{initialized}
 use Rattle.c_unit_typing.specs.Lines.{initializer_line}
 use Rattle.c_typed_validity.specs.Sound.{IsFormed, is_sized_array}
+use Rattle.c_typed_validity.proofs.Common.{first, no_value, second, the_same}
 use Rattle.c_typed_declarators.specs.Extending.{Extending, Extends, IsNew}
 use Rattle.c_typed_declarators.specs.Given.{AreCounted, IsShapeOf, IsSpecified, anything}
 use Rattle.c_typed_declarators.proofs.Recursion.{shape_extends}
@@ -57,10 +58,11 @@ use Rattle.c_typed_programs.proofs.Bodies.Declared.{IfMade, placed_made}
 use Rattle.c_typed_programs.proofs.Bodies.Standing.{either}
 use Rattle.c_typed_programs.specs.Functions.Entities.{Continue, Fills}
 use Rattle.c_typed_programs.proofs.Functions.Continuing.{bound_fills, declarator_continues, keeps_continues}
-use Rattle.c_typed_programs.proofs.Functions.Entities.{bound_either, compatible_fills, conflict, fills_on, keeps_same}
-use Rattle.c_typed_programs.proofs.Functions.Entities.{none_some, size_keeps, some_is}
+use Rattle.c_typed_programs.proofs.Functions.Continuing.{continues_same}
+use Rattle.c_typed_programs.proofs.Functions.Entities.{bound_either, compatible_fills, fills_on}
+use Rattle.c_typed_programs.proofs.Functions.Entities.{size_keeps}
 use Rattle.c_typed_programs.specs.Names.Linked.{AreFilled, IsFilled}
-use Rattle.c_typed_programs.proofs.Common.{filed, first, second}
+use Rattle.c_typed_programs.proofs.Common.{conflict, filed}
 
 -- names
 
@@ -74,9 +76,6 @@ still_filled d type es more name k h =
       same = s.what ∙ h.same;
       fills = fills_on type h.entity.c_type s.entity.c_type h.fills s.fills;
     }
-
-pub unchanged : (es : Names Entity) → Continue es es
-unchanged es = keeps_continues [] es es (keeps_same [] es)
 
 pub filled_named : (env behind : Environment) (name : Name) (m : Meaning) → behind.names ≡ (with_name name m env).names
     → Continue env.entities behind.entities
@@ -98,7 +97,7 @@ filled_named env behind name m same more new h = record {
         (h.each other d type (ap (λ z. or_else z (found other env.names.outer)) (sym g) ∙ e) l)
     by other d type e l (inr g) =
         subst (λ z. IsFilled d type (declared z behind.entities)) (sym g.0)
-        (new d type (some_is (ap (λ z. or_else z (found other env.names.outer)) (sym g.1) ∙ e)) l)
+        (new d type (the_same (ap (λ z. or_else z (found other env.names.outer)) (sym g.1) ∙ e)) l)
 
 abbrev StandsFilled : Environment → Name → Option Meaning → Type 0
 StandsFilled env name m = (d : Designated) (type : List TypeWord) → m ≡ Some (meaning.Named d type)
@@ -138,7 +137,7 @@ module _ (env : Environment) (d : Declaration) (judged : judged_declarator (surr
       → names.meaning d.name env.names ≡ Some (meaning.Named w s) → is_linked w ≡ true → Fills s entity.c_type
   visible_before more w s e l =
       let old = still_filled w s env.entities (bound d.name entity env.entities) d.name more (is.each d.name w s e l) in
-      subst (λ z. Fills s z.c_type) (some_is (sym old.is ∙ bound_here d.name entity env.entities)) old.fills
+      subst (λ z. Fills s z.c_type) (the_same (sym old.is ∙ bound_here d.name entity env.entities)) old.fills
 
   linked_filled : has_linkage (in_file env) d ≡ true → Continue env.entities (bound d.name entity env.entities)
       → (w : Designated) (type : List TypeWord) → linked_meaning env d ≡ meaning.Named w type
@@ -163,7 +162,7 @@ module _ (env : Environment) (d : Declaration) (judged : judged_declarator (surr
       → AreFilled behind
   unlinked_named m behind names entities unlinked =
       filled_named env behind d.name m names
-      (subst (Continue env.entities) (sym entities) (unchanged env.entities))
+      (subst (Continue env.entities) (sym entities) (continues_same env.entities))
       (λ w type g l. conflict (unlinked w type g l)) is
 
   variable_filled : AreFilled (with_new_variable d.name d.type env)
@@ -217,7 +216,7 @@ object_filled : (env : Environment) (n : ℕ) (name : Name) (type : List TypeWor
     → Continue env.entities (with_entity name (option_map (entity_with_type type) o) env).entities
     → AreFilled (with_name name (meaning.Named (what.Object n) type)
     (with_entity name (option_map (entity_with_type type) o) env))
-object_filled env n name type y w is None e h more = none_some y e
+object_filled env n name type y w is None e h more = no_value y _ e
 object_filled env n name type y w is (Some x) e h more =
     filled_named env
     (with_name name (meaning.Named (what.Object n) type) (with_entity name (Some (entity_with_type type x)) env)) name
@@ -225,7 +224,7 @@ object_filled env n name type y w is (Some x) e h more =
     (λ d t g l.
     subst (λ z. IsFilled z t (declared name (bound name (entity_with_type type x) env.entities))) (the_what d t g)
     (subst (λ z. IsFilled (what.Object n) z (declared name (bound name (entity_with_type type x) env.entities)))
-    (the_type d t g) (sized_entity n name type x env.entities (ap (λ z. z.what) (some_is e) ∙ w) h))) is
+    (the_type d t g) (sized_entity n name type x env.entities (ap (λ z. z.what) (the_same e) ∙ w) h))) is
   where
     the_what : (d : Designated) (t : List TypeWord) → meaning.Named (what.Object n) type ≡ meaning.Named d t
         → what.Object n ≡ d
@@ -244,10 +243,10 @@ size_filled env (what.Object n) name type e at is =
     (size_keeps env (what.Object n) name type e))
 size_filled env (what.Static n) name type e at is =
     filled_named env (with_size (what.Static n) name type env) name (meaning.Named (what.Static n) type) refl
-    (unchanged env.entities) (λ d t g l. absurd cc) is
+    (continues_same env.entities) (λ d t g l. absurd cc) is
 size_filled env (what.Variable n) name type e at is =
     filled_named env (with_size (what.Variable n) name type env) name (meaning.Named (what.Variable n) type) refl
-    (unchanged env.entities) (λ d t g l. absurd cc) is
+    (continues_same env.entities) (λ d t g l. absurd cc) is
 size_filled env (what.Function n) name type e at is = absurd cc
 size_filled env (what.Library r) name type e at is = absurd cc
 

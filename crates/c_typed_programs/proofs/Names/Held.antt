@@ -2,7 +2,7 @@
 use Rattle.std.proofs.Common.{◌≡◌, inl, inr, ℕ, Bool, true, false, ◌||◌, ◌==◌, refl, sym, ap, ◌∙◌, subst}
 use Rattle.std.proofs.Common.{List, [], ◌∷◌, Option, Some, None, if◌then◌else◌}
 use Rattle.std.specs.Prelude.{is_none, option_map}
-use Rattle.std.proofs.lemmas.Bool.{eq-eqb, eqb-true}
+use Rattle.std.proofs.lemmas.Bool.{eq-eqb, eqb-true, or_left as or_first, or_right as or_second}
 use Rattle.obj_memory.specs.declared.int_type.IntType.TheVariants.{Int}
 use Rattle.obj_memory.specs.declared.value.Scalar.TheVariants.{Integer, Pointer}
 use Rattle.obj_memory.specs.Integers.{size_of}
@@ -21,6 +21,7 @@ use Rattle.c_rules.proofs.FineUnary.{same_kind}
 use Rattle.c_rules.proofs.SameTypes.{both_true}
 use Rattle.c_place_laws.specs.FinePlaces.{IsSized, complete, unsized}
 use Rattle.c_scope.specs.Composite.{composite}
+use Rattle.c_typed_programs.proofs.Common.{conflict}
 use Rattle.c_typed_programs.proofs.SpelledTypes.Composites.{IsJoint, alike, first_sized, second_sized}
 use Rattle.c_typed_programs.proofs.SpelledTypes.Composites.{composite_nothing, joins, none_first, none_second}
 use Rattle.c_declarators.specs.Derivations.{array_of}
@@ -30,8 +31,6 @@ use Rattle.c_typed_validity.specs.Names.{kind_among}
 use Rattle.c_typed_validity.specs.Steps.{Structures}
 use Rattle.c_typed_programs.specs.Layouts.Listed.{has_array_bytes}
 use Rattle.c_typed_programs.specs.Functions.Entities.{Fills, FillsWord}
-use Rattle.c_typed_programs.proofs.Functions.Entities.{conflict}
-use Rattle.c_typed_programs.proofs.Common.{or_left as or_first, or_right as or_second}
 
 -- The kind that a static object has where a type declares it: an array of a known size has its bytes, one of an unknown
 -- size may have any number of bytes.

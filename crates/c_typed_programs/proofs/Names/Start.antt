@@ -19,11 +19,13 @@ use Rattle.c_scope.specs.Library.{name_of, routines}
 use Rattle.c_scope.specs.Names.{Name, bound, declared, found, or_else}
 use Rattle.c_scope.specs.Names as names
 use Rattle.c_scope.specs.Start.{empty, start, with_library, with_routine, with_routines}
+use Rattle.c_typed_validity.proofs.Common.{the_same}
 use Rattle.c_typed_programs.proofs.Declarations.Bound.{bound_here}
 use Rattle.c_typed_programs.specs.Functions.Entities.{Fills}
-use Rattle.c_typed_programs.proofs.Functions.Entities.{bound_either, fills_same, some_is}
+use Rattle.c_typed_programs.proofs.Functions.Continuing.{continues_same}
+use Rattle.c_typed_programs.proofs.Functions.Entities.{bound_either, fills_same}
 use Rattle.c_typed_programs.specs.Names.Linked.{AreFilled, IsFilled}
-use Rattle.c_typed_programs.proofs.Names.Filled.{filled_named, unchanged}
+use Rattle.c_typed_programs.proofs.Names.Filled.{filled_named}
 
 module _ (name : Name) (f : LibraryFunction) (type : List TypeWord) (env : Environment) (is : AreFilled env) where
   abbrev entity : Entity
@@ -57,7 +59,7 @@ module _ (name : Name) (f : LibraryFunction) (type : List TypeWord) (env : Envir
   here_filled other d t same e =
       subst (λ z. Stands z d t) (sym same)
       (own_filled d t
-      (some_is (sym (ap (λ z. or_else z (found name env.names.outer)) (bound_here name meant env.names.current))
+      (the_same (sym (ap (λ z. or_else z (found name env.names.outer)) (bound_here name meant env.names.current))
       ∙ ap (λ z. names.meaning z behind.names) (sym same) ∙ e)))
 
   library_filled : AreFilled behind
@@ -88,7 +90,7 @@ typedef_filled : (env : Environment) (name : Name) (type : List TypeWord) → Ar
     → AreFilled (with_name name (meaning.Typedef type) env)
 typedef_filled env name type is =
     filled_named env (with_name name (meaning.Typedef type) env) name (meaning.Typedef type) refl
-    (unchanged env.entities)
+    (continues_same env.entities)
     (λ d t e l. absurd cc) is
 
 pub start_filled : (facts : Facts) → AreFilled (start facts)

@@ -3,7 +3,7 @@ use Rattle.std.proofs.Common.{◌≡◌, ℕ, Bool, true, false, ◌||◌, ◌==
 use Rattle.std.proofs.Common.{Option, Some, None, if◌then◌else◌}
 use Rattle.std.specs.Prelude.{Ok, Err, not}
 use Rattle.std.specs.List.{list_all, list_any}
-use Rattle.std.proofs.lemmas.Bool.{eq-eqb, eqb-true}
+use Rattle.std.proofs.lemmas.Bool.{and_from, eq-eqb, eqb-true, not-true}
 use Rattle.std.proofs.lemmas.List.{append_assoc}
 use Rattle.obj_memory.specs.declared.int_type.IntType.{IntType}
 use Rattle.obj_memory.specs.declared.value.Scalar.TheVariants as scalar
@@ -26,8 +26,8 @@ use Rattle.c_rules.specs.Types.{class_of}
 use Rattle.c_rules.specs.Values.{Value}
 use Rattle.c_condition_rules.specs.Conditions.{switch_value, switched}
 use Rattle.c_unit_typing.specs.Constructs.{Labels, added, case_on, case_with, default_on}
+use Rattle.c_typed_validity.proofs.Common.{first as left_true, neither_left, neither_right, second as right_true}
 use Rattle.c_typed_programs.specs.Places.Placed.{AreFine, are_labels_of}
-use Rattle.c_typed_programs.proofs.Common.{both, first as left_true, neither_left, neither_right, second as right_true}
 
 same_number : (v w : ℕ) → (v == w) ≡ (w == v)
 same_number v w = by (v == w) (w == v) refl refl
@@ -64,20 +64,16 @@ more_different : (xs : List CaseLabel) (l : CaseLabel) → are_different xs ≡ 
     → are_different (xs ++ l ∷ []) ≡ true
 more_different [] l e g = refl
 more_different (x ∷ xs) l e g =
-    both (not (list_any (same_label x) (xs ++ l ∷ []))) (are_different (xs ++ l ∷ []))
-    (ap not (none_among x xs l (not_true (list_any (same_label x) xs) (left_true _ _ e))
+    and_from (not (list_any (same_label x) (xs ++ l ∷ []))) (are_different (xs ++ l ∷ []))
+    (ap not (none_among x xs l (not-true (list_any (same_label x) xs) (left_true _ _ e))
     (same_label_back x l ∙ neither_left (same_label l x) (list_any (same_label l) xs) g)))
     (more_different xs l (right_true _ _ e) (neither_right (same_label l x) (list_any (same_label l) xs) g))
-  where
-    not_true : (b : Bool) → not b ≡ true → b ≡ false
-    not_true true e = sym e
-    not_true false e = refl
 
 pub all_append : {A : Type 0} (p : A → Bool) (xs ys : List A) → list_all p xs ≡ true → list_all p ys ≡ true
     → list_all p (xs ++ ys) ≡ true
 all_append p [] ys e g = g
 all_append p (x ∷ xs) ys e g =
-    both (p x) (list_all p (xs ++ ys)) (left_true (p x) (list_all p xs) e)
+    and_from (p x) (list_all p (xs ++ ys)) (left_true (p x) (list_all p xs) e)
     (all_append p xs ys (right_true (p x) (list_all p xs) e) g)
 
 fit_append : (o : Option IntType) (xs ys : List CaseLabel) → are_labels_of o xs ≡ true → are_labels_of o ys ≡ true
@@ -110,7 +106,7 @@ added_fine : (line : ℕ) (l : CaseLabel) (ls : Labels) → AreFine ls ls.own �
 added_fine line l ls h is = added_by line l ls h is (list_any (same_label l) (ls.earlier ++ ls.own)) refl
 
 case_fits : (type : IntType) (w : ℕ) → are_labels_of (Some type) (Case (fit type w) ∷ []) ≡ true
-case_fits type w = both (fit type (fit type w) == fit type w) true (eq-eqb _ _ (fit_twice type w)) refl
+case_fits type w = and_from (fit type (fit type w) == fit type w) true (eq-eqb _ _ (fit_twice type w)) refl
 
 case_by : (line w : ℕ) (ls : Labels) → AreFine ls ls.own → (o : Option IntType) → ls.switch ≡ o
     → IfLabels (case_on line w ls o) ls

@@ -3,6 +3,7 @@ use Rattle.std.proofs.Common.{◌≡◌, ℕ, Bool, true, false, ◌&&◌, refl,
 use Rattle.std.proofs.Common.{Option, Some, None, if◌then◌else◌}
 use Rattle.std.specs.Prelude.{Ok, Err, not}
 use Rattle.std.specs.List.{list_all}
+use Rattle.std.proofs.lemmas.Bool.{and_from}
 use Rattle.std.proofs.lemmas.List.{append_assoc, append-nil}
 use Rattle.obj_memory.specs.declared.int_type.IntType.{IntType}
 use Rattle.c_syntax.specs.Statements.{Block, BlockItem, BlockItems, ForInit}
@@ -22,7 +23,7 @@ use Rattle.c_rules.specs.declared.fault.Rule.TheVariants.{MistakenReturn}
 use Rattle.c_rules.specs.Answer.{Answer, violates, ◌>>=◌}
 use Rattle.c_rules.specs.Conversions.{assigned}
 use Rattle.c_rules.specs.Values.{Value}
-use Rattle.c_typing.specs.State.{State, Typing, done, extents, judged}
+use Rattle.c_typing.specs.State.{State, done, extents, judged}
 use Rattle.c_expression_typing.specs.Constructs.{valued}
 use Rattle.c_expression_typing.specs.Typed.{typed}
 use Rattle.c_unit_typing.specs.Constructs.{Around, Labelled, Labels, case_label, case_with, controlled, controlling}
@@ -38,9 +39,9 @@ use Rattle.c_unit_typing.specs.Statements.{block, block_item, block_items, state
 use Rattle.c_unit_typing.specs.Statements.{switch_items}
 use Rattle.c_typed_programs.specs.Places.Placed.{AreFine, IfGives, IsFineStatement, are_labels_of, are_placed}
 use Rattle.c_typed_programs.specs.Places.Placed.{are_placed_items, is_placed}
+use Rattle.c_typed_programs.proofs.Common.{IfGives as IfOf, then_gives as then_of}
 use Rattle.c_typed_programs.proofs.Places.Labels.{IfInteger, IfLabels, all_append, case_fine, default_fine, integer_is}
 use Rattle.c_typed_programs.proofs.Places.Labels.{switch_integer}
-use Rattle.c_typed_programs.proofs.Common.{both}
 
 abbrev anything : {A : Type 0} → A → Type 0
 anything x = Unit {0}
@@ -95,18 +96,9 @@ controlled_gives a typing f h =
     (unlabelled_gives a no_labels typing (scope_opened f) (h (scope_opened f)))
 
 body_is : (a : Around) (s : Statement) → Proper a s → (is_placed a.inside s && not (is_declaration s)) ≡ true
-body_is a s is = both (is_placed a.inside s) (not (is_declaration s)) is.0 (ap not is.1)
+body_is a s is = and_from (is_placed a.inside s) (not (is_declaration s)) is.0 (ap not is.1)
 
 -- expressions, jumps and returns
-
-abbrev IfOf : {A : Type 0} → (A → Type 0) → Answer (State × A) → Type 0
-IfOf p (Ok r) = p r.1
-IfOf p (Err f) = Unit {0}
-
-then_of : {A B : Type 0} (q : B → Type 0) (a : Answer (State × A)) (next : A → Typing B)
-    → ((x : A) (u : State) → IfOf q (next x u)) → IfOf q (a >>= λ r. next r.1 r.0)
-then_of q (Ok r) next h = h r.1 r.0
-then_of q (Err f) next h = tt
 
 in_state_of : {A : Type 0} (p : A → Type 0) (a : Answer (State × A)) (f : File) → IfOf p a
     → IfGives p (a >>= λ r. Ok (record f { state = r.0 }, r.1))
@@ -174,7 +166,7 @@ if_else_gives a line e body other h k f =
     (λ c g x. then_gives (Proper a) (Proper a) (body g) (λ s. other ~> λ other. finished (tree.if_else c s other)) (h g)
     (λ s i is. then_gives (Proper a) (Proper a) (other i) (λ other. finished (tree.if_else c s other)) (k i)
     (λ o j js. (
-      both (is_placed a.inside s && not (is_declaration s)) (is_placed a.inside o && not (is_declaration o))
+      and_from (is_placed a.inside s && not (is_declaration s)) (is_placed a.inside o && not (is_declaration o))
           (body_is a s is) (body_is a o js),
       refl,
     )))))
@@ -303,9 +295,9 @@ local_by a type earlier different typing f h =
 switch_is : (a : Around) (v : Value) → is_integer (kind_of v.tree) ≡ true → (line : ℕ) (is : SwitchItems)
     → AreFineItems (switching a) (type_of (kind_of v.tree)) [] is → Proper a (tree.switch v.tree line is)
 switch_is a v int line is h = (
-  both (list_all (is_label (kind_of v.tree)) (labels_of is) && are_different (labels_of is))
+  and_from (list_all (is_label (kind_of v.tree)) (labels_of is) && are_different (labels_of is))
       (are_placed_items (in_switch a.inside) is)
-      (both (list_all (is_label (kind_of v.tree)) (labels_of is)) (are_different (labels_of is))
+      (and_from (list_all (is_label (kind_of v.tree)) (labels_of is)) (are_different (labels_of is))
       (ap (λ k. list_all (is_label k) (labels_of is)) (integer_is (kind_of v.tree) int) ∙ h.fit) h.different) h.placed,
   refl,
 )
@@ -392,7 +384,7 @@ mutual
       (λ s. block_items a more ~> λ ss. finished (tree.statements s ss)) (block_item_placed a x f)
       (λ s g is. then_gives (λ ss. are_placed a.inside ss ≡ true) (λ ss. are_placed a.inside ss ≡ true)
       (block_items a more g) (λ ss. finished (tree.statements s ss)) (block_items_placed a more g)
-      (λ ss h are. both (is_placed a.inside s) (are_placed a.inside ss) is are))
+      (λ ss h are. and_from (is_placed a.inside s) (are_placed a.inside ss) is are))
 
   block_item_placed : (a : Around) (x : BlockItem) (f : File) → IfGives (Placed a) (block_item a x f)
   block_item_placed a (t.local d) f = declaration_gives a d f
@@ -424,7 +416,7 @@ mutual
       (switch_items a type (earlier ++ s.labels) more g) (λ is. finished (tree.items s.labels s.statement is))
       (switch_items_placed a type (earlier ++ s.labels) item.different more g)
       (λ is h rest. record {
-        placed = both (is_placed a.inside s.statement) (are_placed_items a.inside is) item.placed rest.placed;
+        placed = and_from (is_placed a.inside s.statement) (are_placed_items a.inside is) item.placed rest.placed;
         different = ap are_different (sym (append_assoc earlier s.labels (labels_of is))) ∙ rest.different;
         fit = all_append (is_label (integer type)) s.labels (labels_of is) item.fit rest.fit;
       }))

@@ -2,7 +2,7 @@
 use Rattle.std.proofs.Common.{◌≡◌, ℕ, zero, suc, ◌+◌, ◌≤◌, ◌^◌, true, subst, List, [], ◌∷◌, ◌++◌, length}
 use Rattle.std.proofs.Common.{map, Some, arith}
 use Rattle.std.specs.Prelude.{get_or, nat_le, slice_get}
-use Rattle.std.proofs.lemmas.Bool.{le-leb}
+use Rattle.std.proofs.lemmas.Bool.{and_from, le-leb}
 use Rattle.std.proofs.lemmas.List.{append_assoc}
 use Rattle.obj_memory.specs.Heap.{rounded_up}
 use Rattle.c_tree.specs.declared.expression.Kind.{Kind}
@@ -16,7 +16,6 @@ use Rattle.c_unit_typing.specs.Typed.{end_behind, global_bytes, most_bytes}
 use Rattle.c_typed_validity.specs.Sound.{Extended}
 use Rattle.c_typed_validity.proofs.Sound.{get_extended}
 use Rattle.c_typed_programs.specs.Files.Numbers.{AreInOrder, HasKind, entries}
-use Rattle.c_typed_programs.proofs.Common.{both}
 use Rattle.c_typed_programs.proofs.Files.StaticKinds.{entry_kind, literal_got}
 
 -- each object ends where the last one ends, or before
@@ -44,7 +43,7 @@ bytes_low f low n k h =
 size_is : (n : ℕ) → 1 ≤ n → n ≤ most_bytes → is_size n ≡ true
 size_is n one low =
     let large : n ≤ 2 ^ 32 = omega (arith, low) in
-    both (nat_le 1 n) (nat_le n (2 ^ 32)) (le-leb 1 n one) (le-leb n (2 ^ 32) large)
+    and_from (nat_le 1 n) (nat_le n (2 ^ 32)) (le-leb 1 n one) (le-leb n (2 ^ 32) large)
 
 -- a file whose string literals have bytes
 module _ (f : File) (order : AreInOrder f) (low : global_bytes (program_of f) ≤ most_bytes) where

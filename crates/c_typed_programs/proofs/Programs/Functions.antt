@@ -3,7 +3,7 @@ use Rattle.std.proofs.Common.{◌≡◌, ℕ, zero, suc, ◌+◌, ◌<◌, Bool,
 use Rattle.std.proofs.Common.{◌∷◌, length, Option, Some, arith}
 use Rattle.std.specs.Prelude.{Ok, slice_get}
 use Rattle.std.specs.List.{list_all}
-use Rattle.std.proofs.lemmas.Bool.{ltb-true}
+use Rattle.std.proofs.lemmas.Bool.{and_from, ltb-true}
 use Rattle.std.proofs.lemmas.List.{length-map}
 use Rattle.c_syntax.specs.Statements.{External}
 use Rattle.c_tree.specs.declared.c_type.TypeWord.{TypeWord}
@@ -23,6 +23,7 @@ use Rattle.c_unit_typing.specs.Programs.{function_of, function_type, functions_f
 use Rattle.c_unit_typing.specs.Programs.{program_of, room_of, static_objects}
 use Rattle.c_unit_typing.specs.Units.{file_with}
 use Rattle.c_typed_validity.specs.Sound.{IsTypeOf}
+use Rattle.c_typed_validity.proofs.Common.{no_value, the_same}
 use Rattle.c_typed_validity.proofs.PointerCalls.{place_get}
 use Rattle.c_typed_programs.specs.Scopes.Defined.{define_functions}
 use Rattle.c_typed_programs.specs.Scopes.Regular.{are_regular_externals}
@@ -33,14 +34,12 @@ use Rattle.c_typed_programs.proofs.Bodies.Bodies.{function_variables}
 use Rattle.c_typed_programs.proofs.Bodies.Results.{result_is}
 use Rattle.c_typed_programs.proofs.Bodies.Whole.{definition_has}
 use Rattle.c_typed_programs.proofs.Files.Functions.{function_types_end}
-use Rattle.c_typed_programs.proofs.Functions.Entities.{none_some, some_is}
 use Rattle.c_typed_programs.proofs.Functions.Main.{functions_have_rooms, main_defined, types_are_those}
 use Rattle.c_typed_programs.specs.Names.Known.{AreKnown, IsKnown}
 use Rattle.c_typed_programs.specs.Names.Linked.{HaveSizes, IsOf}
 use Rattle.c_typed_programs.proofs.Names.Files.{file_known}
 use Rattle.c_typed_programs.proofs.Names.Has.{program_has}
 use Rattle.c_typed_programs.proofs.Names.Known.{definition_knows}
-use Rattle.c_typed_programs.proofs.Common.{both}
 
 -- the definition that a function of the program is made of
 
@@ -52,12 +51,12 @@ record IsMade (types : List (List TypeWord)) (ds : List Definition) (k : ℕ) (g
 
 made : (f : File) (os : List StaticObject) (n : ℕ) (ds : List Definition) (k : ℕ) (g : Function)
     → slice_get (functions_from f os n ds) k ≡ Some g → IsMade f.state.function_types ds k g
-made f os n [] k g e = none_some g e
+made f os n [] k g e = no_value g _ e
 made f os n (d ∷ ds) zero g e = record {
   definition = d;
   there = refl;
   size = room_of f os n d;
-  is = sym (some_is e);
+  is = sym (the_same e);
 }
 made f os n (d ∷ ds) (suc k) g e =
     let h = made f os (suc n) ds k g e in
@@ -67,8 +66,8 @@ made f os n (d ∷ ds) (suc k) g e =
 
 known_at : (f : File) (ds : List Definition) → AreKnown f ds → (k : ℕ) (d : Definition) → slice_get ds k ≡ Some d
     → IsKnown f d
-known_at f [] h k d e = none_some d e
-known_at f (x ∷ ds) h zero d e = subst (IsKnown f) (some_is e) h.0
+known_at f [] h k d e = no_value d _ e
+known_at f (x ∷ ds) h zero d e = subst (IsKnown f) (the_same e) h.0
 known_at f (x ∷ ds) h (suc k) d e = known_at f ds h.1 k d e
 
 -- a file that is accepted
@@ -133,15 +132,15 @@ module _ (objects : Option (List (List Bool))) (end : ℕ) (es : List External) 
       spelled.signature.result
       (subst (λ z. agrees (extents f.state) z spelled.signature.parameters spelled.signature.result ≡ true) type
       spelled.spelled) in
-      let typed = both (has_number program.function_types g.type_number)
+      let typed = and_from (has_number program.function_types g.type_number)
       (are_parameters g.parameters (signature_at program g.type_number).parameters) own.type parameters in
-      let held = both _ (list_all is_variable (all_of g)) typed
+      let held = and_from _ (list_all is_variable (all_of g)) typed
       (function_variables scope (extents f.state) g h.before h.behind h.defines of) in
-      let declares = both _ (declares_all g) held
+      let declares = and_from _ (declares_all g) held
       (function_declares scope (extents f.state) g h.before h.behind h.defines of) in
-      let body = both _ (are_statements scope no_jumps g.body) declares
+      let body = and_from _ (are_statements scope no_jumps g.body) declares
       (function_body scope (extents f.state) g h.before h.behind h.defines of) in
-      both _ (g.room == room program.statics k (signature_at program g.type_number).result g) body own.room
+      and_from _ (g.room == room program.statics k (signature_at program g.type_number).result g) body own.room
 
   functions_by : (first : ℕ) (gs : List Function)
       → ((k : ℕ) (g : Function) → slice_get gs k ≡ Some g → is_function (program_of f) (first + k) g ≡ true)
@@ -149,7 +148,7 @@ module _ (objects : Option (List (List Bool))) (end : ℕ) (es : List External) 
   functions_by first [] h = refl
   functions_by first (g ∷ gs) h =
       let same : first + 0 ≡ first = omega arith in
-      both (is_function (program_of f) first g) (are_functions (program_of f) (suc first) gs)
+      and_from (is_function (program_of f) first g) (are_functions (program_of f) (suc first) gs)
       (subst (λ n. is_function (program_of f) n g ≡ true) same (h 0 g refl))
       (functions_by (suc first) gs
       (λ k x e.
@@ -169,8 +168,8 @@ module _ (objects : Option (List (List Bool))) (end : ℕ) (es : List External) 
   program_valid statics =
       let program = program_of f in
       let types = function_types_end objects end es f regular defined is in
-      let all = both (list_all (is_function_type program) program.function_types)
+      let all = and_from (list_all (is_function_type program) program.function_types)
       (are_all_different program.function_types) types.valid types.different in
-      let stored = both _ (list_all (is_static_object program) program.statics) all statics in
-      let functions = both _ (are_functions program 0 program.functions) stored functions_valid in
-      both _ (is_main program) functions (main_defined objects end es f regular defined is)
+      let stored = and_from _ (list_all (is_static_object program) program.statics) all statics in
+      let functions = and_from _ (are_functions program 0 program.functions) stored functions_valid in
+      and_from _ (is_main program) functions (main_defined objects end es f regular defined is)

@@ -31,10 +31,11 @@ use Rattle.c_unit_typing.specs.Files.{File, in_state}
 use Rattle.c_unit_typing.specs.Initializers.{initialized}
 use Rattle.c_unit_typing.specs.Lines.{initializer_line}
 use Rattle.c_typed_validity.specs.Sound.{IsFormed, is_sized_array}
-use Rattle.c_typed_validity.proofs.Sound.{same_list}
+use Rattle.c_typed_validity.proofs.Common.{first, second}
+use Rattle.c_typed_validity.proofs.Sound.{IfAnswer, same_list}
 use Rattle.c_typed_declarators.specs.Extending.{Extending}
 use Rattle.c_typed_declarators.specs.Given.{AreCounted, IsShapeOf, IsSpecified, anything}
-use Rattle.c_typed_declarators.proofs.Chained.{IfAnswer, judged_extends, then_extends}
+use Rattle.c_typed_declarators.proofs.Chained.{judged_extends, then_extends}
 use Rattle.c_typed_declarators.proofs.Recursion.{shape_extends, specification_extends}
 use Rattle.c_typed_declarators.proofs.Steps.{whatever}
 use Rattle.c_typed_programs.specs.Declarations.Binding.{IfDeclared, bound_meaning}
@@ -47,7 +48,7 @@ use Rattle.c_typed_programs.specs.Scopes.Regular.{is_regular_initializer_if, is_
 use Rattle.c_typed_programs.proofs.Scopes.Initializers.{initialized_extends}
 use Rattle.c_typed_programs.proofs.Scopes.Leading.{bound_leads, file_same, in_state_by, in_state_then, leads_by}
 use Rattle.c_typed_programs.proofs.Scopes.Leading.{leads_on, leads_same, state_leads, then_leads}
-use Rattle.c_typed_programs.proofs.Common.{first, second, unless_large}
+use Rattle.c_typed_programs.proofs.Common.{unless_large}
 
 -- states behind which something is bound
 

@@ -18,6 +18,7 @@ use Rattle.c_unit_typing.specs.Declarations.{with_declarators}
 use Rattle.c_unit_typing.specs.Declarations.{with_others}
 use Rattle.c_unit_typing.specs.Files.{File, FileTyping}
 use Rattle.c_typed_validity.specs.Sound.{IsFormed, is_sized_array}
+use Rattle.c_typed_validity.proofs.Common.{first, second}
 use Rattle.c_typed_declarators.specs.Extending.{Extending, Extends}
 use Rattle.c_typed_declarators.specs.Given.{AreCounted, IsShapeOf, IsSpecified}
 use Rattle.c_typed_declarators.proofs.Recursion.{shape_extends}
@@ -27,7 +28,7 @@ use Rattle.c_typed_programs.specs.Scopes.Regular.{is_regular_initializer_if, is_
 use Rattle.c_typed_programs.proofs.Scopes.Declarations.{declarator_leads, specified_extends}
 use Rattle.c_typed_programs.proofs.Scopes.Leading.{leads_by, state_leads}
 use Rattle.c_typed_programs.proofs.Scopes.Statements.{IfFileBehind}
-use Rattle.c_typed_programs.proofs.Common.{filed, first, second}
+use Rattle.c_typed_programs.proofs.Common.{filed}
 
 pub record DeclarationWalk (files : File → File → Type 0) : Type 0 where
   pub file_same : (f : File) → files f f

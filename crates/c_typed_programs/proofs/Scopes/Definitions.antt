@@ -24,6 +24,7 @@ use Rattle.c_unit_typing.specs.Statements.{block_items}
 use Rattle.c_unit_typing.specs.Units.{around_body, defined_by, definition_of, entered, external, left, parameters_in}
 use Rattle.c_unit_typing.specs.Units.{scope_or_none, with_body}
 use Rattle.c_typed_validity.specs.Sound.{IsFormed, is_sized_array}
+use Rattle.c_typed_validity.proofs.Common.{first, second}
 use Rattle.c_typed_declarators.specs.Extending.{Extending, Extends}
 use Rattle.c_typed_declarators.specs.Given.{AreCounted, HasScope, IsParameterScope, IsShapeOf, IsSpecified}
 use Rattle.c_typed_declarators.proofs.Recursion.{scope_kept, shape_extends}
@@ -33,7 +34,7 @@ use Rattle.c_typed_programs.specs.Scopes.Regular.{are_regular_block_items, is_re
 use Rattle.c_typed_programs.proofs.Scopes.Files.{built_definition, scope_is, stored_extends}
 use Rattle.c_typed_programs.proofs.Scopes.Leading.{bound_leads}
 use Rattle.c_typed_programs.proofs.Scopes.Statements.{IfFileBehind}
-use Rattle.c_typed_programs.proofs.Common.{filed, first, second}
+use Rattle.c_typed_programs.proofs.Common.{filed}
 
 pub record DefinitionWalk (files : File → File → Type 0) : Type 0 where
   pub file_same : (f : File) → files f f

@@ -1,7 +1,7 @@
 -- Definitions of functions, and files.
 use Rattle.std.proofs.Common.{◌≡◌, ℕ, Bool, true, false, ◌||◌, refl, sym, ap, ◌∙◌, List, [], ◌∷◌, ◌++◌}
 use Rattle.std.proofs.Common.{length, Option, Some, None, if◌then◌else◌, arith}
-use Rattle.std.specs.Prelude.{Ok, Err, codes}
+use Rattle.std.specs.Prelude.{Ok, Err, codes, nat_lt}
 use Rattle.std.proofs.lemmas.List.{append-nil}
 use Rattle.c_syntax.specs.Statements as t
 use Rattle.c_syntax.specs.Tree.{Specifiers}
@@ -16,9 +16,10 @@ use Rattle.c_scope.specs.declared.meaning.Meaning.TheVariants as meaning
 use Rattle.c_typed_validity.specs.Regular.{are_regular_specifiers}
 use Rattle.c_scope.specs.Declaring.{Declaration, is_typedef, judged as judged_declarator}
 use Rattle.c_scope.specs.Environment.{surroundings}
-use Rattle.c_scope.specs.Names.{Name, declared, found, or_else}
+use Rattle.c_scope.specs.Names.{Name, declared, found}
 use Rattle.c_scope.specs.Names as names
 use Rattle.c_scope.specs.Parameters.{ParameterScope, with_parameters}
+use Rattle.c_typing.specs.Calls.{place_among, with_type}
 use Rattle.c_typing.specs.Declarators.{Shape, built_in}
 use Rattle.c_typing.specs.Specifications.{Specification}
 use Rattle.c_typing.specs.State.{State, extents, judged, ◌>>>◌}
@@ -32,6 +33,7 @@ use Rattle.c_unit_typing.specs.Units.{file_in, file_with, gives_incomplete, is_m
 use Rattle.c_unit_typing.specs.Units.{scope_or_none, with_body}
 use Rattle.c_typed_validity.specs.Sound.{Extended, IsFormed, IsNumbered, is_sized_array}
 use Rattle.c_typed_validity.specs.Typed.{HaveMembers}
+use Rattle.c_typed_validity.proofs.Common.{first, neither_left, second}
 use Rattle.c_typed_validity.proofs.Sound.{longer_list, more_more, same_list, same_more}
 use Rattle.c_typed_declarators.specs.Extending.{Extending, IsNew}
 use Rattle.c_typed_declarators.specs.Given.{AreCounted, HasScope, IsParameterScope, IsShapeOf, IsSpecified}
@@ -51,7 +53,7 @@ use Rattle.c_typed_programs.proofs.Scopes.Leading.{bound_leads, leads_by, leads_
 use Rattle.c_typed_programs.proofs.Scopes.Leading.{the_tags_are}
 use Rattle.c_typed_programs.proofs.Scopes.Start.{file_formed, file_members}
 use Rattle.c_typed_programs.proofs.Scopes.Statements.{items_lead}
-use Rattle.c_typed_programs.proofs.Common.{filed, first, neither_left, second}
+use Rattle.c_typed_programs.proofs.Common.{filed, inner_or}
 
 pub grows_by : (f g : File) → FileLeads f g → Grows f g
 grows_by f g h = record {
@@ -127,6 +129,14 @@ inside n p f = record f.state {
   function = Some n;
 }
 
+pub type_environment : (type : List TypeWord) (s : State) → (with_type type s).environment ≡ s.environment
+type_environment type s = by (nat_lt (place_among type s.function_types) (length s.function_types))
+  where
+    by : (b : Bool)
+        → (if b then s else record s { function_types = s.function_types ++ type ∷ [] }).environment ≡ s.environment
+    by true = refl
+    by false = refl
+
 pub new_plain : (m : Meaning) → IsNew true m → IsPlainMeaning m
 new_plain (meaning.Constant w) is = is
 new_plain (meaning.Typedef type) is = absurd cc
@@ -137,11 +147,6 @@ pub plain_around : (f : File) → IsFormed f.state → (name : Name) (x : Meanin
 plain_around f formed name (meaning.Constant w) e = formed.constants name w e
 plain_around f formed name (meaning.Typedef type) e = formed.typedefs name type e
 plain_around f formed name (meaning.Named d type) e = tt
-
-pub inner_or : {A : Type 0} (P : A → Type 0) (a b : Option A) → ((x : A) → a ≡ Some x → P x)
-    → ((x : A) → b ≡ Some x → P x) → (x : A) → or_else a b ≡ Some x → P x
-inner_or P None b h g x e = g x e
-inner_or P (Some y) b h g x e = h x e
 
 module _ (f : File) (formed : IsFormed f.state) (n : ℕ) (p : ParameterScope) (is : IsParameterScope f.state p) where
   pub plain_inside : (name : Name) (x : Meaning)

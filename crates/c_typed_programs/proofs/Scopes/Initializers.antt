@@ -20,6 +20,7 @@ use Rattle.c_unit_typing.specs.Initializers.{list_opened, member_lists, stepped,
 use Rattle.c_unit_typing.specs.Lines.{expression_line}
 use Rattle.c_typed_validity.specs.Regular.{is_regular}
 use Rattle.c_typed_validity.specs.Sound.{IsFormed}
+use Rattle.c_typed_validity.proofs.Common.{first, second}
 use Rattle.c_typed_declarators.specs.Extending.{Extending, Extends}
 use Rattle.c_typed_declarators.specs.Given.{ValueHasWords, anything}
 use Rattle.c_typed_declarators.proofs.Chained.{extends_on, extends_same}
@@ -27,7 +28,6 @@ use Rattle.c_typed_declarators.proofs.Recursion.{typed_extends}
 use Rattle.c_typed_declarators.proofs.Steps.{valued_extends}
 use Rattle.c_typed_programs.specs.Scopes.Regular.{are_regular_items, is_regular_designation, is_regular_designator}
 use Rattle.c_typed_programs.specs.Scopes.Regular.{is_regular_initializer, is_regular_item}
-use Rattle.c_typed_programs.proofs.Common.{first, second}
 
 -- the value of an expression
 pub value_extends : (is : Bool) (e : Expression) → is_regular e ≡ true → (s : State) → IsFormed s

@@ -22,10 +22,10 @@ use Rattle.c_typing.specs.State.{State}
 use Rattle.c_unit_typing.specs.Units.{file_before}
 use Rattle.c_typed_validity.specs.Sound.{IsFormed}
 use Rattle.c_typed_validity.specs.Typed.{HaveMembers}
+use Rattle.c_typed_validity.proofs.Common.{no_value as no_some, the_same}
 use Rattle.c_typed_declarators.specs.Extending.{IsSameOr, new, same}
 use Rattle.c_typed_declarators.proofs.Tags.{bound_same}
 use Rattle.c_typed_programs.proofs.Declarations.Formed.{IsPlainMeaning}
-use Rattle.c_typed_programs.proofs.Common.{no_value as no_some}
 
 record IsStart (env : Environment) : Type 0 where
   outer : env.names.outer ≡ []
@@ -37,9 +37,6 @@ kept : (before behind : Option Meaning) → IsSameOr IsPlainMeaning before behin
     → ((m : Meaning) → before ≡ Some m → IsPlainMeaning m) → (m : Meaning) → behind ≡ Some m → IsPlainMeaning m
 kept before behind (same e) h m is = h m (sym e ∙ is)
 kept before behind (new x e p) h m is = subst IsPlainMeaning (the_same (sym e ∙ is)) p
-  where
-    the_same : Some x ≡ Some m → x ≡ m
-    the_same e = cc
 
 named_start : (env : Environment) → IsStart env → (name : Name) (m : Meaning) → IsPlainMeaning m
     → (entities : Names Entity) → IsStart (with_name name m (record env { entities = entities }))
@@ -81,6 +78,10 @@ start_is facts =
     named_start before
     (printf_start (with_routines routines (empty facts)) (routines_start routines (empty facts) (empty_start facts)))
     (codes "size_t") (Typedef (Integer UnsignedLong ∷ [])) refl before.entities
+
+pub start_facts : (facts : Facts) → (start facts).facts ≡ facts
+unfolding start
+start_facts facts = refl
 
 -- a state in such an environment
 

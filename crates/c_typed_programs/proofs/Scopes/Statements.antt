@@ -30,6 +30,7 @@ use Rattle.c_unit_typing.specs.Statements.{block, block_item, block_items, state
 use Rattle.c_unit_typing.specs.Statements.{switch_items}
 use Rattle.c_typed_validity.specs.Regular.{is_regular}
 use Rattle.c_typed_validity.specs.Sound.{IsFormed}
+use Rattle.c_typed_validity.proofs.Common.{first, second}
 use Rattle.c_typed_declarators.specs.Extending.{Extends}
 use Rattle.c_typed_declarators.proofs.Parameters.{within_formed}
 use Rattle.c_typed_programs.specs.Scopes.Leaving.{FileLeads, Leading}
@@ -40,7 +41,6 @@ use Rattle.c_typed_programs.proofs.Scopes.Declarations.{declaration_leads}
 use Rattle.c_typed_programs.proofs.Scopes.Initializers.{IfBehind, ValueWalk, judged_walks}
 use Rattle.c_typed_programs.proofs.Scopes.Initializers.{then_state, values_walk, walks_then}
 use Rattle.c_typed_programs.proofs.Scopes.Leading.{closed_leads, file_on, file_same, leads_by, state_leads}
-use Rattle.c_typed_programs.proofs.Common.{first, second}
 
 abbrev pub IfFileBehind : {A : Type 0} → (File → File → Type 0) → File → Answer (File × A) → Type 0
 IfFileBehind files f (Ok r) = files f r.0

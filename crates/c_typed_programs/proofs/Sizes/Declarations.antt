@@ -9,10 +9,8 @@ use Rattle.c_syntax.specs.Statements as t
 use Rattle.c_syntax.specs.Tree.{Initializer}
 use Rattle.c_tree.specs.declared.c_type.TypeWord.{TypeWord}
 use Rattle.c_tree.specs.declared.c_type.TypeWord.TheVariants as word
-use Rattle.c_tree.specs.declared.expression.Kind.TheVariants as kind
 use Rattle.c_tree.specs.Extents.{extent_of}
 use Rattle.c_tree.specs.Statements.{DeclaredVariable, Part}
-use Rattle.c_tree.specs.Valid.{Scope}
 use Rattle.c_rules.specs.declared.fault.Rule.TheVariants.{MisplacedStorage, Redeclared}
 use Rattle.c_rules.specs.Answer.{Answer, violates, ◌>>=◌}
 use Rattle.c_declarators.specs.Derivations.{array_of, is_large}
@@ -27,27 +25,27 @@ use Rattle.c_scope.specs.Environment.{surroundings}
 use Rattle.c_scope.specs.Names.{Name}
 use Rattle.c_typing.specs.Declarators.{Shape, built_in}
 use Rattle.c_typing.specs.Specifications.{Specification}
-use Rattle.c_typing.specs.State.{State, extents, judged}
-use Rattle.c_expression_typing.specs.Typed.{shape, specification}
+use Rattle.c_typing.specs.State.{State, extents}
+use Rattle.c_expression_typing.specs.Typed.{shape}
 use Rattle.c_unit_typing.specs.Declarations.{alone_in, completed, declaration, declaration_of, declared_as}
 use Rattle.c_unit_typing.specs.Declarations.{declared_with, has_place, initialized_if, is_same_object, named_by}
-use Rattle.c_unit_typing.specs.Declarations.{specified, stored_once, with_declarator, with_declarators, with_others}
+use Rattle.c_unit_typing.specs.Declarations.{specified, with_declarator, with_declarators, with_others}
 use Rattle.c_unit_typing.specs.Declarations.{with_parts, with_static, with_variable}
 use Rattle.c_unit_typing.specs.Files.{File, FileTyping}
 use Rattle.c_unit_typing.specs.Initializers.{initialized}
 use Rattle.c_unit_typing.specs.Lines.{initializer_line}
 use Rattle.c_typed_validity.specs.Sound.{IsFormed, is_sized_array}
+use Rattle.c_typed_validity.proofs.Common.{first, second}
 use Rattle.c_typed_declarators.specs.Extending.{Extending}
 use Rattle.c_typed_declarators.specs.Given.{AreCounted, IsShapeOf, IsSpecified, anything}
 use Rattle.c_typed_declarators.proofs.Recursion.{shape_extends}
 use Rattle.c_typed_programs.proofs.Declarations.Judged.{IsBuilt, answered, built_declaration}
 use Rattle.c_typed_programs.specs.Layouts.Listed.{HasArrays, IfLaidOut, IsDeclared, IsLaidOut}
 use Rattle.c_typed_programs.proofs.Layouts.Arrays.{arrays_kept}
-use Rattle.c_typed_programs.proofs.Layouts.Chained.{Laid, judged_laid, then_lists}
 use Rattle.c_typed_programs.proofs.Layouts.Declared.{declared_as_laid}
-use Rattle.c_typed_programs.proofs.Layouts.Recursion.{shape_laid, specification_laid}
+use Rattle.c_typed_programs.proofs.Layouts.Recursion.{shape_laid}
 use Rattle.c_typed_programs.proofs.LaidOut.Chained.{StateLaid, both_laid}
-use Rattle.c_typed_programs.proofs.LaidOut.Declarations.{stored_laid}
+use Rattle.c_typed_programs.proofs.LaidOut.Declarations.{specified_laid}
 use Rattle.c_typed_programs.specs.Initializers.Initialized.{IfInitialized}
 use Rattle.c_typed_programs.proofs.Initializers.Initialized.{initialized_if_is}
 use Rattle.c_typed_programs.specs.Scopes.Leaving.{FileLeads, Leads}
@@ -65,7 +63,7 @@ use Rattle.c_typed_programs.proofs.Tags.Keeping.{KeepsTags}
 use Rattle.c_typed_programs.proofs.Tags.Walked.{tags_walk}
 use Rattle.c_typed_programs.proofs.Walks.Declarations.{stored_walks}
 use Rattle.c_typed_programs.proofs.Walks.Recursion.{shape_walks}
-use Rattle.c_typed_programs.proofs.Common.{filed, first, second, some_mapped, unless_large}
+use Rattle.c_typed_programs.proofs.Common.{filed, some_mapped, some_scope, unless_large}
 
 -- states and files behind one another
 
@@ -129,24 +127,20 @@ from_steps : {A : Type 0} (s t : State) → Steps s.environment t.environment �
 from_steps s t h (Ok r) is = steps_on s.environment t.environment r.0.environment h is
 from_steps s t h (Err e) is = tt
 
--- what a program has does not matter
-nothing : Scope
-nothing = record { statics = []; functions = []; types = []; all = []; variables = []; result = kind.Void }
-
 abbrev typed_as : List Part → State × List TypeWord → Answer (State × (List TypeWord × List Part))
 typed_as parts q = Ok (q.0, (q.1, parts))
 
 module _ (s : State) (d : Designated) (name : Name × ℕ) (parts : List Part) where
   large_by : (t : State) (array : TypeWord) (element : List TypeWord)
       → is_same_object d name.0 (array ∷ element) t.environment ≡ true → (large : Bool)
-      → IfInitialized nothing [] d name.0 s (unless_large t d name.0 array element name.1 large >>= typed_as parts)
+      → IfInitialized some_scope [] d name.0 s (unless_large t d name.0 array element name.1 large >>= typed_as parts)
       → IfSteps t (unless_large t d name.0 array element name.1 large >>= typed_as parts)
   large_by t array element same true is = tt
   large_by t array element same false is = size_steps t d name.0 (array ∷ element) is.sizes.sized same
 
   sized_by : (t : State) (array : TypeWord) (element : List TypeWord) (b : Bool)
       → is_same_object d name.0 (array ∷ element) t.environment ≡ b
-      → IfInitialized nothing [] d name.0 s
+      → IfInitialized some_scope [] d name.0 s
       ((if not b then violates Redeclared name.1
       else unless_large t d name.0 array element name.1 (is_large array)) >>= typed_as parts)
       → IfSteps t
@@ -156,7 +150,7 @@ module _ (s : State) (d : Designated) (name : Name × ℕ) (parts : List Part) w
   sized_by t array element true e is = large_by t array element e (is_large array) is
 
   completed_steps : (t : State) (type : List TypeWord) (n : ℕ)
-      → IfInitialized nothing [] d name.0 s (completed d name type n t >>= typed_as parts)
+      → IfInitialized some_scope [] d name.0 s (completed d name type n t >>= typed_as parts)
       → IfSteps t (completed d name type n t >>= typed_as parts)
   completed_steps t (word.OpenArray ∷ element) n is =
       sized_by t (array_of n (extent_of (extents t) element)) element
@@ -174,7 +168,7 @@ module _ (s : State) (d : Designated) (name : Name × ℕ) (parts : List Part) w
 
 initialized_by_steps : (s : State) (d : Designated) (name : Name × ℕ) (type : List TypeWord)
     (a : Answer (State × Initializing)) → IfBehind Reaches s a
-    → IfInitialized nothing [] d name.0 s
+    → IfInitialized some_scope [] d name.0 s
     (a >>= λ r. (completed d name type (count_of r.1.parts) r.0 >>= typed_as (parts_in r.1.parts)))
     → IfSteps s (a >>= λ r. (completed d name type (count_of r.1.parts) r.0 >>= typed_as (parts_in r.1.parts)))
 initialized_by_steps s d name type (Ok r) h is =
@@ -193,13 +187,13 @@ IfObjectSteps s (Ok r) = ObjectSteps s r.0
 IfObjectSteps s (Err e) = Unit {0}
 
 all_steps : (s : State) (d : Designated) (name : Name) (a : Answer (State × (List TypeWord × List Part)))
-    → StateLeads s a → IfInitialized nothing [] d name s a → IfSteps s a → IfObjectSteps s a
+    → StateLeads s a → IfInitialized some_scope [] d name s a → IfSteps s a → IfObjectSteps s a
 all_steps s d name (Ok r) h is k = record { leads = h; laid = is.laid_out; steps = k }
 all_steps s d name (Err e) h is k = tt
 
 if_steps : (s : State) → IsFormed s → (d : Designated) (name : Name × ℕ) (type : List TypeWord)
     (x : Option Initializer) → is_regular_initializer_if x ≡ true
-    → IfInitialized nothing [] d name.0 s (initialized_if d name type x s)
+    → IfInitialized some_scope [] d name.0 s (initialized_if d name type x s)
     → IfSteps s (initialized_if d name type x s)
 if_steps s formed d name type None c is = steps_same s.environment
 if_steps s formed d name type (Some x) c is =
@@ -212,7 +206,7 @@ is_initialized : (s : State) → IsFormed s → IsLaidOut s → (d : Designated)
 is_initialized s formed laid d name type None c is =
     record { leads = leads_same s formed; laid = laid; steps = steps_same s.environment }
 is_initialized s formed laid d name type (Some x) c is =
-    let known = initialized_if_is nothing [] d name type (Some x) c s formed laid is.complete is.arrays in
+    let known = initialized_if_is some_scope [] d name type (Some x) c s formed laid is.complete is.arrays in
     all_steps s d name.0 (initialized_if d name type (Some x) s)
     (initialized_leads s formed d name type (Some x) c) known
     (if_steps s formed d name type (Some x) c known)
@@ -364,14 +358,6 @@ declarators_steps in_head spec sized (Some ds) c f formed laid arrays =
     (λ vs g own. others_steps in_head spec sized ds.others (second _ _ c) vs g own.leads.state.formed own.laid
     (spec_kept spec f g own arrays))
 
-pub specified_lays : (is_alone : Bool) (d : t.Declaration) → is_regular_declaration d ≡ true → (s : State)
-    → IsFormed s → IsLaidOut s → Laid HasArrays (specified is_alone d s)
-specified_lays is_alone d c s formed laid =
-    then_lists HasArrays HasArrays (specification is_alone d.specifiers s) (λ spec. judged (stored_once spec))
-    (specification_laid is_alone d.specifiers (first _ _ c) s formed laid)
-    (λ u spec lists h. judged_laid u lists HasArrays (stored_once spec u)
-    (stored_laid u spec h spec.has_two_storages))
-
 pub declaration_steps : (in_head : Bool) (d : t.Declaration) → is_regular_declaration d ≡ true → (f : File)
     → IsFormed f.state → IsLaidOut f.state → IfFileSteps f (declaration in_head d f)
 declaration_steps in_head d c f formed laid =
@@ -379,7 +365,7 @@ declaration_steps in_head d c f formed laid =
     state_then IsSpecified HasArrays f (specified (is_none d.declarators) d f.state)
     (λ spec. with_declarators in_head spec d.declarators) laid extends
     (both_laid IsSpecified HasArrays f.state (specified (is_none d.declarators) d f.state) laid extends
-    (specified_lays (is_none d.declarators) d c f.state formed laid))
+    (specified_laid (is_none d.declarators) d c f.state formed laid))
     (stored_walks tags_walk (is_none d.declarators) d.specifiers f.state).by
     (λ spec g own is arrays. declarators_steps in_head spec is d.declarators (second _ _ c) g own.leads.state.formed
     own.laid arrays)

@@ -1,7 +1,8 @@
 -- Definitions leave an object with linkage that is new among those that the file defines (C99 6.2.2, 6.9, 6.9.1).
-use Rattle.std.proofs.Common.{◌≡◌, ◌⊎◌, inl, inr, ℕ, Bool, true, false, ◌||◌, refl, sym, ap, ◌∙◌, subst, List, [], ◌∷◌}
-use Rattle.std.proofs.Common.{◌++◌, Option, Some, None, if◌then◌else◌}
-use Rattle.std.specs.Prelude.{Ok, Err, nat_lt, length}
+use Rattle.std.proofs.Common.{◌≡◌, ◌⊎◌, inl, inr, ℕ, Bool, true, false, refl, sym, ap, ◌∙◌, subst, List}
+use Rattle.std.proofs.Common.{Option, Some, None, if◌then◌else◌}
+use Rattle.std.proofs.lemmas.Bool.{false≢true}
+use Rattle.std.specs.Prelude.{Ok, Err}
 use Rattle.c_syntax.specs.Statements as t
 use Rattle.c_syntax.specs.Tree.{Declarator, Specifiers}
 use Rattle.c_tree.specs.declared.c_type.TypeWord.{TypeWord}
@@ -15,7 +16,6 @@ use Rattle.c_scope.specs.Declaring.{Declaration, is_typedef, judged as judged_de
 use Rattle.c_scope.specs.Environment.{Environment, in_file, surroundings}
 use Rattle.c_scope.specs.Names.{Name, declared, is_empty}
 use Rattle.c_scope.specs.Parameters.{ParameterScope, with_parameters}
-use Rattle.c_typing.specs.Calls.{place_among, with_type}
 use Rattle.c_typing.specs.Declarators.{Shape, built_in}
 use Rattle.c_typing.specs.Specifications.{Specification}
 use Rattle.c_typing.specs.State.{State, extents, judged, ◌>>>◌}
@@ -25,30 +25,28 @@ use Rattle.c_unit_typing.specs.Declarations.{declaration, stored_once}
 use Rattle.c_unit_typing.specs.Files.{File, FileTyping, in_state, ◌~>◌}
 use Rattle.c_unit_typing.specs.Statements.{block_items}
 use Rattle.c_unit_typing.specs.Units.{around_body, body_of, defined_by, definition_of, entered, external}
-use Rattle.c_unit_typing.specs.Units.{gives_incomplete, left, parameters_in, scope_or_none, with_body}
+use Rattle.c_unit_typing.specs.Units.{left, parameters_in, scope_or_none, with_body}
 use Rattle.c_typed_validity.specs.More.{AreMore}
 use Rattle.c_typed_validity.specs.Sound.{IsFormed, is_sized_array}
+use Rattle.c_typed_validity.proofs.Common.{first, second}
 use Rattle.c_typed_declarators.specs.Extending.{Extending, Extends}
 use Rattle.c_typed_declarators.specs.Given.{AreCounted, HasScope, IsParameterScope, IsShapeOf, IsSpecified, anything}
 use Rattle.c_typed_declarators.proofs.Parameters.{within_block}
 use Rattle.c_typed_declarators.proofs.Recursion.{scope_kept, shape_extends}
-use Rattle.c_typed_declarators.proofs.Types.{without_faults}
 use Rattle.c_typed_programs.specs.Declarations.Binding.{IfDeclared, bound_meaning}
 use Rattle.c_typed_programs.proofs.Declarations.Judged.{answered}
 use Rattle.c_typed_programs.specs.Functions.Entities.{Continue}
-use Rattle.c_typed_programs.specs.Layouts.Listed.{HasArrays, IfLaidOut, IsDeclared, IsLaidOut, has_array_bytes}
-use Rattle.c_typed_programs.proofs.Layouts.Arrays.{arrays_kept, built_arrays}
-use Rattle.c_typed_programs.proofs.Layouts.Chained.{Laid, judged_laid, then_lists}
+use Rattle.c_typed_programs.specs.Layouts.Listed.{HasArrays, IfLaidOut, IsDeclared, IsLaidOut}
+use Rattle.c_typed_programs.proofs.Layouts.Arrays.{arrays_kept}
 use Rattle.c_typed_programs.proofs.Layouts.Declared.{declared_by}
 use Rattle.c_typed_programs.proofs.Layouts.Recursion.{shape_laid, specification_laid}
 use Rattle.c_typed_programs.proofs.LaidOut.Chained.{StateLaid, both_laid, closed_laid, opened_laid}
-use Rattle.c_typed_programs.proofs.LaidOut.Declarations.{stored_laid}
-use Rattle.c_typed_programs.proofs.LaidOut.Files.{entered_laid}
+use Rattle.c_typed_programs.proofs.LaidOut.Files.{definition_arrays, entered_laid, stored_specified}
 use Rattle.c_typed_programs.specs.Scopes.Leaving.{FileLeads, Leading}
 use Rattle.c_typed_programs.specs.Scopes.Regular.{is_regular_block, is_regular_external}
 use Rattle.c_typed_programs.proofs.Scopes.Declarations.{declaration_leads}
 use Rattle.c_typed_programs.proofs.Scopes.Files.{built_definition, defined_as_declares, entered_leads, inside, scope_is}
-use Rattle.c_typed_programs.proofs.Scopes.Files.{stored_extends}
+use Rattle.c_typed_programs.proofs.Scopes.Files.{stored_extends, type_environment}
 use Rattle.c_typed_programs.proofs.Scopes.Leading.{bound_leads, closed_leads, file_on, file_same, leads_by, leads_on}
 use Rattle.c_typed_programs.proofs.Scopes.Leading.{outer_is, state_leads}
 use Rattle.c_typed_programs.proofs.Scopes.Statements.{IfFileBehind, Walk, items_walk}
@@ -62,7 +60,7 @@ use Rattle.c_typed_programs.proofs.Tags.Keeping.{KeepsTags}
 use Rattle.c_typed_programs.proofs.Tags.Walked.{tags_walk}
 use Rattle.c_typed_programs.proofs.Walks.Declarations.{stored_walks}
 use Rattle.c_typed_programs.proofs.Walks.Recursion.{shape_walks}
-use Rattle.c_typed_programs.proofs.Common.{filed, first, neither_left, second}
+use Rattle.c_typed_programs.proofs.Common.{filed}
 
 -- A scope that is opened and closed again: what stands in it is not at file scope.
 
@@ -81,10 +79,7 @@ pub record IsOutsideOf (env after behind : Environment) : Type 0 where
 inside_only : (P Q : Type 0) (b : Bool) → b ≡ false → P ⊎ ((b ≡ true) × Q) → P
 inside_only P Q b e (inl p) = p
 inside_only P Q true e (inr q) = absurd cc
-inside_only P Q false e (inr q) = absurd (no q.0)
-  where
-    no : false ≡ true → ⊥
-    no e = cc
+inside_only P Q false e (inr q) = absurd (false≢true q.0)
 
 pub scoped_steps : (env inner after behind : Environment) → IsInside env inner → Steps inner after
     → IsOutsideOf env after behind → Steps env behind
@@ -169,14 +164,6 @@ abbrev pub IfDefinitionSteps : {A : Type 0} → File → Answer (File × A) → 
 IfDefinitionSteps f (Ok r) = Steps f.state.environment r.0.state.environment
 IfDefinitionSteps f (Err e) = Unit {0}
 
-type_environment : (type : List TypeWord) (s : State) → (with_type type s).environment ≡ s.environment
-type_environment type s = by (nat_lt (place_among type s.function_types) (length s.function_types))
-  where
-    by : (b : Bool)
-        → (if b then s else record s { function_types = s.function_types ++ type ∷ [] }).environment ≡ s.environment
-    by true = refl
-    by false = refl
-
 module _ (f : File) (formed : IsFormed f.state) (laid : IsLaidOut f.state) (n : ℕ) (p : ParameterScope)
     (is : IsParameterScope f.state p) (type : List TypeWord) (line : ℕ) where
   entered_environment : (entered n type p f).state.environment ≡ with_parameters p f.state.environment
@@ -240,20 +227,6 @@ from_definition f g h (Ok r) is =
     steps_on f.state.environment g.state.environment r.0.state.environment h is
 from_definition f g h (Err e) is = tt
 
-definition_arrays : (s : State) (spec : Specification) → HasArrays s spec → (sh : Shape) (name : Name × ℕ)
-    → (definition_of (extents s) spec (built_in s spec sh) name).type_rule ≡ None
-    → has_array_bytes (extents s) (built_in s spec sh).type ≡ true
-definition_arrays s spec arrays sh name e =
-    let b = built_in s spec sh in
-    let good = without_faults
-    (record b.faults { incomplete = b.faults.incomplete || gives_incomplete (extents s) b.type }) e in
-    built_arrays (extents s) spec.type arrays sh.derivations (record {
-      complete = neither_left b.faults.incomplete (gives_incomplete (extents s) b.type) good.complete;
-      placed = good.placed;
-      counted = good.counted;
-      small = good.small;
-    })
-
 named_definition : (f : File) (d : Declaration) (o : Option ParameterScope) (line : ℕ) (b : t.Block)
     → is_regular_block b ≡ true → HasScope f.state o → (a : Answer (State × Option Meaning)) → IfDeclared d f.state a
     → IfLaidOut (IsDeclared false) a → IfSteps f.state a
@@ -309,13 +282,6 @@ state_then p q f (Ok r) next h l b k =
     (k r.1 g h.0 l.1 h.1 l.2)
 state_then p q f (Err e) next h l b k = tt
 
-stored_lays : (specs : Specifiers) (s : State) → Laid HasArrays (specification false specs s)
-    → Laid HasArrays ((specification false specs >>> λ spec. judged (stored_once spec)) s)
-stored_lays specs s h =
-    then_lists HasArrays HasArrays (specification false specs s) (λ spec. judged (stored_once spec)) h
-    (λ u spec lists is. judged_laid u lists HasArrays (stored_once spec u)
-    (stored_laid u spec is spec.has_two_storages))
-
 pub definition_steps : (specs : Specifiers) (d : Declarator) (b : t.Block)
     → is_regular_external (t.definition specs d b) ≡ true → (f : File) → IsFormed f.state → IsLaidOut f.state
     → IfDefinitionSteps f (external (t.definition specs d b) f)
@@ -324,7 +290,7 @@ definition_steps specs d b c f formed laid =
     state_then IsSpecified HasArrays f ((specification false specs >>> λ spec. judged (stored_once spec)) f.state)
     (λ spec. in_state (shape true d) ~> λ sh. defined_by spec sh b sh.name) stored
     (both_laid IsSpecified HasArrays f.state _ laid stored
-    (stored_lays specs f.state (specification_laid false specs (first _ _ (first _ _ c)) f.state formed laid)))
+    (stored_specified specs f.state (specification_laid false specs (first _ _ (first _ _ c)) f.state formed laid)))
     (stored_walks tags_walk false specs f.state).by
     (λ spec g own laid is arrays.
     let shaped = shape_extends true d (second _ _ (first _ _ c)) g.state own.formed in

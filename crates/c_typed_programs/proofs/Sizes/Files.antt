@@ -27,8 +27,10 @@ use Rattle.c_unit_typing.specs.Files.{File, FileTyping, finished}
 use Rattle.c_unit_typing.specs.Programs.{final_type}
 use Rattle.c_unit_typing.specs.Units.{external, externals, file_before, file_with}
 use Rattle.c_typed_validity.specs.Sound.{IsFormed, is_sized_array}
+use Rattle.c_typed_validity.proofs.Common.{first, second, the_same}
+use Rattle.c_typed_programs.proofs.Common.{conflict}
 use Rattle.c_typed_programs.proofs.Files.Ends.{answer, behind_all, same_ok}
-use Rattle.c_typed_programs.proofs.Functions.Entities.{bound_either, conflict, some_is}
+use Rattle.c_typed_programs.proofs.Functions.Entities.{bound_either}
 use Rattle.c_typed_programs.specs.Functions.Entities.{is_library}
 use Rattle.c_typed_programs.specs.Layouts.Listed.{IsLaidOut}
 use Rattle.c_typed_programs.proofs.Layouts.Start.{file_laid}
@@ -37,14 +39,13 @@ use Rattle.c_typed_programs.proofs.LaidOut.Files.{external_laid}
 use Rattle.c_typed_programs.specs.Scopes.Leaving.{Growing}
 use Rattle.c_typed_programs.specs.Scopes.Regular.{are_regular_externals, is_regular_external}
 use Rattle.c_typed_programs.proofs.Scopes.Files.{external_grows, externals_grow}
-use Rattle.c_typed_programs.proofs.Scopes.Start.{file_formed}
+use Rattle.c_typed_programs.proofs.Scopes.Start.{file_formed, start_facts}
 use Rattle.c_typed_programs.specs.Sizes.Tags.{TagsAreComplete}
 use Rattle.c_typed_programs.proofs.Sizes.Declarations.{IfFileSteps, declaration_steps}
 use Rattle.c_typed_programs.proofs.Sizes.Definitions.{IfDefinitionSteps, definition_steps}
 use Rattle.c_typed_programs.proofs.Sizes.Found.{IfAll, declaration_all}
 use Rattle.c_typed_programs.proofs.Sizes.Steps.{AreEnding, IsEnding, IsOfFile, all_behind}
 use Rattle.c_typed_programs.proofs.Sizes.Types.{EndsComplete, final_sized}
-use Rattle.c_typed_programs.proofs.Common.{first, second}
 
 -- where a file begins
 
@@ -91,7 +92,7 @@ library_more name f type sized env h = record {
         ⊎ ((other ≡ name) × (declared other (bound name entity env.entities) ≡ Some entity)) → IsOfLibrary x
     by other x there (inl g) = h.each other x (sym g ∙ there)
     by other x there (inr g) =
-        subst IsOfLibrary (some_is (sym g.1 ∙ there)) (record { library = refl; sized = sized })
+        subst IsOfLibrary (the_same (sym g.1 ∙ there)) (record { library = refl; sized = sized })
 
 routines_more : (rs : List Routine) (env : Environment) → AreOfLibrary env → AreOfLibrary (with_routines rs env)
 routines_more [] env h = h
@@ -106,10 +107,6 @@ start_library facts =
     let printf = library_more (codes "printf") library.Printf [] refl env
     (routines_more routines (empty facts) (record { each = λ name x e. absurd cc })) in
     record { each = λ name x there. printf.each name x there }
-
-start_facts : (facts : Facts) → (start facts).facts ≡ facts
-unfolding start
-start_facts facts = refl
 
 start_place : (facts : Facts) → in_file (start facts) ≡ true
 unfolding start
@@ -207,7 +204,7 @@ module _ (es : List t.External) (g : File) (formed : IsFormed g.state)
   found_ends : (name : Name) (x : Entity) (n : ℕ) → declared name env.entities ≡ Some x → x.what ≡ what.Object n
       → IsEnding env name → EndsComplete env.facts env.structures x.c_type
   found_ends name x n there w h =
-      let same = some_is (sym h.there ∙ there) in
+      let same = the_same (sym h.there ∙ there) in
       subst (λ z. EndsComplete env.facts env.structures z.c_type) same
       (h.complete n (ap (λ z. z.what) same ∙ w))
 

@@ -26,11 +26,14 @@ use Rattle.c_unit_typing.specs.Declarations.{with_others}
 use Rattle.c_unit_typing.specs.Files.{File, FileTyping}
 use Rattle.c_unit_typing.specs.Lines.{initializer_line}
 use Rattle.c_typed_validity.specs.Sound.{IsFormed, is_sized_array}
+use Rattle.c_typed_validity.proofs.Common.{first, second}
 use Rattle.c_typed_declarators.specs.Extending.{Extending}
 use Rattle.c_typed_declarators.specs.Given.{AreCounted, IsShapeOf, IsSpecified, anything}
 use Rattle.c_typed_declarators.proofs.Recursion.{shape_extends}
 use Rattle.c_typed_programs.proofs.Declarations.Judged.{IsBuilt, answered, built_declaration}
 use Rattle.c_typed_programs.specs.Layouts.Listed.{HasArrays, IfLaidOut, IsDeclared, IsLaidOut}
+use Rattle.c_typed_programs.proofs.Declarations.Named.{HasNameOf, named_as, shape_named}
+use Rattle.c_typed_programs.proofs.LaidOut.Declarations.{specified_laid}
 use Rattle.c_typed_programs.proofs.Layouts.Declared.{declared_as_laid}
 use Rattle.c_typed_programs.proofs.Layouts.Recursion.{shape_laid}
 use Rattle.c_typed_programs.proofs.LaidOut.Chained.{StateLaid, both_laid}
@@ -40,16 +43,16 @@ use Rattle.c_typed_programs.proofs.Scopes.Declarations.{StateLeads, declares_lea
 use Rattle.c_typed_programs.proofs.Functions.Entities.{bound_either}
 use Rattle.c_typed_programs.proofs.Types.Parameters.{judged_known}
 use Rattle.c_typed_programs.proofs.Sizes.Declarations.{FileSteps, IfFileSteps, declarator_file_steps, declared_steps}
-use Rattle.c_typed_programs.proofs.Sizes.Declarations.{named_steps, spec_kept, specified_lays, state_steps}
+use Rattle.c_typed_programs.proofs.Sizes.Declarations.{named_steps, spec_kept, state_steps}
 use Rattle.c_typed_programs.proofs.Sizes.Steps.{AreEnding, AreSound, IsEnding, all_behind, declared_ending}
 use Rattle.c_typed_programs.proofs.Sizes.Steps.{ending_behind}
-use Rattle.c_typed_programs.proofs.Sizes.Storage.{IfNamed, IfStored, IsStored, named_as, shape_named, specified_stored}
+use Rattle.c_typed_programs.proofs.Sizes.Storage.{IfStored, IsStored, specified_stored}
 use Rattle.c_typed_programs.proofs.Scopes.Initializers.{IfBehind}
 use Rattle.c_typed_programs.proofs.Tags.Keeping.{KeepsTags}
 use Rattle.c_typed_programs.proofs.Tags.Walked.{tags_walk}
 use Rattle.c_typed_programs.proofs.Walks.Declarations.{stored_walks}
 use Rattle.c_typed_programs.proofs.Walks.Recursion.{shape_walks}
-use Rattle.c_typed_programs.proofs.Common.{filed, first, second, some_mapped}
+use Rattle.c_typed_programs.proofs.Common.{IfGives, filed, some_mapped}
 
 -- one more object that the file defines
 
@@ -105,13 +108,9 @@ then_all : {A B : Type 0} (objects more : Names Bool) (f : File) (a : Answer (Fi
 then_all objects more f (Ok r) next h is k = k r.1 r.0 h is
 then_all objects more f (Err e) next h is k = tt
 
-abbrev pub IfPlain : {A : Type 0} → (A → Type 0) → Answer (State × A) → Type 0
-IfPlain n (Ok r) = n r.1
-IfPlain n (Err e) = Unit {0}
-
 state_all : {A B : Type 0} (objects more : Names Bool) (p q : State → A → Type 0) (n : A → Type 0) (f : File)
     (a : Answer (State × A)) (next : A → FileTyping B) → IsLaidOut f.state → Extending false f.state p a
-    → StateLaid q f.state a → IfBehind KeepsTags f.state a → IfPlain n a → AreEnding objects f.state.environment
+    → StateLaid q f.state a → IfBehind KeepsTags f.state a → IfGives n a → AreEnding objects f.state.environment
     → ((x : A) (g : File) → FileSteps f g → p g.state x → q g.state x → n x → AreEnding objects g.state.environment
     → IfAll more (next x g))
     → IfAll more (a >>= filed f >>= λ r. next r.1 r.0)
@@ -218,11 +217,6 @@ named_all spec sized x c sh counted (Some name) f formed laid arrays file h stor
     (not_typedef (is_typedef spec.storage) h.is_typedef stored.typedef plain)
     (λ e. not_function b h.has_extern (is_some x) object (stored.own e)) is.sound)
 
-named_plain : (d : t.InitDeclarator) (a : Answer (State × Shape)) → IfNamed d.declarator a
-    → IfPlain (λ sh. named_as sh.name ≡ syntax.declared d.declarator) a
-named_plain d (Ok r) h = h
-named_plain d (Err e) h = tt
-
 declarator_all : (spec : Specification) → is_sized_array spec.type ≡ true → (d : t.InitDeclarator)
     → is_regular_object d (initializer_of d) ≡ true → (f : File) → IsFormed f.state → IsLaidOut f.state
     → HasArrays f.state spec → in_file f.state.environment ≡ true → (h : facts.Heading)
@@ -233,12 +227,12 @@ declarator_all spec sized d c f formed laid arrays file h stored q is =
     let b = facts.declares_function h.is_function d.declarator in
     let more = (facts.with_declarator h d q).facts.objects in
     state_all q.facts.objects more (λ u sh. IsShapeOf u d.declarator sh) anything
-    (λ sh. named_as sh.name ≡ syntax.declared d.declarator) f (shape false d.declarator f.state)
+    (HasNameOf d.declarator) f (shape false d.declarator f.state)
     (λ sh. named_by false spec (initializer_of d) sh sh.name) laid extends
     (both_laid (λ u sh. IsShapeOf u d.declarator sh) anything f.state (shape false d.declarator f.state) laid extends
     (shape_laid false d.declarator (first _ _ c) f.state formed laid))
     (shape_walks tags_walk false d.declarator f.state).by
-    (named_plain d (shape false d.declarator f.state) (shape_named false d.declarator f.state)) is
+    (shape_named false d.declarator f.state) is
     (λ sh g own shaped x named is.
     subst (λ i. IfAll (facts.with_name h b i (syntax.declared d.declarator) q).facts.objects
     (named_by false spec (initializer_of d) sh sh.name g)) (some_mapped (λ z. z.1) d.initializer)
@@ -284,7 +278,7 @@ declarators_all spec sized (Some ds) c f formed laid arrays file h stored q is =
     (spec_kept spec f g own arrays) (own.steps.place ∙ file) h stored (facts.with_declarator h ds.first q) is)
 
 stored_plain : (d : t.Declaration) (a : Answer (State × Specification)) → IfStored d.specifiers a
-    → IfPlain (λ spec. IsStored (syntax.has_typedef d.specifiers) (facts.has_extern d.specifiers) spec.storage) a
+    → IfGives (λ spec. IsStored (syntax.has_typedef d.specifiers) (facts.has_extern d.specifiers) spec.storage) a
 stored_plain d (Ok r) h = h
 stored_plain d (Err e) h = tt
 
@@ -299,7 +293,7 @@ declaration_all d c f formed laid file q is =
     (λ spec. IsStored (syntax.has_typedef d.specifiers) (facts.has_extern d.specifiers) spec.storage) f
     (specified (is_none d.declarators) d f.state) (λ spec. with_declarators false spec d.declarators) laid extends
     (both_laid IsSpecified HasArrays f.state (specified (is_none d.declarators) d f.state) laid extends
-    (specified_lays (is_none d.declarators) d c f.state formed laid))
+    (specified_laid (is_none d.declarators) d c f.state formed laid))
     (stored_walks tags_walk (is_none d.declarators) d.specifiers f.state).by
     (stored_plain d (specified (is_none d.declarators) d f.state) (specified_stored (is_none d.declarators) d f.state))
     is

@@ -15,15 +15,18 @@ use Rattle.c_typing.specs.State.{State}
 use Rattle.c_unit_typing.specs.Declarations.{entity_with_type, is_of_type, is_same_object, with_entity, with_size}
 use Rattle.c_typed_validity.specs.More.{AreMore}
 use Rattle.c_typed_validity.specs.Sound.{is_sized_array}
+use Rattle.c_typed_validity.proofs.Common.{no_value, the_same}
 use Rattle.c_typed_validity.proofs.Sound.{more_more, same_more}
 use Rattle.c_typed_programs.specs.Declarations.Binding.{Binds, bound_meaning}
 use Rattle.c_typed_programs.proofs.Declarations.Bound.{bound_here, declarator_binds}
 use Rattle.c_typed_programs.proofs.Declarations.Completed.{size_binds}
 use Rattle.c_typed_programs.specs.Functions.Entities.{Continue, IsStill}
+use Rattle.c_typed_programs.proofs.Files.Files.{linkage_by}
 use Rattle.c_typed_programs.proofs.Functions.Continuing.{continues_on, declarator_continues, entity_fills}
 use Rattle.c_typed_programs.proofs.Functions.Continuing.{keeps_continues}
 use Rattle.c_typed_programs.proofs.Functions.Entities.{bound_either, compatible_words, function_words, keeps_same}
-use Rattle.c_typed_programs.proofs.Functions.Entities.{known_old, none_some, size_keeps, some_is, unlinked_entities}
+use Rattle.c_typed_programs.proofs.Functions.Entities.{known_old, size_keeps, unlinked_entities}
+use Rattle.c_typed_programs.proofs.Functions.Files.{declared_entities}
 use Rattle.c_typed_programs.proofs.Types.Parameters.{IsJudged}
 use Rattle.c_typed_programs.specs.Sizes.Tags.{BodiesStay}
 use Rattle.c_typed_programs.proofs.Sizes.Bodies.{Reaches, bodies_on, bodies_same}
@@ -84,7 +87,7 @@ standing_steps env behind place facts more bodies same = record {
   more = more;
   bodies = bodies;
   entities = subst (Continue env.entities) (sym same) (continues_same env);
-  new = λ name x n none there w. none_some x (sym none ∙ sym (ap (λ z. declared name z) same) ∙ there);
+  new = λ name x n none there w. no_value x _ (sym none ∙ sym (ap (λ z. declared name z) same) ∙ there);
   sound = λ h. subst AreSound (sym same) h;
 }
 
@@ -129,7 +132,7 @@ steps_on env mid behind h g = record {
     by name x n none there w None e = later name x.c_type (g.new name x n e there w)
     by name x n none there w (Some y) e =
         let k = g.entities.each name y e in
-        let same = some_is (sym k.there ∙ there) in
+        let same = the_same (sym k.there ∙ there) in
         subst (λ z. IsOfFile env.facts name
         ⊎ ((in_file env ≡ true) × EndsComplete behind.facts behind.structures z.c_type)) same
         (earlier name y (declared name behind.entities) k
@@ -154,12 +157,6 @@ linkage_of false true f x e a b = (refl, refl)
 linkage_of false false true x e a b = absurd cc
 linkage_of false false false true e a b = absurd cc
 linkage_of false false false false e a b = absurd cc
-
-declared_entities : (env : Environment) (d : Declaration) (b : Bool) → b ≡ true
-    → (if b then linked env d else without_linkage d.storage env d).entities
-    ≡ bound d.name (entity_with env d (declared d.name env.entities)) env.entities
-declared_entities env d true e = refl
-declared_entities env d false e = absurd cc
 
 pub linked_entities : (env : Environment) (d : Declaration) → has_linkage (in_file env) d ≡ true
     → (with_declarator env d).entities ≡ bound d.name (entity_with env d (declared d.name env.entities)) env.entities
@@ -224,11 +221,11 @@ module _ (s : State) (d : Declaration) (known : IsJudged (surroundings s.environ
       ⊎ ((name ≡ d.name) × (declared name (bound d.name (entity_with old d (declared d.name old.entities)) old.entities)
       ≡ Some (entity_with old d (declared d.name old.entities))))
       → IsNewEnding name x.c_type
-  linked_new linkage name x n none there w (inl e) = none_some x (sym none ∙ sym e ∙ there)
+  linked_new linkage name x n none there w (inl e) = no_value x _ (sym none ∙ sym e ∙ there)
   linked_new linkage name x n none there w (inr e) =
       subst (λ z. IsNewEnding z x.c_type) (sym e.0)
       (new_entity linkage (declared d.name old.entities) (ap (λ z. declared z old.entities) (sym e.0) ∙ none) x
-      (some_is (sym e.1 ∙ there)) n w)
+      (the_same (sym e.1 ∙ there)) n w)
 
   declared_new : (name : Name) (x : Entity) (n : ℕ) → declared name old.entities ≡ None
       → declared name behind.entities ≡ Some x → x.what ≡ what.Object n → (b : Bool)
@@ -237,7 +234,7 @@ module _ (s : State) (d : Declaration) (known : IsJudged (surroundings s.environ
       linked_new e name x n none (ap (λ z. declared name z) (sym (linked_entities old d e)) ∙ there) w
       (bound_either name d.name (entity_with old d (declared d.name old.entities)) old.entities)
   declared_new name x n none there w false e =
-      none_some x
+      no_value x _
       (sym none ∙ ap (λ z. declared name z) (sym (same_entities old d (has_linkage (in_file old) d) e)) ∙ there)
 
   -- what stays sound
@@ -275,7 +272,7 @@ module _ (s : State) (d : Declaration) (known : IsJudged (surroundings s.environ
           ≡ Some (entity_with old d (declared d.name old.entities)))) → IsSound x
       by name x there (inl g) = h.each name x (sym g ∙ there)
       by name x there (inr g) =
-          subst IsSound (some_is (sym g.1 ∙ there)) (entity_sound e h (declared d.name old.entities) refl)
+          subst IsSound (the_same (sym g.1 ∙ there)) (entity_sound e h (declared d.name old.entities) refl)
   declared_sound h false e =
       subst AreSound (sym (same_entities old d (has_linkage (in_file old) d) e)) h
 
@@ -297,25 +294,25 @@ module _ (s : State) (d : Declaration) (known : IsJudged (surroundings s.environ
 entity_new : (env : Environment) (name : Name) (type : List TypeWord) (P : Type 0) (o : Option Entity)
     → declared name env.entities ≡ o → (other : Name) (x : Entity) → declared other env.entities ≡ None
     → declared other (with_entity name (option_map (entity_with_type type) o) env).entities ≡ Some x → P
-entity_new env name type P None e other x none there = none_some x (sym none ∙ there)
+entity_new env name type P None e other x none there = no_value x _ (sym none ∙ there)
 entity_new env name type P (Some y) e other x none there =
     by (bound_either other name (entity_with_type type y) env.entities)
   where
     by : (declared other (bound name (entity_with_type type y) env.entities) ≡ declared other env.entities)
         ⊎ ((other ≡ name) × (declared other (bound name (entity_with_type type y) env.entities)
         ≡ Some (entity_with_type type y))) → P
-    by (inl g) = none_some x (sym none ∙ sym g ∙ there)
-    by (inr g) = none_some y (sym none ∙ ap (λ z. declared z env.entities) g.0 ∙ e)
+    by (inl g) = no_value x _ (sym none ∙ sym g ∙ there)
+    by (inr g) = no_value y _ (sym none ∙ ap (λ z. declared z env.entities) g.0 ∙ e)
 
 size_new : (env : Environment) (d : Designated) (name : Name) (type : List TypeWord) (P : Type 0) (other : Name)
     (x : Entity) → declared other env.entities ≡ None → declared other (with_size d name type env).entities ≡ Some x
     → P
 size_new env (what.Object n) name type P other x none there =
     entity_new env name type P (declared name env.entities) refl other x none there
-size_new env (what.Static n) name type P other x none there = none_some x (sym none ∙ there)
-size_new env (what.Function n) name type P other x none there = none_some x (sym none ∙ there)
-size_new env (what.Library r) name type P other x none there = none_some x (sym none ∙ there)
-size_new env (what.Variable n) name type P other x none there = none_some x (sym none ∙ there)
+size_new env (what.Static n) name type P other x none there = no_value x _ (sym none ∙ there)
+size_new env (what.Function n) name type P other x none there = no_value x _ (sym none ∙ there)
+size_new env (what.Library r) name type P other x none there = no_value x _ (sym none ∙ there)
+size_new env (what.Variable n) name type P other x none there = no_value x _ (sym none ∙ there)
 
 entity_with_sound : (env : Environment) (name : Name) (type : List TypeWord) → is_sized_array type ≡ true
     → AreSound env.entities → (o : Option Entity) → declared name env.entities ≡ o → is_of_type type o ≡ true
@@ -342,7 +339,7 @@ entity_with_sound env name type sized h (Some y) e same = record {
         ⊎ ((other ≡ name) × (declared other (bound name (entity_with_type type y) env.entities)
         ≡ Some (entity_with_type type y))) → IsSound x
     by other x there (inl g) = h.each other x (sym g ∙ there)
-    by other x there (inr g) = subst IsSound (some_is (sym g.1 ∙ there)) new
+    by other x there (inr g) = subst IsSound (the_same (sym g.1 ∙ there)) new
 
 size_sound : (env : Environment) (d : Designated) (name : Name) (type : List TypeWord) → is_sized_array type ≡ true
     → is_same_object d name type env ≡ true → AreSound env.entities → AreSound (with_size d name type env).entities
@@ -378,11 +375,6 @@ pub record IsEnding (env : Environment) (name : Name) : Type 0 where
   pub entity : Entity
   pub there : declared name env.entities ≡ Some entity
   pub complete : (n : ℕ) → entity.what ≡ what.Object n → EndsComplete env.facts env.structures entity.c_type
-
-linkage_by : (t file f x : Bool) → t ≡ false → file ≡ true → (not t && (file || f || x)) ≡ true
-linkage_by true file f x e g = absurd cc
-linkage_by false true f x e g = refl
-linkage_by false false f x e g = absurd cc
 
 -- a declarator at file scope that is neither one of a typedef name nor `extern`
 module _ (s : State) (d : Declaration) (known : IsJudged (surroundings s.environment d) d)
@@ -471,7 +463,7 @@ all_behind objects env behind h is = record {
     by name x n there w None e = later name x.c_type (h.new name x n e there w)
     by name x n there w (Some y) e =
         let k = h.entities.each name y e in
-        let same = some_is (sym k.there ∙ there) in
+        let same = the_same (sym k.there ∙ there) in
         subst (λ z. IsOfFile behind.facts name ⊎ EndsComplete behind.facts behind.structures z.c_type) same
         (earlier name y (declared name behind.entities) k
         (is.each name y n e (sym k.what ∙ ap (λ z. z.what) same ∙ w)))

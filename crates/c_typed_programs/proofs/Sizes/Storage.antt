@@ -1,14 +1,15 @@
 -- What c_facts reads of a declaration is what it is typed to: its storage-class specifier and the names of its
 -- declarators (C99 6.7.1, 6.7.5).
-use Rattle.std.proofs.Common.{◌≡◌, ℕ, Bool, true, false, ◌&&◌, ◌||◌, refl, subst, Option, Some}
+use Rattle.std.proofs.Common.{◌≡◌, ℕ, Bool, true, false, ◌||◌, refl, subst, Some}
 use Rattle.std.proofs.Common.{if◌then◌else◌}
-use Rattle.std.specs.Prelude.{Ok, Err, option_map}
+use Rattle.std.proofs.lemmas.Bool.{or_left, or_right}
+use Rattle.std.specs.Prelude.{Ok, Err}
 use Rattle.c_lexer.specs.declared.keyword.Keyword.{Keyword}
 use Rattle.c_lexer.specs.declared.keyword.Keyword.TheVariants as keyword
 use Rattle.c_syntax.specs.declared.position.Position.{Position}
 use Rattle.c_syntax.specs.Formed as formed
 use Rattle.c_syntax.specs.Statements as s
-use Rattle.c_syntax.specs.Tree.{Declarator, Specifier, Specifiers}
+use Rattle.c_syntax.specs.Tree.{Specifier, Specifiers}
 use Rattle.c_syntax.specs.Tree as t
 use Rattle.c_facts.specs.Facts as facts
 use Rattle.c_rules.specs.declared.fault.Rule.TheVariants.{MisplacedStorage}
@@ -18,21 +19,18 @@ use Rattle.c_scope.specs.declared.meaning.Storage.TheVariants as storage
 use Rattle.c_scope.specs.declared.meaning.Tag.{Tag}
 use Rattle.c_scope.specs.declared.tags.TagKind.TheVariants as kind
 use Rattle.c_scope.specs.Declaring.{is_extern, is_typedef}
-use Rattle.c_scope.specs.Names.{Name}
 use Rattle.c_specifiers.specs.declared.specified.Specified.{Specified}
 use Rattle.c_specifiers.specs.Specified.{stored, with}
-use Rattle.c_typing.specs.Declarators.{Shape}
 use Rattle.c_typing.specs.Members.{no_entries, tag_completed}
 use Rattle.c_typing.specs.Specifications.{Gathered, Specification, nothing_gathered, specified, tag_kind, tag_type}
 use Rattle.c_typing.specs.Specifications.{typedef_type, with_named}
 use Rattle.c_typing.specs.State.{State, Typing, done, judged, ◌>>>◌}
-use Rattle.c_expression_typing.specs.Constructs.{begun_as, tagged_as, valued}
+use Rattle.c_expression_typing.specs.Constructs.{begun_as, tagged_as}
 use Rattle.c_expression_typing.specs.Lines.{first_line, name_of, tag_name}
-use Rattle.c_expression_typing.specs.Typed.{enumerator, gathered, more_enumerators, parameter_types, shape}
-use Rattle.c_expression_typing.specs.Typed.{specification, typed, with_members, with_specifier}
+use Rattle.c_expression_typing.specs.Typed.{enumerator, gathered, more_enumerators}
+use Rattle.c_expression_typing.specs.Typed.{specification, with_members, with_specifier}
 use Rattle.c_unit_typing.specs.Declarations.{stored_once}
 use Rattle.c_unit_typing.specs.Declarations as units
-use Rattle.c_typed_programs.proofs.Common.{or_left, or_right}
 
 -- the storage-class specifier of what is typed is among those that are read
 pub record IsStored (typedefs externs : Bool) (z : Storage) : Type 0 where
@@ -199,39 +197,3 @@ pub specified_stored : (is_alone : Bool) (d : s.Declaration) (u : State)
     → IfStored d.specifiers (units.specified is_alone d u)
 specified_stored is_alone d u =
     then_once d.specifiers (specification is_alone d.specifiers u) (specification_stored is_alone d.specifiers u)
-
--- the name of a declarator
-
-abbrev pub named_as : Option (Name × ℕ) → Option Name
-named_as o = option_map (λ n. n.0) o
-
-abbrev pub IfNamed : Declarator → Answer (State × Shape) → Type 0
-IfNamed d (Ok r) = named_as r.1.name ≡ formed.declared d
-IfNamed d (Err e) = Unit {0}
-
-then_named : (d e : Declarator) (a : Answer (State × Shape)) (next : Shape → State → Answer (State × Shape))
-    → IfNamed d a → ((sh : Shape) (u : State) → named_as sh.name ≡ formed.declared d → IfNamed e (next sh u))
-    → IfNamed e (a >>= λ r. next r.1 r.0)
-then_named d e (Ok r) next h k = k r.1 r.0 h
-then_named d e (Err x) next h k = tt
-
-behind_named : {A : Type 0} (e : Declarator) (a : Answer (State × A)) (next : A → State → Answer (State × Shape))
-    → ((x : A) (u : State) → IfNamed e (next x u)) → IfNamed e (a >>= λ r. next r.1 r.0)
-behind_named e (Ok r) next k = k r.1 r.0
-behind_named e (Err x) next k = tt
-
-pub shape_named : (b : Bool) (d : Declarator) (u : State) → IfNamed d (shape b d u)
-shape_named b (t.named x) u = refl
-shape_named b t.unnamed u = refl
-shape_named b (t.pointer at consts d) u =
-    then_named d (t.pointer at consts d) (shape b d u) _ (shape_named b d u) (λ sh v e. e)
-shape_named b (t.grouped l d r) u = shape_named b d u
-shape_named b (t.open_array d l r) u =
-    then_named d (t.open_array d l r) (shape b d u) _ (shape_named b d u) (λ sh v e. e)
-shape_named b (t.array d l e r) u =
-    then_named d (t.array d l e r) (shape b d u) _ (shape_named b d u)
-    (λ sh v g. behind_named (t.array d l e r) (valued (typed false e) v) _ (λ x w. g))
-shape_named b (t.function d l ps r) u =
-    then_named d (t.function d l ps r) (shape b d u) _ (shape_named b d u)
-    (λ sh v g. behind_named (t.function d l ps r) (parameter_types (b && formed.is_plain_name d) ps _) _
-    (λ types w. g))

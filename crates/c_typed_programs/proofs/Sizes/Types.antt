@@ -1,6 +1,7 @@
 -- Types that are complete at the end of a file, whose objects have from 1 to 2^32 bytes then (C99 6.2.5, 6.2.7, 6.9.2).
 use Rattle.std.proofs.Common.{◌≡◌, ◌⊎◌, inl, inr, ℕ, zero, suc, ◌^◌, ◌≤◌, Bool, true, false, ◌&&◌, ◌||◌, refl, sym}
 use Rattle.std.proofs.Common.{ap, ◌∙◌, List, [], ◌∷◌, Option, Some, None, if◌then◌else◌, arith}
+use Rattle.std.proofs.lemmas.Bool.{or_left}
 use Rattle.std.specs.Prelude.{not, is_some, slice_get}
 use Rattle.c_tree.specs.declared.c_type.TypeWord.{TypeWord}
 use Rattle.c_tree.specs.declared.c_type.TypeWord.TheVariants as word
@@ -23,15 +24,15 @@ use Rattle.c_unit_typing.specs.Files.{File}
 use Rattle.c_unit_typing.specs.Programs.{final_type}
 use Rattle.c_typed_validity.specs.More.{AreMore}
 use Rattle.c_typed_validity.specs.Sound.{IsFormed, is_sized_array}
-use Rattle.c_typed_declarators.proofs.Types.{object_type, size_high}
+use Rattle.c_typed_validity.proofs.Moved.{size_high}
+use Rattle.c_typed_declarators.proofs.Types.{object_type}
+use Rattle.c_typed_programs.proofs.Declarations.Judged.{some_extent}
 use Rattle.c_typed_programs.proofs.Declarations.Variables.{declared_has_size}
-use Rattle.c_typed_programs.proofs.SpelledTypes.Composites.{IsJoint, alike, composite_nothing, first_sized, joins}
-use Rattle.c_typed_programs.proofs.SpelledTypes.Composites.{none_first, none_second, second_sized}
+use Rattle.c_typed_programs.proofs.Layouts.Composite.{composite_sized}
 use Rattle.c_typed_programs.specs.Functions.Entities.{Fills, FillsWord}
-use Rattle.c_typed_programs.proofs.Functions.Entities.{conflict}
 use Rattle.c_typed_programs.proofs.Types.Parameters.{IsJudged}
 use Rattle.c_typed_programs.specs.Sizes.Tags.{BodiesStay, TagsAreComplete}
-use Rattle.c_typed_programs.proofs.Common.{or_left, some_mapped}
+use Rattle.c_typed_programs.proofs.Common.{conflict, some_mapped}
 
 -- the type of an object that is complete at the end, if it is no array of unknown size; then that of its elements is
 
@@ -172,10 +173,6 @@ module _ (f : File) (tags : TagsAreComplete f) where
   ends_extent (word.Takes ∷ ws) e = absurd cc
   ends_extent (word.Gives ∷ ws) e = absurd cc
 
-some_there : (o : Option TypeExtent) → is_some o ≡ true → (e : TypeExtent) × (o ≡ Some e)
-some_there None e = absurd cc
-some_there (Some x) e = (x, refl)
-
 one_size : (n : ℕ) → n ≤ 2 ^ 32 → array_size 1 n ≡ n
 unfolding array_size
 one_size n small = omega arith
@@ -183,7 +180,7 @@ one_size n small = omega arith
 complete_sized : (s : State) → IsFormed s → (type : List TypeWord) → is_sized_array type ≡ true
     → is_some (extent_of (extents s) type) ≡ true → has_size (kind_in s type) ≡ true
 complete_sized s formed type sized e =
-    let x = some_there (extent_of (extents s) type) e in
+    let x = some_extent (extent_of (extents s) type) e in
     declared_has_size s type x.0 x.1 (object_type (extents s) formed.sizes type sized x.0 x.1)
 
 array_complete : (es : List (Option TypeExtent)) (c b : ℕ) (element : List TypeWord)
@@ -285,41 +282,6 @@ filled_ends facts s (word.Takes ∷ vs) (w ∷ ws) h e = absurd cc
 filled_ends facts s (word.Gives ∷ vs) (w ∷ ws) h e = absurd cc
 
 -- the arrays of a composite type have from 1 to 2^32 bytes
-
-head_sized : (v : TypeWord) (s t c : List TypeWord)
-    → (is_sized_array s ≡ true → is_sized_array t ≡ true → is_sized_array c ≡ true)
-    → is_sized_array (v ∷ s) ≡ true → is_sized_array (v ∷ t) ≡ true → is_sized_array (v ∷ c) ≡ true
-head_sized word.Void s t c h a b = refl
-head_sized (word.Integer i) s t c h a b = refl
-head_sized (word.Enumeration n) s t c h a b = refl
-head_sized word.Pointer s t c h a b = refl
-head_sized (word.Array n z) s t c h a b = a
-head_sized word.OpenArray s t c h a b = h a b
-head_sized (word.Structure n) s t c h a b = refl
-head_sized word.Const s t c h a b = h a b
-head_sized word.Takes s t c h a b = refl
-head_sized word.Gives s t c h a b = refl
-
-joint_sized : (v w x : TypeWord) (s t c : List TypeWord) → IsJoint v w x
-    → (is_sized_array s ≡ true → is_sized_array t ≡ true → is_sized_array c ≡ true)
-    → is_sized_array (v ∷ s) ≡ true → is_sized_array (w ∷ t) ≡ true → is_sized_array (x ∷ c) ≡ true
-joint_sized v w x s t c (alike e g) h a b =
-    ap (λ z. is_sized_array (z ∷ c)) g
-    ∙ head_sized v s t c h a (ap (λ z. is_sized_array (z ∷ t)) e ∙ b)
-joint_sized v w x s t c (first_sized n z e g i) h a b =
-    ap (λ y. is_sized_array (y ∷ c)) (i ∙ e) ∙ sym (ap (λ y. is_sized_array (y ∷ s)) e) ∙ a
-joint_sized v w x s t c (second_sized n z e g i) h a b =
-    ap (λ y. is_sized_array (y ∷ c)) (i ∙ g) ∙ sym (ap (λ y. is_sized_array (y ∷ t)) g) ∙ b
-
-composite_sized : (s t c : List TypeWord) → composite s t ≡ Some c → is_sized_array s ≡ true
-    → is_sized_array t ≡ true → is_sized_array c ≡ true
-composite_sized [] [] c e a b = ap is_sized_array (composite_nothing c e)
-composite_sized [] (w ∷ t) c e a b = none_first w t c _ e
-composite_sized (v ∷ s) [] c e a b = none_second v s c _ e
-composite_sized (v ∷ s) (w ∷ t) c e a b =
-    let j = joins v s w t c e in
-    ap is_sized_array j.is
-    ∙ joint_sized v w j.first s t j.rest j.joint (composite_sized s t j.rest j.behind) a b
 
 joined_by : (s t d : List TypeWord) (o : Option (List TypeWord)) → composite s t ≡ o → is_some o ≡ true
     → is_sized_array s ≡ true → is_sized_array t ≡ true → is_sized_array (type_or o d) ≡ true

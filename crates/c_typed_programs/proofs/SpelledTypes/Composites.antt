@@ -1,20 +1,22 @@
 -- Composite types (C99 6.2.7) are spelled as the types that they are made of.
 use Rattle.std.proofs.Common.{◌≡◌, ℕ, zero, suc, Bool, true, false, ◌&&◌, refl, sym, ap, ◌∙◌, List, [], ◌∷◌}
 use Rattle.std.proofs.Common.{Option, Some, None, if◌then◌else◌}
-use Rattle.std.specs.Prelude.{not, option_map}
+use Rattle.std.proofs.lemmas.Bool.{and_from}
+use Rattle.std.specs.Prelude.{not}
 use Rattle.c_tree.specs.declared.c_type.TypeWord.{TypeWord}
 use Rattle.c_tree.specs.declared.c_type.TypeWord.TheVariants as word
-use Rattle.c_tree.specs.Arrays.{has_bytes}
-use Rattle.c_tree.specs.Extents.{TypeExtent, array_extent, extent_of}
+use Rattle.c_tree.specs.Extents.{TypeExtent, extent_of}
 use Rattle.c_tree.specs.TypesAgree.{same_words, still}
 use Rattle.c_rules.specs.Types.{unqualified}
 use Rattle.c_rules.proofs.SameTypes.{words_are}
 use Rattle.c_scope.specs.Composite.{composite, joined, joint}
 use Rattle.c_scope.specs.Declaring.{is_function}
 use Rattle.c_declarators.specs.Derivations.{is_array}
+use Rattle.c_typed_validity.proofs.Common.{first as left, no_value as none_is, second as right, the_same}
+use Rattle.c_typed_validity.proofs.Kept.{array_kept}
+use Rattle.c_typed_validity.specs.Steps.{Structures}
 use Rattle.c_typed_programs.specs.SpelledTypes.Spelled.{fits, is_spelled}
-use Rattle.c_typed_programs.proofs.SpelledTypes.Words.{Structures}
-use Rattle.c_typed_programs.proofs.Common.{both, first as left, no_value as none_is, second as right, the_same}
+use Rattle.c_typed_programs.proofs.Layouts.Arrays.{bytes_kept}
 
 -- the words of a composite: those of both, but for the size of an array that one leaves open
 pub data IsJoint (v w x : TypeWord) : Type 0 where
@@ -22,12 +24,12 @@ pub data IsJoint (v w x : TypeWord) : Type 0 where
   first_sized : (count bytes : ℕ) → v ≡ word.Array count bytes → w ≡ word.OpenArray → x ≡ v → IsJoint v w x
   second_sized : (count bytes : ℕ) → v ≡ word.OpenArray → w ≡ word.Array count bytes → x ≡ w → IsJoint v w x
 
-heads : {v w : TypeWord} → v ∷ [] ≡ w ∷ [] → v ≡ w
-heads e = cc
+pub first_is : {v w : TypeWord} {s t : List TypeWord} → v ∷ s ≡ w ∷ t → v ≡ w
+first_is e = cc
 
 alike_by : (v w x : TypeWord) (b : Bool) → same_words (v ∷ []) (w ∷ []) ≡ b → (if b then Some v else None) ≡ Some x
     → IsJoint v w x
-alike_by v w x true e g = alike (heads (words_are (v ∷ []) (w ∷ []) e)) (sym (the_same g))
+alike_by v w x true e g = alike (first_is (words_are (v ∷ []) (w ∷ []) e)) (sym (the_same g))
 alike_by v w x false e g = absurd cc
 
 pub joint_is : (v w x : TypeWord) → joint v w ≡ Some x → IsJoint v w x
@@ -171,14 +173,8 @@ no_open : (es : Structures) (s : List TypeWord) (x : TypeExtent) (P : Type 0)
 unfolding extent_of
 no_open es s x P e = none_is x P e
 
-array_same : (bytes : ℕ) (o more : Option TypeExtent) (x : TypeExtent)
-    → ((y : TypeExtent) → o ≡ Some y → more ≡ Some y) → option_map (array_extent bytes) o ≡ Some x
-    → option_map (array_extent bytes) more ≡ Some x
-array_same bytes None more x h e = none_is x _ e
-array_same bytes (Some y) more x h e = ap (option_map (array_extent bytes)) (h y refl) ∙ e
-
 -- behind the same word
-extent_behind : (es : Structures) (v : TypeWord) (s c : List TypeWord)
+pub extent_behind : (es : Structures) (v : TypeWord) (s c : List TypeWord)
     → ((y : TypeExtent) → extent_of es s ≡ Some y → extent_of es c ≡ Some y) → (x : TypeExtent)
     → extent_of es (v ∷ s) ≡ Some x → extent_of es (v ∷ c) ≡ Some x
 unfolding extent_of
@@ -186,7 +182,7 @@ extent_behind es word.Void s c h x e = e
 extent_behind es (word.Integer t) s c h x e = e
 extent_behind es (word.Enumeration k) s c h x e = e
 extent_behind es word.Pointer s c h x e = e
-extent_behind es (word.Array n b) s c h x e = array_same b (extent_of es s) (extent_of es c) x h e
+extent_behind es (word.Array n b) s c h x e = array_kept b (extent_of es s) (extent_of es c) x h e
 extent_behind es word.OpenArray s c h x e = e
 extent_behind es (word.Structure k) s c h x e = e
 extent_behind es word.Const s c h x e = h x e
@@ -234,11 +230,6 @@ composite_second es (v ∷ s) (w ∷ t) c e y is =
 
 -- what a word asks of those behind it
 
-pub bytes_same : (n b : ℕ) (o more : Option TypeExtent) → ((y : TypeExtent) → o ≡ Some y → more ≡ Some y)
-    → has_bytes n b o ≡ true → has_bytes n b more ≡ true
-bytes_same n b None more h e = absurd cc
-bytes_same n b (Some y) more h e = ap (has_bytes n b) (h y refl) ∙ e
-
 fits_behind : (es : Structures) (v : TypeWord) (s c : List TypeWord)
     → ((y : TypeExtent) → extent_of es s ≡ Some y → extent_of es c ≡ Some y) → is_array c ≡ is_array s
     → is_function (unqualified c) ≡ is_function (unqualified s) → fits es v s ≡ true → fits es v c ≡ true
@@ -246,7 +237,7 @@ fits_behind es word.Void s c h a f e = e
 fits_behind es (word.Integer t) s c h a f e = e
 fits_behind es (word.Enumeration k) s c h a f e = e
 fits_behind es word.Pointer s c h a f e = e
-fits_behind es (word.Array n b) s c h a f e = bytes_same n b (extent_of es s) (extent_of es c) h e
+fits_behind es (word.Array n b) s c h a f e = bytes_kept n b (extent_of es s) (extent_of es c) h e
 fits_behind es word.OpenArray s c h a f e = e
 fits_behind es (word.Structure k) s c h a f e = e
 fits_behind es word.Const s c h a f e = ap not a ∙ e
@@ -264,7 +255,7 @@ fits_joint es v w x s t c (first_sized n b e g k) h p q =
     ∙ fits_behind es v s c (composite_first es s t c h) (composite_array s t c h) (composite_function s t c h) p
 fits_joint es v w x s t c (second_sized n b e g k) h p q =
     ap (λ z. fits es z c) (k ∙ g)
-    ∙ bytes_same n b (extent_of es t) (extent_of es c) (composite_second es s t c h)
+    ∙ bytes_kept n b (extent_of es t) (extent_of es c) (composite_second es s t c h)
     (sym (ap (λ z. fits es z t) g) ∙ q)
 
 pub composite_spelled : (es : Structures) (n : ℕ) (s t c : List TypeWord) → composite s t ≡ Some c
@@ -276,7 +267,7 @@ composite_spelled es zero (v ∷ s) (w ∷ t) c e p q = absurd cc
 composite_spelled es (suc n) (v ∷ s) (w ∷ t) c e p q =
     let j = joins v s w t c e in
     ap (is_spelled es (suc n)) j.is
-    ∙ both (fits es j.first j.rest) (is_spelled es (still j.first n) j.rest)
+    ∙ and_from (fits es j.first j.rest) (is_spelled es (still j.first n) j.rest)
     (fits_joint es v w j.first s t j.rest j.joint j.behind (left (fits es v s) _ p) (left (fits es w t) _ q))
     (ap (λ z. is_spelled es z j.rest) (joint_still v w j.first n j.joint)
     ∙ composite_spelled es (still v n) s t j.rest j.behind (right (fits es v s) _ p)

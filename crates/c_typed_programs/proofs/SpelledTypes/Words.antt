@@ -1,11 +1,12 @@
 -- Words that spell types: their parts, and types put together.
 use Rattle.std.proofs.Common.{◌≡◌, ℕ, zero, suc, ◌+◌, Bool, true, false, ◌&&◌, refl, sym, ap, ◌∙◌, List, [], ◌∷◌, ◌++◌}
-use Rattle.std.proofs.Common.{Option, Some, arith}
+use Rattle.std.proofs.Common.{Some, arith}
+use Rattle.std.proofs.lemmas.Bool.{and_from}
 use Rattle.std.specs.Prelude.{not, option_map}
 use Rattle.c_tree.specs.declared.c_type.TypeWord.{TypeWord}
 use Rattle.c_tree.specs.declared.c_type.TypeWord.TheVariants as word
 use Rattle.c_tree.specs.Arrays.{has_bytes, is_sized}
-use Rattle.c_tree.specs.Extents.{TypeExtent, array_extent, extent_of}
+use Rattle.c_tree.specs.Extents.{array_extent, extent_of}
 use Rattle.c_tree.specs.TypesAgree.{behind_types, still}
 use Rattle.c_rules.specs.Types.{unqualified}
 use Rattle.c_place_rules.specs.Operands.{element_of}
@@ -13,17 +14,15 @@ use Rattle.c_place_rules.specs.Targets.{constant, pointee_of, qualified}
 use Rattle.c_declarators.specs.Derivations.{is_array}
 use Rattle.c_scope.specs.Declaring.{is_function}
 use Rattle.c_call_rules.specs.FunctionTypes.{callee_type, result_type}
+use Rattle.c_typed_validity.proofs.Common.{first as left, second as right, the_same}
+use Rattle.c_typed_validity.specs.Steps.{Structures}
 use Rattle.c_typed_programs.specs.SpelledTypes.Spelled.{fits, is_readable, is_spelled}
-use Rattle.c_typed_programs.proofs.Common.{both, first as left, second as right}
-
-abbrev pub Structures : Type 0
-Structures = List (Option TypeExtent)
 
 pub spelled_sized : (es : Structures) (n : ℕ) (ws : List TypeWord) → is_spelled es n ws ≡ true → is_sized es ws ≡ true
 spelled_sized es n [] e = refl
 spelled_sized es zero (w ∷ ws) e = absurd cc
 spelled_sized es (suc n) (word.Array c b ∷ ws) e =
-    both (has_bytes c b (extent_of es ws)) (is_sized es ws) (left (has_bytes c b (extent_of es ws)) _ e)
+    and_from (has_bytes c b (extent_of es ws)) (is_sized es ws) (left (has_bytes c b (extent_of es ws)) _ e)
     (spelled_sized es (suc n) ws (right (has_bytes c b (extent_of es ws)) _ e))
 spelled_sized es (suc n) (word.Void ∷ ws) e = spelled_sized es n ws e
 spelled_sized es (suc n) (word.Integer t ∷ ws) e = spelled_sized es n ws e
@@ -139,7 +138,7 @@ spelled_append es (suc m) n t sum [] rest e g = absurd cc
 spelled_append es (suc m) n zero sum (w ∷ ws) rest e g = no_sum m n _ sum
 spelled_append es (suc m) n (suc t) sum (w ∷ ws) rest e g =
     let behind = right (fits es w ws) (is_spelled es (still w m) ws) e in
-    both (fits es w (ws ++ rest)) (is_spelled es (still w t) (ws ++ rest))
+    and_from (fits es w (ws ++ rest)) (is_spelled es (still w t) (ws ++ rest))
     (fits_append es w m ws rest behind ∙ left (fits es w ws) (is_spelled es (still w m) ws) e)
     (spelled_append es (still w m) n (still w t) (still_sum w m n t (omega (arith, sum))) ws rest behind g)
 
@@ -209,7 +208,7 @@ constant_spelled es n (word.Integer t ∷ ws) e = e
 constant_spelled es n (word.Enumeration k ∷ ws) e = e
 constant_spelled es n (word.Pointer ∷ ws) e = e
 constant_spelled es n (word.Array c b ∷ ws) e =
-    both (has_bytes c b (extent_of es (constant ws))) (is_spelled es (suc n) (constant ws))
+    and_from (has_bytes c b (extent_of es (constant ws))) (is_spelled es (suc n) (constant ws))
     (ap (has_bytes c b) (constant_extent es ws)
     ∙ left (has_bytes c b (extent_of es ws)) (is_spelled es (suc n) ws) e)
     (constant_spelled es n ws (right (has_bytes c b (extent_of es ws)) _ e))
@@ -230,13 +229,7 @@ callee_spelled es [] e type g = absurd cc
 callee_spelled es (word.Const ∷ ws) e type g = callee_spelled es ws (right (not (is_array ws)) _ e) type g
 callee_spelled es (word.Pointer ∷ []) e type g = absurd cc
 callee_spelled es (word.Pointer ∷ word.Takes ∷ ws) e type g = ap (is_spelled es 1) (sym (the_same g)) ∙ e
-  where
-    the_same : Some (word.Takes ∷ ws) ≡ Some type → word.Takes ∷ ws ≡ type
-    the_same g = cc
 callee_spelled es (word.Pointer ∷ word.Gives ∷ ws) e type g = ap (is_spelled es 1) (sym (the_same g)) ∙ e
-  where
-    the_same : Some (word.Gives ∷ ws) ≡ Some type → word.Gives ∷ ws ≡ type
-    the_same g = cc
 callee_spelled es (word.Pointer ∷ word.Void ∷ ws) e type g = absurd cc
 callee_spelled es (word.Pointer ∷ word.Integer t ∷ ws) e type g = absurd cc
 callee_spelled es (word.Pointer ∷ word.Enumeration t ∷ ws) e type g = absurd cc

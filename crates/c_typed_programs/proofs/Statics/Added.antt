@@ -12,6 +12,7 @@ use Rattle.c_unit_typing.specs.Files.{File, FileTyping}
 use Rattle.c_typed_validity.specs.More.{AreMore}
 use Rattle.c_typed_validity.specs.Steps.{Structures}
 use Rattle.c_typed_declarators.specs.Extending.{Extending, Extends}
+use Rattle.c_typed_programs.proofs.LaidOut.Chained.{closed_laid}
 use Rattle.c_typed_programs.proofs.Scopes.Leading.{closed_leads, file_on, file_same, leads_by, state_leads}
 use Rattle.c_typed_programs.proofs.Places.Labels.{all_append}
 use Rattle.c_typed_programs.specs.Layouts.Listed.{IfLaidOut, IsLaidOut}
@@ -20,7 +21,6 @@ use Rattle.c_typed_programs.specs.Bodies.Typed.{Typed}
 use Rattle.c_typed_programs.proofs.Bodies.Chained.{no_numbers, ready_behind}
 use Rattle.c_typed_programs.proofs.Bodies.Ends.{ends_before, ends_closed, numbers_on}
 use Rattle.c_typed_programs.proofs.Bodies.Entities.{entities_on, entities_same, linked_closed, linked_extended}
-use Rattle.c_typed_programs.proofs.Bodies.Laid.{laid_closed}
 use Rattle.c_typed_programs.proofs.Bodies.Standing.{stands_closed, stands_extended, stands_opened}
 use Rattle.c_typed_programs.specs.Statics.Added.{Adds, IfAdds, StandIn, are_valid_objects, is_valid_object}
 use Rattle.c_typed_programs.proofs.Common.{filed}
@@ -89,7 +89,7 @@ module _ (result : List TypeWord) where
         leads = leads;
         ready = ready_behind f (scope_closed g) leads ready
             (linked_closed f g h.leads ready.linked (record { each = h.entities.each }) h.ready.linked)
-            (laid_closed f g h.leads ready.laid h.ready.laid);
+            (closed_laid f g h.leads ready.laid h.ready.laid);
         numbers = h.numbers;
         numbered = record {
           counted = h.numbered.counted;

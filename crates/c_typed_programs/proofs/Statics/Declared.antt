@@ -2,6 +2,7 @@
 use Rattle.std.proofs.Common.{◌≡◌, ℕ, Bool, true, false, ◌||◌, refl, sym, ap, ◌∙◌, subst, List, [], ◌∷◌, ◌++◌}
 use Rattle.std.proofs.Common.{Option, Some, None, if◌then◌else◌}
 use Rattle.std.specs.Prelude.{Ok, Err, is_none, is_some, not, option_map}
+use Rattle.std.proofs.lemmas.Bool.{false≢true}
 use Rattle.std.proofs.lemmas.List.{append-nil}
 use Rattle.std.specs.List.{list_all}
 use Rattle.c_syntax.specs.declared.position.Position.{Position}
@@ -31,10 +32,12 @@ use Rattle.c_unit_typing.specs.Declarations.{with_others, with_parts, with_varia
 use Rattle.c_unit_typing.specs.Files.{File, FileTyping}
 use Rattle.c_unit_typing.specs.Lines.{initializer_line}
 use Rattle.c_typed_validity.specs.Sound.{is_sized_array}
+use Rattle.c_typed_validity.proofs.Common.{first, second}
 use Rattle.c_typed_declarators.specs.Given.{AreCounted, IsShapeOf, IsSpecified}
 use Rattle.c_typed_declarators.proofs.Recursion.{shape_extends}
 use Rattle.c_typed_programs.specs.Declarations.Binding.{Binds, Declares, IfDeclared, IsCompleteFor, bound_meaning}
-use Rattle.c_typed_programs.specs.Declarations.Binding.{linked_meaning, unlinked_meaning}
+use Rattle.c_typed_programs.specs.Declarations.Binding.{unlinked_meaning}
+use Rattle.c_typed_programs.proofs.Declarations.Bound.{Bound}
 use Rattle.c_typed_programs.proofs.Declarations.Judged.{declared_as_declares}
 use Rattle.c_typed_programs.specs.Scopes.Regular.{are_regular_declarators, initializer_of, is_regular_declaration}
 use Rattle.c_typed_programs.specs.Scopes.Regular.{is_regular_initializer_if, is_regular_object}
@@ -53,7 +56,7 @@ use Rattle.c_typed_programs.proofs.Bodies.Objects.{AreDeclared}
 use Rattle.c_typed_programs.specs.Statics.Added.{IfAdds}
 use Rattle.c_typed_programs.proofs.Statics.Added.{adds_same, adds_typed, from_file, state_then}
 use Rattle.c_typed_programs.proofs.Statics.Objects.{static_adds}
-use Rattle.c_typed_programs.proofs.Common.{filed, first, second, some_mapped}
+use Rattle.c_typed_programs.proofs.Common.{filed, some_mapped}
 
 -- what is no object without linkage leaves the static objects of a file as they are
 
@@ -73,9 +76,6 @@ parts_kept g n false (Ok r) = refl
 parts_kept g n b (Err e) = tt
 
 -- a name without linkage that stands for a static object is of a complete type
-
-abbrev Bound : Bool → Environment → Declaration → Meaning
-Bound b env d = if b then linked_meaning env d else unlinked_meaning d.storage env d
 
 record IsStaticName (env : Environment) (d : Declaration) (named : List TypeWord) : Type 0 where
   linkage : has_linkage (in_file env) d ≡ false
@@ -102,10 +102,7 @@ static_name : (env : Environment) → AreLinked env → (d : Declaration) (n : �
     → has_linkage (in_file env) d ≡ b → Bound b env d ≡ meaning.Named (what.Static n) type
     → IsStaticName env d type
 static_name env linked d n type true e g =
-    absurd (conflict (not_linked _ n (declared_linked env d linked) (designated _ (what.Static n) _ type g)))
-  where
-    conflict : false ≡ true → ⊥
-    conflict e = cc
+    absurd (false≢true (not_linked _ n (declared_linked env d linked) (designated _ (what.Static n) _ type g)))
 static_name env linked d n type false e g = by_storage env d n type e d.storage refl g
 
 module _ (result : List TypeWord) where

@@ -39,6 +39,7 @@ use Rattle.c_typed_validity.specs.More.{AreMore}
 use Rattle.c_typed_validity.specs.Sound.{is_sized_array}
 use Rattle.c_typed_validity.specs.Steps.{Structures}
 use Rattle.c_typed_validity.specs.Typed.{HaveMembers}
+use Rattle.c_typed_validity.proofs.Common.{first, second}
 use Rattle.c_typed_declarators.specs.Extending.{Extending, Extends}
 use Rattle.c_typed_declarators.specs.Given.{AreCounted, IsShapeOf, IsSpecified, anything}
 use Rattle.c_typed_declarators.proofs.Recursion.{shape_extends}
@@ -67,13 +68,13 @@ use Rattle.c_typed_programs.specs.Initializers.Initialized.{IfInitialized}
 use Rattle.c_typed_programs.proofs.Initializers.Initialized.{initialized_if_is}
 use Rattle.c_typed_programs.specs.Functions.Entities.{Continue}
 use Rattle.c_typed_programs.proofs.Functions.Continuing.{continues_on, declarator_continues, keeps_continues}
-use Rattle.c_typed_programs.proofs.Functions.Entities.{conflict, size_keeps}
+use Rattle.c_typed_programs.proofs.Functions.Continuing.{continues_same}
+use Rattle.c_typed_programs.proofs.Functions.Entities.{size_keeps}
 use Rattle.c_typed_programs.specs.Names.Linked.{AreFilled, IsFilled}
 use Rattle.c_typed_programs.proofs.Names.Filled.{declarator_filled, extended_filled, size_filled, sized_entity}
 use Rattle.c_typed_programs.proofs.Names.Filled.{still_filled}
-use Rattle.c_typed_programs.proofs.Names.Filled.{unchanged}
 use Rattle.c_typed_programs.specs.Statics.Initialized.{AreInitializers}
-use Rattle.c_typed_programs.proofs.Common.{filed, first, second, some_mapped, unless_large, some_scope}
+use Rattle.c_typed_programs.proofs.Common.{filed, some_mapped, unless_large, some_scope, conflict}
 
 -- an object with linkage, and what it is behind its initializer
 
@@ -97,7 +98,7 @@ module _ (s : State) (is : IsOutside s) (filled : AreFilled s.environment) (n : 
   stores_same = record {
     outside = is;
     filled = filled;
-    continues = unchanged s.environment.entities;
+    continues = continues_same s.environment.entities;
     entity = at;
   }
 
@@ -174,7 +175,7 @@ values_store : (s : State) → IsOutside s → AreFilled s.environment → (n : 
     (completed (what.Object n) name type (count_of r.1.parts) >>> λ type. done (type, parts_in r.1.parts)) r.0)
 values_store s is filled n name type at (Ok r) h =
     done_stores s r.0 n name.0
-    (subst (Continue s.environment.entities) (sym h.0.entities) (unchanged s.environment.entities))
+    (subst (Continue s.environment.entities) (sym h.0.entities) (continues_same s.environment.entities))
     (parts_in r.1.parts) (completed (what.Object n) name type (count_of r.1.parts) r.0)
     (completed_stores r.0 (extended_outside s r.0 h.0 is) (extended_filled s r.0 h.0 filled) n name type
     (subst (λ z. IsFilled (what.Object n) type (declared name.0 z)) (sym h.0.entities) at) (count_of r.1.parts))
@@ -226,7 +227,7 @@ extended_step f is u h laid =
       filled = extended_filled f.state u h is.filled;
       grows = grows_by f g (state_leads f u (leads_by f.state u h));
       continues = subst (Continue f.state.environment.entities) (sym h.entities)
-          (unchanged f.state.environment.entities);
+          (continues_same f.state.environment.entities);
       same = refl;
     }
 

@@ -8,12 +8,12 @@ use Rattle.c_tree.specs.ValidProgram.{is_static_object}
 use Rattle.c_unit_typing.specs.Files.{Definition, File}
 use Rattle.c_unit_typing.specs.Programs.{in_order, linked_objects, literal_object, program_of, with_number}
 use Rattle.c_typed_validity.specs.Steps.{Structures}
+use Rattle.c_typed_validity.proofs.Common.{first as left_true, second as right_true}
 use Rattle.c_typed_programs.proofs.Places.Labels.{all_append}
 use Rattle.c_typed_programs.specs.Bodies.Whole.{AreInTurn}
 use Rattle.c_typed_programs.specs.Statics.Program.{AreFunctionsOf, HasObjectsOf, are_static_objects}
 use Rattle.c_typed_programs.proofs.Statics.Linked.{linked_valid}
 use Rattle.c_typed_programs.proofs.Statics.Program.{block_objects, string_literals}
-use Rattle.c_typed_programs.proofs.Common.{first as left_true, second as right_true}
 
 -- those of blocks
 

@@ -3,7 +3,7 @@
 use Rattle.std.proofs.Common.{◌≡◌, ℕ, suc, Bool, true, false, ◌||◌, refl, sym, ap, ◌∙◌, subst, List, [], ◌∷◌}
 use Rattle.std.proofs.Common.{Option, Some, None}
 use Rattle.std.specs.Prelude.{Ok, Err, ◌==◌, not, option_map, slice_get}
-use Rattle.std.proofs.lemmas.Bool.{eqb-true}
+use Rattle.std.proofs.lemmas.Bool.{and_from, eqb-true}
 use Rattle.c_syntax.specs.Statements as t
 use Rattle.c_tree.specs.declared.c_type.TypeWord.{TypeWord}
 use Rattle.c_tree.specs.declared.c_type.TypeWord.TheVariants as word
@@ -35,6 +35,7 @@ use Rattle.c_unit_typing.specs.Units.{external, externals, file_before, file_wit
 use Rattle.c_typed_validity.specs.Names.{IsDesignated, IsMeant, kind_among}
 use Rattle.c_typed_validity.specs.Sound.{Covers, Knows}
 use Rattle.c_typed_validity.specs.Steps.{Structures}
+use Rattle.c_typed_validity.proofs.Common.{first, second}
 use Rattle.c_typed_validity.proofs.Kept.{extent_kept}
 use Rattle.c_typed_validity.proofs.Sound.{get_extended}
 use Rattle.c_typed_programs.specs.Scopes.Defined.{define_functions, defines}
@@ -53,11 +54,11 @@ use Rattle.c_typed_programs.specs.Bodies.Defined.{IfDefined}
 use Rattle.c_typed_programs.proofs.Bodies.Definitions.{definition_defined}
 use Rattle.c_typed_programs.proofs.Bodies.Whole.{file_outside}
 use Rattle.c_typed_programs.specs.Functions.Entities.{IfContinues}
-use Rattle.c_typed_programs.proofs.Functions.Continuing.{external_continues}
+use Rattle.c_typed_programs.proofs.Functions.Continuing.{continues_same, external_continues}
 use Rattle.c_typed_programs.specs.Names.Linked.{HaveSizes, IsOf}
 use Rattle.c_typed_programs.proofs.Names.Definitions.{external_filled}
 use Rattle.c_typed_programs.proofs.Names.Start.{start_filled}
-use Rattle.c_typed_programs.proofs.Names.Filled.{IfFileFilled, still_filled, unchanged}
+use Rattle.c_typed_programs.proofs.Names.Filled.{IfFileFilled, still_filled}
 use Rattle.c_typed_programs.proofs.Names.Has.{program_has}
 use Rattle.c_typed_programs.proofs.Names.Held.{Holds, holds_filled, holds_final}
 use Rattle.c_typed_programs.proofs.Names.Known.{entity_meant}
@@ -66,7 +67,6 @@ use Rattle.c_typed_programs.specs.Statics.Linked.{are_initialized, are_parts_at,
 use Rattle.c_typed_programs.proofs.Statics.Ending.{IfOn, IsOn, declaration_on, on_step}
 use Rattle.c_typed_programs.proofs.Statics.Storing.{IfFileOwn, IfLeaves, definition_leaves, externals_own, own_found}
 use Rattle.c_typed_programs.proofs.Statics.Storing.{own_start}
-use Rattle.c_typed_programs.proofs.Common.{both, first, second}
 
 -- where a file begins
 
@@ -175,7 +175,7 @@ initialized_by : (p : Program) (f : File) (es : Names Entity)
     → are_initialized p f es ≡ true
 initialized_by p f [] h = refl
 initialized_by p f (e ∷ es) h =
-    both (is_initialized p f e.1.c_type e.1.what) (are_initialized p f es) (h 0 e refl)
+    and_from (is_initialized p f e.1.c_type e.1.what) (are_initialized p f es) (h 0 e refl)
     (initialized_by p f es (λ k x g. h (suc k) x g))
 
 module _ (objects : Option (List (List Bool))) (end : ℕ) (es : List t.External) (f : File)
@@ -264,7 +264,7 @@ module _ (objects : Option (List (List Bool))) (end : ℕ) (es : List t.External
       → are_parts_at scope (size_of_kind (final_kind x)) n is ≡ true
   parts_at name x n e w [] h = refl
   parts_at name x n e w (i ∷ is) h =
-      both (not (n == i.0) || are_parts scope (size_of_kind (final_kind x)) i.1)
+      and_from (not (n == i.0) || are_parts scope (size_of_kind (final_kind x)) i.1)
       (are_parts_at scope (size_of_kind (final_kind x)) n is) (by (n == i.0) refl) (parts_at name x n e w is h.1)
     where
       by : (b : Bool) → (n == i.0) ≡ b → (not b || are_parts scope (size_of_kind (final_kind x)) i.1) ≡ true
@@ -275,7 +275,7 @@ module _ (objects : Option (List (List Bool))) (end : ℕ) (es : List t.External
       → AreInitializers f f.initializers → (w : Designated) → x.what ≡ w
       → is_initialized (program_of f) f x.c_type w ≡ true
   object_initialized name x e is (what.Object n) w =
-      both (has_size (final_kind x)) (are_parts_at scope (size_of_kind (final_kind x)) n f.initializers)
+      and_from (has_size (final_kind x)) (are_parts_at scope (size_of_kind (final_kind x)) n f.initializers)
       (whole.linked name x n e w) (parts_at name x n e w f.initializers is)
   object_initialized name x e is (what.Static n) w = refl
   object_initialized name x e is (what.Variable n) w = refl
@@ -286,6 +286,6 @@ module _ (objects : Option (List (List Bool))) (end : ℕ) (es : List t.External
   linked_initialized =
       let ended = file_end objects end es f regular define accepted in
       let entities = f.state.environment.entities in
-      let is = ended.on.each f (grows_same f ended.on.outside.formed) (unchanged entities) in
+      let is = ended.on.each f (grows_same f ended.on.outside.formed) (continues_same entities) in
       initialized_by (program_of f) f entities
       (λ k e g. object_initialized e.0 e.1 (own_found entities ended.own k e g) is e.1.what refl)

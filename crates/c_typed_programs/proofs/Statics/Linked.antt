@@ -1,5 +1,6 @@
 -- The initializers of objects with linkage are valid and lie in them (C99 6.7.8, 6.9.2).
 use Rattle.std.proofs.Common.{◌≡◌, inr, ℕ, Bool, true, false, ◌||◌, refl, List, [], ◌∷◌, None, Some, if◌then◌else◌}
+use Rattle.std.proofs.lemmas.Bool.{and_from}
 use Rattle.std.specs.Prelude.{Ok, Err, ◌==◌, not}
 use Rattle.c_syntax.specs.Tree.{Initializer}
 use Rattle.c_tree.specs.declared.c_type.TypeWord.{TypeWord}
@@ -21,6 +22,7 @@ use Rattle.c_unit_typing.specs.Programs.{final_type, linked_object, linked_objec
 use Rattle.c_valid_scopes.specs.Scopes.{AreAmong}
 use Rattle.c_typed_validity.specs.Sound.{IsFormed}
 use Rattle.c_typed_validity.specs.Steps.{Structures}
+use Rattle.c_typed_validity.proofs.Common.{first as left_true, second as right_true}
 use Rattle.c_typed_programs.specs.Declarations.Binding.{IsCompleteFor}
 use Rattle.c_typed_programs.specs.Scopes.Regular.{is_regular_initializer}
 use Rattle.c_typed_programs.proofs.Places.Labels.{all_append}
@@ -30,7 +32,7 @@ use Rattle.c_typed_programs.proofs.Initializers.Initialized.{initialized_if_is}
 use Rattle.c_typed_programs.specs.Statics.Linked.{IfAddsParts, are_initialized, are_parts_at, is_initialized}
 use Rattle.c_typed_programs.specs.Statics.Program.{are_static_objects}
 use Rattle.c_typed_programs.proofs.Statics.Program.{object_in}
-use Rattle.c_typed_programs.proofs.Common.{both, filed, first as left_true, second as right_true, some_scope}
+use Rattle.c_typed_programs.proofs.Common.{filed, some_scope}
 
 -- in the program
 
@@ -54,12 +56,12 @@ linked_one p f type (what.Object n) e =
     let none = scope_in p [] [] kind.Void in
     let k = kind_in f.state (final_type (extents f.state) type) in
     let among : AreAmong [] [] = record { each = λ x. inr refl } in
-    both _ true
+    and_from _ true
     (object_in p none (record { statics = refl; functions = refl; types = refl }) (
       n,
       record { kind = k; is_literal = false; function = None; parts = parts_of n f.initializers },
     ) among refl
-    (both (has_size k) (are_parts none (size_of_kind k) (parts_of n f.initializers))
+    (and_from (has_size k) (are_parts none (size_of_kind k) (parts_of n f.initializers))
     (left_true (has_size k) (are_parts_at none (size_of_kind k) n f.initializers) e)
     (parts_at none (size_of_kind k) n f.initializers
     (right_true (has_size k) (are_parts_at none (size_of_kind k) n f.initializers) e))))

@@ -1,5 +1,6 @@
 -- Static objects without linkage have a size, and their initializers are valid and lie in them (C99 6.7.8).
 use Rattle.std.proofs.Common.{◌≡◌, ℕ, true, ◌&&◌, refl, ap, List, [], ◌∷◌, ◌++◌, Option}
+use Rattle.std.proofs.lemmas.Bool.{and_from}
 use Rattle.std.specs.Prelude.{Ok, Err, is_some}
 use Rattle.c_syntax.specs.Tree.{Initializer}
 use Rattle.c_tree.specs.declared.c_type.TypeWord.{TypeWord}
@@ -31,14 +32,14 @@ use Rattle.c_typed_programs.proofs.Bodies.Objects.{AreDeclared}
 use Rattle.c_typed_programs.proofs.Bodies.Standing.{stands_bound}
 use Rattle.c_typed_programs.specs.Statics.Added.{IfAdds, is_valid_object}
 use Rattle.c_typed_programs.proofs.Statics.Added.{adds_typed}
-use Rattle.c_typed_programs.proofs.Common.{both, filed}
+use Rattle.c_typed_programs.proofs.Common.{filed}
 
 -- an object behind its initializer, if it has one
 pub object_valid : (scope : Scope) (s t : State) (type : List TypeWord) (parts : List Part)
     → has_size (kind_in t type) ≡ true → are_parts scope (size_of_kind (kind_in t type)) parts ≡ true → (n : ℕ)
     → is_valid_object scope (n, static_in t type parts) ≡ true
 object_valid scope s t type parts sized within n =
-    both (has_size (kind_in t type)) (are_parts scope (size_of_kind (kind_in t type)) parts) sized within
+    and_from (has_size (kind_in t type)) (are_parts scope (size_of_kind (kind_in t type)) parts) sized within
 
 module _ (result : List TypeWord) (f : File) (ready : IsReady f.state) (u : State) (formed : IsFormed u)
     (name : Name × ℕ) (type : List TypeWord) (x : Option Initializer) (c : is_regular_initializer_if x ≡ true)

@@ -3,7 +3,7 @@ use Rattle.std.proofs.Common.{◌≡◌, inl, ℕ, ◌+◌, Bool, true, false, �
 use Rattle.std.proofs.Common.{◌∷◌, Option}
 use Rattle.std.proofs.Common.{length, Some, if◌then◌else◌, arith}
 use Rattle.std.specs.Prelude.{map, slice_get, suc}
-use Rattle.std.proofs.lemmas.Bool.{le-leb}
+use Rattle.std.proofs.lemmas.Bool.{and_from, le-leb}
 use Rattle.c_tree.specs.declared.c_type.TypeWord.{TypeWord}
 use Rattle.c_tree.specs.declared.expression.Kind.TheVariants as kind
 use Rattle.c_tree.specs.Kinds.{has_size, is_size, size_of_kind}
@@ -21,6 +21,7 @@ use Rattle.c_valid_scopes.specs.Scopes.{AreAmong, AreOfOneProgram}
 use Rattle.c_valid_scopes.proofs.Agreeing.{static_parts}
 use Rattle.c_typed_validity.specs.Sound.{Covers}
 use Rattle.c_typed_validity.specs.Steps.{Structures}
+use Rattle.c_typed_validity.proofs.Common.{first as left_true, second as right_true}
 use Rattle.c_typed_programs.specs.Bodies.Defined.{Defines}
 use Rattle.c_typed_programs.specs.Bodies.Standing.{Ends}
 use Rattle.c_typed_programs.proofs.Bodies.Bodies.{function_ends, names_stand}
@@ -30,7 +31,7 @@ use Rattle.c_typed_programs.specs.Statics.Added.{Adds, IfAdds, StandIn, are_vali
 use Rattle.c_typed_programs.specs.Statics.Program.{AddsObjectsOf, IsFunctionOf, are_static_objects, stand_in_functions}
 use Rattle.c_typed_programs.proofs.Statics.Open.{every, opened_scope, opened_scope_wide}
 use Rattle.c_typed_programs.proofs.Statics.Walked.{items_add}
-use Rattle.c_typed_programs.proofs.Common.{both, first as left_true, second as right_true, three}
+use Rattle.c_typed_programs.proofs.Common.{three}
 
 -- an object that is valid in a scope of the program where the variables of its function can be named
 
@@ -50,7 +51,7 @@ objects_in : (p : Program) (a : Scope) → AreOfOneProgram a (scope_in p [] [] k
     → are_static_objects p os ≡ true
 objects_in p a are function among number [] standing valid = refl
 objects_in p a are function among number (o ∷ os) standing valid =
-    both (is_static_object p o.1) (are_static_objects p os)
+    and_from (is_static_object p o.1) (are_static_objects p os)
     (object_in p a are o
     (subst (λ f. AreAmong a.variables (variables_of_function p.functions f)) (sym standing.0) among)
     (ap (is_function_number p) standing.0 ∙ number)
@@ -127,7 +128,7 @@ pub literals_valid : (p : Program) (ls : List Literal)
     → stand_in_functions p ls ≡ true → are_static_objects p (map literal_object ls) ≡ true
 literals_valid p [] sized standing = refl
 literals_valid p (l ∷ ls) sized standing =
-    both (is_static_object p (literal_object l).1) (are_static_objects p (map literal_object ls))
+    and_from (is_static_object p (literal_object l).1) (are_static_objects p (map literal_object ls))
     (literal_valid p l (sized 0 l refl)
     (left_true (is_function_number p l.function) (stand_in_functions p ls) standing))
     (literals_valid p ls (λ n m e. sized (suc n) m e)

@@ -2,8 +2,7 @@
 -- linkage stay different.
 use Rattle.std.proofs.Common.{◌≡◌, ◌⊎◌, inl, inr, ℕ, zero, suc, Bool, true, false, refl, sym, ap, ◌∙◌}
 use Rattle.std.proofs.Common.{subst, List, [], ◌∷◌, ◌++◌, Option, Some, None, if◌then◌else◌}
-use Rattle.std.specs.Prelude.{Ok, Err, codes, is_some, nat_eq, not, option_map, slice_get}
-use Rattle.std.proofs.lemmas.Bool.{eq-eqb}
+use Rattle.std.specs.Prelude.{Ok, Err, codes, is_some, not, option_map, slice_get}
 use Rattle.c_syntax.specs.Statements as t
 use Rattle.c_syntax.specs.Tree.{Declarator, Initializer, Specifiers}
 use Rattle.c_tree.specs.declared.c_type.TypeWord.{TypeWord}
@@ -47,10 +46,13 @@ use Rattle.c_unit_typing.specs.Statements.{block_items}
 use Rattle.c_unit_typing.specs.Units.{around_body, entered, external, externals, left}
 use Rattle.c_unit_typing.specs.Units.{parameters_in}
 use Rattle.c_typed_validity.specs.Sound.{IsFormed, is_sized_array}
+use Rattle.c_typed_validity.proofs.Common.{first, no_value, second, the_same}
 use Rattle.c_typed_declarators.specs.Extending.{Extending, Extends}
 use Rattle.c_typed_declarators.specs.Given.{AreCounted, anything}
 use Rattle.c_typed_declarators.proofs.Marks.{type_extends}
+use Rattle.c_typed_declarators.proofs.Parameters.{not_empty}
 use Rattle.c_typed_programs.specs.Declarations.Binding.{IfDeclared, bound_meaning, linked_meaning, unlinked_meaning}
+use Rattle.c_typed_programs.proofs.Declarations.Bound.{same_name}
 use Rattle.c_typed_programs.proofs.Declarations.Judged.{declared_as_declares}
 use Rattle.c_typed_programs.specs.Scopes.Leaving.{FileLeads, Growing, Leading}
 use Rattle.c_typed_programs.specs.Scopes.Regular.{are_regular_externals}
@@ -63,18 +65,14 @@ use Rattle.c_typed_programs.proofs.Scopes.Leading.{bound_leads, closed_leads, fi
 use Rattle.c_typed_programs.proofs.Scopes.Statements.{IfFileBehind, Walk, items_walk}
 use Rattle.c_typed_programs.proofs.Types.Parameters.{IsJudged, judged_known}
 use Rattle.c_typed_programs.proofs.Bodies.Declared.{IfMade, none_by, placed_made}
-use Rattle.c_typed_programs.proofs.Functions.Entities.{bound_either, conflict, name_is, none_some, some_is}
+use Rattle.c_typed_programs.proofs.Functions.Entities.{bound_either, name_is}
 use Rattle.c_typed_programs.proofs.Functions.Entities.{unlinked_entities}
 use Rattle.c_typed_programs.specs.Statics.Initialized.{AreOwn}
 use Rattle.c_typed_programs.proofs.Scopes.Definitions.{DefinitionWalk, definition_walks}
 use Rattle.c_typed_programs.proofs.Scopes.Declaring.{DeclarationWalk, declaration_walks}
-use Rattle.c_typed_programs.proofs.Common.{both, filed, first, second, some_mapped, unless_large}
+use Rattle.c_typed_programs.proofs.Common.{conflict, filed, some_mapped, unless_large}
 
 -- names that stand once
-
-self_name : (m : Name) → is_name m m ≡ true
-self_name [] = refl
-self_name (c ∷ m) = both (nat_eq c c) (is_name m m) (eq-eqb c c refl) (self_name m)
 
 own_bound : (name : Name) (x : Entity) (es : Names Entity) → AreOwn es → AreOwn (bound name x es)
 own_bound name x [] h = (refl, tt)
@@ -85,7 +83,7 @@ own_bound name x (e ∷ es) h = by (is_name name e.0) refl (own_bound name x es 
         ⊎ ((e.0 ≡ name) × (declared e.0 (bound name x es) ≡ Some x))
         → declared e.0 (bound name x es) ≡ None
     still g (inl k) = k ∙ h.0
-    still g (inr k) = conflict (sym g ∙ ap (is_name name) k.0 ∙ self_name name)
+    still g (inr k) = conflict (sym g ∙ ap (is_name name) k.0 ∙ same_name name)
 
     by : (b : Bool) → is_name name e.0 ≡ b → AreOwn (bound name x es)
         → AreOwn (if b then (e.0, x) ∷ es else e ∷ bound name x es)
@@ -95,15 +93,15 @@ own_bound name x (e ∷ es) h = by (is_name name e.0) refl (own_bound name x es 
 -- what stands at a place is what its name stands for
 pub own_found : (es : Names Entity) → AreOwn es → (k : ℕ) (e : Name × Entity) → slice_get es k ≡ Some e
     → declared e.0 es ≡ Some e.1
-own_found [] h k e g = none_some e g
+own_found [] h k e g = no_value e _ g
 own_found (x ∷ es) h zero e g =
-    subst (λ z. declared z.0 (x ∷ es) ≡ Some z.1) (some_is g)
-    (ap (λ b. if b then Some x.1 else declared x.0 es) (self_name x.0))
+    subst (λ z. declared z.0 (x ∷ es) ≡ Some z.1) (the_same g)
+    (ap (λ b. if b then Some x.1 else declared x.0 es) (same_name x.0))
 own_found (x ∷ es) h (suc k) e g = by (is_name e.0 x.0) refl (own_found es h.1 k e g)
   where
     by : (b : Bool) → is_name e.0 x.0 ≡ b → declared e.0 es ≡ Some e.1
         → (if b then Some x.1 else declared e.0 es) ≡ Some e.1
-    by true i j = none_some e.1 (sym h.0 ∙ ap (λ z. declared z es) (sym (name_is e.0 x.0 i)) ∙ j)
+    by true i j = no_value e.1 _ (sym h.0 ∙ ap (λ z. declared z es) (sym (name_is e.0 x.0 i)) ∙ j)
     by false i j = j
 
 own_declarator : (env : Environment) (d : Declaration) → AreOwn env.entities → AreOwn (declared_env env d).entities
@@ -299,7 +297,7 @@ named_from f d line x c has (Ok r) h made =
     (λ n type e inner.
     sym has
     ∙ bare_by f.state.environment d (judged_known (surroundings f.state.environment d) d tt made.judged) n type
-    (some_is (sym h.1 ∙ e)) (sym outer ∙ inner)))
+    (the_same (sym h.1 ∙ e)) (sym outer ∙ inner)))
 named_from f d line x c has (Err e) h made = tt
 
 named_stays : (in_head : Bool) (spec : Specification) → is_sized_array spec.type ≡ true → (x : Option Initializer)
@@ -335,10 +333,6 @@ kept_by : {A : Type 0} (f : File) (a : Answer (File × A)) → Leading f a → I
 kept_by f (Ok r) l h = record { leads = l; stays = h }
 kept_by f (Err e) l h = tt
 
-last_there : {A : Type 0} (xs : List A) (x : A) → is_empty (xs ++ x ∷ []) ≡ false
-last_there [] x = refl
-last_there (y ∷ xs) x = refl
-
 kept_walk : Walk (Extends false) Kept
 kept_walk = record {
   values = values_walk;
@@ -354,7 +348,7 @@ kept_walk = record {
     stays = record {
       own = h.stays.own;
       inner = λ e.
-          h.stays.inner (last_there f.state.environment.names.outer f.state.environment.names.current);
+          h.stays.inner (not_empty f.state.environment.names.outer f.state.environment.names.current);
     };
   };
   declared = λ in_head d c f formed.
@@ -388,7 +382,7 @@ leaves_walk = record {
       (let begun = entered n type p f in
       let entering = type_extends false type (inside n p f) (inside_formed f formed n p is) in
       block_leaves f begun (record { own = λ own. subst AreOwn (sym entering.entities) own; same = refl })
-      (ap is_empty entering.outer ∙ last_there f.state.environment.names.outer f.state.environment.names.current)
+      (ap is_empty entering.outer ∙ not_empty f.state.environment.names.outer f.state.environment.names.current)
       line type (parameters_in begun.state p.names) (block_items (around_body type) xs begun)
       (items_walk (Extends false) Kept kept_walk (around_body type) xs c begun
       (entered_leads f formed n p is type line).formed));

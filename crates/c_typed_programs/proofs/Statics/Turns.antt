@@ -13,12 +13,12 @@ use Rattle.c_typing.specs.State.{extents}
 use Rattle.c_unit_typing.specs.Files.{Definition, File}
 use Rattle.c_unit_typing.specs.Programs.{function_of, functions_from, program_of, room_of, static_objects}
 use Rattle.c_unit_typing.specs.Units.{file_with}
+use Rattle.c_typed_validity.proofs.Common.{no_value, the_same}
 use Rattle.c_typed_programs.specs.Scopes.Defined.{define_functions}
 use Rattle.c_typed_programs.specs.Scopes.Regular.{are_regular_externals}
 use Rattle.c_typed_programs.proofs.Files.Statics.{get_low}
 use Rattle.c_typed_programs.specs.Bodies.Defined.{IsScopeOf}
 use Rattle.c_typed_programs.specs.Bodies.Whole.{AreInTurn}
-use Rattle.c_typed_programs.proofs.Functions.Entities.{none_some, some_is}
 use Rattle.c_typed_programs.specs.Names.Known.{IsKnown}
 use Rattle.c_typed_programs.specs.Names.Linked.{HaveSizes}
 use Rattle.c_typed_programs.proofs.Names.Files.{BeginsAt, StandAt, file_known}
@@ -35,18 +35,18 @@ record HasFunctionAt (f : File) (gs : List Function) (k : ℕ) (d : Definition) 
 
 function_at : (f : File) (os : List StaticObject) (n : ℕ) (ds : List Definition) (k : ℕ) (d : Definition)
     → slice_get ds k ≡ Some d → HasFunctionAt f (functions_from f os n ds) k d
-function_at f os n [] k d e = none_some d e
+function_at f os n [] k d e = no_value d _ e
 function_at f os n (x ∷ ds) zero d e = record {
   size = room_of f os n x;
-  is = ap (λ z. Some (function_of f.state.function_types (room_of f os n x) z)) (some_is e);
+  is = ap (λ z. Some (function_of f.state.function_types (room_of f os n x) z)) (the_same e);
 }
 function_at f os n (x ∷ ds) (suc k) d e =
     let h = function_at f os (suc n) ds k d e in record { size = h.size; is = h.is }
 
 variables_at : (gs : List Function) (k : ℕ) (g : Function) → slice_get gs k ≡ Some g
     → variables_of_function gs (Some k) ≡ all_of g
-variables_at [] k g e = none_some g e
-variables_at (x ∷ gs) zero g e = ap all_of (some_is e)
+variables_at [] k g e = no_value g _ e
+variables_at (x ∷ gs) zero g e = ap all_of (the_same e)
 variables_at (x ∷ gs) (suc k) g e = variables_at gs k g e
 
 -- the program of a file that is accepted

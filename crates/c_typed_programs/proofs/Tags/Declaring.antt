@@ -11,19 +11,19 @@ use Rattle.c_scope.specs.declared.tags.TagKind.{TagKind}
 use Rattle.c_scope.specs.declared.tags.TagKind.TheVariants as kind
 use Rattle.c_scope.specs.Environment.{in_file}
 use Rattle.c_scope.specs.Names.{Name, Names, bound, declared, is_empty}
-use Rattle.c_scope.specs.Structures.{Body, Structures, begun, changed, declared_structure, is_known}
+use Rattle.c_scope.specs.Structures.{Body, begun, changed, declared_structure, is_known}
 use Rattle.c_scope.specs.Tags.{added, begins_in, has_begun, if_file, is_enumeration, is_of, marked, next_tag}
 use Rattle.c_typing.specs.Members.{Entries, Entry, extent_with, members_at, offsets_in, tag_completed, with_structure}
 use Rattle.c_typing.specs.State.{State, extents}
 use Rattle.c_expression_typing.specs.Constructs.{begun_as}
+use Rattle.c_typed_validity.proofs.Common.{no_value, the_same}
 use Rattle.c_typed_declarators.proofs.Lists.{added_length, changed_length, read_added, there_changed}
-use Rattle.c_typed_programs.proofs.Common.{no_value, the_same}
+use Rattle.c_typed_declarators.proofs.Tags.{in_environment, restructured, unless_mistaken}
 use Rattle.c_typed_programs.proofs.Declarations.Bound.{bound_here}
 use Rattle.c_typed_programs.proofs.Functions.Entities.{bound_either}
 use Rattle.c_typed_programs.proofs.Tags.Keeping.{HaveFileTags, KeepsTags, changes_keep, file_tags, in_file_scope}
 use Rattle.c_typed_programs.proofs.Tags.Keeping.{keeps_same, number_of, numbered_tag, outermost, stands_keep}
 use Rattle.c_typed_programs.proofs.Tags.Keeping.{tags_changed}
-use Rattle.c_typed_programs.proofs.Walks.Specifiers.{in_environment, unless_mistaken}
 use Rattle.c_typed_programs.proofs.Walks.States.{IsFresh}
 
 -- lists
@@ -47,16 +47,6 @@ either_added (z ∷ xs) x (suc n) y e = by (either_added xs x n y e)
         → (slice_get (z ∷ xs) (suc n) ≡ Some y) ⊎ ((suc n ≡ length (z ∷ xs)) × (x ≡ y))
     by (inl g) = inl g
     by (inr g) = inr (ap suc g.0, g.1)
-
--- a state with other structures and unions, tags of the innermost scope, and enumerations
-abbrev retagged : State → Structures → Names Tag → List Bool → State
-retagged s st current enumerations = record s {
-  environment = record s.environment {
-    structures = st;
-    tags = record { outer = s.environment.tags.outer; current = current };
-    enumerations = enumerations;
-  };
-}
 
 -- tags of the innermost scope, where at most one that was not declared before stands for something new
 record Grows (s : State) (current : Names Tag) (t : Tag) : Type 0 where
@@ -133,7 +123,7 @@ module _ (s : State) (file_tag : Option Name) (current : Names Tag) (t : Tag)
       ∙ ap (λ z. Some z) (h.same ∙ sym (tags_length s.environment.structures.bodies) ∙ sym e.0)
 
   structure_keeps : KeepsTags s
-      (retagged s (declared_structure file_tag s.environment.structures) current s.environment.enumerations)
+      (restructured s (declared_structure file_tag s.environment.structures) current s.environment.enumerations)
   structure_keeps =
       let bodies = s.environment.structures.bodies in
       let b : Body = record { file_tag = file_tag; is_begun = false; members = [] } in
@@ -159,7 +149,7 @@ module _ (s : State) (file_tag : Option Name) (current : Names Tag) (t : Tag)
 -- one more enumeration
 enumeration_keeps : (s : State) (current : Names Tag) (enumerations : List Bool) (t : Tag)
     → number_of (Some t) ≡ None → Grows s current t
-    → KeepsTags s (retagged s s.environment.structures current enumerations)
+    → KeepsTags s (restructured s s.environment.structures current enumerations)
 enumeration_keeps s current enumerations t none g = record {
   tags = (keeps_same s).tags;
   known = λ n k. k;
@@ -199,7 +189,7 @@ own_tag s x t name true is e h =
 own_tag s x t name false is e h = absurd cc
 
 nameless_keeps : (s : State) (t : Tag) → number_of (Some t) ≡ Some (length (extents s))
-    → KeepsTags s (retagged s (declared_structure (if_file (in_file s.environment) None) s.environment.structures)
+    → KeepsTags s (restructured s (declared_structure (if_file (in_file s.environment) None) s.environment.structures)
     s.environment.tags.current s.environment.enumerations)
 nameless_keeps s t next =
     structure_keeps s (if_file (in_file s.environment) None) s.environment.tags.current t next (grows_not s t)
@@ -207,7 +197,8 @@ nameless_keeps s t next =
 
 named_keeps : (s : State) (x : Name) (t : Tag) → number_of (Some t) ≡ Some (length (extents s))
     → declared x s.environment.tags.current ≡ None
-    → KeepsTags s (retagged s (declared_structure (if_file (in_file s.environment) (Some x)) s.environment.structures)
+    → KeepsTags s
+    (restructured s (declared_structure (if_file (in_file s.environment) (Some x)) s.environment.structures)
     (bound x t s.environment.tags.current) s.environment.enumerations)
 named_keeps s x t next fresh =
     structure_keeps s (if_file (in_file s.environment) (Some x)) (bound x t s.environment.tags.current) t next

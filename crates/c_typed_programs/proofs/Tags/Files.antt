@@ -31,6 +31,7 @@ use Rattle.c_unit_typing.specs.Statements.{block_items}
 use Rattle.c_unit_typing.specs.Units.{around_body, defined_as, defined_by, definition_of, entered, external, externals}
 use Rattle.c_unit_typing.specs.Units.{file_before, file_with, left, parameters_in, scope_or_none, with_body}
 use Rattle.c_typed_validity.specs.Sound.{IsFormed, is_sized_array}
+use Rattle.c_typed_validity.proofs.Common.{first, no_value, second, the_same}
 use Rattle.c_typed_declarators.specs.Extending.{Extending}
 use Rattle.c_typed_declarators.specs.Given.{AreCounted, HasScope, IsParameterScope, IsShapeOf, IsSpecified}
 use Rattle.c_typed_declarators.proofs.Recursion.{scope_kept, shape_extends}
@@ -42,10 +43,10 @@ use Rattle.c_typed_programs.proofs.Scopes.Declarations.{specified_extends}
 use Rattle.c_typed_programs.proofs.Scopes.Files.{defined_as_declares, entered_leads, external_grows, externals_grow}
 use Rattle.c_typed_programs.proofs.Scopes.Files.{inside, scope_is, stored_extends}
 use Rattle.c_typed_programs.proofs.Scopes.Leading.{bound_leads}
-use Rattle.c_typed_programs.proofs.Scopes.Start.{file_formed}
+use Rattle.c_typed_programs.proofs.Scopes.Start.{file_formed, start_facts}
 use Rattle.c_typed_programs.proofs.Scopes.Statements.{IfFileBehind}
 use Rattle.c_typed_programs.specs.Sizes.Tags.{IfBodiesStay, TagsAreComplete}
-use Rattle.c_typed_programs.proofs.Common.{filed, first, no_value, second, the_same}
+use Rattle.c_typed_programs.proofs.Common.{filed}
 use Rattle.c_typed_programs.proofs.Files.Ends.{behind_all, same_ok}
 use Rattle.c_typed_programs.proofs.Scopes.Initializers.{IfBehind}
 use Rattle.c_typed_programs.proofs.Tags.Keeping.{HaveFileTags, Inside, KeepsTags, bodies_stay, in_file_scope}
@@ -277,10 +278,6 @@ no_file_tags objects x = record {
   numbered = λ name n e. no_value n _ e;
   each = λ n name e. no_value (Some name) _ e;
 }
-
-start_facts : (x : Facts) → (start x).facts ≡ x
-unfolding start
-start_facts x = refl
 
 at_start : (objects : Option (List (List Bool))) (x : Facts)
     → is_empty (file_before objects x).state.environment.tags.outer ≡ true

@@ -10,11 +10,11 @@ use Rattle.c_scope.specs.Names.{Name, Names, around, declared, innermost, is_emp
 use Rattle.c_scope.specs.Structures.{Body, changed, file_tag_of, is_known}
 use Rattle.c_typing.specs.State.{State, extents}
 use Rattle.c_typed_validity.specs.Sound.{Extended}
+use Rattle.c_typed_validity.proofs.Common.{the_same}
 use Rattle.c_typed_validity.proofs.Sound.{get_extended, longer_list, same_list}
 use Rattle.c_typed_programs.specs.Sizes.Tags.{BodiesStay}
 use Rattle.c_typed_declarators.proofs.Parameters.{around_last, innermost_last}
 use Rattle.c_typed_programs.proofs.Walks.States.{Leaves, Stands}
-use Rattle.c_typed_programs.proofs.Common.{the_same}
 
 -- the tags by which structures and unions were declared at file scope, in the order of their numbers
 abbrev pub file_tags : List Body → List (Option Name)

@@ -2,7 +2,7 @@
 use Rattle.std.proofs.Common.{◌≡◌, ℕ, Bool, true, false, ◌&&◌, ◌||◌, refl, ap, ◌∙◌, List, [], ◌∷◌}
 use Rattle.std.proofs.Common.{Option, Some, None}
 use Rattle.std.specs.Prelude.{not}
-use Rattle.std.proofs.lemmas.Bool.{eq-eqb}
+use Rattle.std.proofs.lemmas.Bool.{and_from, eq-eqb, true≢false}
 use Rattle.c_tree.specs.declared.c_type.TypeWord.{TypeWord}
 use Rattle.c_tree.specs.declared.c_type.TypeWord.TheVariants as word
 use Rattle.c_tree.specs.Arrays.{has_bytes}
@@ -21,12 +21,12 @@ use Rattle.c_specifiers.specs.declared.specified.Size.TheVariants as size
 use Rattle.c_specifiers.specs.declared.specified.Specified.{Specified}
 use Rattle.c_specifiers.specs.Specified.{basic_of}
 use Rattle.c_typing.specs.Specifications.{Gathered, specified, type_or_basic}
+use Rattle.c_typed_validity.proofs.Common.{second as right}
+use Rattle.c_typed_validity.specs.Steps.{Structures}
 use Rattle.c_typed_declarators.proofs.Types.{NoFaults, element_known, first_faultless, second_faultless}
 use Rattle.c_typed_programs.specs.SpelledTypes.Spelled.{fits, is_spelled}
 use Rattle.c_typed_programs.proofs.SpelledTypes.Words.{qualified_spelled, spelled_append}
 use Rattle.c_typed_programs.specs.Types.Typed.{AreSpelled, Each, IsDerived, IsSpelled, IsSpelledIf, OfSpecification}
-use Rattle.c_typed_programs.specs.Types.Typed.{Structures}
-use Rattle.c_typed_programs.proofs.Common.{both, second as right}
 
 pointer_spelled : (es : Structures) (b : Bool) (type : List TypeWord) → IsSpelled es type
     → IsSpelled es (pointer_words b type)
@@ -35,7 +35,7 @@ pointer_spelled es false type h = h
 
 functions_spelled : (es : Structures) (ps : List (List TypeWord)) (type : List TypeWord) → AreSpelled es ps
     → IsSpelled es type → fits es word.Gives type ≡ true → IsSpelled es (function_words ps type)
-functions_spelled es [] type h is good = both (fits es word.Gives type) (is_spelled es 1 type) good is
+functions_spelled es [] type h is good = and_from (fits es word.Gives type) (is_spelled es 1 type) good is
 functions_spelled es (p ∷ ps) type h is good =
     spelled_append es 1 1 2 refl p (function_words ps type) h.0 (functions_spelled es ps type h.1 is good)
 
@@ -52,8 +52,8 @@ array_fits es count type (Some x) g e is =
 
 array_still : (count : ℕ) (o : Option TypeExtent) (es : Structures) (type : List TypeWord)
     → fits es (array_of count o) type ≡ true → IsSpelled es type → IsSpelled es (array_of count o ∷ type)
-array_still count None es type e h = both (fits es (array_of count None) type) (is_spelled es 1 type) e h
-array_still count (Some x) es type e h = both (fits es (array_of count (Some x)) type) (is_spelled es 1 type) e h
+array_still count None es type e h = and_from (fits es (array_of count None) type) (is_spelled es 1 type) e h
+array_still count (Some x) es type e h = and_from (fits es (array_of count (Some x)) type) (is_spelled es 1 type) e h
 
 -- an array of a complete type
 pub array_spelled : (es : Structures) (count : ℕ) (type : List TypeWord) → IsSpelled es type → (e : TypeExtent)
@@ -66,10 +66,8 @@ derived_spelled : (es : Structures) (d : Derivation) → IsDerived es d → (b :
 derived_spelled es (to_pointer c) is b h good = pointer_spelled es c b.type (h good)
 derived_spelled es to_open_array is b h good = h (first_faultless b.faults (element_faults es b.type) good)
 derived_spelled es (to_array None) is b h good =
-    absurd (no_count (second_faultless b.faults (record (element_faults es b.type) { miscounted = true }) good).counted)
-  where
-    no_count : true ≡ false → ⊥
-    no_count e = cc
+    absurd (true≢false
+    (second_faultless b.faults (record (element_faults es b.type) { miscounted = true }) good).counted)
 derived_spelled es (to_array (Some count)) is b h good =
     let w = array_of count (extent_of es b.type) in
     let own = second_faultless b.faults (record (element_faults es b.type) { large = is_large w }) good in

@@ -1,6 +1,7 @@
 -- What calls make of types: a type of functions that is called has kinds of its parameters and result.
 use Rattle.std.proofs.Common.{◌≡◌, ℕ, zero, suc, Bool, true, false, ◌||◌, refl, sym, ap, ◌∙◌, List, [], ◌∷◌}
 use Rattle.std.proofs.Common.{◌++◌, Option, Some, None, if◌then◌else◌}
+use Rattle.std.proofs.lemmas.Bool.{and_from, not-true}
 use Rattle.std.specs.Prelude.{Ok, Err, not, is_some}
 use Rattle.obj_memory.specs.declared.int_type.IntType.TheVariants.{Char, Int}
 use Rattle.c_tree.specs.declared.c_type.TypeWord.{TypeWord}
@@ -35,14 +36,15 @@ use Rattle.c_call_rules.specs.FunctionTypes.{first_types, result_type}
 use Rattle.c_call_rules.specs.Printing.{Format, a_literal, another, directives_in, formatted, printed, printed_by}
 use Rattle.c_call_rules.specs.Printing.{printf_tree}
 use Rattle.c_call_rules.specs.Routines.{routine_words}
-use Rattle.c_typed_declarators.proofs.Chained.{IfAnswer}
+use Rattle.c_typed_validity.proofs.Common.{first as left, second as right}
+use Rattle.c_typed_validity.proofs.Sound.{IfAnswer}
+use Rattle.c_typed_validity.specs.Steps.{Structures}
 use Rattle.c_typed_programs.specs.SpelledTypes.Spelled.{IsFunctionType, IsValueType, fits, has_parameters}
 use Rattle.c_typed_programs.specs.SpelledTypes.Spelled.{is_readable, is_spelled}
 use Rattle.c_typed_programs.proofs.SpelledTypes.Words.{result_spelled, still_more, unqualified_readable}
 use Rattle.c_typed_programs.proofs.SpelledTypes.Words.{unqualified_spelled}
-use Rattle.c_typed_programs.specs.Types.Typed.{OfValueType, OfValueTypes, Structures}
+use Rattle.c_typed_programs.specs.Types.Typed.{OfValueType, OfValueTypes}
 use Rattle.c_typed_programs.proofs.Types.Operators.{IfValue, is_incomplete, target_readable, then_value}
-use Rattle.c_typed_programs.proofs.Common.{both, first as left, second as right}
 
 -- parameters
 
@@ -159,7 +161,7 @@ one_more : (es : Structures) (line : ℕ) (ws : List TypeWord) (before : List Ex
 one_more es line ws before vs (Ok e) is h =
     weak_answer (has_parameters es 0 (behind_types 1 ws) ≡ true) (has_parameters es 0 (word.Takes ∷ ws) ≡ true)
     (passed es line (behind_types 1 ws) (before ++ e ∷ []) vs)
-    (λ g. both (is_some (kind_of_type es ws)) (has_parameters es 1 ws) is (parameters_behind es 1 ws ∙ g))
+    (λ g. and_from (is_some (kind_of_type es ws)) (has_parameters es 1 ws) is (parameters_behind es 1 ws ∙ g))
     (h (before ++ e ∷ []))
 one_more es line ws before vs (Err f) is h = tt
 
@@ -198,10 +200,6 @@ passed_parameters es line (word.Const ∷ ws) before (v ∷ vs) h =
 
 -- results
 
-not_true : (b : Bool) → not b ≡ true → b ≡ false
-not_true true e = absurd cc
-not_true false e = refl
-
 pub result_fits : (es : Structures) (n : ℕ) (ws : List TypeWord) → is_spelled es (suc n) ws ≡ true
     → fits es word.Gives (result_type n ws) ≡ true
 result_fits es n [] e = refl
@@ -221,10 +219,10 @@ result_fits es (suc n) (v ∷ ws) e =
 
 pub gives_no_function : (es : Structures) (ws : List TypeWord) → fits es word.Gives ws ≡ true
     → is_function (unqualified ws) ≡ false
-gives_no_function es ws e = not_true (is_function (unqualified ws)) (left _ (not (is_array ws)) e)
+gives_no_function es ws e = not-true (is_function (unqualified ws)) (left _ (not (is_array ws)) e)
 
 pub gives_no_array : (es : Structures) (ws : List TypeWord) → fits es word.Gives ws ≡ true → is_array ws ≡ false
-gives_no_array es ws e = not_true (is_array ws) (right (not (is_function (unqualified ws))) _ e)
+gives_no_array es ws e = not-true (is_array ws) (right (not (is_function (unqualified ws))) _ e)
 
 object_kinded : (o : Option TypeExtent) → is_incomplete (object_of o) ≡ false → is_some (structure_kind o) ≡ true
 object_kinded None e = absurd cc
@@ -238,7 +236,7 @@ unfolding extent_of
 target_kinded es [] s a e f = absurd cc
 target_kinded es (word.Structure n ∷ ws) s a e f = object_kinded (structure_extent es n) e
 target_kinded es (word.Const ∷ ws) s a e f =
-    target_kinded es ws (right (not (is_array ws)) _ s) (not_true (is_array ws) (left (not (is_array ws)) _ s)) e f
+    target_kinded es ws (right (not (is_array ws)) _ s) (not-true (is_array ws) (left (not (is_array ws)) _ s)) e f
 target_kinded es (word.Void ∷ ws) s a e f = refl
 target_kinded es (word.Integer t ∷ ws) s a e f = refl
 target_kinded es (word.Enumeration n ∷ ws) s a e f = refl

@@ -8,28 +8,29 @@ use Rattle.c_syntax.specs.Tree.{Declarator, MoreParameters, Parameters}
 use Rattle.c_syntax.specs.Tree as t
 use Rattle.c_tree.specs.declared.c_type.TypeWord.{TypeWord}
 use Rattle.c_tree.specs.Extents.{TypeExtent, extent_of}
-use Rattle.c_rules.specs.declared.fault.Rule.{Rule}
 use Rattle.c_rules.specs.Answer.{Answer, ◌>>=◌}
 use Rattle.c_declarators.specs.Derivations.{BuiltType, Derivation, element_faults, to_array, to_function, to_open_array}
 use Rattle.c_declarators.specs.Derivations.{to_pointer}
 use Rattle.c_declarators.specs.Faults.{and_faults, rule_of}
 use Rattle.c_scope.specs.Names.{Name, declared}
 use Rattle.c_scope.specs.Parameters.{ParameterScope, parameters_in}
-use Rattle.c_typing.specs.Declarators.{Shape, built_in, is_nothing, scope_left, unless, with_derivation, with_function}
-use Rattle.c_typing.specs.Members.{Entries, Entry, member_added, member_named, member_rule, rule_or_repeated}
+use Rattle.c_typing.specs.Declarators.{Shape, built_in, is_nothing, scope_left, with_derivation, with_function}
+use Rattle.c_typing.specs.Members.{Entries, Entry, member_added, member_named, member_rule}
 use Rattle.c_typing.specs.Members.{sized_entry}
 use Rattle.c_typing.specs.Specifications.{Specification}
 use Rattle.c_typing.specs.State.{State, Typing, done, extents, judged, ◌>>>◌}
 use Rattle.c_expression_typing.specs.Constructs.{with_shape}
 use Rattle.c_typed_validity.specs.More.{AreMore}
+use Rattle.c_typed_validity.specs.Steps.{Structures}
+use Rattle.c_typed_validity.proofs.Sound.{IfAnswer}
 use Rattle.c_typed_declarators.specs.Extending.{Extending}
 use Rattle.c_typed_declarators.specs.Given.{IsShapeOf, anything}
-use Rattle.c_typed_declarators.proofs.Chained.{IfAnswer}
+use Rattle.c_typed_declarators.proofs.Members.{no_rule, unless_by}
 use Rattle.c_typed_declarators.proofs.Parameters.{within}
 use Rattle.c_typed_declarators.proofs.Types.{NoFaults, first_faultless, without_faults}
 use Rattle.c_typed_programs.specs.SpelledTypes.Spelled.{IsValueType}
 use Rattle.c_typed_programs.specs.Types.Typed.{AreNamed, AreSpelled, Each, IsDerived, IsSpelled, OfEntries}
-use Rattle.c_typed_programs.specs.Types.Typed.{OfParameters, OfShape, OfSpecification, Structures, Typed}
+use Rattle.c_typed_programs.specs.Types.Typed.{OfParameters, OfShape, OfSpecification, Typed}
 use Rattle.c_typed_programs.proofs.Types.Built.{built_spelled}
 use Rattle.c_typed_programs.proofs.Types.Kept.{each_append, each_map, kinded_kept, names_kept, spelled_kept, value_kept}
 use Rattle.c_typed_programs.proofs.Types.Operators.{complete_readable}
@@ -55,7 +56,7 @@ derived_kept es more h to_open_array is = tt
 derived_kept es more h (to_array count) is = tt
 derived_kept es more h (to_function ps) is = each_map (IsSpelled es) (IsSpelled more) (spelled_kept es more h) ps is
 
-parameters_kept : (es more : Structures) → AreMore es more → (o : Option ParameterScope) → OfParameters es o
+pub parameters_kept : (es more : Structures) → AreMore es more → (o : Option ParameterScope) → OfParameters es o
     → OfParameters more o
 parameters_kept es more h None is = tt
 parameters_kept es more h (Some p) is = names_kept es more h p.names is
@@ -158,15 +159,6 @@ sized_entries es name line type (Some x) entries h e is =
     each_append (λ e. IsValueType es e.type) entries.entries
     (record { name = name; type = type; extent = x } ∷ []) h
     (record { spelled = is; readable = complete_readable es type (ap is_some e) }, tt)
-
-pub no_rule : (r : Option Rule) (b : Bool) → rule_or_repeated r b ≡ None → r ≡ None
-no_rule None b e = refl
-no_rule (Some r) b e = absurd cc
-
-pub unless_by : (r : Option Rule) (line : ℕ) (es : Entries) (next : Entries → Answer Entries) (P : Entries → Type 0)
-    → (r ≡ None → IfAnswer P (next es)) → IfAnswer P (unless r line es >>= next)
-unless_by None line es next P h = h refl
-unless_by (Some r) line es next P h = tt
 
 named_entries : (es : Structures) (b : BuiltType) → (NoFaults b.faults → IsSpelled es b.type)
     → (name : Option (Name × ℕ)) (entries : Entries) → OfEntries es entries.entries

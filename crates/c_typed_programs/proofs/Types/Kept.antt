@@ -1,6 +1,7 @@
 -- Types stay spelled where more structures are complete, and lists of names, members and types with one more.
 use Rattle.std.proofs.Common.{◌≡◌, ◌⊎◌, inl, inr, ℕ, zero, suc, Bool, true, false, refl, ap, subst}
 use Rattle.std.proofs.Common.{List, [], ◌∷◌, ◌++◌, Option, Some, None, if◌then◌else◌}
+use Rattle.std.proofs.lemmas.Bool.{and_from}
 use Rattle.std.specs.Prelude.{is_some}
 use Rattle.c_tree.specs.declared.c_type.TypeWord.{TypeWord}
 use Rattle.c_tree.specs.declared.c_type.TypeWord.TheVariants as word
@@ -12,18 +13,20 @@ use Rattle.c_scope.specs.declared.meaning.Designated.TheVariants as what
 use Rattle.c_scope.specs.declared.meaning.Entity.{Entity}
 use Rattle.c_scope.specs.declared.meaning.Meaning.{Meaning}
 use Rattle.c_scope.specs.declared.meaning.Meaning.TheVariants as meaning
-use Rattle.c_scope.specs.Names.{Name, Names, Scopes, around, bound, declared, found, innermost, is_name, or_else}
+use Rattle.c_scope.specs.Names.{Name, Names, Scopes, around, bound, declared, found, innermost, is_name}
 use Rattle.c_scope.specs.Names as names
 use Rattle.c_scope.specs.Structures.{Body, changed}
 use Rattle.c_place_rules.specs.Operands.{Operand, a_value, a_place, a_variable, a_function}
 use Rattle.c_typed_validity.specs.More.{AreMore}
+use Rattle.c_typed_validity.specs.Steps.{Structures}
+use Rattle.c_typed_validity.proofs.Common.{first as left, second as right, the_same}
 use Rattle.c_typed_validity.proofs.Kept.{extent_kept, kind_kept}
 use Rattle.c_typed_programs.specs.SpelledTypes.Spelled.{IsFunctionType, IsValueType, fits, has_parameters, is_readable}
 use Rattle.c_typed_programs.specs.SpelledTypes.Spelled.{is_spelled}
 use Rattle.c_typed_programs.specs.Types.Typed.{AreMembers, AreNamed, Each, HasType, HaveTypes, IsEntity, IsNamed}
-use Rattle.c_typed_programs.specs.Types.Typed.{IsSpelled, OfType, Structures}
-use Rattle.c_typed_programs.proofs.SpelledTypes.Composites.{bytes_same}
-use Rattle.c_typed_programs.proofs.Common.{both, first as left, second as right, the_same}
+use Rattle.c_typed_programs.specs.Types.Typed.{IsSpelled, OfType}
+use Rattle.c_typed_programs.proofs.Common.{inner_or}
+use Rattle.c_typed_programs.proofs.Layouts.Arrays.{bytes_kept}
 
 -- lists
 
@@ -60,11 +63,6 @@ pub each_declared : {A : Type 0} (p : A → Type 0) (name : Name) (x : A) (es : 
 each_declared p name x [] h is = absurd cc
 each_declared p name x (e ∷ es) h is =
     declared_by p name x e es (is_name name e.0) h (λ g. each_declared p name x es h.1 g) is
-
-pub inner_or : {A : Type 0} (p : A → Type 0) (a b : Option A) → ((x : A) → a ≡ Some x → p x)
-    → ((x : A) → b ≡ Some x → p x) → (x : A) → or_else a b ≡ Some x → p x
-inner_or p None b h g x e = g x e
-inner_or p (Some y) b h g x e = h x e
 
 pub each_found : {A : Type 0} (p : A → Type 0) (name : Name) (outer : List (Names A))
     → Each (λ es. EachName p es) outer → (x : A) → found name outer ≡ Some x → p x
@@ -105,7 +103,7 @@ some_kept (Some y) more h e = ap is_some (h y refl)
 module _ (es more : Structures) (h : AreMore es more) where
   fits_kept : (w : TypeWord) (ws : List TypeWord) → fits es w ws ≡ true → fits more w ws ≡ true
   fits_kept (word.Array c b) ws e =
-      bytes_same c b (extent_of es ws) (extent_of more ws) (λ y. extent_kept es more h ws y) e
+      bytes_kept c b (extent_of es ws) (extent_of more ws) (λ y. extent_kept es more h ws y) e
   fits_kept word.Const ws e = e
   fits_kept word.Gives ws e = e
   fits_kept word.Void ws e = e
@@ -121,7 +119,7 @@ module _ (es more : Structures) (h : AreMore es more) where
   spelled_by zero (w ∷ ws) e = e
   spelled_by (suc n) [] e = e
   spelled_by (suc n) (w ∷ ws) e =
-      both (fits more w ws) (is_spelled more (still w n) ws) (fits_kept w ws (left (fits es w ws) _ e))
+      and_from (fits more w ws) (is_spelled more (still w n) ws) (fits_kept w ws (left (fits es w ws) _ e))
       (spelled_by (still w n) ws (right (fits es w ws) _ e))
 
   pub spelled_kept : (type : List TypeWord) → IsSpelled es type → IsSpelled more type
@@ -133,7 +131,7 @@ module _ (es more : Structures) (h : AreMore es more) where
   parameters_kept : (n : ℕ) (ws : List TypeWord) → has_parameters es n ws ≡ true → has_parameters more n ws ≡ true
   parameters_kept n [] e = e
   parameters_kept zero (word.Takes ∷ ws) e =
-      both (is_some (kind_of_type more ws)) (has_parameters more 1 ws)
+      and_from (is_some (kind_of_type more ws)) (has_parameters more 1 ws)
       (kinded_kept ws (left (is_some (kind_of_type es ws)) _ e))
       (parameters_kept 1 ws (right (is_some (kind_of_type es ws)) _ e))
   parameters_kept zero (word.Gives ∷ ws) e = e

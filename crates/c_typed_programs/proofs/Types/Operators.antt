@@ -57,13 +57,14 @@ use Rattle.c_typing.specs.Operators.{read_unless, stepped_by, unary_value, unrea
 use Rattle.c_typing.specs.Operators as operators
 use Rattle.c_typing.specs.State.{State, extents, with_const}
 use Rattle.c_expression_typing.specs.Constructs.{cast_to, chosen, sized}
-use Rattle.c_typed_declarators.proofs.Chained.{IfAnswer}
+use Rattle.c_typed_validity.proofs.Common.{first as left, second as right}
+use Rattle.c_typed_validity.proofs.Sound.{IfAnswer}
+use Rattle.c_typed_validity.specs.Steps.{Structures}
 use Rattle.c_typed_programs.specs.SpelledTypes.Spelled.{IsValueType, is_readable}
 use Rattle.c_typed_programs.proofs.SpelledTypes.Words.{element_spelled, pointee_spelled}
 use Rattle.c_typed_programs.proofs.SpelledTypes.Words.{qualified_spelled, unqualified_readable}
 use Rattle.c_typed_programs.proofs.SpelledTypes.Words.{unqualified_spelled}
-use Rattle.c_typed_programs.specs.Types.Typed.{IsPlaceType, IsSpelled, OfType, OfValueType, Structures}
-use Rattle.c_typed_programs.proofs.Common.{first as left, second as right}
+use Rattle.c_typed_programs.specs.Types.Typed.{IsPlaceType, IsSpelled, OfType, OfValueType}
 
 abbrev pub IfValue : Structures → Answer Value → Type 0
 IfValue es a = IfAnswer (OfValueType es) a

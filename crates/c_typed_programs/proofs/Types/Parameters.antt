@@ -1,6 +1,7 @@
 -- Parameters have types that are spelled, and kinds where the function is defined (C99 6.7.5.3 paragraph 4).
 use Rattle.std.proofs.Common.{◌≡◌, ℕ, Bool, true, false, ◌&&◌, ◌||◌, refl, sym, subst, List, [], ◌∷◌}
 use Rattle.std.proofs.Common.{Option, Some, None, if◌then◌else◌}
+use Rattle.std.proofs.lemmas.Bool.{not-true}
 use Rattle.std.specs.Prelude.{Ok, Err, not, is_some}
 use Rattle.c_tree.specs.declared.c_type.TypeWord.{TypeWord}
 use Rattle.c_tree.specs.declared.c_type.TypeWord.TheVariants as word
@@ -14,8 +15,6 @@ use Rattle.c_declarators.specs.declared.faults.TypeFaults.{TypeFaults}
 use Rattle.c_declarators.specs.Adjusted.{adjusted}
 use Rattle.c_declarators.specs.Derivations.{BuiltType, is_array}
 use Rattle.c_declarators.specs.Faults.{rule_of}
-use Rattle.c_scope.specs.declared.meaning.Storage.{Storage}
-use Rattle.c_scope.specs.declared.meaning.Storage.TheVariants as storage
 use Rattle.c_scope.specs.Declaring.{Declaration, Surroundings, is_complete, is_extern, is_function, is_incomplete}
 use Rattle.c_scope.specs.Declaring.{is_misplaced as is_misplaced_storage, is_redeclared, is_tentative, is_typedef}
 use Rattle.c_scope.specs.Declaring.{is_undefined, is_wrongly_initialized, judged as judged_declarator}
@@ -26,19 +25,21 @@ use Rattle.c_typing.specs.Declarators.{not_for_parameter, parameter, parameter_b
 use Rattle.c_typing.specs.Declarators.{rule_or_storage, type_named, unless, has_storage}
 use Rattle.c_typing.specs.Specifications.{Specification}
 use Rattle.c_typing.specs.State.{State, extents}
-use Rattle.c_typed_declarators.proofs.Chained.{IfAnswer}
-use Rattle.c_typed_declarators.proofs.Parameters.{behind, within}
+use Rattle.c_typed_validity.proofs.Common.{first as left_true, neither_right as second_false, second as right}
+use Rattle.c_typed_validity.proofs.Common.{neither_left}
+use Rattle.c_typed_validity.proofs.Sound.{IfAnswer}
+use Rattle.c_typed_validity.specs.Steps.{Structures}
+use Rattle.c_typed_declarators.proofs.Parameters.{behind, no_function, plain_by, within}
 use Rattle.c_typed_declarators.proofs.Types.{NoFaults, without_faults}
 use Rattle.c_typed_programs.proofs.SpelledTypes.Words.{unqualified_spelled}
-use Rattle.c_typed_programs.specs.Types.Typed.{AreNamed, IsSpelled, OfShape, OfSpecification, Structures, Typed}
+use Rattle.c_typed_programs.specs.Types.Typed.{AreNamed, IsSpelled, OfShape, OfSpecification, Typed}
 use Rattle.c_typed_programs.specs.Types.Typed.{Types}
 use Rattle.c_typed_programs.proofs.Types.Built.{adjusted_spelled, built_spelled}
 use Rattle.c_typed_programs.proofs.Types.Kept.{each_append, each_around, each_innermost}
 use Rattle.c_typed_programs.proofs.Types.States.{declarator_extents, declarator_types}
 use Rattle.c_typed_programs.proofs.Declarations.Judged.{complete_by, first_false}
 use Rattle.c_typed_programs.proofs.Types.Calls.{kind_by}
-use Rattle.c_typed_programs.proofs.Common.{first as left_true, neither_right as second_false, passed, passed_some}
-use Rattle.c_typed_programs.proofs.Common.{second as right}
+use Rattle.c_typed_programs.proofs.Common.{passed, passed_some}
 
 -- the scope of a list of parameters
 
@@ -120,11 +121,7 @@ unfolding extent_of
 extent_kinded es [] s a e = absurd cc
 extent_kinded es (word.Structure n ∷ ws) s a e = kind_by (structure_extent es n) e
 extent_kinded es (word.Const ∷ ws) s a e =
-    extent_kinded es ws (right (not (is_array ws)) _ s) (not_array (is_array ws) (left_true (not (is_array ws)) _ s)) e
-  where
-    not_array : (b : Bool) → not b ≡ true → b ≡ false
-    not_array true e = absurd cc
-    not_array false e = refl
+    extent_kinded es ws (right (not (is_array ws)) _ s) (not-true (is_array ws) (left_true (not (is_array ws)) _ s)) e
 extent_kinded es (word.Void ∷ ws) s a e = absurd cc
 extent_kinded es (word.Integer t ∷ ws) s a e = refl
 extent_kinded es (word.Enumeration n ∷ ws) s a e = refl
@@ -146,31 +143,6 @@ no_array (word.Structure n ∷ ws) = refl
 no_array (word.Const ∷ ws) = refl
 no_array (word.Takes ∷ ws) = refl
 no_array (word.Gives ∷ ws) = refl
-
-record IsPlain (z : Storage) : Type 0 where
-  no_typedef : is_typedef z ≡ false
-  no_extern : is_extern z ≡ false
-
-plain_by : (z : Storage) → not_for_parameter z ≡ false → IsPlain z
-plain_by storage.Absent e = record { no_typedef = refl; no_extern = refl }
-plain_by storage.Register e = record { no_typedef = refl; no_extern = refl }
-plain_by storage.Auto e = absurd cc
-plain_by storage.Static e = absurd cc
-plain_by storage.Extern e = absurd cc
-plain_by storage.Typedef e = absurd cc
-
-no_function : (type : List TypeWord) → is_function (adjusted type) ≡ false
-no_function [] = refl
-no_function (word.Void ∷ ws) = refl
-no_function (word.Integer t ∷ ws) = refl
-no_function (word.Enumeration n ∷ ws) = refl
-no_function (word.Pointer ∷ ws) = refl
-no_function (word.Array count bytes ∷ ws) = refl
-no_function (word.OpenArray ∷ ws) = refl
-no_function (word.Structure n ∷ ws) = refl
-no_function (word.Const ∷ ws) = refl
-no_function (word.Takes ∷ ws) = refl
-no_function (word.Gives ∷ ws) = refl
 
 no_longer : (a b : Bool) → a ≡ true → (not a && b) ≡ false
 no_longer true b e = refl
@@ -225,15 +197,11 @@ module _ (s : State) (types : Types s) (inner : in_file s.environment ≡ false)
       (λ good. unqualified_spelled (extents s) 0 (adjusted b.type)
       (adjusted_spelled (extents s) b.type
       (built (record {
-        complete = first_of_both b.faults.incomplete (is_void b.type) good.complete;
+        complete = neither_left b.faults.incomplete (is_void b.type) good.complete;
         placed = good.placed;
         counted = good.counted;
         small = good.small;
       }))))
-    where
-      first_of_both : (a c : Bool) → (a || c) ≡ false → a ≡ false
-      first_of_both true c e = absurd cc
-      first_of_both false c e = refl
 
 -- a parameter; where the function is defined it has a name
 abbrev pub GivesParameter : (defined named : Bool) → Structures → List TypeWord → Type 0

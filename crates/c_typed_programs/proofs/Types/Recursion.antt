@@ -1,6 +1,7 @@
 -- Whatever is typed has types that are spelled, and leaves such.
 use Rattle.std.proofs.Common.{◌≡◌, ℕ, suc, Bool, true, false, ◌&&◌, refl, ap, ◌∙◌, List, [], ◌∷◌, ◌++◌}
 use Rattle.std.proofs.Common.{Option, Some, None, if◌then◌else◌, arith}
+use Rattle.std.proofs.lemmas.Bool.{and_from}
 use Rattle.std.specs.Prelude.{Ok, Err, ◌||◌, is_some}
 use Rattle.c_lexer.specs.declared.integer.IntegerConstant.{IntegerConstant}
 use Rattle.c_lexer.specs.Constants.{constant_of}
@@ -46,24 +47,26 @@ use Rattle.c_typed_validity.specs.Regular.{is_regular_specifier, more_are_regula
 use Rattle.c_typed_validity.specs.Regular.{more_are_regular_enumerators, more_are_regular_parameters}
 use Rattle.c_typed_validity.specs.More.{AreMore}
 use Rattle.c_typed_validity.specs.Sound.{IsFormed, is_sized_array}
-use Rattle.c_typed_validity.proofs.Sound.{more_more}
+use Rattle.c_typed_validity.specs.Steps.{Structures}
+use Rattle.c_typed_validity.proofs.Common.{first, second}
+use Rattle.c_typed_validity.proofs.Sound.{IfAnswer, more_more}
 use Rattle.c_typed_declarators.specs.Extending.{Extending, Extends}
 use Rattle.c_typed_declarators.specs.Given.{HasType, HasWords, IsBegun, IsGathered, IsIntIf, IsShapeOf, IsSpecified}
 use Rattle.c_typed_declarators.specs.Given.{OperandHasWords, ValueHasWords, anything}
-use Rattle.c_typed_declarators.proofs.Chained.{IfAnswer, inside, judged_extends}
+use Rattle.c_typed_declarators.proofs.Chained.{inside, judged_extends}
 use Rattle.c_typed_declarators.proofs.Members.{Members, members_kept}
 use Rattle.c_typed_declarators.proofs.Parameters.{within, within_block, within_formed}
-use Rattle.c_typed_declarators.proofs.Recursion.{after, also, arguments_extend, begun_stays, enumerator_extend, first}
+use Rattle.c_typed_declarators.proofs.Recursion.{after, also, arguments_extend, begun_stays, enumerator_extend}
 use Rattle.c_typed_declarators.proofs.Recursion.{gathered_extends, less, member_by, member_extend, members_extend}
 use Rattle.c_typed_declarators.proofs.Recursion.{more_enumerators_extend, more_extend, name_extends, parameter_extend}
-use Rattle.c_typed_declarators.proofs.Recursion.{parameters_extend, printed_extend, second, shape_extends, shape_then}
-use Rattle.c_typed_declarators.proofs.Recursion.{specified_extends, specifier_extends, typed_extends}
+use Rattle.c_typed_declarators.proofs.Recursion.{parameters_extend, printed_extend, shape_extends, shape_then}
+use Rattle.c_typed_declarators.proofs.Recursion.{specified_extends, specifier_extends, typed_extends, with_type}
 use Rattle.c_typed_declarators.proofs.Steps.{called_extends, format_extends, valued_extends}
 use Rattle.c_typed_declarators.proofs.Tags.{BegunFrom, begun_extends}
 use Rattle.c_typed_declarators.proofs.Words.{int_word}
 use Rattle.c_typed_programs.specs.SpelledTypes.Spelled.{IsValueType}
 use Rattle.c_typed_programs.specs.Types.Typed.{AreSpelled, Each, IsCalled, IsSpelled, IsSpelledIf, OfGathered, OfType}
-use Rattle.c_typed_programs.specs.Types.Typed.{OfSpecification, OfValueType, OfValueTypes, Structures, Typed, Types}
+use Rattle.c_typed_programs.specs.Types.Typed.{OfSpecification, OfValueType, OfValueTypes, Typed, Types}
 use Rattle.c_typed_programs.specs.Types.Typed.{nothing}
 use Rattle.c_typed_programs.proofs.Types.Built.{specified_spelled}
 use Rattle.c_typed_programs.proofs.Types.Declarators.{AreEntriesOf, GivesTypes, IsDeclared, declared_kept, entries_kept}
@@ -78,7 +81,6 @@ use Rattle.c_typed_programs.proofs.Types.Steps.{accessed_typed, applied_to_typed
 use Rattle.c_typed_programs.proofs.Types.Steps.{format_typed, judged_typed, literal_typed, named_typed, prefixed_typed}
 use Rattle.c_typed_programs.proofs.Types.Steps.{then_typed, typedef_spelled, valued_typed, values_kept, weaker_typed}
 use Rattle.c_typed_programs.proofs.Types.Tags.{begun_types, completed_types, tagged_types}
-use Rattle.c_typed_programs.proofs.Common.{both}
 
 value_then : {B : Type 0} (s : State) (operand : Typing Operand) (h : Structures → B → Type 0) (next : Value → Typing B)
     → Extending false s OperandHasWords (operand s) → Typed OfType (operand s)
@@ -105,9 +107,6 @@ tagged_then : (g : Gathered) (a : Answer (State × Tag)) → Typed nothing a
     → Typed OfGathered (a >>= λ r. done (with_named (tag_type r.1) g) r.0)
 tagged_then g (Ok r) h = (h.0, tag_spelled (extents r.0) r.1)
 tagged_then g (Err f) h = tt
-
-abbrev with_type : State → List TypeWord → Answer (State × List TypeWord)
-with_type s type = Ok (s, type)
 
 named_then : (s : State) → Types s → (g : Gathered) (a : Answer (List TypeWord)) → IfAnswer (IsSpelled (extents s)) a
     → Typed OfGathered (a >>= with_type s >>= λ r. done (with_named r.1 g) r.0)
@@ -379,7 +378,7 @@ mutual
       (GivesBehind (earlier && is_named_parameter x) in_definition (are_named_parameters more))
       (GivesBehind earlier in_definition (is_named_parameter x && are_named_parameters more))
       (more_types in_definition more (before ++ type ∷ []) u)
-      (λ es types is. (is.0, λ n i g. is.1 (both earlier (is_named_parameter x) n (first _ _ g)) i (second _ _ g)))
+      (λ es types is. (is.0, λ n i g. is.1 (and_from earlier (is_named_parameter x) n (first _ _ g)) i (second _ _ g)))
       (more_parameters_typed (earlier && is_named_parameter x) in_definition more (second _ _ c)
       (before ++ type ∷ []) u e.formed (ap is_empty e.outer ∙ inner) types
       (each_append (IsSpelled (extents u)) before (type ∷ [])

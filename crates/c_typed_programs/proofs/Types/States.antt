@@ -3,7 +3,7 @@ use Rattle.std.proofs.Common.{◌≡◌, ◌⊎◌, inl, inr, ℕ, suc, ◌==◌
 use Rattle.std.proofs.Common.{◌∙◌, subst, List, [], ◌∷◌, ◌++◌, ◌+◌, length, Option, Some, None, if◌then◌else◌}
 use Rattle.std.specs.Prelude.{nat_lt, not}
 use Rattle.std.specs.List.{list_any}
-use Rattle.std.proofs.lemmas.Bool.{eq-eqb, le-ltb, ltb-false}
+use Rattle.std.proofs.lemmas.Bool.{and_from, eq-eqb, le-ltb, ltb-false, or_from}
 use Rattle.c_tree.specs.declared.c_type.TypeWord.{TypeWord}
 use Rattle.c_tree.specs.declared.c_type.TypeWord.TheVariants as word
 use Rattle.c_tree.specs.TypesAgree.{same_word, same_words}
@@ -27,12 +27,13 @@ use Rattle.c_typing.specs.Calls.{place_among, with_type}
 use Rattle.c_typing.specs.Operators.{object_taken, variable_named, with_taken}
 use Rattle.c_typing.specs.Primaries.{is_undefined, used_as, with_literal, with_use}
 use Rattle.c_typing.specs.State.{State, extents}
+use Rattle.c_typed_validity.specs.Steps.{Structures}
 use Rattle.c_typed_programs.specs.SpelledTypes.Spelled.{IsFunctionType}
+use Rattle.c_typed_programs.proofs.Common.{conflict}
 use Rattle.c_typed_programs.proofs.SpelledTypes.Composites.{composite_spelled, none_first}
 use Rattle.c_typed_programs.specs.Types.Typed.{are_different, HasType, IsEntity, IsNamed, IsSpelled}
-use Rattle.c_typed_programs.specs.Types.Typed.{Structures, Types}
+use Rattle.c_typed_programs.specs.Types.Typed.{Types}
 use Rattle.c_typed_programs.proofs.Types.Kept.{each_append, each_bound, each_declared, each_meaning}
-use Rattle.c_typed_programs.proofs.Common.{both}
 
 -- states with the same structures, whose types are still spelled
 pub record Stays (s t : State) : Type 0 where
@@ -107,11 +108,7 @@ literal_stays false bytes s = stays_same s
 -- one more type of functions
 
 array_same : (c b : ℕ) → same_word (word.Array c b) (word.Array c b) ≡ true
-array_same c b = and_refl (c == c) (b == b) (eq-eqb c c refl) (eq-eqb b b refl)
-  where
-    and_refl : (a b : Bool) → a ≡ true → b ≡ true → (a && b) ≡ true
-    and_refl true b e g = g
-    and_refl false b e g = absurd cc
+array_same c b = and_from (c == c) (b == b) (eq-eqb c c refl) (eq-eqb b b refl)
 
 word_same : (w : TypeWord) → same_word w w ≡ true
 word_same word.Void = refl
@@ -127,10 +124,7 @@ word_same word.Gives = refl
 
 pub words_same : (ws : List TypeWord) → same_words ws ws ≡ true
 words_same [] = refl
-words_same (w ∷ ws) = both (same_word w w) (same_words ws ws) (word_same w) (words_same ws)
-
-conflict : {P : Type 0} → false ≡ true → P
-conflict e = cc
+words_same (w ∷ ws) = and_from (same_word w w) (same_words ws ws) (word_same w) (words_same ws)
 
 no_same : (type t : List TypeWord) → same_words type t ≡ false → same_words t type ≡ false
 no_same type t e = by (same_words t type) refl
@@ -153,11 +147,7 @@ others_by type t ts false e g = (
 
 not_any : (t type : List TypeWord) (ts : List (List TypeWord)) → list_any (λ u. same_words t u) ts ≡ false
     → same_words t type ≡ false → list_any (λ u. same_words t u) (ts ++ type ∷ []) ≡ false
-not_any t type [] e g = neither (same_words t type) false g refl
-  where
-    neither : (a b : Bool) → a ≡ false → b ≡ false → (a || b) ≡ false
-    neither true b e g = absurd cc
-    neither false b e g = g
+not_any t type [] e g = or_from (same_words t type) false g refl
 not_any t type (x ∷ ts) e g = split (same_words t x) (list_any (λ u. same_words t u) ts) e
     (λ h. not_any t type ts h g)
   where

@@ -2,7 +2,7 @@
 use Rattle.std.proofs.Common.{◌≡◌, ℕ, zero, suc, ◌==◌, Bool, true, false, ◌||◌, refl, sym, subst, List, [], ◌∷◌}
 use Rattle.std.proofs.Common.{Option, Some, None, if◌then◌else◌, length}
 use Rattle.std.specs.Prelude.{Ok, Err, not, is_some, option_map, slice_get}
-use Rattle.std.proofs.lemmas.Bool.{eq-eqb}
+use Rattle.std.proofs.lemmas.Bool.{and_from, eq-eqb}
 use Rattle.obj_memory.specs.declared.int_type.IntType.TheVariants as int
 use Rattle.obj_memory.specs.Integers.{size_of}
 use Rattle.c_lexer.specs.declared.punctuator.Punctuator.{Punctuator}
@@ -44,7 +44,7 @@ use Rattle.c_typing.specs.declared.forms.PrefixForm.TheVariants as form
 use Rattle.c_typing.specs.Calls.{Called, a_function, a_pointer, a_printf, a_routine, applied, callee_number}
 use Rattle.c_typing.specs.Calls.{called_by_value, called_plainly, library_called, name_called, plainly_or}
 use Rattle.c_typing.specs.Calls.{pointer_called, printed, with_callee_type}
-use Rattle.c_typing.specs.Operators.{arrowed, as_operand, as_place, as_value, dotted, member_in, object_taken}
+use Rattle.c_typing.specs.Operators.{arrowed, as_operand, as_place, as_value, dotted, member_in}
 use Rattle.c_typing.specs.Operators.{stepped_by, structure_behind, unary_value, value_among}
 use Rattle.c_typing.specs.Primaries.{designated, is_aggregate, is_object, literal, literal_type, meant}
 use Rattle.c_typing.specs.Primaries.{named, place, plain_variable, size_or_zero, used_as}
@@ -56,19 +56,21 @@ use Rattle.c_expression_typing.specs.Constructs.{prefixed, valued}
 use Rattle.c_expression_typing.specs.Lines.{name_of}
 use Rattle.c_typed_declarators.specs.Extending.{Extending, Extends}
 use Rattle.c_typed_declarators.specs.Given.{OperandHasWords, anything}
-use Rattle.c_typed_declarators.proofs.Chained.{IfAnswer}
 use Rattle.c_typed_programs.specs.SpelledTypes.Spelled.{IsFunctionType, IsValueType, is_readable}
 use Rattle.c_typed_programs.proofs.SpelledTypes.Words.{callee_spelled, qualified_spelled}
 use Rattle.c_typed_programs.specs.Types.Typed.{AreMembers, Each, HasType, IsCalled, IsNamed, IsSpelled, OfType}
-use Rattle.c_typed_programs.specs.Types.Typed.{OfValueType, OfValueTypes, Structures, Typed, Types, nothing}
+use Rattle.c_typed_programs.specs.Types.Typed.{OfValueType, OfValueTypes, Typed, Types, nothing}
 use Rattle.c_typed_programs.proofs.Types.Calls.{called_kinded, called_type, formatted_type, routine_spelled}
 use Rattle.c_typed_validity.specs.More.{AreMore}
+use Rattle.c_typed_validity.specs.Steps.{Structures}
+use Rattle.c_typed_validity.proofs.Common.{the_same}
+use Rattle.c_typed_validity.proofs.Constructs.{address_made, as_made, with_state}
+use Rattle.c_typed_validity.proofs.Sound.{IfAnswer}
 use Rattle.c_typed_programs.proofs.Types.Kept.{each_declared, each_map, each_meaning, spelled_kept, value_kept}
 use Rattle.c_typed_programs.proofs.Types.Operators.{IfOperand, IfValue, address_type, among_type, operand_of_type}
 use Rattle.c_typed_programs.proofs.Types.Operators.{object_type, stepped_by_type, unary_value_type}
 use Rattle.c_typed_programs.proofs.Types.States.{Stays, address_stays, literal_stays, name_types, type_stays}
 use Rattle.c_typed_programs.proofs.Types.States.{used_stays}
-use Rattle.c_typed_programs.proofs.Common.{both}
 
 -- one behind the other
 
@@ -194,7 +196,7 @@ named_typed is name line s types =
 characters_spelled : (es : Structures) (size : ℕ) → IsSpelled es (literal_type size)
 unfolding extent_of
 characters_spelled es size =
-    both (array_size size (size_of int.Char) == array_size size (size_of int.Char)) true
+    and_from (array_size size (size_of int.Char) == array_size size (size_of int.Char)) true
     (eq-eqb (array_size size (size_of int.Char)) (array_size size (size_of int.Char)) refl) refl
 
 pub literal_typed : (is : Bool) (bytes : List ℕ) (line : ℕ) (s : State) → Types s
@@ -205,15 +207,6 @@ literal_typed is bytes line s types = (
 )
 
 -- unary operators
-
-abbrev address_made : (is : Bool) → Operand → State → Value → Answer (State × Value)
-address_made is o s v = Ok (if is then object_taken o s else s, v)
-
-abbrev as_made : State × Value → Answer (State × Operand)
-as_made r = Ok (r.0, a_value r.1)
-
-abbrev with_state : State → Value → Answer (State × Value)
-with_state s v = Ok (s, v)
 
 addressed_by : (is : Bool) (o : Operand) (s : State) → Types s → (a : Answer Value) → IfValue (extents s) a
     → Typed OfType (a >>= address_made is o s >>= as_made)
@@ -249,12 +242,9 @@ member_by : (es : Structures) (o : Option Body) → ((b : Body) → o ≡ Some b
 member_by es None h name m e = absurd cc
 member_by es (Some b) h name m e = each_declared (λ m. IsValueType es m.c_type) name m b.members (h b refl) e
 
-each_got : {A : Type 0} (p : A → Type 0) (xs : List A) → Each p xs → (n : ℕ) (x : A) → slice_get xs n ≡ Some x → p x
+pub each_got : {A : Type 0} (p : A → Type 0) (xs : List A) → Each p xs → (n : ℕ) (x : A) → slice_get xs n ≡ Some x → p x
 each_got p [] h n x e = absurd cc
 each_got p (y ∷ ys) h zero x e = subst p (the_same e) h.0
-  where
-    the_same : Some y ≡ Some x → y ≡ x
-    the_same e = cc
 each_got p (y ∷ ys) h (suc n) x e = each_got p ys h.1 n x e
 
 member_typed : (s : State) → Types s → (n : ℕ) (name : Name) (m : Member)
@@ -267,9 +257,6 @@ view_by : (es : Structures) (o : Option Member) → ((m : Member) → o ≡ Some
     → (x : places.Member) → option_map member_view o ≡ Some x → IsValueType es x.type
 view_by es None h x e = absurd cc
 view_by es (Some m) h x e = subst (λ z. IsValueType es z.type) (the_same e) (h m refl)
-  where
-    the_same : Some (member_view m) ≡ Some x → member_view m ≡ x
-    the_same e = cc
 
 found_member : (s : State) → Types s → (o : Option ℕ) (name : Name) (x : places.Member)
     → member_in o name s ≡ Some x → IsValueType (extents s) x.type

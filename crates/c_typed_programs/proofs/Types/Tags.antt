@@ -3,7 +3,7 @@ use Rattle.std.proofs.Common.{ℕ, Bool, true, false, ◌&&◌, List, [], ◌∷
 use Rattle.std.proofs.Common.{Some, None, if◌then◌else◌}
 use Rattle.std.specs.Prelude.{Ok, not, nat_lt, ◌^◌}
 use Rattle.c_tree.specs.declared.c_type.TypeWord.{TypeWord}
-use Rattle.c_rules.specs.Answer.{Answer, violates, ◌>>=◌}
+use Rattle.c_rules.specs.Answer.{violates, ◌>>=◌}
 use Rattle.c_rules.specs.declared.fault.Rule.TheVariants as rule
 use Rattle.c_place_rules.specs.declared.place.Member.{Member}
 use Rattle.c_scope.specs.declared.meaning.Entity.{Entity}
@@ -21,11 +21,12 @@ use Rattle.c_typing.specs.Members.{with_structure}
 use Rattle.c_typing.specs.State.{State, extents}
 use Rattle.c_expression_typing.specs.Constructs.{begun_as, tagged_as}
 use Rattle.c_typed_validity.specs.Sound.{IsFormed, IsPending}
+use Rattle.c_typed_validity.specs.Steps.{Structures}
 use Rattle.c_typed_declarators.specs.Given.{IsBegun}
 use Rattle.c_typed_declarators.proofs.Completed.{filled, filled_more}
-use Rattle.c_typed_declarators.proofs.Tags.{added_extends}
+use Rattle.c_typed_declarators.proofs.Tags.{added_extends, in_environment, unless_mistaken}
 use Rattle.c_typed_programs.specs.SpelledTypes.Spelled.{IsValueType}
-use Rattle.c_typed_programs.specs.Types.Typed.{AreMembers, Each, HaveTypes, OfEntries, Structures, Typed, Types}
+use Rattle.c_typed_programs.specs.Types.Typed.{AreMembers, Each, HaveTypes, OfEntries, Typed, Types}
 use Rattle.c_typed_programs.specs.Types.Typed.{nothing}
 use Rattle.c_typed_programs.proofs.Types.Kept.{each_append, each_bound, each_changed, each_map, types_kept, value_kept}
 
@@ -93,12 +94,6 @@ marked_types s h (tag.Union n) =
     changed_body (extents s) s.environment.names s.environment.structures.bodies s.environment.entities
     s.function_types n _ (λ b is. is) h
 marked_types s h (tag.Enumeration n) = h
-
-abbrev in_environment : State → Environment × Tag → Answer (State × Tag)
-in_environment s r = Ok (record s { environment = r.0 }, r.1)
-
-abbrev unless_mistaken : (is : Bool) → (line : ℕ) → Environment × Tag → Answer (Environment × Tag)
-unless_mistaken is line r = if is then Ok r else violates rule.MistakenTag line
 
 mistaken_types : (s : State) (line : ℕ) (env : Environment) (t : Tag) (is : Bool)
     → Types (record s { environment = env })

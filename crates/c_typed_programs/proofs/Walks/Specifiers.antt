@@ -2,12 +2,11 @@
 -- of parameters.
 use Rattle.std.proofs.Common.{◌≡◌, ℕ, ◌^◌, Bool, true, false, ◌&&◌, refl, List, [], Option, Some, None, if◌then◌else◌}
 use Rattle.std.specs.Prelude.{Ok, Err, nat_lt, not}
-use Rattle.c_rules.specs.declared.fault.Rule.TheVariants.{LargeType, MistakenTag}
+use Rattle.c_rules.specs.declared.fault.Rule.TheVariants.{LargeType}
 use Rattle.c_rules.specs.Answer.{Answer, violates, ◌>>=◌}
 use Rattle.c_scope.specs.declared.meaning.Tag.{Tag}
 use Rattle.c_scope.specs.declared.meaning.Tag.TheVariants as tag
 use Rattle.c_scope.specs.declared.tags.TagKind.{TagKind}
-use Rattle.c_scope.specs.Environment.{Environment}
 use Rattle.c_scope.specs.Names.{Name, declared, found, meaning, or_else}
 use Rattle.c_scope.specs.Tags.{added, begins_in, has_begun, is_enumeration, is_of, marked, next_tag, referred}
 use Rattle.c_scope.specs.Tags.{tag_found}
@@ -15,14 +14,9 @@ use Rattle.c_typing.specs.Members.{Entries, Entry, extent_with, tag_completed, w
 use Rattle.c_typing.specs.State.{State}
 use Rattle.c_expression_typing.specs.Constructs.{begun_as, tagged_as}
 use Rattle.c_typed_declarators.proofs.Parameters.{behind, within}
+use Rattle.c_typed_declarators.proofs.Tags.{in_environment, unless_mistaken}
 use Rattle.c_typed_programs.proofs.Scopes.Initializers.{IfBehind}
 use Rattle.c_typed_programs.proofs.Walks.States.{IsFresh, StateWalk, Walking, done_walks, refused_walks, step_walks}
-
-abbrev pub in_environment : State → Environment × Tag → Answer (State × Tag)
-in_environment s r = Ok (record s { environment = r.0 }, r.1)
-
-abbrev pub unless_mistaken : (is : Bool) → (line : ℕ) → Environment × Tag → Answer (Environment × Tag)
-unless_mistaken is line r = if is then Ok r else violates MistakenTag line
 
 -- a tag that is not found is not declared in the innermost scope
 

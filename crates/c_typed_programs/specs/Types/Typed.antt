@@ -3,7 +3,6 @@
 use Rattle.std.specs.Prelude.{◌≡◌, ◌⊎◌, true, false, List, [], ◌∷◌, Option, Some, None, Ok, Err, Bool, not, ◌&&◌}
 use Rattle.std.specs.List.{list_any}
 use Rattle.c_tree.specs.declared.c_type.TypeWord.{TypeWord}
-use Rattle.c_tree.specs.Extents.{TypeExtent}
 use Rattle.c_tree.specs.Tree.{lvalue_kind}
 use Rattle.c_tree.specs.TypesAgree.{same_words}
 use Rattle.c_rules.specs.Answer.{Answer}
@@ -24,10 +23,8 @@ use Rattle.c_typing.specs.Declarators.{Shape}
 use Rattle.c_typing.specs.Members.{Entry}
 use Rattle.c_typing.specs.Specifications.{Gathered, Specification}
 use Rattle.c_typing.specs.State.{State, extents}
+use Rattle.c_typed_validity.specs.Steps.{Structures}
 use Rattle.c_typed_programs.specs.SpelledTypes.Spelled.{IsFunctionType, IsValueType, is_readable, is_spelled}
-
-abbrev pub Structures : Type 0
-Structures = List (Option TypeExtent)
 
 abbrev pub IsSpelled : Structures → List TypeWord → Type 0
 IsSpelled es type = is_spelled es 1 type ≡ true

@@ -9,20 +9,15 @@ use Rattle.c_tree.specs.declared.statement.Statement as code
 use Rattle.c_tree.specs.Statements.{Statement, first_expression}
 use Rattle.c_tree.specs.View.{first_of, statement_of}
 use Rattle.c_rules.specs.declared.fault.Refusal.{Refusal}
-use Rattle.c_rules.specs.declared.fault.Refusal.TheVariants.{Memory, Fault}
 use Rattle.c_rules.specs.Answer.{Answer, Fails, Gives, ◌>>=◌}
 use Rattle.c_typing.specs.State.{State, Types, Typing, judged}
+use Rattle.c_syntax_typing.proofs.Composing.{fails_on}
 use Rattle.c_typer.specs.FileState.{FileTypes}
 use Rattle.c_unit_typing.specs.Constructs.{Around, Labels, evaluated, first_typed, in_scope, labelled}
 use Rattle.c_unit_typing.specs.Constructs.{scope_closed, scope_opened}
 use Rattle.c_unit_typing.specs.Files.{File, FileTyping, finished, in_state, ◌~>◌}
 use Rattle.c_unit_typing.specs.Statements.{statement}
 use Rattle.c_typer.specs.Around.{labelled_of}
-
--- what fails does so with all that stands behind it
-pub fails_on : {A B : Type 0} (f : Refusal) (a : Answer A) (next : A → Answer B) → Fails f a → Fails f (a >>= next)
-fails_on Memory a next fails = tt
-fails_on (Fault f) a next fails = ap (λ r. r >>= next) fails
 
 -- what is typed in the state of expressions and declarators
 pub in_file : {A B : Type 0} (view : A → B) (typed : Typing B) (f : File) (new : State) (result : Result A Refusal)

@@ -10,7 +10,7 @@ use Rattle.c_rules.specs.Answer.{Answer, Fails, ◌>>=◌}
 use Rattle.c_unit_typing.specs.Constructs.{Around, Labelled, labels_on}
 use Rattle.c_unit_typing.specs.Files.{File, finished, ◌~>◌}
 use Rattle.c_unit_typing.specs.Statements.{block_item, block_items, switch_item, switch_items}
-use Rattle.c_typer.proofs.Composing.{fails_on}
+use Rattle.c_syntax_typing.proofs.Composing.{fails_on}
 
 -- ---- of a block
 

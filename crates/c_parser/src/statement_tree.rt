@@ -172,7 +172,7 @@ pub fn compound<'a>(alloc: Global, block: Block<'a>) -> Result<Boxed<Statement<'
 }
 
 /// A block of its parts (C99 6.8.2).
-#[tactic(auto, using(crate::proofs::BlockSteps::block_view))]
+#[tactic(auto, using(c_syntax::proofs::StatementViews::block_view))]
 pub fn block_with<'a>(left: Position, items: Items<BlockItem<'a>>, right: Position) -> Block<'a>
     ensures { block_of result ≡ s.block left (items_in items.entry) right }
 {

@@ -1,5 +1,5 @@
 mod Answered
-mod BlockSteps
+mod FirstWord
 mod InitializerLists
 mod Typedefs
 mod UnitLists

@@ -8,7 +8,7 @@ use Rattle.c_parser.specs.StatementSteps.{block_items_in}
 use Rattle.c_grammar.proofs.Extending.{extending, brace_turn, brace_end, each_fails, each_done}
 use Rattle.c_grammar.proofs.Taking.{first_word}
 use Rattle.c_grammar.proofs.Turns.{one_more, no_more}
-use Rattle.c_parser.proofs.BlockSteps.{by_first_word}
+use Rattle.c_parser.proofs.FirstWord.{by_first_word}
 use Rattle.c_parser.proofs.statement.Statements.+reader.Goals as goal
 
 pub statement-returns-then-depth-eq0 : goal.statement-returns-then-depth-eq0

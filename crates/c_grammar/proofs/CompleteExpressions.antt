@@ -154,7 +154,8 @@ module _ (names : List (List ℕ)) (d : ℕ) (deeper : Readers) (known : Complet
   more_again : (n : ℕ) (m : MoreArguments) (q : Position) (r : Words) → AreMoreArguments names m
       → more_arguments_levels m < d
       → length (more_arguments_words m (punctuator p.RightParenthesis q ∷ r)) ≤ n
-      → behind_commas (deeper.expression None least.assignment) n (more_arguments_words m (punctuator p.RightParenthesis q ∷ r))
+      → behind_commas (deeper.expression None least.assignment) n
+      (more_arguments_words m (punctuator p.RightParenthesis q ∷ r))
       ≡ Ok (arguments_list m, punctuator p.RightParenthesis q ∷ r)
   unfolding is_same punctuator_spelling
   more_again n t.end_of_arguments q r h low room = comma_end (deeper.expression None least.assignment) n
@@ -230,8 +231,9 @@ module _ (names : List (List ℕ)) (d : ℕ) (deeper : Readers) (known : Complet
       rw (
         type_name_first names d deeper known x (punctuator p.RightParenthesis q ∷ expression_words e r) h.1,
         le-leb m 14 at,
-        type_name_again names d deeper known (λ x r i. deeper.expression None least.cast i >>= λ e i. Ok (t.cast l x r e, i)) x
-            q (expression_words e r) h.1 low,
+        type_name_again names d deeper known
+            (λ x r i. deeper.expression None least.cast i >>= λ e i. Ok (t.cast l x r e, i)) x q
+            (expression_words e r) h.1 low,
         known.expressions 14 e r h.2 shallow (omega arith) h.0 (next_apart r f),
       ) refl
 
@@ -297,7 +299,8 @@ module _ (names : List (List ℕ)) (d : ℕ) (deeper : Readers) (known : Complet
 
   sizeof_words : (at : Position) (i : Words) (e : Expression) (r : Words) → next_is (is_expression_word names) i ≡ true
       → opens_type i ≡ false
-      → deeper.expression None least.unary i ≡ Ok (e, r) → sizeof_from names deeper d at i ≡ Ok (t.sizeof_expression at e, r)
+      → deeper.expression None least.unary i ≡ Ok (e, r)
+      → sizeof_from names deeper d at i ≡ Ok (t.sizeof_expression at e, r)
   sizeof_words at [] e r some h read = cc
   sizeof_words at (first ∷ i) e r some h read = sizeof_by first.kind at first.position i e r h read
 

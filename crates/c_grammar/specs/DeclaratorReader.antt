@@ -57,7 +57,8 @@ module _ (names : List (List ℕ)) (deeper : Readers) (levels : ℕ) where
   array_from e at i =
       if next_is_punctuator p.RightBracket i
       then (expect p.RightBracket i >>= λ r i. Ok (t.open_array e at r, i))
-      else (deeper.expression None least.conditional i >>= λ x i. expect p.RightBracket i >>= λ r i. Ok (t.array e at x r, i))
+      else (deeper.expression None least.conditional i >>= λ x i. expect p.RightBracket i
+      >>= λ r i. Ok (t.array e at x r, i))
 
   -- a declarator and a suffix that begins with this word
   abbrev pub suffix_from : Declarator → TokenKind → Position → Words → Outcome Declarator

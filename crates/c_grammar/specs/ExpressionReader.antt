@@ -130,7 +130,8 @@ module _ (names : List (List ℕ)) (deeper : Readers) (levels : ℕ) where
   arguments_from i =
       if next_is_punctuator p.RightParenthesis i
       then Ok (t.no_arguments, i)
-      else (deeper.expression None least.assignment i >>= λ e i. behind_commas (deeper.expression None least.assignment) (length i) i
+      else (deeper.expression None least.assignment i
+      >>= λ e i. behind_commas (deeper.expression None least.assignment) (length i) i
       >>= λ z i. Ok (t.arguments e (more_arguments_of z), i))
 
   -- an operation on this first operand, behind its punctuator
@@ -138,10 +139,11 @@ module _ (names : List (List ℕ)) (deeper : Readers) (levels : ℕ) where
   operation_from l x at None i = Err i
   operation_from l x at (Some op.Binary) i = deeper.expression None (suc (binary_precedence x)) i
       >>= λ e i. Ok (t.binary l x at e, i)
-  operation_from l x at (Some op.Assignment) i = deeper.expression None least.assignment i >>= λ e i. Ok (t.assignment l x at e, i)
+  operation_from l x at (Some op.Assignment) i = deeper.expression None least.assignment i
+      >>= λ e i. Ok (t.assignment l x at e, i)
   operation_from l x at (Some op.Conditional) i =
-      deeper.expression None least.comma i >>= λ a i. expect p.Colon i >>= λ colon i. deeper.expression None least.conditional i
-      >>= λ b i. Ok (t.conditional l at a colon b, i)
+      deeper.expression None least.comma i >>= λ a i. expect p.Colon i
+      >>= λ colon i. deeper.expression None least.conditional i >>= λ b i. Ok (t.conditional l at a colon b, i)
   operation_from l x at (Some op.Subscript) i = deeper.expression None least.comma i >>= λ e i. expect p.RightBracket i
       >>= λ r i. Ok (t.subscript l at e r, i)
   operation_from l x at (Some op.Call) i = arguments_from i >>= λ a i. expect p.RightParenthesis i

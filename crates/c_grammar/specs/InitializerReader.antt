@@ -20,8 +20,8 @@ begins_designator w = is_punctuator p.LeftBracket w || is_punctuator p.Dot w
 module _ (deeper : Readers) where
   -- `[ expression ]`
   unfoldable pub element_from : Words → Outcome Designator
-  element_from i = expect p.LeftBracket i >>= λ l i. deeper.expression None least.conditional i >>= λ e i. expect p.RightBracket i
-      >>= λ r i. Ok (t.element l e r, i)
+  element_from i = expect p.LeftBracket i >>= λ l i. deeper.expression None least.conditional i
+      >>= λ e i. expect p.RightBracket i >>= λ r i. Ok (t.element l e r, i)
 
   -- `.` and the name of a member
   unfoldable pub member_named_from : Words → Outcome Designator

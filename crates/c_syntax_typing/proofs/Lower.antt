@@ -23,7 +23,9 @@ use Rattle.c_syntax_typing.proofs.Composing.{declarator_typed, expression_typed,
 
 module _ {E D S : Type 0} (rules : Nested E D S) (for_expressions : Typing E Expression Operand) (n m : ℕ) where
   pub lower_expressions : DeeperExpressions rules for_expressions n → m ≤ n → DeeperExpressions rules for_expressions m
-  lower_expressions deeper fewer = record { expressions = λ e below. deeper.expressions e (omega (arith, below, fewer)) }
+  lower_expressions deeper fewer = record {
+    expressions = λ e below. deeper.expressions e (omega (arith, below, fewer));
+  }
 
 module _ {E D S : Type 0} (rules : Nested E D S) (for_declarators : Typing D Declarator Shape)
     (for_specifiers : Typing S (List Specifier) Specification) (n : ℕ)
@@ -53,7 +55,8 @@ module _ {E D S : Type 0} (rules : Nested E D S) (for_declarators : Typing D Dec
         → specifiers_levels (specifiers_in trees.now) < n → for_specifiers.pre rules.specifiers (old, (b, (trees, tt))))
         → ((old new : MutBor Typer) (b : Bool) (trees : Bor (List Specifier)) (result : Result Specification Refusal)
         → for_specifiers.post rules.specifiers (old, (b, (trees, tt))) (result, (new, tt))
-        → Types specification_of (state_of new.now) result (specification b (specifiers_in trees.now) (state_of old.now)))
+        → Types specification_of (state_of new.now) result
+        (specification b (specifiers_in trees.now) (state_of old.now)))
         → DeeperNames rules for_declarators for_specifiers n
     deeper_names call_d typed_d call_s typed_s = record {
       declarators = λ d below.
@@ -96,12 +99,14 @@ module _ {E D S : Type 0} (rules : Nested E D S) (for_expressions : Typing E Exp
     }
 
     -- the number of levels is that of a tree whose parts have fewer
-    pub deeper : ((old : MutBor Typer) (b : Bool) (tree : Bor Expression) → expression_levels (expression_of tree.now) < n
+    pub deeper : ((old : MutBor Typer) (b : Bool) (tree : Bor Expression)
+        → expression_levels (expression_of tree.now) < n
         → for_expressions.pre rules.expression (old, (b, (tree, tt))))
         → ((old new : MutBor Typer) (b : Bool) (tree : Bor Expression) (result : Result Operand Refusal)
         → for_expressions.post rules.expression (old, (b, (tree, tt))) (result, (new, tt))
         → Types operand_of (state_of new.now) result (typed b (expression_of tree.now) (state_of old.now)))
-        → DeeperNames rules for_declarators for_specifiers n → Deeper rules for_expressions for_declarators for_specifiers n
+        → DeeperNames rules for_declarators for_specifiers n
+        → Deeper rules for_expressions for_declarators for_specifiers n
     deeper call_e typed_e names = record {
       expressions = λ e below.
           record {
@@ -112,3 +117,5 @@ module _ {E D S : Type 0} (rules : Nested E D S) (for_expressions : Typing E Exp
       declarators = names.declarators;
       specifiers = names.specifiers;
     }
+
+pub ruleset parts_alone = (for_expressions_alone, for_names_alone)

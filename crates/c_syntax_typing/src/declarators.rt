@@ -146,7 +146,8 @@ impl<
         before: Shape<'a>,
         parameters: &Parameters<'a>,
     ) -> Result<Shape<'a>, Refusal>
-        requires deeper { DeeperNames self.now D.FnOnce S.FnOnce (suc (parameters_levels (parameters_of parameters.now))) }
+        requires deeper { DeeperNames self.now D.FnOnce S.FnOnce
+            (suc (parameters_levels (parameters_of parameters.now))) }
         ensures { Types shape_of (state_of typer.new) result ((scope_opened >>> λ variables.
             parameter_types in_definition (parameters_of parameters.now) >>> λ types. scope_left variables >>> λ scope.
             done (with_function types scope (shape_of before.entry))) (state_of typer.old)) }
@@ -169,7 +170,8 @@ impl<
         parameters: &Parameters<'a>,
     ) -> Result<Shape<'a>, Refusal>
         requires inner { TypesDeclarator D.FnOnce self.now.declarator (declarator_of inner.now) }
-        requires parameters { DeeperNames self.now D.FnOnce S.FnOnce (suc (parameters_levels (parameters_of parameters.now))) }
+        requires parameters { DeeperNames self.now D.FnOnce S.FnOnce
+            (suc (parameters_levels (parameters_of parameters.now))) }
         ensures { (closing : Position) → Types shape_of (state_of typer.new) result (shape in_definition
             (tree.function (declarator_of inner.now) opening (parameters_of parameters.now) closing)
             (state_of typer.old)) }

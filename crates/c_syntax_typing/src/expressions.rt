@@ -267,7 +267,7 @@ impl<
     }
 
     /// An expression, by the rule for its outermost operator.
-    #[tactic(auto, using(crate::proofs::Lower::for_expressions_alone, crate::proofs::Lower::for_names_alone))]
+    #[tactic(auto, using(crate::proofs::Lower::parts_alone))]
     pub(crate) fn expression_at(
         &self,
         typer: &mut Typer<'a>,

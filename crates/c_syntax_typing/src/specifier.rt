@@ -187,7 +187,7 @@ impl<
     ghost use Rattle.c_syntax_typing.specs.Nested.{Deeper};
 
     // What specifiers say with one more, where their first token stands on a line.
-    #[tactic(auto, using(crate::proofs::Lower::for_expressions_alone, crate::proofs::Lower::for_names_alone, c_syntax::proofs::ListViews::enumeration_view))]
+    #[tactic(auto, using(crate::proofs::Lower::parts_alone, c_syntax::proofs::ListViews::enumeration_view))]
     fn with_specifier(
         &self,
         typer: &mut Typer<'a>,

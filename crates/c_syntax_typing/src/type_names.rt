@@ -91,7 +91,8 @@ impl<
         in_definition: bool,
         parameters: &Parameters<'a>,
     ) -> Result<Vec<CType>, Refusal>
-        requires deeper { DeeperNames self.now D.FnOnce S.FnOnce (suc (parameters_levels (parameters_of parameters.now))) }
+        requires deeper { DeeperNames self.now D.FnOnce S.FnOnce
+            (suc (parameters_levels (parameters_of parameters.now))) }
         ensures { Types (λ types. types.items) (state_of typer.new) result
             (parameter_types in_definition (parameters_of parameters.now) (state_of typer.old)) }
     {

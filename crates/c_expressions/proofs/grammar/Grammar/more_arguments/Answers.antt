@@ -33,7 +33,8 @@ loop-preserved g c =
     c.loop.invariant.read in
     record {
       read = rw (c.in_ok-others.ensures.0, c.in_ok-before.ensures.ok.0)
-          (e ∙ comma_turn expression_of ((readers c.args.self.now.names.now c.args.self.now.levels).expression None least.assignment)
+          (e ∙ comma_turn expression_of
+          ((readers c.args.self.now.names.now c.args.self.now.levels).expression None least.assignment)
           (length c.args.tokens.now.rest.now - (c.loop.counter + 1)) c.loop.others.tree.items
           c.in_ok-before.argument.tree
           c.loop.tokens.rest.now c.in-Some.position c.take.new.self.rest.now c.expression.new.tokens.rest.now

@@ -8,10 +8,11 @@ use Rattle.c_expressions.proofs.grammar.Grammar.more_arguments.Given as goal
 
 abbrev pub invariant-loop : goal.invariant-loop
 invariant-loop g l = record {
-  read : behind_commas ((readers l.self.names.now l.self.levels).expression None least.assignment) (length l.fn.tokens.rest.now)
-      l.fn.tokens.rest.now
+  read : behind_commas ((readers l.self.names.now l.self.levels).expression None least.assignment)
+      (length l.fn.tokens.rest.now) l.fn.tokens.rest.now
       ≡ extending (arguments_behind l.others.tree.items) (behind_commas
-      ((readers l.self.names.now l.self.levels).expression None least.assignment) (l.end - l.counter) l.tokens.rest.now);
+      ((readers l.self.names.now l.self.levels).expression None least.assignment) (l.end - l.counter)
+      l.tokens.rest.now);
   known : l.others.levels ≡ arguments_behind_levels (arguments_behind l.others.tree.items);
   low : l.others.levels < l.self.levels;
 }

@@ -18,7 +18,8 @@ returns g c =
     let spec = specification_of c.args.specification.now in
     let shaped : typed (state_of c.args.typer.now) ≡ Ok (s1, shape_of sh) =
     subst (λ r. Types shape_of s1 r (typed (state_of c.args.typer.now))) c.in_ok-before.ensures.ok.1 c.shape.ensures in
-    let added = subst (λ b. Gives entries_of c.member_added-added.result (member_added spec (shape_of sh) (entries_of b) s1))
+    let added =
+    subst (λ b. Gives entries_of c.member_added-added.result (member_added spec (shape_of sh) (entries_of b) s1))
     c.in_ok-before.ensures.ok.0 c.member_added-added.ensures in
     subst (λ r. Types entries_of s1 r (with_shape spec (entries_of c.args.before) typed (state_of c.args.typer.now)))
     (sym c.without.ensures)

@@ -1,5 +1,6 @@
 -- Function values and lists as the code has them, for the contracts of functions that read initializers.
 use Rattle.std.specs.Prelude.{ℕ, List, map, Result, Option}
+use Rattle.std.specs.Fn.{Once}
 use Rattle.std.specs.declared.alloc.Global.{Global}
 use denote.Ref.{MutBor, Bor}
 use Rattle.c_syntax.specs.declared.position.Position.{Position}
@@ -12,16 +13,17 @@ use Rattle.c_grammar.specs.InitializerReader.{initializers}
 use Rattle.c_grammar.specs.Reads.{Reads}
 use Rattle.c_grammar.specs.declared.cursor.Cursor.{Cursor}
 use Rattle.c_grammar.specs.declared.cursor.Fault.{Fault}
+use Rattle.c_parser.specs.declared.initializer.Initializers.{Initializers}
 
--- a function value that reads initializers with fewer levels than n
-pub record DeeperInitializers (n : ℕ)
-    (pre : Global → Bor (List (List ℕ)) → MutBor Cursor → ℕ → Type 0)
-    (post : Global → Bor (List (List ℕ)) → MutBor Cursor → ℕ → Result Initializer Fault → MutBor Cursor → Type 0) : Type
-    0 where
-  pub callable : (alloc : Global) (names : Bor (List (List ℕ))) (old : MutBor Cursor) → pre alloc names old n
+-- the function value of these rules reads initializers with fewer levels than the rules' number
+pub record DeeperInitializers {I : Type 0} (rules : Initializers I)
+    (for_initializers : Once I (Global × (Bor (List (List ℕ)) × (MutBor Cursor × (ℕ × Unit {0}))))
+    (Result Initializer Fault × (MutBor Cursor × Unit {0}))) : Type 0 where
+  pub callable : (alloc : Global) (names : Bor (List (List ℕ))) (old : MutBor Cursor)
+      → for_initializers.pre rules.initializer (alloc, (names, (old, (rules.levels, tt))))
   pub reads : (alloc : Global) (names : Bor (List (List ℕ))) (old new : MutBor Cursor) (r : Result Initializer Fault)
-      → post alloc names old n r new
-      → Reads initializer_of (initializers names.now n old.now.rest.now) r new.now.rest.now
+      → for_initializers.post rules.initializer (alloc, (names, (old, (rules.levels, tt)))) (r, (new, tt))
+      → Reads initializer_of (initializers names.now rules.levels old.now.rest.now) r new.now.rest.now
 
 -- items behind commas, and the last comma (C99 6.7.8)
 abbrev pub items_to_brace : List (Position × rj.InitializerItem) × Option Position

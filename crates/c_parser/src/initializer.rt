@@ -7,7 +7,6 @@ ghost use Rattle.c_grammar.specs.Reader as reader;
 ghost use Rattle.c_grammar.specs.Reader.{behind_commas_to_brace};
 ghost use Rattle.c_grammar.specs.Nested.{readers};
 ghost use Rattle.c_grammar.specs.Reads.{Reads};
-ghost use Rattle.c_parser.specs.InitializerSteps.{DeeperInitializers, items_to_brace};
 ghost use Rattle.c_syntax.specs.StatementsView.{designator_of, designators_in, designation_of, initializer_of, item_of};
 
 use c_expressions::leveled::{beside, with_item};
@@ -169,11 +168,19 @@ pub(crate) struct Initializers<'t, 'a, I> {
 impl<
     't,
     'a,
-    I: Fn(Global, &TypedefNames<'a>, &mut Cursor<'_, 'a>, usize) -> Result<Initializer<'a>, Fault>,
+    I: FnOnce(
+        Global,
+        &TypedefNames<'a>,
+        &mut Cursor<'_, 'a>,
+        usize,
+    ) -> Result<Initializer<'a>, Fault>
+        + Copy,
 > Initializers<'t, 'a, I> {
+    ghost use Rattle.c_parser.specs.InitializerSteps.{DeeperInitializers, items_to_brace};
+
     /// Reads an initializer with fewer levels.
     fn deeper(&self, tokens: &mut Cursor<'_, 'a>) -> Result<Initializer<'a>, Fault>
-        requires { DeeperInitializers self.now.levels (I.pre self.now.initializer) (I.post self.now.initializer) }
+        requires { DeeperInitializers self.now I.FnOnce }
         ensures { Reads initializer_of (spec.initializers self.now.names.now self.now.levels tokens.old.rest.now) result
             tokens.new.rest.now }
     {
@@ -183,7 +190,7 @@ impl<
     /// Reads a designation or none, and an initializer (C99 6.7.8).
     #[tactic(auto, unfolding(c_grammar::specs::InitializerReader::item_from))]
     fn item(&self, tokens: &mut Cursor<'_, 'a>) -> Result<InitializerItem<'a>, Fault>
-        requires { DeeperInitializers self.now.levels (I.pre self.now.initializer) (I.post self.now.initializer) }
+        requires { DeeperInitializers self.now I.FnOnce }
         ensures { Reads item_of (spec.item_from (readers self.now.names.now self.now.levels)
             (spec.initializers self.now.names.now self.now.levels) tokens.old.rest.now) result tokens.new.rest.now }
     {
@@ -201,7 +208,7 @@ impl<
         &self,
         tokens: &mut Cursor<'_, 'a>,
     ) -> Result<(Items<(Position, InitializerItem<'a>)>, Option<Position>), Fault>
-        requires { DeeperInitializers self.now.levels (I.pre self.now.initializer) (I.post self.now.initializer) }
+        requires { DeeperInitializers self.now I.FnOnce }
         ensures { Reads items_to_brace (behind_commas_to_brace (spec.item_from
             (readers self.now.names.now self.now.levels) (spec.initializers self.now.names.now self.now.levels))
             (length tokens.old.rest.now) tokens.old.rest.now) result tokens.new.rest.now }
@@ -223,7 +230,7 @@ impl<
     /// Reads `{ items }` (C99 6.7.8).
     #[tactic(auto, unfolding(c_grammar::specs::InitializerReader::braced_from))]
     pub(crate) fn braced(&self, tokens: &mut Cursor<'_, 'a>) -> Result<Initializer<'a>, Fault>
-        requires { DeeperInitializers self.now.levels (I.pre self.now.initializer) (I.post self.now.initializer) }
+        requires { DeeperInitializers self.now I.FnOnce }
         ensures { Reads initializer_of (spec.braced_from (spec.item_from (readers self.now.names.now self.now.levels)
             (spec.initializers self.now.names.now self.now.levels)) tokens.old.rest.now) result tokens.new.rest.now }
     {

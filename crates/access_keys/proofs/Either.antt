@@ -1,9 +1,4 @@
 -- One of none more.
-use Rattle.std.proofs.Common.{◌≡◌, Bool, true, false, refl}
-use Rattle.std.specs.Prelude.{◌||◌}
+use Rattle.std.proofs.Math.Bool.{or-false}
 
-pub or_none : (b : Bool) → b || false ≡ b
-or_none true = refl
-or_none false = refl
-
-pub ruleset either = (or_none)
+pub ruleset either = (or-false)

@@ -2,7 +2,7 @@
 use Rattle.std.proofs.Common.{◌≡◌, ℕ, zero, suc, ◌+◌, ◌-◌, ◌<◌, ◌≤◌, ◌⊎◌, inl, inr, ⊎_elim, List, [], ◌∷◌, ◌++◌, length}
 use Rattle.std.proofs.Common.{Some, Bool}
 use Rattle.std.proofs.Common.{true, false, ◌&&◌, ◌||◌, if◌then◌else◌, refl, sym, ap, ◌∙◌, subst, arith, true≢false}
-use Rattle.std.proofs.Common.{length-append, get_or, add-one}
+use Rattle.std.proofs.Common.{append-nil, length-append, get_or, add-one}
 use Rattle.std.specs.Prelude.{slice_get, nat_eq, nat_le, nat_lt, Vec}
 use Rattle.std.specs.Global.{Global}
 use Rattle.std.proofs.lemmas.Option.{get_or_from_slice_get}
@@ -81,10 +81,6 @@ put_twice xs y = by (ends_with xs y) refl
     by true e = rw (e, e) refl
     by false e = rw (e, ends_behind xs y y, eq-eqb y y refl) refl
 
-pub nothing_behind : {A : Type 0} (xs : List A) → xs ++ [] ≡ xs
-nothing_behind [] = refl
-nothing_behind (x ∷ xs) = ap (λ ys. x ∷ ys) (nothing_behind xs)
-
 -- what is saved of the first so many virtual registers does not end with a later one
 pub saved_ends : (f : FlatFunction) (plan : FunctionPlan) (pc n m : ℕ) → n ≤ m
     → ends_with (saved_below f plan pc n) m ≡ false
@@ -95,7 +91,7 @@ saved_ends f plan pc (suc n) m l = by (is_saved f plan pc n) (saved_ends f plan 
     by : (b : Bool) → ends_with (saved_below f plan pc n) m ≡ false
         → ends_with (saved_below f plan pc n ++ (if b then n ∷ [] else [])) m ≡ false
     by true h = ends_behind (saved_below f plan pc n) n m ∙ ne_eqb n m (λ e. omega (arith, e))
-    by false h = ap (λ xs. ends_with xs m) (nothing_behind (saved_below f plan pc n)) ∙ h
+    by false h = ap (λ xs. ends_with xs m) (append-nil (saved_below f plan pc n)) ∙ h
 
 pub saved_more : (f : FlatFunction) (plan : FunctionPlan) (pc n : ℕ) (row row' : List ℕ)
     → row ≡ saved_below f plan pc n → row' ≡ (if is_saved f plan pc n then with_last row n else row)
@@ -105,7 +101,7 @@ saved_more f plan pc n row row' e e' = e' ∙ by (is_saved f plan pc n) ∙ ap (
   where
     by : (b : Bool) → (if b then with_last row n else row) ≡ saved_below f plan pc n ++ (if b then n ∷ [] else [])
     by true = rw (e, saved_ends f plan pc n n (omega arith)) refl
-    by false = e ∙ sym (nothing_behind (saved_below f plan pc n))
+    by false = e ∙ sym (append-nil (saved_below f plan pc n))
 
 -- one test after another, and none
 pub puts_more : (body : List FlatInstruction) (old mid new : List (Vec ℕ Global)) (y : ℕ) (s t both : ℕ → Bool)

@@ -1,3 +1,3 @@
 mod Blocks
 mod Lists
-mod Programs
+pub mod Programs

@@ -51,7 +51,8 @@ few_bytes m p plans ok = let b = below_most m p plans ok (length p.functions) in
 
 -- ---- where calls hand over few values
 
-few_for_constant : (n : ℕ) → constant_words n ≤ 11
+-- a number takes at most eleven words
+pub few_for_constant : (n : ℕ) → constant_words n ≤ 11
 few_for_constant n = by (is_immediate n) (nat_lt n (2 ^ 31 - 2 ^ 11) || nat_le (2 ^ 64 - 2 ^ 31) n)
   where
     by : (a b : Bool) → (if a then 1 else (if b then 2 else 11)) ≤ 11

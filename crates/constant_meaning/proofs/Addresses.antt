@@ -1,5 +1,6 @@
 -- Address constants.
 use Rattle.std.proofs.Common.{◌≡◌, ℕ, ◌*◌, ◌-◌, ◌%◌, ◌^◌, Option, Some, None, refl, sym, ◌⊎◌, inl, inr}
+use Rattle.std.proofs.lemmas.Option.{same_Some}
 use Rattle.obj_memory.specs.declared.value.Scalar.TheVariants.{Integer, Pointer}
 use Rattle.obj_memory.specs.declared.value.Value.{Value}
 use Rattle.obj_memory.specs.Objects.{pointer_to}
@@ -22,7 +23,7 @@ use Rattle.source_meaning.specs.Expressions.{evaluate, value, place, node_place,
 use Rattle.source_meaning.specs.Acting.{at_work}
 use Rattle.constant_meaning.specs.Finding.{Finds, PointTo}
 use Rattle.constant_meaning.proofs.Steps.{finds_on, finds_counted, finds_give, finds_read, finds_same, finds_pointer}
-use Rattle.constant_meaning.proofs.Steps.{some_injective, mapped}
+use Rattle.constant_meaning.proofs.Steps.{mapped}
 use Rattle.constant_meaning.proofs.Integers.{constant_finds}
 
 -- a pointer and an index that are both known
@@ -38,14 +39,14 @@ pub moves_forward : (size : ℕ) (p : Option Value) (i : Option ℕ) (v : Value)
 moves_forward size None i v e = absurd cc
 moves_forward size (Some p) None v e = absurd cc
 moves_forward size (Some p) (Some i) v e =
-    record { pointer = p; is_pointer = refl; index = i; is_index = refl; to = some_injective e }
+    record { pointer = p; is_pointer = refl; index = i; is_index = refl; to = same_Some _ _ e }
 
 pub moves_back : (size : ℕ) (p : Option Value) (i : Option ℕ) (v : Value) → back size p i ≡ Some v
     → IsMoved (λ k q. moved (2 ^ 64 - (k * size) % 2 ^ 64) q) p i v
 moves_back size None i v e = absurd cc
 moves_back size (Some p) None v e = absurd cc
 moves_back size (Some p) (Some i) v e =
-    record { pointer = p; is_pointer = refl; index = i; is_index = refl; to = some_injective e }
+    record { pointer = p; is_pointer = refl; index = i; is_index = refl; to = same_Some _ _ e }
 
 -- what is converted to a pointer: a constant's word or a pointer
 record IsPointer (k : Kind) (w : Option ℕ) (p : Option Value) (v : Value) : Type 0 where

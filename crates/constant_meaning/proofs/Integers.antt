@@ -1,6 +1,8 @@
 -- Integer constant expressions.
 use Rattle.std.proofs.Common.{◌≡◌, ℕ, Bool, true, false, Option, Some, None, refl, ap, sym, ◌∙◌}
 use Rattle.std.specs.Prelude.{◌&&◌, ◌==◌, not, if◌then◌else◌}
+use Rattle.std.proofs.lemmas.Option.{same_Some}
+use Rattle.std.proofs.lemmas.Bool.{and_parts}
 use Rattle.obj_memory.specs.declared.value.Scalar.TheVariants.{Integer, Pointer}
 use Rattle.obj_memory.specs.Integers.{fit}
 use Rattle.obj_memory.specs.Operators.{one_if, unary_value, binary_value}
@@ -17,8 +19,8 @@ use Rattle.source_meaning.specs.Structures.{give}
 use Rattle.source_meaning.specs.Expressions.{evaluate, value}
 use Rattle.source_meaning.specs.Acting.{at_work}
 use Rattle.constant_meaning.specs.Finding.{Finds}
-use Rattle.constant_meaning.proofs.Steps.{finds_on, finds_counted, finds_give, finds_same, finds_quotient, both}
-use Rattle.constant_meaning.proofs.Steps.{follows, mapped, some_injective}
+use Rattle.constant_meaning.proofs.Steps.{finds_on, finds_counted, finds_give, finds_same, finds_quotient}
+use Rattle.constant_meaning.proofs.Steps.{follows, mapped}
 
 -- operators see an operand at the same type
 same_type : (k : Kind) → type_of k ≡ integer_type (scalar_of k)
@@ -50,7 +52,7 @@ record IsTruth (o : Option ℕ) (w : ℕ) : Type 0 where
 
 is_truth : (o : Option ℕ) (w : ℕ) → truth o ≡ Some w → IsTruth o w
 is_truth None w e = absurd cc
-is_truth (Some x) w e = record { from = x; is_from = refl; to = some_injective e }
+is_truth (Some x) w e = record { from = x; is_from = refl; to = same_Some _ _ e }
 
 one_if_not : (b : Bool) → one_if (not b) ≡ (if b then 0 else 1)
 one_if_not true = refl
@@ -66,14 +68,14 @@ tested_finds env e w s ih h =
 and_finds : (b : Bool) (env : Env) (e : Expression) (w : ℕ) (s : State) → IsFound env e
     → (if b then Some 0 else truth (value_of e)) ≡ Some w
     → Finds (choose b (give (integer 0)) (tested env e)) (integer w) s
-and_finds true env e w s ih h = finds_same (ap integer (some_injective h)) (finds_give (integer 0) s)
+and_finds true env e w s ih h = finds_same (ap integer (same_Some _ _ h)) (finds_give (integer 0) s)
 and_finds false env e w s ih h = tested_finds env e w s ih h
 
 or_finds : (b : Bool) (env : Env) (e : Expression) (w : ℕ) (s : State) → IsFound env e
     → (if b then truth (value_of e) else Some 1) ≡ Some w
     → Finds (choose b (tested env e) (give (integer 1))) (integer w) s
 or_finds true env e w s ih h = tested_finds env e w s ih h
-or_finds false env e w s ih h = finds_same (ap integer (some_injective h)) (finds_give (integer 1) s)
+or_finds false env e w s ih h = finds_same (ap integer (same_Some _ _ h)) (finds_give (integer 1) s)
 
 either_finds : (b : Bool) (env : Env) (first second : Expression) (w : ℕ) (s : State) → IsFound env first
     → IsFound env second
@@ -85,12 +87,12 @@ either_finds false env first second w s ih ih' h = ih w s h
 mutual
   form_finds : (env : Env) (e : Expression) → has_form e ≡ true → IsFound env e
   form_finds env (expression k line n) f w s v =
-      let fs = both (is_integer k) (node_has_form n) f in node_finds env k line n fs.0 fs.1 w s v
+      let fs = and_parts (is_integer k) (node_has_form n) f in node_finds env k line n fs.0 fs.1 w s v
 
   node_finds : (env : Env) (k : Kind) (line : ℕ) (n : Node) → is_integer k ≡ true → node_has_form n ≡ true
       → (w : ℕ) (s : State) → node_value k n ≡ Some w → Finds (value env n k line) (integer w) s
   node_finds env k line (constant x) i f w s v = finds_counted
-      (finds_same (ap integer (some_injective v)) (finds_give (integer x) _))
+      (finds_same (ap integer (same_Some _ _ v)) (finds_give (integer x) _))
   node_finds env k line (parenthesized e) i f w s v = finds_counted (form_finds env e f w _ v)
   node_finds env k line (cast e) i f w s v =
       let m = mapped (fit (type_of k)) (value_of e) w v in
@@ -106,7 +108,7 @@ mutual
       finds_counted (finds_on _ (form_finds env e f m.from _ m.is_from)
       (finds_same (ap integer (same ∙ m.to)) (finds_give _ _)))
   node_finds env k line (binary op a b) i f w s v =
-      let fs = both (has_form a) (has_form b) f in
+      let fs = and_parts (has_form a) (has_form b) f in
       let t = type_of (kind_of a) in
       let x = follows (value_of a) (λ x. with_value (value_of b) (binary_value op t x)) w v in
       let y = follows (value_of b) (binary_value op t x.first) w x.then in
@@ -116,18 +118,18 @@ mutual
       (finds_quotient (binary_value op (integer_type (scalar_of (kind_of a))) x.first y.first) w line _
       (same ∙ y.then))))
   node_finds env k line (logical_and a b) i f w s v =
-      let fs = both (has_form a) (has_form b) f in
+      let fs = and_parts (has_form a) (has_form b) f in
       let x = follows (value_of a) (λ x. if x == 0 then Some 0 else truth (value_of b)) w v in
       finds_counted (finds_on _ (form_finds env a fs.0 x.first _ x.is_first)
       (and_finds (x.first == 0) env b w _ (form_finds env b fs.1) x.then))
   node_finds env k line (logical_or a b) i f w s v =
-      let fs = both (has_form a) (has_form b) f in
+      let fs = and_parts (has_form a) (has_form b) f in
       let x = follows (value_of a) (λ x. if x == 0 then truth (value_of b) else Some 1) w v in
       finds_counted (finds_on _ (form_finds env a fs.0 x.first _ x.is_first)
       (or_finds (x.first == 0) env b w _ (form_finds env b fs.1) x.then))
   node_finds env k line (conditional c a b) i f w s v =
-      let fs = both (has_form c) (has_form a && has_form b) f in
-      let gs = both (has_form a) (has_form b) fs.1 in
+      let fs = and_parts (has_form c) (has_form a && has_form b) f in
+      let gs = and_parts (has_form a) (has_form b) fs.1 in
       let x = follows (value_of c) (λ x. if x == 0 then value_of b else value_of a) w v in
       finds_counted (finds_on _ (form_finds env c fs.0 x.first _ x.is_first)
       (either_finds (x.first == 0) env a b w _ (form_finds env a gs.0) (form_finds env b gs.1) x.then))

@@ -1,6 +1,7 @@
 -- No constant names a variable.
 use Rattle.std.proofs.Common.{◌≡◌, ℕ, Bool, true, false, Some, Ok, List, [], ◌∷◌, refl, ap, ◌∙◌}
 use Rattle.std.specs.Prelude.{◌&&◌, ◌||◌}
+use Rattle.std.proofs.lemmas.Bool.{and_parts}
 use Rattle.obj_memory.specs.declared.value.Scalar.{Scalar}
 use Rattle.obj_memory.specs.declared.value.Scalar.TheVariants.{Integer, Pointer}
 use Rattle.obj_memory.specs.declared.value.Value.{Value}
@@ -22,7 +23,7 @@ use Rattle.c_const.specs.Integers.{has_form, node_has_form, constant_word}
 use Rattle.c_const.specs.Addresses.{Pointers, untagged, to_pointer, address_of, node_address, designated}
 use Rattle.c_const.specs.Addresses.{node_designated, place_of, node_place}
 use Rattle.c_const.specs.Contents.{Contents, constant_in, with_content, with_parts}
-use Rattle.constant_meaning.proofs.Steps.{both, mapped}
+use Rattle.constant_meaning.proofs.Steps.{mapped}
 use Rattle.constant_meaning.proofs.Integers.{constant_is}
 use Rattle.constant_meaning.proofs.Addresses.{moves_forward, moves_back}
 use Rattle.constant_meaning.proofs.Storing.{is_then, is_stored}
@@ -40,7 +41,7 @@ two p q = neither p (one q)
 
 mutual
   form_unnamed : (e : Expression) → has_form e ≡ true → names_variable e ≡ false
-  form_unnamed (expression k line n) f = node_unnamed k n (both (is_integer k) (node_has_form n) f).1
+  form_unnamed (expression k line n) f = node_unnamed k n (and_parts (is_integer k) (node_has_form n) f).1
 
   node_unnamed : (k : Kind) (n : Node) → node_has_form n ≡ true
       → (names_itself (visited k n) || any_of (walk_operands names_made n)) ≡ false
@@ -49,15 +50,15 @@ mutual
   node_unnamed k (cast e) f = one (form_unnamed e f)
   node_unnamed k (convert e) f = one (form_unnamed e f)
   node_unnamed k (unary op e) f = one (form_unnamed e f)
-  node_unnamed k (binary op a b) f = let fs = both (has_form a) (has_form b) f in two (form_unnamed a fs.0)
+  node_unnamed k (binary op a b) f = let fs = and_parts (has_form a) (has_form b) f in two (form_unnamed a fs.0)
       (form_unnamed b fs.1)
-  node_unnamed k (logical_and a b) f = let fs = both (has_form a) (has_form b) f in two (form_unnamed a fs.0)
+  node_unnamed k (logical_and a b) f = let fs = and_parts (has_form a) (has_form b) f in two (form_unnamed a fs.0)
       (form_unnamed b fs.1)
-  node_unnamed k (logical_or a b) f = let fs = both (has_form a) (has_form b) f in two (form_unnamed a fs.0)
+  node_unnamed k (logical_or a b) f = let fs = and_parts (has_form a) (has_form b) f in two (form_unnamed a fs.0)
       (form_unnamed b fs.1)
   node_unnamed k (conditional c a b) f =
-      let fs = both (has_form c) (has_form a && has_form b) f in
-      let gs = both (has_form a) (has_form b) fs.1 in
+      let fs = and_parts (has_form c) (has_form a && has_form b) f in
+      let gs = and_parts (has_form a) (has_form b) fs.1 in
       neither (form_unnamed c fs.0) (two (form_unnamed a gs.0) (form_unnamed b gs.1))
   node_unnamed k n f = absurd cc
 

@@ -139,7 +139,8 @@ statics_leave ps env n (o ∷ os) (c ∷ cs) s h placed made at =
 
 -- the objects of a program
 
-ends : (os : List StaticObject) (offset : ℕ) → offset ≤ statics_end os offset
+-- static objects end no earlier than they begin
+pub ends : (os : List StaticObject) (offset : ℕ) → offset ≤ statics_end os offset
 ends [] offset = omega arith
 ends (o ∷ os) offset = let rest = ends os (rounded_up 16 offset + size_of_kind o.kind) in omega (arith, rest)
 

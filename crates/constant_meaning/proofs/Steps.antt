@@ -1,6 +1,7 @@
 -- Steps of runs that find values, and what follows from definitions by cases.
-use Rattle.std.proofs.Common.{◌≡◌, ℕ, ◌+◌, Bool, true, false, Option, Some, None, refl, ap, subst, ◌∙◌}
-use Rattle.std.specs.Prelude.{◌&&◌, option_map}
+use Rattle.std.proofs.Common.{◌≡◌, ℕ, ◌+◌, Option, Some, None, refl, ap, subst, ◌∙◌}
+use Rattle.std.specs.Prelude.{option_map}
+use Rattle.std.proofs.lemmas.Option.{same_Some}
 use Rattle.obj_memory.specs.declared.value.Value.{Value}
 use Rattle.c_const.specs.Integers.{with_value}
 use Rattle.source_meaning.specs.State.{State, Rvalue, Run, on, ◌>>=◌, read_state}
@@ -32,19 +33,12 @@ finds_same {r = r} {s = s} e h = let P : Value → Type 0 = λ v. Finds r v s in
 pub finds_pointer : {r : Run Rvalue} {v : Value} {s : State} → Finds r v s → Finds (as_pointer r) v s
 finds_pointer {v = v} {s = s} h = finds_on _ h (finds_give v (at_work h.work s))
 
-pub some_injective : {A : Type 0} {x y : A} → Some x ≡ Some y → x ≡ y
-some_injective e = cc
-
 pub finds_quotient : (o : Option ℕ) (w line : ℕ) (s : State) → o ≡ Some w
     → Finds (as_rvalue (value_or_divide o line)) (integer w) s
 finds_quotient None w line s e = absurd cc
-finds_quotient (Some x) w line s e = finds_same (ap integer (some_injective e)) (finds_give (integer x) s)
+finds_quotient (Some x) w line s e = finds_same (ap integer (same_Some _ _ e)) (finds_give (integer x) s)
 
 -- cases
-
-pub both : (a b : Bool) → (a && b) ≡ true → (a ≡ true) × (b ≡ true)
-both true b e = (refl, e)
-both false b e = absurd cc
 
 pub record Follows (o : Option ℕ) (f : ℕ → Option ℕ) (w : ℕ) : Type 0 where
   pub first : ℕ
@@ -62,4 +56,4 @@ pub record Mapped {A B : Type 0} (f : A → B) (o : Option A) (b : B) : Type 0 w
 
 pub mapped : {A B : Type 0} (f : A → B) (o : Option A) (b : B) → option_map f o ≡ Some b → Mapped f o b
 mapped f None b e = absurd cc
-mapped f (Some a) b e = record { from = a; is_from = refl; to = some_injective e }
+mapped f (Some a) b e = record { from = a; is_from = refl; to = same_Some _ _ e }

@@ -3,7 +3,7 @@ use Rattle.std.proofs.Common.{◌≡◌, ℕ, ◌+◌, ◌-◌, ◌/◌, ◌%◌
 use Rattle.std.proofs.Common.{Option, Some, None, Result, Ok, Err, refl, ap, sym, subst, ◌∙◌, ◌⊎◌, inl, inr, arith}
 use Rattle.std.specs.Prelude.{if◌then◌else◌, set}
 use Rattle.std.specs.List.{list_all}
-use Rattle.std.proofs.lemmas.Bool.{cases_lt, leb-true}
+use Rattle.std.proofs.lemmas.Bool.{cases_lt, leb-true, and_parts}
 use Rattle.std.proofs.lemmas.Grind.{common_steps}
 use Rattle.std.proofs.Math.Nat.{mod-eq_of_lt}
 use Rattle.byteorder.specs.Endian.{little_bytes}
@@ -39,7 +39,7 @@ use Rattle.source_meaning.specs.Initializers.{store_bytes, store_content, store_
 use Rattle.source_meaning.specs.Acting.{at_work}
 use Rattle.constant_meaning.specs.Finding.{Finds, PointTo}
 use Rattle.constant_meaning.specs.Leaving.{AreBytes, HasBytes, HaveBytes}
-use Rattle.constant_meaning.proofs.Steps.{finds_same, mapped, both}
+use Rattle.constant_meaning.proofs.Steps.{finds_same, mapped}
 use Rattle.constant_meaning.proofs.Integers.{constant_finds}
 use Rattle.constant_meaning.proofs.Addresses.{address_finds}
 use Rattle.constant_meaning.proofs.Overwriting.{length_overwrite, more_elements}
@@ -351,7 +351,7 @@ pub parts_leave : (ps : Pointers) (env : Env) (n : ℕ) (p : Value) (size : ℕ)
 parts_leave ps env n p size [] s d at stands small long inside h = leaves_same (ok_injective h) (leaves_skip n s)
 parts_leave ps env n p size (q ∷ qs) s d at stands small long inside h =
     let c = contents_of (object_at s.objects n) in
-    let i = both (is_inside size q) (list_all (is_inside size) qs) inside in
+    let i = and_parts (is_inside size q) (list_all (is_inside size) qs) inside in
     let fits : q.offset + content_size q.content ≤ size = leb-true (q.offset + content_size q.content) size i.0 in
     let t = is_then (with_content ps q.offset q.content c) (with_parts ps qs) d h in
     let first = content_leaves ps env n p s q.offset q.content t.between at stands small.0 (omega (arith, fits, long))

@@ -1,6 +1,7 @@
 -- Code and tables that grow.
 use Rattle.std.proofs.Common.{◌≡◌, ℕ, zero, suc, ◌+◌, ◌*◌, ◌≤◌, List, [], ◌∷◌, ◌++◌, length, Some, None, refl, sym, ap}
 use Rattle.std.proofs.Common.{subst, arith}
+use Rattle.std.proofs.lemmas.Option.{same_Some}
 use Rattle.c_tree.specs.declared.expression.Kind.TheVariants.{Void, Scalar as OfScalar, Structure, Array}
 use Rattle.tac_ir.specs.declared.instruction.Instruction.{Instruction}
 use Rattle.tac_ir.specs.declared.instruction.Instruction.TheVariants as tac
@@ -38,10 +39,7 @@ has_last xs ys y n e at = subst (λ l. HasAt l n y) (sym e)
 
 from_more : {A : Type 0} (P : A → Type 0) (xs : List A) (y : A) → ((n : ℕ) (x : A) → HasAt xs n x → P x) → P y
     → (n : ℕ) (x : A) → HasAt (xs ++ y ∷ []) n x → P x
-from_more {A = A} P [] y h p zero x e = subst P (same e) p
-  where
-    same : {x y : A} → Some x ≡ Some y → x ≡ y
-    same e = cc
+from_more P [] y h p zero x e = subst P (same_Some y x e) p
 from_more P [] y h p (suc n) x e = cc
 from_more P (z ∷ xs) y h p zero x e = h 0 x e
 from_more P (z ∷ xs) y h p (suc n) x e = from_more P xs y (λ m w. h (suc m) w) p n x e

@@ -2,6 +2,7 @@
 use Rattle.std.proofs.Common.{◌≡◌, ℕ, zero, suc, ◌+◌, ◌-◌, ◌≤◌, ◌<◌, List, [], ◌∷◌, length, map, drop, sym, ap, ◌∙◌}
 use Rattle.std.proofs.Common.{subst, arith}
 use Rattle.std.specs.Prelude.{get_or, ◌⊎◌}
+use Rattle.std.proofs.lemmas.List.{drop_more}
 use mathlib.Core.Logic.{inl, inr}
 use Rattle.c_tree.specs.declared.expression.Expression.{Expression as CodeExpression}
 use Rattle.c_tree.specs.declared.expression.Lvalue.{Lvalue as CodeLvalue}
@@ -209,13 +210,9 @@ lvalue_from {b = b} {c = c} {d = d} {n = n} {k = k} p h o =
     (subst (λ os. OperandsCode b c os d n k) (sym (ap lvalue_operands (of_lvalue p))) o)
 
 -- the elements of a list from a place on
-drop_from : (xs : List CodeExpression) (k : ℕ) (x : CodeExpression) → k < length xs → x ≡ get_or xs k x
+pub drop_from : {A : Type 0} (xs : List A) (k : ℕ) (x : A) → k < length xs → x ≡ get_or xs k x
     → drop k xs ≡ x ∷ drop (k + 1) xs
-drop_from [] k x lt e = absurd (omega (arith, lt))
-drop_from (y ∷ xs) zero x lt e = ap (λ z. z ∷ xs) (sym e)
-drop_from (y ∷ xs) (suc k) x lt e =
-    let at : suc (k + 1) ≡ suc k + 1 = omega arith in
-    drop_from xs k x (omega (arith, lt)) e ∙ ap (λ n. x ∷ drop n (y ∷ xs)) at
+drop_from xs k x lt e = drop_more xs k x lt ∙ ap (λ z. z ∷ drop (k + 1) xs) (sym e)
 
 pub used_at : (xs : List CodeExpression) (k : ℕ) (x : CodeExpression) → k < length xs → x ≡ get_or xs k x
     → k + used (expression_of x) ≤ arguments_used (expressions_in (map expression_of xs))

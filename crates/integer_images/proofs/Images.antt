@@ -35,7 +35,7 @@ use Rattle.rv_follows.specs.Matching.{object_bytes, space_bytes}
 use Rattle.elf_image.specs.Layout.{content_of}
 use Rattle.elf_image.proofs.Pages.{length-image_bytes}
 use Rattle.rv_segments.specs.Segments.{table_words, code_words}
-use Rattle.rv_segments.proofs.Parts.{bytes_length}
+use Rattle.rv_layout.proofs.Bytes.{bytes_length}
 use Rattle.rv_image.specs.Image.{written, IsImage, ImageFollows, filled, data_memory}
 use Rattle.integer_images.specs.Images.{HaveFewParameters, sizes_of, IsChecked, DoesWhatIsMeant}
 use Rattle.integer_images.proofs.Instructions.{IsFit}

@@ -1,13 +1,10 @@
 -- Expansions are encodable and startable.
-use Rattle.std.proofs.Common.{◌≡◌, ◌⊎◌, inl, inr, ⊎_elim, ℕ, zero, suc, ◌+◌, ◌-◌, ◌*◌, ◌^◌, ◌<◌, ◌≤◌, true, false}
+use Rattle.std.proofs.Common.{◌≡◌, ◌⊎◌, inl, inr, ⊎_elim, ℕ, zero, suc, ◌+◌, ◌-◌, ◌^◌, ◌<◌, ◌≤◌, true, false}
 use Rattle.std.proofs.Common.{◌==◌, List, [], ◌∷◌, ◌++◌, length, Option, Some, None, refl, sym, ap, subst, arith}
 use Rattle.std.specs.Prelude.{if◌then◌else◌, slice_get}
 use Rattle.std.proofs.lemmas.Option.{same_Some, none-some}
 use Rattle.addr_map.specs.Places.{MapSizes, AreMapped, region_size}
 use Rattle.c_tree.specs.declared.expression.Kind.{Kind}
-use Rattle.c_tree.specs.declared.expression.Kind.TheVariants.{Void, Scalar as OfScalar, Structure, Array}
-use Rattle.obj_memory.specs.declared.value.Scalar.TheVariants.{Integer, Pointer}
-use Rattle.c_tree.specs.declared.program.Variable.{Variable}
 use Rattle.c_tree.specs.Programs.{Function, Program}
 use Rattle.c_tree.specs.ValidProgram.{is_valid_program}
 use Rattle.c_tree.specs.ValidProgram.{signature_at}
@@ -27,10 +24,11 @@ use Rattle.flat_meaning.specs.Calls.{function_in as flat_function, room_if}
 use Rattle.flat_meaning.specs.Meaning.{body_of as body_in, instruction_at}
 use Rattle.rv_follows.specs.Code.{IsEncodable}
 use Rattle.rv_follows.specs.Start.{IsStartable}
-use Rattle.metadata_plan.specs.Registers.{words_of, words_in}
+use Rattle.metadata_plan.specs.Registers.{words_in}
 use Rattle.metadata_plan.specs.Blocks.{block, prologue, entry_code, room_in}
 use Rattle.metadata_plan.specs.Laid.{jump, jumps, place_of, laid_from, begin_code, function_of, functions_of}
 use Rattle.metadata_plan.specs.Laid.{entry_of, program_of}
+use Rattle.metadata_plan.proofs.Numbers.{words_most}
 use Rattle.integer_code.specs.Operators.{operators}
 use Rattle.metadata_expansion.specs.Homes.{homes}
 use Rattle.metadata_expansion.specs.Numbers.{greatest_word, AreAllSmall}
@@ -41,17 +39,6 @@ use Rattle.integer_images.proofs.Instructions.{IsFit, AreFit, fit_append, fit_at
 use Rattle.integer_images.proofs.Blocks.{block_fit, zero_variables_fit, jump_fit, jumps_fit}
 
 -- ---- what validity says of functions
-
-few_words : (k : Kind) → words_of k ≤ 5
-few_words Void = omega arith
-few_words (OfScalar (Integer t)) = omega arith
-few_words (OfScalar Pointer) = omega arith
-few_words (Structure n) = omega arith
-few_words (Array n) = omega arith
-
-words_few : (vs : List Variable) → words_in vs ≤ 5 * length vs
-words_few [] = omega arith
-words_few (v ∷ vs) = omega (arith, few_words v.kind, words_few vs)
 
 some_room : (p : Program) (n : ℕ) (k : Kind) (f : Function) → 8 ≤ room p.statics n k f
 unfolding room
@@ -78,7 +65,7 @@ module _ (p : Program) (r : Tac) (valid : is_valid_program p ≡ true) (ints : i
   has_few =
       let same = ap (λ (h : Header). length h.parameters) source.2 in
       let count = few.each u f source.1 in
-      let words = words_few c.parameters in
+      let words = words_most c.parameters in
       omega (arith, same, count, words)
 
 -- ---- the functions of an expansion

@@ -1,10 +1,10 @@
 -- What stands before compiled code has room: the jump table, the start, and the function with which a run begins.
-use Rattle.std.proofs.Common.{◌≡◌, ℕ, zero, suc, ◌+◌, ◌-◌, ◌*◌, ◌/◌, ◌%◌, ◌==◌, ◌<◌, ◌≤◌, Bool, true, false, not}
+use Rattle.std.proofs.Common.{◌≡◌, ℕ, zero, suc, ◌+◌, ◌-◌, ◌*◌, ◌==◌, ◌<◌, ◌≤◌, Bool, true, false, not}
 use Rattle.std.proofs.Common.{◌&&◌, nat_lt, List, [], ◌∷◌, ◌++◌, map, length, length-append, Option, Some, None, refl}
 use Rattle.std.proofs.Common.{sym, ap, ◌∙◌, subst, arith}
 use Rattle.std.specs.Prelude.{if◌then◌else◌, slice_get, codes, decimal}
-use Rattle.std.specs.Fmt.{digits, digits_onto, digit_glyph}
 use Rattle.std.proofs.lemmas.Bool.{and_parts}
+use Rattle.std.proofs.lemmas.List.{length-map}
 use Rattle.sb_base.specs.declared.ending.Ending.TheVariants.{Stack}
 use Rattle.sb_base.specs.Endings.{report_of, report_at}
 use Rattle.addr_map.specs.Places.{MapSizes, function_address, functions_begin, code_begin}
@@ -33,22 +33,22 @@ use Rattle.flat_meaning.specs.Calls.{function_in as flat_function}
 use Rattle.flat_meaning.specs.Meaning.{body_of as body_in, parameters_of, results_of}
 use Rattle.reg_plan.specs.declared.plan.FunctionPlan.{FunctionPlan}
 use Rattle.reg_plan.specs.Effects.{is_among, many}
-use Rattle.reg_plan.specs.Needs.{IsNeeded, Read, Made, Before}
-use Rattle.reg_plan.specs.Flow.{IsNamed}
 use Rattle.reg_plan.specs.Accepted.{is_live}
 use Rattle.reg_plan.specs.Planned.{ArePlannable, ArePlanned, IsPlanOfRegisters}
+use Rattle.reg_plan.proofs.Plans.{needed_is_named}
 use Rattle.rv_blocks.specs.Places.{callee_scratch, right_scratch}
 use Rattle.rv_blocks.specs.Blocks.{constant, used, fetch, keep, store_at}
 use Rattle.rv_blocks.proofs.Lengths.{constant_length, fetch_length, keep_length, store_length}
-use Rattle.rv_calls.specs.Calls.{Keeping, save, restore, save_one, restore_one, give, take, advance, retreat, row}
+use Rattle.rv_blocks.proofs.Reports.{choice_few, decimal_few}
+use Rattle.rv_calls.specs.Calls.{Keeping, save, restore, save_one, restore_one, give, take, advance, retreat}
 use Rattle.rv_calls.specs.Calls.{call_block, back_block, entry_block}
 use Rattle.rv_calls.proofs.Lengths.{give_length, take_length}
 use Rattle.rv_follows.specs.Code.{keeping_of, keeping, block, wanted, charged_from}
 use Rattle.rv_follows.proofs.Bounds.{turn_bound, end_bound}
 use Rattle.rv_follows.specs.Start.{start_block}
 use Rattle.rv_layout.specs.Lists.{plain, tail_of, items_at, items_from, items_of}
-use Rattle.rv_segments.specs.Segments.{is_of, function_words, words_if, words_below, begin, rows_below, table_bytes}
-use Rattle.rv_segments.proofs.Parts.{map_length}
+use Rattle.rv_segments.specs.Segments.{is_of, function_words, words_if, words_below, rows_below, table_bytes}
+use Rattle.rv_segments.proofs.Standing.{rows_length}
 use Rattle.metadata_plan.specs.Blocks.{entry_code, room_in}
 use Rattle.metadata_plan.specs.Laid.{functions_of, entry_of, program_of}
 use Rattle.integer_code.specs.Operators.{operators}
@@ -80,7 +80,7 @@ words_most places p (f ∷ fs) (i ∷ is) =
     let a = item_most f p (target_place places i) i in
     let b = words_most places (p + size_of f i) fs is in
     let c = length-append (map word_of here) (words_from places (p + size_of f i) fs is) in
-    let d = map_length word_of here in
+    let d = length-map here word_of in
     omega (arith, a, b, c, d)
 
 function_most : (m : MapSizes) (p : FlatProgram) (plans : List FunctionPlan) (f : ℕ)
@@ -136,7 +136,7 @@ module _ (m : MapSizes) (p : FlatProgram) (plans : List FunctionPlan) (f n : ℕ
       let one = tail_most (keeping p plans f) pc i in
       let l = length-append (items_at m p plans f n pc i) (items_from m p plans f n (suc pc) is) in
       let j = length-append (plain own) tail in
-      let c = map_length item.Instr own in
+      let c = length-map own item.Instr in
       omega (arith, few, rest, one, l, j, c)
 
   charged_most : (pc x : ℕ) → length (block m p plans f pc (flat.Charged x)) ≤ 15
@@ -200,43 +200,16 @@ module _ (m : MapSizes) (p : FlatProgram) (plans : List FunctionPlan) (f n : ℕ
 
 -- ---- the report
 
-most_if : (b : Bool) (xs ys : List ℕ) (n : ℕ) → length xs ≤ n → length ys ≤ n → length (if b then xs else ys) ≤ n
-most_if true xs ys n x y = x
-most_if false xs ys n x y = y
-
-digits_most : (k n : ℕ) (acc : List ℕ) → length (digits_onto k 10 false n acc) ≤ k + length acc
-digits_most zero n acc = omega arith
-digits_most (suc k) n acc =
-    let more = digit_glyph false (n % 10) ∷ acc in
-    let rest = digits_most k (n / 10) more in
-    most_if (n / 10 == 0) more (digits_onto k 10 false (n / 10) more) (suc k + length acc) (omega arith)
-    (omega (arith, rest))
-
-decimal_most : (n : ℕ) → length (decimal n) ≤ 64
-unfolding digits
-decimal_most n = most_of 64
-  where
-    most_of : (k : ℕ) → length (digits_onto k 10 false n []) ≤ k
-    most_of k = let d = digits_most k n [] in omega (arith, d)
-
 report_most : (line : ℕ) → length (report_of (Stack line)) ≤ 97
 unfolding report_at
 report_most line =
     let front = codes "sbcets: " ++ codes "stack exhausted" ++ codes " at line " in
-    let d = decimal_most line in
+    let d = decimal_few line in
     let a = length-append front (decimal line) in
     let b = length-append (front ++ decimal line) (codes "\n") in
     let n : length front ≡ 32 = refl in
     let m : length (codes "\n") ≡ 1 = refl in
     omega (arith, d, a, b, n, m)
-
--- ---- what is needed is named
-
-needed_named : (p : FlatProgram) (f : ℕ) (body : List FlatInstruction) (count : ℕ) → IsNamed p f body count
-    → (pc y : ℕ) → IsNeeded p f body pc y → y < count
-needed_named p f body count named pc y (Read a b r) = named.read a b r
-needed_named p f body count named pc y (Made a q b l h) = named.made a b h
-needed_named p f body count named pc y (Before a q b l h g) = needed_named p f body count named q b h
 
 -- ---- the functions of a flat program
 
@@ -269,14 +242,6 @@ parameters_most (Some g) h = h g refl
 
 -- ---- the segment
 
-rows_count : (m : MapSizes) (p : FlatProgram) (plans : List FunctionPlan) (n : ℕ)
-    → length (rows_below m p plans n) ≡ 4 * n
-unfolding rows_below
-rows_count m p plans zero = omega arith
-rows_count m p plans (suc n) =
-    let r = rows_count m p plans n in
-    length-append (rows_below m p plans n) (row (begin m p plans n)) ∙ omega arith
-
 module _ (m : MapSizes) (t : Tac) (main : t.main < length t.functions) (many_functions : length t.functions ≤ 4096)
     (plannable : ArePlannable (program_of operators m t homes))
     (few : (u : ℕ) (g : FlatFunction) → flat_function (program_of operators m t homes) u ≡ Some g → g.parameters ≤ 1024)
@@ -308,7 +273,7 @@ module _ (m : MapSizes) (t : Tac) (main : t.main < length t.functions) (many_fun
       let live = subst (λ (k : Keeping). k.live pc y ≡ true) keeping_is h in
       let parts = and_parts (nat_lt pc (length (entry_code m t))) (is_live plan pc y) live in
       let needed = plan_of.2.least.least pc y parts.1 in
-      let named = needed_named code last (entry_code m t) 1 (plannable last (entry_of m t) at).named pc y needed in
+      let named = needed_is_named code last (entry_code m t) 1 (plannable last (entry_of m t) at).named pc y needed in
       omega (arith, named)
 
   one : results_of (flat_function code t.main) ≡ 1
@@ -359,7 +324,7 @@ module _ (m : MapSizes) (t : Tac) (main : t.main < length t.functions) (many_fun
       let first = store_length 1 k.base 0 in
       let taken = take_length k 0 0 0 in
       let begun = length-append (store_at 1 k.base 0) (take k 0 0 0) in
-      let counted = map_length item.Instr (entry_block k 0) in
+      let counted = length-map (entry_block k 0) item.Instr in
       let all = length-append (plain (entry_block k 0)) (items_from m code plans f n 0 (entry_code m t)) in
       omega (arith, i0, first, taken, begun, counted, all)
 
@@ -385,7 +350,7 @@ module _ (m : MapSizes) (t : Tac) (main : t.main < length t.functions) (many_fun
       let all = length-append (words_below m code plans true last) (words_if m code plans true last) in
       let none = none_below last (omega arith) in
       let some = entry_words in
-      let mine = most_if (is_of true (flat_function code last)) own [] 39000 some (omega arith) in
+      let mine = choice_few (is_of true (flat_function code last)) own [] 39000 some (omega arith) in
       omega (arith, all, none, mine)
 
   pub runtime_has_room : functions_begin + table_bytes m code plans ≤ code_begin
@@ -393,9 +358,9 @@ module _ (m : MapSizes) (t : Tac) (main : t.main < length t.functions) (many_fun
       let count : length code.functions ≡ suc last = code_count m t ∙ omega arith in
       let words = subst (λ n. length (words_below m code plans true n) ≤ 39000) (sym count) runtime_words in
       let rows = rows_below m code plans (length code.functions) in
-      let a = rows_count m code plans (length code.functions) in
+      let a = rows_length m code plans (length code.functions) in
       let b = length-append rows (start_block m code) in
-      let c = map_length word_of (rows ++ start_block m code) in
+      let c = length-map (rows ++ start_block m code) word_of in
       let d = length-append (map word_of (rows ++ start_block m code))
       (words_below m code plans true (length code.functions)) in
       let nine : length (start_block m code) ≡ 9 = refl in

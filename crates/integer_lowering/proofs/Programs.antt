@@ -1,5 +1,5 @@
 -- What is lowered of a program of integers, and has its checks put in, is code of integers.
-use Rattle.std.proofs.Common.{◌≡◌, ◌⊎◌, inl, inr, ⊎_elim, ℕ, zero, suc, ◌+◌, ◌<◌, Bool, true, false, not, ◌&&◌, ◌||◌}
+use Rattle.std.proofs.Common.{◌≡◌, ◌⊎◌, inl, inr, ⊎_elim, ℕ, zero, suc, ◌+◌, ◌<◌, Bool, true, false, not, ◌&&◌}
 use Rattle.std.proofs.Common.{if◌then◌else◌}
 use Rattle.std.proofs.Common.{◌==◌, List, [], ◌∷◌, ◌++◌, map, length, drop, get_or, Option, Some, None, refl, sym, ap}
 use Rattle.std.proofs.Common.{◌∙◌, subst, arith, length-append, nat_lt}
@@ -28,7 +28,6 @@ use Rattle.source_meaning.specs.Places.{statics_first}
 use Rattle.source_meaning.specs.Meaning.{initial_objects, placed_statics, objects_after, store_statics, static_env}
 use Rattle.source_meaning.specs.Meaning.{fresh}
 use Rattle.source_meaning.specs.Meaning.{setting_of}
-use Rattle.source_meaning.specs.Blocks.{has_objects}
 use Rattle.source_meaning.specs.Calls.{header_of, function_at}
 use Rattle.source_meaning.proofs.ValidNames.{both, three, five, six, never}
 use Rattle.tac_ir.specs.declared.instruction.Instruction.{Instruction}
@@ -46,6 +45,7 @@ use Rattle.metadata_plan.specs.Registers.{all_variables}
 use Rattle.metadata_plan.specs.Part.{SafeWithin, is_integer_instruction, are_integers, have_no_objects}
 use Rattle.metadata_plan.specs.Part.{IsIntegerFunction, IsIntegerCode}
 use Rattle.metadata_plan.specs.Part.{has_no_statics, takes, has_no_pointer, is_integer_kind}
+use Rattle.metadata_plan.proofs.SetUp.{no_objects}
 use Rattle.integer_lowering.proofs.Safe.{stepped, nothing_yet, along}
 use Rattle.integer_lowering.proofs.Values.{IsScope, Ok, same_without_pointer}
 use Rattle.integer_lowering.proofs.Statements.{opened_length, HaveNone, AreSafe, of_statements}
@@ -155,12 +155,6 @@ none_closed (v ∷ vs) e =
     let k = both (not v.is_object) (p.is_integer_kind v.kind) h.0 in
     and_from (not (closed v).is_object) (have_no_objects (map closed vs))
     (ap not (closed_same v k.0)) (none_closed vs h.1)
-
-none_has : (vs : List Variable) → have_no_objects vs ≡ true → has_objects vs ≡ false
-none_has [] e = refl
-none_has (v ∷ vs) e =
-    let h = both (not v.is_object) (have_no_objects vs) e in
-    ap (λ b. b || has_objects vs) (not-true v.is_object h.0) ∙ none_has vs h.1
 
 -- the two halves of a list
 halves : (vs ws : List Variable) → list_all p.is_integer_variable (vs ++ ws) ≡ true
@@ -364,7 +358,7 @@ module _ (q : Program) (t r : Tac) (valid : is_valid_program q ≡ true) (ints :
         let w = placed_in t.texts f c in
         let b = lowers.body in
         let none : HaveNone r n w = record {
-          none = λ numbers. none_has (block_objects (all_of f) numbers)
+          none = λ numbers. no_objects (block_objects (all_of f) numbers)
               (none_opened numbers 0 (all_of f) (map closed (all_of f)) integer.0 (none_closed (all_of f) integer.0));
         } in
         let kind : has_no_pointer (get_or t.results f.type_number Void) ≡ true =

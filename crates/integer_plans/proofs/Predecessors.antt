@@ -4,6 +4,7 @@ use Rattle.std.proofs.Common.{subst, arith, Bool, true, false, List, [], ◌∷�
 use Rattle.std.specs.Prelude.{slice_get, ◌==◌, if◌then◌else◌}
 use Rattle.std.proofs.lemmas.Bool.{cases_lt}
 use Rattle.std.proofs.lemmas.Option.{same_Some, none-some, slice_get_within, slice_get-get_or}
+use Rattle.std.proofs.lemmas.List.{drop_all}
 use Rattle.addr_map.specs.Places.{MapSizes}
 use Rattle.c_tree.specs.declared.expression.Routine.{Routine}
 use Rattle.c_tree.specs.declared.expression.Routine.TheVariants.{Putchar, Exit}
@@ -30,7 +31,6 @@ use Rattle.metadata_plan.specs.Laid.{begin_code, body_of}
 use Rattle.metadata_plan.specs.Laid.{laid_from}
 use Rattle.metadata_plan.proofs.Numbers.{is_integer_variable, integers_words, integers_back, integers_front, most_at}
 use Rattle.metadata_plan.proofs.Laying.{part_of, part_stands, next_place, begin_length, place_is, falls_to_next}
-use Rattle.metadata_plan.proofs.Laying.{drop_past}
 use Rattle.integer_code.specs.Operators.{operators}
 use Rattle.metadata_expansion.proofs.Laid.{arguments_few}
 use Rattle.reg_plan.specs.Effects.{read_by, is_read, made_by, is_among, Leads}
@@ -323,7 +323,7 @@ module _ (m : MapSizes) (t : Tac) (c : CodeFunction) (p : FlatProgram) (f : ℕ)
 
     past_all : length c.code ≤ suc w → ⊥
     past_all le =
-        let none = drop_past c.code (suc w) le in
+        let none = drop_all (suc w) c.code le in
         let size = ap (size_from operators m t c (suc w)) none in
         let first = place_is operators m t c w in
         let begin = begin_length operators m t c in

@@ -40,7 +40,8 @@ use Rattle.integer_code.specs.Operators.{operators}
 use Rattle.metadata_expansion.specs.Numbers.{line_in, greatest_line, word_in, greatest_word}
 use Rattle.expression_lowering.specs.Weights.{weight_of, code_weight}
 use Rattle.code_sizes.specs.Sizes.{constant_words, instruction_words, body_words}
-use Rattle.integer_sizes.proofs.Numbers.{few_constant, most_constant, branch_few}
+use Rattle.code_sizes.proofs.Programs.{few_for_constant}
+use Rattle.integer_sizes.proofs.Numbers.{few_constant, branch_few}
 use Rattle.integer_sizes.proofs.Words.{words}
 use Rattle.integer_sizes.proofs.Reports.{stack_end, abort_end, first_end}
 use Rattle.integer_sizes.proofs.Operators.{words_append, constant_code_words, conversion_words, unary_words}
@@ -162,7 +163,7 @@ module _ (p : FlatProgram) (room : ℕ) where
         let a1 = words_append p room 1 tests (moves ++ last) in
         let a2 = words_append p room 1 moves last in
         let aim = known.address f n e in
-        let q1 = most_constant room in
+        let q1 = few_for_constant room in
         let q2 = known.parameters f n e in
         let q3 = known.gives f n e in
         omega (arith, h1, h2, a1, a2, aim, q1, q2, q3)

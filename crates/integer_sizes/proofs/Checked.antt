@@ -1,7 +1,8 @@
 -- Code that weighs no more however much each instruction weighs that integers do not need has none of these, and so
 -- stays as it is when its checks are put in.
-use Rattle.std.proofs.Common.{◌≡◌, ℕ, zero, suc, ◌≤◌, List, [], ◌∷◌, length, Some, refl, ap, ◌∙◌, subst, arith}
+use Rattle.std.proofs.Common.{◌≡◌, ℕ, zero, suc, ◌≤◌, List, [], ◌∷◌, length, refl, ap, ◌∙◌, subst, arith}
 use Rattle.std.specs.Prelude.{slice_get}
+use Rattle.std.proofs.lemmas.Option.{same_Some}
 use Rattle.tac_ir.specs.declared.instruction.Instruction.{Instruction}
 use Rattle.tac_ir.specs.declared.instruction.Instruction.TheVariants as tac
 use Rattle.tac_ir.specs.declared.function.CodeFunction.{CodeFunction}
@@ -53,9 +54,6 @@ kept b (tac.EnterBlock e line m) le = absurd (omega (arith, le))
 kept b (tac.LeaveBlock m) le = absurd (omega (arith, le))
 kept b (tac.Return a) le = record { none = refl; stands = λ code n s. s }
 
-same_some : {x y : Instruction} → Some x ≡ Some y → x ≡ y
-same_some e = cc
-
 none_needed : (b : ℕ) (is : List Instruction) → code_weight is (words (suc b)) ≤ b → sum_over checks_needed is ≡ 0
 none_needed b [] le = refl
 none_needed b (i ∷ is) le =
@@ -64,7 +62,7 @@ none_needed b (i ∷ is) le =
 kept_at : (b : ℕ) (is : List Instruction) → code_weight is (words (suc b)) ≤ b → (n : ℕ) (i : Instruction) → Has is n i
     → IsKept i
 kept_at b [] le n i h = cc
-kept_at b (j ∷ is) le zero i h = subst IsKept (same_some h) (kept b j (omega (arith, le)))
+kept_at b (j ∷ is) le zero i h = subst IsKept (same_Some _ _ h) (kept b j (omega (arith, le)))
 kept_at b (j ∷ is) le (suc n) i h = kept_at b is (omega (arith, le)) n i h
 
 same_code : (xs ys : List Instruction) → length ys ≡ length xs → ((n : ℕ) (i : Instruction) → Has xs n i → Has ys n i)
@@ -74,7 +72,7 @@ same_code [] (y ∷ ys) e h = cc
 same_code (x ∷ xs) [] e h = cc
 same_code (x ∷ xs) (y ∷ ys) e h =
     let rest = same_code xs ys (omega (arith, e)) (λ n i g. h (suc n) i g) in
-    ap (λ z. z ∷ ys) (same_some (h 0 x refl)) ∙ ap (λ zs. x ∷ zs) rest
+    ap (λ z. z ∷ ys) (same_Some _ _ (h 0 x refl)) ∙ ap (λ zs. x ∷ zs) rest
 
 function_same : (b : ℕ) (c c' : CodeFunction) → FunctionIn c c' → code_weight c.code (words (suc b)) ≤ b
     → c'.code ≡ c.code

@@ -1,6 +1,6 @@
 -- The words of an expression are no more than its nodes allow.
 use Rattle.std.proofs.Common.{◌≡◌, ℕ, ◌+◌, ◌*◌, ◌≤◌, Bool, true, false, not, ap, refl, arith}
-use Rattle.std.proofs.lemmas.Bool.{and_parts}
+use Rattle.std.proofs.lemmas.Bool.{and_parts, not-true}
 use Rattle.c_tree.specs.declared.expression.Kind.{Kind}
 use Rattle.c_tree.specs.declared.expression.Kind.TheVariants.{Void, Scalar as OfScalar, Structure, Array}
 use Rattle.c_tree.specs.Tree.{Expression, expression, Expressions, no_expressions, expressions, Node, constant}
@@ -43,10 +43,6 @@ no_taking k (Array size) h = refl
 pub no_taken : (k : ℕ) (e : Expression) → is_integer_expression e ≡ true → taking_weight (kind_of e) (words k) ≡ 0
 no_taken k (expression kind line node) i = no_taking k kind (and_parts (has_no_pointer kind) (is_integer_node node) i).0
 
-not_true : (b : Bool) → not b ≡ true → b ≡ false
-not_true true e = cc
-not_true false e = refl
-
 -- an expression, and expressions in turn
 record IsLight (k : ℕ) (e : Expression) : Type 0 where
   by : expression_weight e (words k) + left (valid.is_converted e) ≤ 256 * expression_nodes e
@@ -83,7 +79,7 @@ mutual
   node_light k scope kind (convert a) v i =
       let parts = and_parts _ (not (valid.is_converted a)) v in
       converted_light k kind a (light k scope a (and_parts _ _ parts.0).0 i)
-      (not_true (valid.is_converted a) parts.1)
+      (not-true (valid.is_converted a) parts.1)
   node_light k scope kind (unary op a) v i =
       let h = light k scope a (and_parts _ _ v).0 i in omega (arith, h.by, left_some (valid.is_converted a))
   node_light k scope kind (binary op a b) v i =

@@ -3,11 +3,8 @@ use Rattle.std.proofs.Common.{◌≡◌, ℕ, zero, suc, ◌+◌, ◌*◌, ◌�
 use Rattle.std.proofs.Common.{Option, Some, None, refl, ap, arith}
 use Rattle.std.specs.Prelude.{slice_get, if◌then◌else◌}
 use Rattle.std.proofs.lemmas.Bool.{and_parts, eqb-true}
-use Rattle.std.proofs.lemmas.Option.{slice_get_within}
+use Rattle.std.proofs.lemmas.Option.{slice_get_within, same_Some}
 use Rattle.addr_map.specs.Places.{MapSizes, function_address}
-use Rattle.c_tree.specs.declared.expression.Kind.{Kind}
-use Rattle.c_tree.specs.declared.expression.Kind.TheVariants.{Void, Scalar as OfScalar, Structure, Array}
-use Rattle.obj_memory.specs.declared.value.Scalar.TheVariants.{Integer, Pointer}
 use Rattle.c_tree.specs.declared.program.Variable.{Variable}
 use Rattle.tac_ir.specs.declared.function.CodeFunction.{CodeFunction}
 use Rattle.tac_ir.specs.declared.function.Tac.{Tac}
@@ -22,13 +19,14 @@ use Rattle.metadata_plan.specs.Part.{takes, is_integer_kind, are_integers, IsInt
 use Rattle.metadata_plan.specs.Blocks.{zeros, zero_variables, prologue}
 use Rattle.metadata_plan.specs.Laid.{jump, place_of, begin_code, laid_from, function_of, functions_of, entry_of}
 use Rattle.metadata_plan.specs.Laid.{program_of}
+use Rattle.metadata_plan.proofs.Numbers.{one_word, words_most, most_words_of}
 use Rattle.metadata_expansion.specs.Homes.{homes}
 use Rattle.metadata_expansion.specs.Numbers.{AreSmall, AreAllSmall}
 use Rattle.integer_code.specs.Operators.{operators}
 use Rattle.program_lowering.specs.Weights.{codes_weight}
 use Rattle.code_sizes.specs.Sizes.{constant_words, instruction_words, body_words, most_words, most_if, most_below}
 use Rattle.integer_sizes.proofs.Words.{words, frame_words}
-use Rattle.integer_sizes.proofs.Numbers.{few_constant, address_constant}
+use Rattle.integer_sizes.proofs.Numbers.{few_constant, short_constant}
 use Rattle.integer_sizes.proofs.Operators.{words_append}
 use Rattle.integer_sizes.proofs.Blocks.{Calls, jump_words, code_words}
 
@@ -38,20 +36,10 @@ function_at : (m : MapSizes) (t : Tac) (cs : List CodeFunction) (gs : List FlatF
     → slice_get cs u ≡ Some c
     → slice_get (functions_of operators m t homes cs ++ gs) u ≡ Some (function_of operators m t c (homes c))
 function_at m t [] gs u c at = cc
-function_at m t (x ∷ cs) gs zero c at = ap (λ y. Some (function_of operators m t y (homes y))) (same at)
-  where
-    same : {x y : CodeFunction} → Some x ≡ Some y → x ≡ y
-    same e = cc
+function_at m t (x ∷ cs) gs zero c at = ap (λ y. Some (function_of operators m t y (homes y))) (same_Some x c at)
 function_at m t (x ∷ cs) gs (suc u) c at = function_at m t cs gs u c at
 
 -- ---- parameters
-
-one_word : (k : Kind) → is_integer_kind k ≡ true → words_of k ≡ 1
-one_word Void e = cc
-one_word (OfScalar (Integer t)) e = refl
-one_word (OfScalar Pointer) e = cc
-one_word (Structure n) e = cc
-one_word (Array n) e = cc
 
 words_many : (vs ws : List Variable) → are_integers (vs ++ ws) ≡ true → words_in vs ≡ length vs
 words_many [] ws e = refl
@@ -59,17 +47,6 @@ words_many (v ∷ vs) ws e =
     let parts = and_parts _ (are_integers (vs ++ ws)) e in
     let kind = and_parts _ (is_integer_kind v.kind) parts.0 in
     omega (arith, one_word v.kind kind.1, words_many vs ws parts.1)
-
-most_words_of : (k : Kind) → words_of k ≤ 5
-most_words_of Void = omega arith
-most_words_of (OfScalar (Integer t)) = omega arith
-most_words_of (OfScalar Pointer) = omega arith
-most_words_of (Structure n) = omega arith
-most_words_of (Array n) = omega arith
-
-words_most : (vs : List Variable) → words_in vs ≤ 5 * length vs
-words_most [] = omega arith
-words_most (v ∷ vs) = omega (arith, most_words_of v.kind, words_most vs)
 
 -- ---- what stands before the code
 
@@ -138,7 +115,7 @@ module _ (m : MapSizes) (t : Tac) (few : m.budgets.calls ≤ 16777216) (count : 
   address_at f n None at e = cc
   address_at f n (Some c) at e =
       let below = slice_get_within t.functions f c at in
-      address_constant (function_address f) (omega (arith, below, count))
+      short_constant (function_address f) (omega (arith, below, count))
 
   calls : Calls p m t
   calls = record {

@@ -1,7 +1,7 @@
 -- How many words numbers take, and operators and branches with them.
-use Rattle.std.proofs.Common.{◌≡◌, ℕ, ◌-◌, ◌^◌, ◌<◌, ◌≤◌, ◌==◌, Bool, true, false, Option, Some, None, refl, ap, arith}
-use Rattle.std.specs.Prelude.{◌||◌, nat_lt, nat_le, if◌then◌else◌}
-use Rattle.std.proofs.lemmas.Bool.{lt-ltb, le-leb}
+use Rattle.std.proofs.Common.{◌≡◌, ℕ, ◌-◌, ◌^◌, ◌<◌, ◌≤◌, ◌==◌, Bool, true, false, Option, Some, None, ap, arith}
+use Rattle.std.specs.Prelude.{nat_lt, nat_le, if◌then◌else◌}
+use Rattle.std.proofs.lemmas.Bool.{lt-ltb, le-leb, or_left, or_right}
 use Rattle.words.specs.TwosComplement.{low_bits}
 use Rattle.rv_isa.specs.declared.instruction.Instr.{Instr}
 use Rattle.rv_isa.specs.declared.instruction.BranchOp.{BranchOp}
@@ -13,43 +13,24 @@ use Rattle.flat_meaning.specs.declared.function.FlatProgram.{FlatProgram}
 use Rattle.rv_blocks.specs.Immediates.{is_immediate, immediate_of, immediate32_of}
 use Rattle.code_sizes.specs.Sizes.{constant_words, right_words, operator_words, instruction_words}
 
-most_by : (a b : Bool) → (if a then 1 else (if b then 2 else 11)) ≤ 11
-most_by true b = omega arith
-most_by false true = omega arith
-most_by false false = omega arith
-
-pub most_constant : (n : ℕ) → constant_words n ≤ 11
-most_constant n = most_by (is_immediate n) (nat_lt n (2 ^ 31 - 2 ^ 11) || nat_le (2 ^ 64 - 2 ^ 31) n)
-
 two_by : (a b : Bool) → b ≡ true → (if a then 1 else (if b then 2 else 11)) ≤ 2
 two_by true b e = omega arith
 two_by false b e = let h = ap {B = ℕ} (λ c. if c then 2 else 11) e in omega (arith, h)
 
-either_one : (a b : Bool) → a ≡ true → a || b ≡ true
-either_one true b e = refl
-either_one false b e = cc
-
-other_one : (a b : Bool) → b ≡ true → a || b ≡ true
-other_one true b e = refl
-other_one false b e = e
-
 -- a number of 32 bits with its sign
-short_constant : (n : ℕ) → n < 2 ^ 31 - 2 ^ 11 → constant_words n ≤ 2
+pub short_constant : (n : ℕ) → n < 2 ^ 31 - 2 ^ 11 → constant_words n ≤ 2
 short_constant n lt =
-    two_by (is_immediate n) _ (either_one (nat_lt n (2 ^ 31 - 2 ^ 11)) (nat_le (2 ^ 64 - 2 ^ 31) n)
+    two_by (is_immediate n) _ (or_left (nat_lt n (2 ^ 31 - 2 ^ 11)) (nat_le (2 ^ 64 - 2 ^ 31) n)
     (lt-ltb n (2 ^ 31 - 2 ^ 11) lt))
 
 pub few_constant : (n : ℕ) → n < 2 ^ 31 - 2 ^ 11 → constant_words (low_bits 64 n) ≤ 2
 few_constant n lt = short_constant (low_bits 64 n) (omega (arith, lt))
 
-pub address_constant : (n : ℕ) → n < 2 ^ 31 - 2 ^ 11 → constant_words n ≤ 2
-address_constant = short_constant
-
 pub low_constant : (n : ℕ) → 2 ^ 64 - 2 ^ 31 ≤ n → n < 2 ^ 64 → constant_words (low_bits 64 n) ≤ 2
 low_constant n le lt =
     let high : 2 ^ 64 - 2 ^ 31 ≤ low_bits 64 n = omega (arith, le, lt) in
     two_by (is_immediate (low_bits 64 n)) _
-    (other_one (nat_lt (low_bits 64 n) (2 ^ 31 - 2 ^ 11)) (nat_le (2 ^ 64 - 2 ^ 31) (low_bits 64 n))
+    (or_right (nat_lt (low_bits 64 n) (2 ^ 31 - 2 ^ 11)) (nat_le (2 ^ 64 - 2 ^ 31) (low_bits 64 n))
     (le-leb (2 ^ 64 - 2 ^ 31) (low_bits 64 n) high))
 
 few_right : (n : ℕ) → n < 2 ^ 31 - 2 ^ 11 → right_words (Number n) ≤ 2

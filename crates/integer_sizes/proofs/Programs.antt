@@ -27,7 +27,7 @@ use Rattle.rv_segments.specs.Segments.{code_bytes}
 use Rattle.code_sizes.specs.Sizes.{most_below}
 use Rattle.integer_sizes.specs.Nodes.{function_nodes, functions_nodes, program_nodes}
 use Rattle.integer_sizes.proofs.Words.{words, frame_words}
-use Rattle.integer_sizes.proofs.Statements.{no_block, body_light}
+use Rattle.integer_sizes.proofs.Statements.{no_block, each_light}
 use Rattle.integer_sizes.proofs.Checked.{weighs_the_same}
 use Rattle.integer_sizes.proofs.Functions.{program_words, frames}
 
@@ -48,7 +48,7 @@ function_light : (p : Program) (n k : ℕ) (f : Function) → valid.is_function 
     → frame_words f.parameters f.variables + function_weight f (words k) ≤ 256 * function_nodes f
 function_light p n k f v i =
     let both = and_parts (list_all is_integer_variable (all_of f)) (are_integer_statements f.body) i in
-    let h = body_light k (all_of f) (no_block k (all_of f) both.0) (valid.function_scope p f) outside f.body
+    let h = each_light k (all_of f) (no_block k (all_of f) both.0) (valid.function_scope p f) outside f.body
     (body_valid p n f v) both.1 in
     omega (arith, h)
 

@@ -155,7 +155,7 @@ module _ (k : ℕ) (vs : List Variable) (none : (numbers : List ℕ) → objects
     statement_light scope inside (return (Some e)) v i =
         let h = evaluated_light k scope e (and_parts _ _ (and_parts _ _ v).0).0 i in omega (arith, h, no_taken k e i)
 
-    each_light : (scope : Scope) (inside : valid.Inside) (ss : Statements)
+    pub each_light : (scope : Scope) (inside : valid.Inside) (ss : Statements)
         → valid.are_statements scope inside ss ≡ true → are_integer_statements ss ≡ true
         → each_weight vs ss (words k) ≤ 256 * each_nodes ss
     each_light scope inside no_statements v i = omega arith
@@ -176,8 +176,3 @@ module _ (k : ℕ) (vs : List Variable) (none : (numbers : List ℕ) → objects
         let g = statement_light scope inside s parts.0 both.0 in
         let h = items_light scope inside is parts.1 both.1 in
         omega (arith, g, h, labels_light k labels)
-
-  pub body_light : (scope : Scope) (inside : valid.Inside) (ss : Statements)
-      → valid.are_statements scope inside ss ≡ true → are_integer_statements ss ≡ true
-      → each_weight vs ss (words k) ≤ 256 * each_nodes ss
-  body_light = each_light

@@ -13,7 +13,7 @@ use Rattle.metadata_expansion.specs.declared.joins.Arrivals.{Arrivals}
 use Rattle.metadata_expansion.specs.declared.joins.Arrivals.TheVariants.{Never, Often}
 use Rattle.metadata_expansion.specs.declared.joins.Joins.{Joins}
 use Rattle.metadata_expansion.specs.Joins.{Adds, AreCounted, AreJoins, and_one, and_more, is_often, ways_in}
-use Rattle.metadata_expansion.proofs.Laid.{drop_at}
+use Rattle.metadata_plan.proofs.Laying.{drop_at}
 
 pub more_of_sum : (a : Arrivals) (m n : ℕ) → and_more a (m + n) ≡ and_more (and_more a m) n
 unfolding and_more

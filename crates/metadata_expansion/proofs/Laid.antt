@@ -10,7 +10,6 @@ use Rattle.tac_ir.specs.declared.function.Tac.{Tac}
 use Rattle.tac_ir.specs.Edges.{successors}
 use Rattle.tac_ir.specs.Temporaries.{temporaries}
 use Rattle.flat_meaning.specs.declared.instruction.FlatInstruction.{FlatInstruction}
-use Rattle.metadata_plan.specs.Registers.{most_temporaries}
 use Rattle.metadata_plan.specs.Blocks.{block}
 use Rattle.metadata_plan.specs.Laid.{begin_size, jumps, laid_from, place_of, size_at, size_from}
 use Rattle.metadata_expansion.specs.declared.layout.Places.{Places}
@@ -19,25 +18,11 @@ use Rattle.metadata_expansion.specs.Homes.{argument_count, most_arguments}
 use Rattle.metadata_expansion.specs.Numbers.{callee, greatest_callee, AreSmall}
 use Rattle.metadata_expansion.specs.Numbering.{IsAmong}
 use Rattle.metadata_expansion.specs.Layout.{ArePlaces}
+use Rattle.metadata_plan.proofs.Numbers.{most_at}
+use Rattle.metadata_plan.proofs.Laying.{drop_at}
 use Rattle.metadata_expansion.proofs.Lists.{nothing_behind}
 
-pub drop_at : (is : List Instruction) (n : ℕ) (i : Instruction) → slice_get is n ≡ Some i
-    → drop n is ≡ i ∷ drop (suc n) is
-drop_at [] n i e = cc
-drop_at (x ∷ is) zero i e = let same : x ≡ i = cc in ap (λ z. z ∷ is) same
-drop_at (x ∷ is) (suc n) i e = drop_at is n i e
-
 -- ---- what a function's instructions name
-
-temporaries_few : (is : List Instruction) (n : ℕ) (i : Instruction) → slice_get is n ≡ Some i
-    → temporaries i ≤ most_temporaries is
-temporaries_few [] n i e = cc
-temporaries_few (x ∷ is) zero i e =
-    let same : temporaries x ≡ temporaries i = let x-i : x ≡ i = cc in ap (λ z. temporaries z) x-i in
-    omega arith
-temporaries_few (x ∷ is) (suc n) i e =
-    let rest : temporaries i ≤ most_temporaries is = temporaries_few is n i e in
-    omega arith
 
 pub arguments_few : (is : List Instruction) (n : ℕ) (i : Instruction) → slice_get is n ≡ Some i
     → argument_count i ≤ most_arguments is
@@ -62,7 +47,7 @@ callees_low (x ∷ is) (suc n) i e =
 pub is_among : (c : CodeFunction) (n : ℕ) (i : Instruction) → greatest_callee c.code < 2 ^ 32
     → slice_get c.code n ≡ Some i → IsAmong c i
 is_among c n i low_callees e = record {
-  temporaries = temporaries_few c.code n i e;
+  temporaries = most_at c.code n i e;
   arguments = let few : argument_count i ≤ most_arguments c.code = arguments_few c.code n i e in omega arith;
   callee = let low : callee i ≤ greatest_callee c.code = callees_low c.code n i e in omega (arith, low_callees);
 }

@@ -9,7 +9,7 @@ use Rattle.tac_ir.specs.declared.function.Tac.{Tac}
 use Rattle.metadata_plan.specs.Laid.{size_at, size_from}
 use Rattle.integer_code.specs.Operators.{operators}
 use Rattle.metadata_expansion.specs.Numbers.{AreSmall, AreAllSmall}
-use Rattle.metadata_expansion.proofs.Laid.{drop_at}
+use Rattle.metadata_plan.proofs.Laying.{drop_at}
 
 -- the size so far, with that of the nodes from one on
 pub one_counted : (m : MapSizes) (t : Tac) (c : CodeFunction) (size more all n : ℕ) (i : Instruction)

@@ -38,9 +38,10 @@ use Rattle.source_meaning.specs.Calls.{plain_count}
 use Rattle.metadata_plan.specs.Registers.{words_of}
 use Rattle.metadata_plan.proofs.Flat.{constant_comes}
 use Rattle.flat_meaning.specs.declared.instruction.FlatInstruction.{FlatInstruction}
+use Rattle.flat_meaning.proofs.Stored.{put_same, put_other}
 use Rattle.metadata_plan.specs.Part.{are_integers}
 use Rattle.metadata_plan.specs.Matching.{Holds}
-use Rattle.metadata_plan.proofs.Numbers.{put_same, put_other, integers_words, integers_register, integers_front}
+use Rattle.metadata_plan.proofs.Numbers.{integers_words, integers_register, integers_front}
 use Rattle.metadata_plan.proofs.Numbers.{is_integer_variable}
 use Rattle.metadata_plan.proofs.Flat.{weight_small, Comes, then_comes, turn_comes, charged_comes, branch_taken_comes}
 use Rattle.metadata_plan.proofs.Flat.{branch_passed_comes, move_comes, end_step}

@@ -11,11 +11,12 @@ use Rattle.tac_ir.specs.declared.function.CodeFunction.{CodeFunction}
 use Rattle.tac_ir.specs.Stage.{Temps, with_temp}
 use Rattle.flat_meaning.specs.Memory.{put}
 use Rattle.flat_meaning.specs.State as flat
+use Rattle.flat_meaning.proofs.Stored.{put_same, put_other}
 use Rattle.metadata_plan.specs.Registers.{words_in, all_variables, most_temporaries, variable_register}
 use Rattle.metadata_plan.specs.Registers.{temporary_register, first_free}
 use Rattle.metadata_plan.specs.Part.{are_integers}
 use Rattle.metadata_plan.specs.Matching.{Holds}
-use Rattle.metadata_plan.proofs.Numbers.{put_same, put_other, integers_words, integers_register}
+use Rattle.metadata_plan.proofs.Numbers.{integers_words, integers_register}
 
 -- a register has a value, and all others below the first free one are as they were
 pub record IsSet (free register value : ℕ) (values after : flat.Values) : Type 0 where

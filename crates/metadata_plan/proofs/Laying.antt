@@ -1,9 +1,10 @@
 -- Blocks that are laid one behind the other make an expansion.
-use Rattle.std.proofs.Common.{◌≡◌, ℕ, zero, suc, ◌+◌, ◌-◌, ◌<◌, ◌≤◌, refl, sym, ap, ◌∙◌, subst, arith, Bool, true}
+use Rattle.std.proofs.Common.{◌≡◌, ℕ, zero, suc, ◌+◌, ◌-◌, ◌<◌, refl, sym, ap, ◌∙◌, subst, arith, Bool, true}
 use Rattle.std.proofs.Common.{false, List, [], ◌∷◌, ◌++◌, length, length-append, append_assoc, append-nil, drop, Some}
 use Rattle.std.proofs.Common.{ltb-true, ltb-false}
 use Rattle.std.specs.Prelude.{slice_get, nat_lt, ◌==◌, not, ◌&&◌, if◌then◌else◌}
 use Rattle.std.proofs.Math.Seq.{get_or-append_seam}
+use Rattle.std.proofs.lemmas.List.{drop_all}
 use Rattle.std.proofs.lemmas.Option.{slice_get-get_or}
 use Rattle.std.proofs.lemmas.Bool.{eqb-true}
 use Rattle.addr_map.specs.Places.{MapSizes, region_size}
@@ -72,14 +73,9 @@ jumps_length c address n pc (x ∷ y ∷ ns) =
     let e = unless_length (falls c n x) (pc + 1) (address x) in
     omega arith
 
-pub drop_past : (is : List Instruction) (n : ℕ) → length is ≤ n → drop n is ≡ []
-drop_past [] zero le = refl
-drop_past [] (suc n) le = refl
-drop_past (x ∷ is) zero le = absurd (omega arith)
-drop_past (x ∷ is) (suc n) le = drop_past is n (omega arith)
-
-pub drop_at : (is : List Instruction) (n : ℕ) (i : Instruction) → slice_get is n ≡ Some i → drop n is ≡ i
-    ∷ drop (suc n) is
+-- the instructions from a place on begin with the one that stands there
+pub drop_at : (is : List Instruction) (n : ℕ) (i : Instruction) → slice_get is n ≡ Some i
+    → drop n is ≡ i ∷ drop (suc n) is
 drop_at [] n i e = cc
 drop_at (x ∷ is) zero i e = let same : x ≡ i = cc in ap (λ z. z ∷ is) same
 drop_at (x ∷ is) (suc n) i e = drop_at is n i e
@@ -264,7 +260,7 @@ module _ (o : OperatorCode) (m : MapSizes) (t : Tac) (c : CodeFunction) where
       by true e has =
           let size : one_unless (c.entry + 1 == length c.code) ≡ 0 = ap one_unless e in
           let last : suc c.entry ≡ length c.code = let a = eqb-true (c.entry + 1) (length c.code) e in omega arith in
-          let none = drop_past c.code (suc c.entry) (omega arith) in
+          let none = drop_all (suc c.entry) c.code (omega arith) in
           let rest = ap (size_from o m t c (suc c.entry)) none in
           Falls (omega (arith, place_is c.entry, size, rest))
       by false e has =

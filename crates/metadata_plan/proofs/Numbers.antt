@@ -1,8 +1,9 @@
 -- Lists and registers.
-use Rattle.std.proofs.Common.{◌≡◌, ◌≢◌, ℕ, zero, suc, ◌<◌, ◌≤◌, max, refl, sym, ap, ◌∙◌, arith, Bool, true}
+use Rattle.std.proofs.Common.{◌≡◌, ℕ, zero, suc, ◌*◌, ◌<◌, ◌≤◌, max, refl, ap, ◌∙◌, arith, true}
 use Rattle.std.proofs.Common.{false, not, ◌&&◌, List, [], ◌∷◌, ◌++◌, Some, length}
-use Rattle.std.specs.Prelude.{slice_get, if◌then◌else◌}
-use Rattle.std.proofs.lemmas.Bool.{and_parts, eq-eqb, ne_eqb}
+use Rattle.std.proofs.Common.{le_trans, mul-le-mul_left}
+use Rattle.std.specs.Prelude.{slice_get}
+use Rattle.std.proofs.lemmas.Bool.{and_parts, not-true}
 use Rattle.obj_memory.specs.declared.value.Scalar.TheVariants.{Integer, Pointer}
 use Rattle.c_tree.specs.declared.expression.Kind.{Kind}
 use Rattle.c_tree.specs.declared.expression.Kind.TheVariants.{Void, Scalar as OfScalar, Structure, Array}
@@ -11,19 +12,8 @@ use Rattle.tac_ir.specs.declared.instruction.Instruction.{Instruction}
 use Rattle.tac_ir.specs.declared.function.CodeFunction.{CodeFunction}
 use Rattle.tac_ir.specs.declared.function.Tac.{Tac}
 use Rattle.tac_ir.specs.Temporaries.{temporaries}
-use Rattle.flat_meaning.specs.Memory.{put}
 use Rattle.metadata_plan.specs.Registers.{words_of, words_in, register_of, most_temporaries}
 use Rattle.metadata_plan.specs.Part.{is_integer_kind, are_integers}
-
--- ---- registers that change
-
-pub put_same : (f : ℕ → ℕ) (x v : ℕ) → put f x v x ≡ v
-unfolding put
-put_same f x v = ap (λ b. if b then v else f x) (eq-eqb x x refl)
-
-pub put_other : (f : ℕ → ℕ) (x v y : ℕ) → y ≢ x → put f x v y ≡ f y
-unfolding put
-put_other f x v y ne = ap (λ b. if b then v else f y) (ne_eqb y x ne)
 
 -- ---- temporaries
 
@@ -42,25 +32,38 @@ most_at (x ∷ is) zero i e =
     omega (arith, max_left (temporaries x) (most_temporaries is))
 most_at (x ∷ is) (suc n) i e = omega (arith, most_at is n i e, max_right (temporaries x) (most_temporaries is))
 
+-- what is no more than so much for each of at most two is no more than that for two
+pub scaled : (a b w : ℕ) → w ≤ a * b → b ≤ 2 → w ≤ a * 2
+scaled a b w le small = le_trans le (mul-le-mul_left a small)
+
 -- ---- variables that are integers
 
-one_word : (k : Kind) → is_integer_kind k ≡ true → words_of k ≡ 1
+-- an integer takes one word
+pub one_word : (k : Kind) → is_integer_kind k ≡ true → words_of k ≡ 1
 one_word Void e = cc
 one_word (OfScalar (Integer t)) e = refl
 one_word (OfScalar Pointer) e = cc
 one_word (Structure n) e = cc
 one_word (Array n) e = cc
 
+-- a value takes at most five words, and so do variables each
+pub most_words_of : (k : Kind) → words_of k ≤ 5
+most_words_of Void = omega arith
+most_words_of (OfScalar (Integer t)) = omega arith
+most_words_of (OfScalar Pointer) = omega arith
+most_words_of (Structure n) = omega arith
+most_words_of (Array n) = omega arith
+
+pub words_most : (vs : List Variable) → words_in vs ≤ 5 * length vs
+words_most [] = omega arith
+words_most (v ∷ vs) = omega (arith, most_words_of v.kind, words_most vs)
+
 pub is_integer_variable : (v : Variable) (vs : List Variable) → are_integers (v ∷ vs) ≡ true
     → (v.is_object ≡ false) × (words_of v.kind ≡ 1) × (are_integers vs ≡ true)
 is_integer_variable v vs e =
     let a = and_parts (not v.is_object && is_integer_kind v.kind) (are_integers vs) e in
     let b = and_parts (not v.is_object) (is_integer_kind v.kind) a.0 in
-    (by v.is_object b.0, one_word v.kind b.1, a.1)
-  where
-    by : (b : Bool) → not b ≡ true → b ≡ false
-    by true h = sym h
-    by false h = refl
+    (not-true v.is_object b.0, one_word v.kind b.1, a.1)
 
 pub integers_words : (vs : List Variable) → are_integers vs ≡ true → words_in vs ≡ length vs
 integers_words [] e = refl

@@ -1,7 +1,7 @@
 -- What a call lays out where no variable is an object.
-use Rattle.std.proofs.Common.{◌≡◌, ℕ, ◌+◌, ◌≤◌, refl, sym, ap, ◌∙◌, Bool, true, false, not, List, [], ◌∷◌}
+use Rattle.std.proofs.Common.{◌≡◌, ℕ, ◌+◌, ◌≤◌, refl, ap, ◌∙◌, true, false, not, List, [], ◌∷◌}
 use Rattle.std.specs.Prelude.{nat_le, if◌then◌else◌}
-use Rattle.std.proofs.lemmas.Bool.{and_parts, le-leb}
+use Rattle.std.proofs.lemmas.Bool.{and_parts, le-leb, not-true}
 use Rattle.sb_base.specs.declared.ending.Ending.TheVariants.{Stack}
 use Rattle.obj_memory.specs.Objects.{Objects}
 use Rattle.obj_memory.specs.Heap.{rounded_up}
@@ -20,11 +20,7 @@ not_object : (v : Variable) (vs : List Variable) → have_no_objects (v ∷ vs) 
     → (v.is_object ≡ false) × (have_no_objects vs ≡ true)
 not_object v vs e =
     let a = and_parts (not v.is_object) (have_no_objects vs) e in
-    (by v.is_object a.0, a.1)
-  where
-    by : (b : Bool) → not b ≡ true → b ≡ false
-    by true h = sym h
-    by false h = refl
+    (not-true v.is_object a.0, a.1)
 
 objects_end_same : (vs : List Variable) (top : ℕ) → have_no_objects vs ≡ true → objects_end vs top ≡ top
 objects_end_same [] top e = refl
@@ -33,7 +29,8 @@ objects_end_same (v ∷ vs) top e =
     ap (λ b. objects_end vs (if b then rounded_up 16 top + size_of_kind v.kind else top)) h.0
     ∙ objects_end_same vs top h.1
 
-no_objects : (vs : List Variable) → have_no_objects vs ≡ true → has_objects vs ≡ false
+-- variables of which none is an object have no objects
+pub no_objects : (vs : List Variable) → have_no_objects vs ≡ true → has_objects vs ≡ false
 no_objects [] e = refl
 no_objects (v ∷ vs) e =
     let h = not_object v vs e in

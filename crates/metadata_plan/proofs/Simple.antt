@@ -1,7 +1,7 @@
 -- Instructions whose blocks change registers, go one of two ways, or begin a turn.
 use Rattle.std.proofs.Common.{◌≡◌, ℕ, ◌+◌, ◌*◌, ◌^◌, ◌<◌, ◌≤◌, refl, sym, ap, ap₂, ◌∙◌, subst}
 use Rattle.std.proofs.Common.{arith, Bool, true, false, cond, not, List, [], ◌∷◌, ◌++◌, Option, Some, None, length}
-use Rattle.std.proofs.Common.{length-append, mod-eq_of_lt, le_trans, mul-le-mul_left, set, ltb-true}
+use Rattle.std.proofs.Common.{length-append, mod-eq_of_lt, set, ltb-true}
 use Rattle.std.specs.Prelude.{slice_get, ◌==◌}
 use Rattle.words.specs.TwosComplement.{low_bits}
 use Rattle.addr_map.specs.Places.{MapSizes}
@@ -47,6 +47,7 @@ use Rattle.std.proofs.Common.{inl, inr}
 use Rattle.tac_ir.specs.Edges.{LeadsTo}
 use Rattle.metadata_plan.specs.Part.{has_no_pointer, is_word, IsIntegerCode}
 use Rattle.metadata_plan.specs.Matching.{IsAlike, IsAt}
+use Rattle.metadata_plan.proofs.Numbers.{scaled}
 use Rattle.metadata_plan.proofs.Flat.{then_comes}
 use Rattle.metadata_plan.proofs.Flat.{weight_small, Comes, constant_comes, move_comes, turn_comes, branch_taken_comes}
 use Rattle.metadata_plan.proofs.Flat.{branch_passed_comes}
@@ -359,9 +360,6 @@ module _ (o : OperatorCode) (views : Views) (g : Setting) (t : Tac) (address : (
             turns = h.alike.turns;
           })
           (omega (arith, h.work))
-        where
-          scaled : (q e w : ℕ) → w ≤ q * e → e ≤ 2 → w ≤ q * 2
-          scaled q e w le low = le_trans le (mul-le-mul_left q low)
 
   -- nothing changes but the place
   goes_on : (i : Instruction) → Node i → (next most : ℕ) → LeadsTo i next → ComesTo (address u next) v most → most ≤ 21

@@ -1,8 +1,7 @@
 -- Functions and their expansions, and the result of a step that stays in its function.
 use Rattle.std.proofs.Common.{Bool, suc, ◌≡◌, ℕ, ◌+◌, ◌*◌, ◌≤◌, refl, sym, ap, ◌∙◌, subst, arith}
-use Rattle.std.proofs.Common.{true, false, ◌&&◌, List, Option, Some, None, length, le_trans, mul-le-mul_left}
+use Rattle.std.proofs.Common.{true, false, ◌&&◌, List, Option, Some, None, length}
 use Rattle.std.specs.Prelude.{slice_get, if◌then◌else◌}
-use Rattle.std.proofs.lemmas.Bool.{and_parts}
 use Rattle.behaviours.specs.Steps.{run}
 use Rattle.addr_map.specs.Places.{MapSizes}
 use Rattle.source_meaning.specs.State.{State, Setting}
@@ -31,7 +30,7 @@ use Rattle.tac_ir.specs.Edges.{LeadsTo}
 use Rattle.metadata_plan.specs.Part.{are_integers, have_no_objects, is_integer_instruction, SafeWithin, IsSafeFrom}
 use Rattle.metadata_plan.specs.Part.{IsIntegerFunction, takes, IsIntegerCode}
 use Rattle.metadata_plan.specs.Matching.{factor, Holds, HaveNoObjects, IsAlike, IsAt, MatchesBy}
-use Rattle.metadata_plan.proofs.Numbers.{most_at}
+use Rattle.metadata_plan.proofs.Numbers.{most_at, scaled}
 use Rattle.metadata_plan.proofs.Flat.{weight_small, Comes, then_comes, leads_comes}
 use Rattle.metadata_plan.proofs.Holding.{IsSet}
 
@@ -149,9 +148,6 @@ module _ (o : OperatorCode) (views : Views) (g : Setting) (t : Tac) (address : (
     few = scaled most _ h.work h.few (weight_small (function_in p u));
     comes = h.comes;
   }
-    where
-      scaled : (a b w : ℕ) → w ≤ a * b → b ≤ 2 → w ≤ a * 2
-      scaled a b w le small = le_trans le (mul-le-mul_left a small)
 
   pub computed_set : (x : Position) (place into value free scratch most : ℕ)
       → (h : Computes m p x place into value scratch most) → free ≤ scratch

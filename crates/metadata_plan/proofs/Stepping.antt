@@ -26,6 +26,7 @@ use Rattle.flat_meaning.specs.Memory.{put}
 use Rattle.flat_meaning.specs.State as flat
 use Rattle.flat_meaning.specs.Calls.{function_in, charged, with_results}
 use Rattle.flat_meaning.specs.Meaning.{body_of, step, weight_of, started}
+use Rattle.flat_meaning.proofs.Stored.{put_other}
 use Rattle.flat_routines.specs.Routine.{HasAt}
 use Rattle.flat_routines.proofs.Steps.{has_front, has_back}
 use Rattle.flat_objects.specs.StandsFor.{Views, StandsFor}
@@ -35,7 +36,6 @@ use Rattle.metadata_plan.specs.Blocks.{call_tests, argument_moves, call_code, ro
 use Rattle.metadata_plan.specs.Expanded.{Leads, IsExpanded}
 use Rattle.metadata_plan.specs.Part.{takes, IsIntegerCode}
 use Rattle.metadata_plan.specs.Matching.{IsAlike, WaitsAs, AllWait, IsAt, IsFirst, MatchesBy}
-use Rattle.metadata_plan.proofs.Numbers.{put_other}
 use Rattle.metadata_plan.proofs.Flat.{weight_small, Comes, then_comes, turn_comes, leads_comes, exit_step}
 use Rattle.metadata_plan.proofs.Holding.{IsSet, holds_free, holds_temporary}
 use Rattle.metadata_plan.proofs.SetUp.{none_die}

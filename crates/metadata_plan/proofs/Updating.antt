@@ -2,7 +2,7 @@
 use Rattle.std.proofs.Common.{inl}
 use Rattle.std.proofs.Common.{◌≡◌, ◌≢◌, ℕ, ◌+◌, ◌*◌, ◌<◌, ◌≤◌, refl, sym, ap, ap₂, ◌∙◌, subst}
 use Rattle.std.proofs.Common.{arith, Bool, true, false, List, [], ◌∷◌, ◌++◌, Option, Some, None, length}
-use Rattle.std.proofs.Common.{le_trans, mul-le-mul_left, set, ltb-true, length-append}
+use Rattle.std.proofs.Common.{set, ltb-true, length-append}
 use Rattle.std.specs.Prelude.{slice_get, nat_lt, ◌==◌}
 use Rattle.std.proofs.lemmas.Bool.{and_parts, eqb-true, eqb-false}
 use Rattle.words.specs.TwosComplement.{low_bits}
@@ -44,6 +44,7 @@ use Rattle.flat_meaning.specs.State as flat
 use Rattle.flat_meaning.specs.Calls.{function_in}
 use Rattle.flat_meaning.specs.Meaning.{body_of, step}
 use Rattle.flat_meaning.specs.Words.{HasWords}
+use Rattle.flat_meaning.proofs.Stored.{put_same, put_other}
 use Rattle.flat_routines.specs.Routine.{HasAt}
 use Rattle.flat_objects.specs.StandsFor.{Views}
 use Rattle.metadata_plan.specs.Registers.{all_variables, most_temporaries, variable_register, temporary_register}
@@ -53,7 +54,7 @@ use Rattle.metadata_plan.specs.Blocks.{right_code, right_register, kept_by}
 use Rattle.metadata_plan.specs.Expanded.{Leads, IsExpanded}
 use Rattle.metadata_plan.specs.Part.{is_right, is_by_one, is_integer_update, IsIntegerCode}
 use Rattle.metadata_plan.specs.Matching.{IsAt}
-use Rattle.metadata_plan.proofs.Numbers.{put_same, put_other}
+use Rattle.metadata_plan.proofs.Numbers.{scaled}
 use Rattle.metadata_plan.proofs.Flat.{weight_small, Comes, then_comes, constant_comes, move_comes, words_kept}
 use Rattle.metadata_plan.proofs.Holding.{IsSet, set_by_put, holds_temporary, holds_variable, temporary_free}
 use Rattle.metadata_plan.proofs.Holding.{variable_low, variable_free}
@@ -448,9 +449,6 @@ module _ (o : OperatorCode) (views : Views) (g : Setting) (t : Tac) (address : (
           turns = h.alike.turns;
         })
         (omega (arith, h.work, K.few))
-      where
-        scaled : (q e w : ℕ) → w ≤ q * e → e ≤ 2 → w ≤ q * 2
-        scaled q e w le small = le_trans le (mul-le-mul_left q small)
 
     -- the instruction, by the operator's value and what the variable held
     abbrev stage_by : (old : Value) → Option ℕ → Stage

@@ -1,6 +1,7 @@
 -- Functions in turn, and the program of them.
 use Rattle.std.proofs.Common.{◌≡◌, ℕ, zero, suc, ◌+◌, ◌≤◌, ◌<◌, List, [], ◌∷◌, ◌++◌, length, map, drop, refl, sym, ap}
-use Rattle.std.proofs.Common.{◌∙◌, subst, arith, append_assoc}
+use Rattle.std.proofs.Common.{◌∙◌, subst, arith, append_assoc, append-nil, le_trans}
+use Rattle.std.proofs.lemmas.List.{drop_all}
 use Rattle.std.specs.Prelude.{get_or, slice_get, max}
 use Rattle.c_tree.specs.declared.expression.Kind.{Kind}
 use Rattle.c_tree.specs.declared.expression.Kind.TheVariants.{Void}
@@ -19,8 +20,8 @@ use Rattle.c_lower.specs.Programs.{LowersAt, LowersFunction, IsLowered, result_i
 use Rattle.expression_lowering.specs.Weights.{Weights}
 use Rattle.expression_lowering.specs.Emitted.{Stays}
 use Rattle.expression_lowering.proofs.Growing.{stays_all}
+use Rattle.expression_lowering.proofs.Views.{drop_from}
 use Rattle.statement_lowering.specs.Sizes.{each_height}
-use Rattle.statement_lowering.proofs.Elements.{drop_from}
 use Rattle.statement_lowering.proofs.Heights.{height_of_each}
 use Rattle.static_data.specs.Data.{AreInitial}
 use Rattle.program_lowering.specs.declared.program.Lowering.{Lowering}
@@ -56,20 +57,12 @@ done_more {results = results} {l = l} {m = m} fs i x lt is d h = record {
       subst (AreFunctions ts results (map function_of fs)) joined before;
 }
 
-drop_all : {A : Type 0} (xs : List A) → drop (length xs) xs ≡ []
-drop_all [] = refl
-drop_all (x ∷ xs) = drop_all xs
-
-append_none : {A : Type 0} (xs : List A) → xs ++ [] ≡ xs
-append_none [] = refl
-append_none (x ∷ xs) = ap (λ ys. x ∷ ys) (append_none xs)
-
 pub done_all : {results : List Kind} {l : Lowering} (fs : List CodeOfFunction) (i : ℕ) → i ≡ length fs
     → Done results fs i l
     → AreFunctions l.texts.items results (map function_of fs) l.functions.items
 done_all {results = results} {l = l} fs i e d =
-    let none : drop i fs ≡ [] = ap (λ n. drop n fs) e ∙ drop_all fs in
-    subst (AreFunctions l.texts.items results (map function_of fs)) (append_none l.functions.items)
+    let none : drop i fs ≡ [] = drop_all i fs (omega (arith, e)) in
+    subst (AreFunctions l.texts.items results (map function_of fs)) (append-nil l.functions.items)
     (d.by l.texts.items (stays_all l.texts.items) []
     (subst (λ xs. AreFunctions l.texts.items results (map function_of xs) []) (sym none) tt))
 
@@ -101,15 +94,12 @@ room_enough : (statics : List StaticObject) (n : ℕ) (f : Function)
     → each_height f.body ≤ max 1 (function_height statics n f)
 room_enough statics n f = omega (arith, height_of_each f.body)
 
-at_most : {a b c : ℕ} → a ≤ b → b ≤ c → a ≤ c
-at_most h k = omega (arith, h, k)
-
 one_lowered : (ts : List (List ℕ)) (result : Kind) (statics : List StaticObject) (n : ℕ) (f : Function)
     (c : CodeFunction)
     → IsFunction ts result f c → LowersFunction ts result (function_height statics n f) f c
 one_lowered ts result statics n f c h = record {
   header = h.header;
-  homes = λ k i e. at_most (h.homes k i e) (room_enough statics n f);
+  homes = λ k i e. le_trans (h.homes k i e) (room_enough statics n f);
   body = h.body;
 }
 

@@ -4,7 +4,7 @@ use Rattle.std.proofs.Common.{map, refl}
 use Rattle.std.proofs.Common.{sym, ap, ◌∙◌, subst, arith}
 use Rattle.std.specs.Prelude.{not, ◌||◌, ◌==◌, nat_le, get_or}
 use Rattle.std.specs.List.{list_all, list_any}
-use Rattle.std.proofs.lemmas.Bool.{and_parts, and_from, eqb-true}
+use Rattle.std.proofs.lemmas.Bool.{and_parts, and_from, eqb-true, leb-true}
 use Rattle.std.proofs.lemmas.Bool.Decides.{nat_tests}
 use Rattle.c_tree.specs.declared.statement.CaseLabel.{CaseLabel}
 use Rattle.c_tree.specs.declared.statement.CaseLabel.TheVariants.{Case, Default}
@@ -162,12 +162,9 @@ ready_at (y ∷ xs) (suc k) x lt e h =
     ready_at xs k x (omega (arith, lt)) e
     (and_parts (is_ready (function_of y)) (list_all is_ready (map function_of xs)) h).1
 
-le_from : (a b : ℕ) → nat_le a b ≡ true → a ≤ b
-le_from a b h = grind (arith, nat_tests)
-
 pub ready_height : (f : Function) → is_ready f ≡ true → each_height f.body ≤ f.room
 ready_height f h =
-    le_from (each_height f.body) f.room (and_parts (nat_le (each_height f.body) f.room) (each_decided f.body) h).0
+    leb-true (each_height f.body) f.room (and_parts (nat_le (each_height f.body) f.room) (each_decided f.body) h).0
 
 pub ready_decided : (f : Function) → is_ready f ≡ true → each_decided f.body ≡ true
 ready_decided f h = (and_parts (nat_le (each_height f.body) f.room) (each_decided f.body) h).1

@@ -43,19 +43,23 @@ end_length (b ∷ bs) status =
 pub short_end_length : (status : ℕ) → length (end_block [] status) ≡ 3
 short_end_length status = refl
 
-digits_most : (b : Bool) (xs ys : List ℕ) (n : ℕ) → length xs ≤ n → length ys ≤ n → length (if b then xs else ys) ≤ n
-digits_most true xs ys n x y = x
-digits_most false xs ys n x y = y
+-- of two lists that are short enough the one that is chosen is so too
+pub choice_few : (b : Bool) (xs ys : List ℕ) (n : ℕ) → length xs ≤ n → length ys ≤ n
+    → length (if b then xs else ys) ≤ n
+choice_few true xs ys n x y = x
+choice_few false xs ys n x y = y
 
+-- the digits of a number are no more than the places that are given for them
 digits_few : (k n : ℕ) (acc : List ℕ) → length (digits_onto k 10 false n acc) ≤ k + length acc
 digits_few zero n acc = omega arith
 digits_few (suc k) n acc =
     let d = digit_glyph false (n % 10) in
     let r = digits_few k (n / 10) (d ∷ acc) in
-    digits_most (n / 10 == 0) (d ∷ acc) (digits_onto k 10 false (n / 10) (d ∷ acc)) (suc k + length acc) (omega arith)
+    choice_few (n / 10 == 0) (d ∷ acc) (digits_onto k 10 false (n / 10) (d ∷ acc)) (suc k + length acc) (omega arith)
     (omega arith)
 
-decimal_few : (n : ℕ) → length (decimal n) ≤ 64
+-- a number in decimal has at most 64 digits
+pub decimal_few : (n : ℕ) → length (decimal n) ≤ 64
 unfolding digits
 decimal_few n = digits_few 64 n []
 

@@ -27,18 +27,19 @@ use Rattle.rv_follows.specs.Code.{keeping, block, IsLaid, IsEncodable, CallShape
 use Rattle.rv_follows.specs.Code.{back_part}
 use Rattle.rv_follows.specs.Matching.{object_bytes, space_bytes, record_of, IsAt}
 use Rattle.rv_follows.specs.Matching.{Meets}
+use Rattle.rv_follows.specs.Start.{layout_of}
 use Rattle.rv_follows.proofs.Runs.{straight_comes, all_append}
 use Rattle.rv_follows.proofs.Regions.{AreRegions, flat_before}
 use Rattle.rv_follows.proofs.Sound.{IsSound}
 use Rattle.rv_follows.proofs.Standing.{frame_of, IsKind, kind, wait_same}
 use Rattle.rv_follows.proofs.Standing.{record_behind}
-use Rattle.rv_follows.proofs.Locals.{layout, Steps}
+use Rattle.rv_follows.proofs.Locals.{Steps}
 use Rattle.rv_follows.proofs.Calling.{Aims, Prepared, prepares}
 use Rattle.rv_follows.proofs.Entering.{arrives, Entered, enters}
 
 module _ (m : MapSizes) (p : FlatProgram) (plans : List FunctionPlan) (table code : List ℕ)
     (address : (function pc : ℕ) → ℕ) (entry : (function : ℕ) → ℕ) (regions : AreRegions m) (ok : IsSound p plans)
-    (fit : Fits (layout m table code)) (laid : IsLaid m p plans (layout m table code) address entry)
+    (fit : Fits (layout_of m table code)) (laid : IsLaid m p plans (layout_of m table code) address entry)
     (can : IsEncodable p) where
   -- the bytes of the records that wait
   abbrev pub IsWaiting : List Frame → (a : ℕ) → Type 0
@@ -258,7 +259,7 @@ module _ (m : MapSizes) (p : FlatProgram) (plans : List FunctionPlan) (table cod
   pub call_steps : (f pc : ℕ) (g : FlatFunction) (i : FlatInstruction) (shape : CallShape) (to : ℕ)
       (callee : FlatFunction) (s s' : State) (frames : List Frame) (c : Configuration)
       (k : IsCall f pc g i shape to callee)
-      → Meets m p plans (layout m table code) address f pc s frames c → IsOfWords s
+      → Meets m p plans (layout_of m table code) address f pc s frames c → IsOfWords s
       → ((w : View) → HasFrame (space_bytes m) (keeping p plans f).base (record_of m p f frames)
       (keeping p plans f).room w → w.registers 0 ≡ 0
       → ((y : ℕ) → (keeping p plans f).live pc y ≡ true
@@ -277,7 +278,7 @@ module _ (m : MapSizes) (p : FlatProgram) (plans : List FunctionPlan) (table cod
   unfolding function_address
   call_steps f pc g i shape to callee s s' frames c k h words aims fits fits' values memory accesses input output taken
       =
-      let l = layout m table code in
+      let l = layout_of m table code in
       let kf = keeping p plans f in
       let kt = keeping p plans to in
       let fp = record_of m p f frames in

@@ -40,12 +40,11 @@ use Rattle.rv_calls.specs.Calls.{entry_block}
 use Rattle.rv_calls.proofs.Lengths.{entry_length}
 use Rattle.rv_follows.specs.Code.{keeping, IsLaid, IsEncodable}
 use Rattle.rv_follows.specs.Matching.{object_bytes, space_bytes, record_of, Meets}
-use Rattle.rv_follows.specs.Start.{start_block, IsStartable, begins}
+use Rattle.rv_follows.specs.Start.{start_block, IsStartable, begins, layout_of}
 use Rattle.rv_follows.proofs.Runs.{straight_comes, all_append}
 use Rattle.rv_follows.proofs.Regions.{AreRegions, regions, flat_before}
 use Rattle.rv_follows.proofs.Sound.{IsSound, sound}
 use Rattle.rv_follows.proofs.Standing.{function_there, IsKind, kind, record_behind}
-use Rattle.rv_follows.proofs.Locals.{layout}
 use Rattle.rv_follows.proofs.Entering.{arrives, enters}
 use Rattle.rv_follows.proofs.Bounds.{weighs}
 use Rattle.rv_follows.proofs.Whole.{Matches, StageSteps, meets_worked}
@@ -67,7 +66,7 @@ shown_is a b o e t x n =
 
 module _ (m : MapSizes) (p : FlatProgram) (plans : List FunctionPlan) (table code : List ℕ)
     (address : (function pc : ℕ) → ℕ) (entry : (function : ℕ) → ℕ) (regions : AreRegions m) (ok : IsSound p plans)
-    (fit : Fits (layout m table code)) (laid : IsLaid m p plans (layout m table code) address entry)
+    (fit : Fits (layout_of m table code)) (laid : IsLaid m p plans (layout_of m table code) address entry)
     (can : IsEncodable p) where
   -- after so many instructions the machine is where the run is: at most six for each unit of work, and so many more
   record Running (late : ℕ) (c0 : Configuration) (x : Stage) : Type 0 where
@@ -256,7 +255,7 @@ module _ (m : MapSizes) (p : FlatProgram) (plans : List FunctionPlan) (table cod
   zeros (suc n) (suc r) = zeros n r
 
   module _ (start : ℕ) (objects spaces : List ℕ) (memory : Bytes) (input : List ℕ) (can_start : IsStartable m p)
-      (stands : AllStand (layout m table code) start (start_block m p))
+      (stands : AllStand (layout_of m table code) start (start_block m p))
       (hold : Hold (object_bytes m) (space_bytes m) memory objects spaces) (bytes : AreBytes memory) where
     abbrev first_of : Bytes → List ℕ → State
     first_of bytes read = record {
@@ -273,7 +272,7 @@ module _ (m : MapSizes) (p : FlatProgram) (plans : List FunctionPlan) (table cod
     abbrev first_view : View
     first_view = record { pc = start; registers = λ r. 0; memory = memory; accesses = [] }
 
-    first_shows : Shows (layout m table code) (begun (begins start table code objects spaces) input)
+    first_shows : Shows (layout_of m table code) (begun (begins start table code objects spaces) input)
         (record { pc = start; registers = λ r. 0; memory = memory; accesses = [] })
     first_shows = record {
       objects = objects;
@@ -292,7 +291,7 @@ module _ (m : MapSizes) (p : FlatProgram) (plans : List FunctionPlan) (table cod
 
     first_running : Running 15 (begun (begins start table code objects spaces) input) (started p memory input)
     first_running =
-        let l = layout m table code in
+        let l = layout_of m table code in
         let g = can_start.function in
         let k = keeping p plans p.entry in
         let c0 = begun (begins start table code objects spaces) input in
@@ -307,7 +306,7 @@ module _ (m : MapSizes) (p : FlatProgram) (plans : List FunctionPlan) (table cod
         let pc1 : start + 4 * 8 ≡ s.view.pc = let e = s.pc in omega arith in
         let two = arrives l fit 28 (function_address p.entry) (entry p.entry) one.after s.view
         (subst (λ q. AllStand l q (Jalr 1 28 0 ∷ [])) pc1 parts.1).0 s.callee (omega arith)
-        (whole_address p.entry)
+        (address_whole p.entry)
         (laid.rows p.entry g can_start.there) (laid.low p.entry g can_start.there)
         (laid.whole p.entry g can_start.there) shows1 in
         let w = two.view in
@@ -383,19 +382,16 @@ module _ (m : MapSizes) (p : FlatProgram) (plans : List FunctionPlan) (table cod
           turns = omega arith;
           words = (record { values = λ x. omega arith; memory = bytes }, tt);
         }
-      where
-        whole_address : (f : ℕ) → function_address f % 4 ≡ 0
-        whole_address f = address_whole f
 
     -- a moment of the start, at which nothing has been shown
-    early : (is : List Instr) (x : Stage) → AllStand (layout m table code) start is
+    early : (is : List Instr) (x : Stage) → AllStand (layout_of m table code) start is
         → AllGoOn (object_bytes m) (space_bytes m) is first_view → (performs is first_view).accesses ≡ []
         → (seen x).shown ≡ nothing_shown → (seen x).turns ≤ length is → length is ≤ 6 * (seen x).work
         → MeetsMoment 6 (seen x) (behaviour (begins start table code objects spaces) input (length is))
     unfolding behaviour
     early is x stand go silent nothing turns work =
         let c0 = begun (begins start table code objects spaces) input in
-        let one = straight_comes (layout m table code) fit is c0 first_view stand go first_shows in
+        let one = straight_comes (layout_of m table code) fit is c0 first_view stand go first_shows in
         record {
           shown = nothing ∙ shown_is nothing_shown (shown_by (one.after, None)) (sym one.stays.output)
               (sym one.stays.errors) (sym one.stays.taken) (sym (one.shows.accesses_are ∙ silent)) refl
@@ -495,8 +491,8 @@ module _ (m : MapSizes) (p : FlatProgram) (plans : List FunctionPlan) (table cod
 pub machine_follows : (m : MapSizes) (p : FlatProgram) (plans : List FunctionPlan) (table code : List ℕ)
     (address : (function pc : ℕ) → ℕ) (entry : (function : ℕ) → ℕ) (start : ℕ) (objects spaces : List ℕ)
     (memory : Bytes) (input : List ℕ) → AreMapped m → AreAccepted p plans → IsEncodable p → IsStartable m p
-    → Fits (layout m table code) → IsLaid m p plans (layout m table code) address entry
-    → AllStand (layout m table code) start (start_block m p)
+    → Fits (layout_of m table code) → IsLaid m p plans (layout_of m table code) address entry
+    → AllStand (layout_of m table code) start (start_block m p)
     → Hold (object_bytes m) (space_bytes m) memory objects spaces → AreBytes memory
     → ((k : ℕ) → run (step m p) k (started p memory input) ≡ Stuck → ⊥)
     → Follows 6 (flat_meaning m p memory input) (behaviour (begins start table code objects spaces) input)

@@ -3,7 +3,8 @@ use Rattle.std.proofs.Common.{◌≡◌, ◌≢◌, ℕ, zero, suc, ◌+◌, ◌
 use Rattle.std.proofs.Common.{ap, ◌∙◌, subst, arith, ⊎_elim, Bool, true, false, List, [], ◌∷◌, ◌++◌, length, Some, None}
 use Rattle.std.proofs.Common.{length-append}
 use Rattle.std.specs.Prelude.{if◌then◌else◌, not, nat_le, nat_lt, ◌&&◌, ◌||◌}
-use Rattle.std.proofs.lemmas.Bool.{cases_eq, and_parts, leb-true, le-leb, lt-ltb, lt-leb, le-ltb, or_cases}
+use Rattle.std.proofs.lemmas.Bool.{cases_eq, and_parts, leb-true, le-leb, lt-ltb, lt-leb, le-ltb, or_cases, or_right}
+use Rattle.std.proofs.Math.Bool.{or-true}
 use Rattle.words.specs.TwosComplement.{low_bits}
 use Rattle.behaviours.specs.Shown.{Access, AccessKind, Read, Write}
 use Rattle.addr_map.specs.Places.{MapSizes, region_start, region_end, objects_begin, spaces_begin, code_begin}
@@ -22,7 +23,7 @@ use Rattle.rv_isa.specs.Results.{wrap, low_word, branch_taken, reg_result, reg32
 use Rattle.rv_isa.specs.Results.{store_bytes}
 use Rattle.rv_isa.proofs.Words.{reg_fits, reg32_fits, load_fits}
 use Rattle.rv_sim.specs.Run.{Configuration, runs}
-use Rattle.rv_view.specs.Views.{View, Layout, Fits, AllStand, StaysOutside, performs, accesses_by}
+use Rattle.rv_view.specs.Views.{View, Fits, AllStand, StaysOutside, performs, accesses_by}
 use Rattle.rv_view.proofs.Leaving.{no_access}
 use Rattle.rv_asm.specs.Forms.{branch_size}
 use Rattle.rv_asm.specs.Words.{jump_instrs, branch_instrs}
@@ -40,7 +41,7 @@ use Rattle.flat_meaning.specs.Meaning.{instruction_at, is_runtime_function, righ
 use Rattle.flat_meaning.specs.Words.{AreWords, IsOfWords}
 use Rattle.flat_meaning.proofs.Stored as stored
 use Rattle.reg_plan.specs.declared.plan.FunctionPlan.{FunctionPlan}
-use Rattle.reg_plan.specs.Effects.{read_by, is_read, made_by, is_among, one, none, two, operand, Leads}
+use Rattle.reg_plan.specs.Effects.{read_by, is_read, made_by, is_among, many, one, none, two, operand, Leads}
 use Rattle.rv_blocks.specs.declared.location.Location.{Location}
 use Rattle.rv_blocks.specs.declared.location.Location.TheVariants as location
 use Rattle.rv_blocks.specs.Blocks.{used, used_right, fetch, keep, operands}
@@ -52,19 +53,11 @@ use Rattle.rv_calls.specs.Calls.{Keeping}
 use Rattle.rv_calls.proofs.Words.{kept_above}
 use Rattle.rv_follows.specs.Code.{keeping, block, charged_from, IsLaid, IsEncodable, JumpStands}
 use Rattle.rv_follows.specs.Matching.{object_bytes, space_bytes, IsOfFlat, record_of, IsAt, ShowsSame, Meets}
+use Rattle.rv_follows.specs.Start.{layout_of}
 use Rattle.rv_follows.proofs.Runs.{Comes, straight_comes, then_comes, jumps, branches}
 use Rattle.rv_follows.proofs.Regions.{AreRegions, allowed_data, allowed_flat, allowed_before}
 use Rattle.rv_follows.proofs.Sound.{IsSound}
-use Rattle.rv_follows.proofs.Standing.{frame_of, made, moves, before_untouched, record_behind}
-
--- the segments of a program with these two lists of code
-abbrev pub layout : MapSizes → (table code : List ℕ) → Layout
-layout m table code = record {
-  table = table;
-  code = code;
-  object_bytes = object_bytes m;
-  space_bytes = space_bytes m;
-}
+use Rattle.rv_follows.proofs.Standing.{among_one, frame_of, made, moves, before_untouched, record_behind}
 
 -- a state has these values, this memory and these accesses, and else is as another
 pub record Becomes (s s' : State) (values : Values) (memory : Bytes) (accesses : List Access) : Type 0 where
@@ -87,12 +80,13 @@ abbrev pub RightIsLive : Keeping → (pc : ℕ) → RightOperand → Type 0
 RightIsLive k pc (right.Register z) = k.live pc z ≡ true
 RightIsLive k pc (right.Number n) = Unit {0}
 
-pub among_one : (z : ℕ) → is_among (one z) z ≡ true
-among_one z = rw (le-leb z z (omega arith), lt-ltb z (z + 1) (omega arith)) refl
+-- the last of three tests holds
+pub or_last : (a b d : Bool) → d ≡ true → (a || (b || d)) ≡ true
+or_last a b d e = or_right a (b || d) (or_right b d e)
 
-pub or_true : (a : Bool) → (a || true) ≡ true
-or_true true = refl
-or_true false = refl
+-- a register of so many from a first one on is among them
+pub among_from : (first n j : ℕ) → j < n → is_among (many first n) (first + j) ≡ true
+among_from first n j lt = rw (le-leb first (first + j) (omega arith), lt-ltb (first + j) (first + n) (omega arith)) refl
 
 pub among_none : (y : ℕ) → is_among none y ≡ false
 among_none y = rw (le-leb 0 y (omega arith), le-ltb y 0 (omega arith)) refl
@@ -150,7 +144,7 @@ store_same (suc n) m m' a v b e =
 
 module _ (m : MapSizes) (p : FlatProgram) (plans : List FunctionPlan) (table code : List ℕ)
     (address : (function pc : ℕ) → ℕ) (entry : (function : ℕ) → ℕ) (regions : AreRegions m) (ok : IsSound p plans)
-    (fit : Fits (layout m table code)) (laid : IsLaid m p plans (layout m table code) address entry)
+    (fit : Fits (layout_of m table code)) (laid : IsLaid m p plans (layout_of m table code) address entry)
     (can : IsEncodable p) where
   -- the machine comes within so many instructions to an instruction of a function
   pub record Steps (f q : ℕ) (s' : State) (frames : List Frame) (c : Configuration) (most : ℕ) : Type 0 where
@@ -158,7 +152,7 @@ module _ (m : MapSizes) (p : FlatProgram) (plans : List FunctionPlan) (table cod
     pub few : steps ≤ most
     pub after : Configuration
     pub is : runs steps c ≡ (after, None)
-    pub meets : Meets m p plans (layout m table code) address f q s' frames after
+    pub meets : Meets m p plans (layout_of m table code) address f q s' frames after
 
   still_shows : (c d : Configuration) (s s' : State) (values : Values) (memory : Bytes) (accesses : List Access)
       → StaysOutside c d → Becomes s s' values memory accesses → ShowsSame c s → ShowsSame d s'
@@ -172,17 +166,17 @@ module _ (m : MapSizes) (p : FlatProgram) (plans : List FunctionPlan) (table cod
   -- the instructions of a block whose result goes to its place
   result_steps : (f pc x n : ℕ) (g : FlatFunction) (i : FlatInstruction) (s s' : State) (frames : List Frame)
       (c : Configuration) (is : List Instr) (accesses : List Access)
-      (h : Meets m p plans (layout m table code) address f pc s frames c)
+      (h : Meets m p plans (layout_of m table code) address f pc s frames c)
       → function_in p f ≡ Some g → instruction_at p f pc ≡ Some i
       → Leads i pc (pc + 1) → pc + 1 < length g.body → made_by p i ≡ one x
       → Becomes s s' (put s.values x n) s.memory accesses
-      → AllStand (layout m table code) (address f pc) is → address f (pc + 1) ≡ address f pc + 4 * length is
+      → AllStand (layout_of m table code) (address f pc) is → address f (pc + 1) ≡ address f pc + 4 * length is
       → Puts (object_bytes m) (space_bytes m) (record_of m p f frames) (keeping p plans f).room is h.view
       ((keeping p plans f).place x) n accesses
       → Steps f (pc + 1) s' frames c (length is)
   result_steps f pc x n g i s s' frames c is accesses h there at leads inside makes b stand next u =
-      let go = straight_comes (layout m table code) fit is c h.view
-      (subst (λ q. AllStand (layout m table code) q is) (sym h.pc_is) stand) u.go h.shows in
+      let go = straight_comes (layout_of m table code) fit is c h.view
+      (subst (λ q. AllStand (layout_of m table code) q is) (sym h.pc_is) stand) u.go h.shows in
       record {
         steps = length is;
         few = omega arith;
@@ -234,7 +228,7 @@ module _ (m : MapSizes) (p : FlatProgram) (plans : List FunctionPlan) (table cod
       → ((keeping p plans f).live pc y ≡ true) × RightIsLive (keeping p plans f) pc z
   operator_reads f pc y (right.Register z) g i there at e = (
     ok.reads f pc g i there at y (ap (λ r. is_read r y) e ∙ rw (among_one y) refl),
-    ok.reads f pc g i there at z (ap (λ r. is_read r z) e ∙ rw (among_one z) (or_true (is_among (one y) z))),
+    ok.reads f pc g i there at z (ap (λ r. is_read r z) e ∙ rw (among_one z) (or-true (is_among (one y) z))),
   )
   operator_reads f pc y (right.Number n) g i there at e =
       (ok.reads f pc g i there at y (ap (λ r. is_read r y) e ∙ rw (among_one y) refl), tt)
@@ -279,7 +273,7 @@ module _ (m : MapSizes) (p : FlatProgram) (plans : List FunctionPlan) (table cod
 
   -- ---- one by one
   module _ (f pc : ℕ) (g : FlatFunction) (s s' : State) (frames : List Frame) (c : Configuration)
-      (h : Meets m p plans (layout m table code) address f pc s frames c) (words : IsOfWords s)
+      (h : Meets m p plans (layout_of m table code) address f pc s frames c) (words : IsOfWords s)
       (there : function_in p f ≡ Some g) where
     frame : HasFrame (space_bytes m) (keeping p plans f).base (record_of m p f frames) (keeping p plans f).room h.view
     frame = frame_of m p plans address regions ok can.rooms f pc g s frames h.view there h.is_at
@@ -415,7 +409,7 @@ module _ (m : MapSizes) (p : FlatProgram) (plans : List FunctionPlan) (table cod
         let pc' = address f pc + 4 * length front in
         let long = length-append front (Store op (used (k.place y) 5) (used (k.place x) 6) (o % 2 ^ 12) ∷ []) in
         let y_live = ok.reads f pc g i there at y (rw (among_one y) refl) in
-        let x_live = ok.reads f pc g i there at x (rw (among_one x) (or_true (is_among (one y) x))) in
+        let x_live = ok.reads f pc g i there at x (rw (among_one x) (or-true (is_among (one y) x))) in
         let u = store_saves (object_bytes m) (space_bytes m) k.base (record_of m p f frames) k.room k.place op x y o
         h.view s.values pc' (can.store_offset f pc op y o x at) h.is_at.zero_is frame (place_in f pc y g there y_live)
         (place_in f pc x g there x_live) (h.is_at.held y y_live) (h.is_at.held x x_live)
@@ -426,8 +420,8 @@ module _ (m : MapSizes) (p : FlatProgram) (plans : List FunctionPlan) (table cod
         ap (λ q. q ++ accesses_by pc' (Some (record { address = a; size = size; kind = Write }))) h.accesses
         ∙ ap (λ q. s.accesses ++ q) (access_by m regions (is_runtime_function (function_in p f)) pc' a size Write
         (code_address f pc (length front) i at (omega (arith, long))) (some_stored op) allowed) in
-        let go = straight_comes (layout m table code) fit is c h.view
-        (subst (λ q. AllStand (layout m table code) q is) (sym h.pc_is) (laid.blocks f pc i at)) u.go h.shows in
+        let go = straight_comes (layout_of m table code) fit is c h.view
+        (subst (λ q. AllStand (layout_of m table code) q is) (sym h.pc_is) (laid.blocks f pc i at)) u.go h.shows in
         record {
           steps = length is;
           few = omega arith;
@@ -453,7 +447,7 @@ module _ (m : MapSizes) (p : FlatProgram) (plans : List FunctionPlan) (table cod
     -- where nothing of the run's state changes, and the machine's scratch registers alone have
     same_steps : (q : ℕ) (i : FlatInstruction) (most : ℕ) → instruction_at p f pc ≡ Some i → Leads i pc q
         → made_by p i ≡ none → Becomes s s' s.values s.memory s.accesses
-        → (n : ℕ) → n ≤ most → (w : View) → Comes (layout m table code) n c w → w.pc ≡ address f q
+        → (n : ℕ) → n ≤ most → (w : View) → Comes (layout_of m table code) n c w → w.pc ≡ address f q
         → ((r : ℕ) → IsNoScratch r → r ≢ 31 → w.registers r ≡ h.view.registers r) → w.memory ≡ h.view.memory
         → w.accesses ≡ h.view.accesses → Steps f q s' frames c most
     same_steps q i most at leads makes b n few w go pc_is stay memory accesses = record {
@@ -486,11 +480,12 @@ module _ (m : MapSizes) (p : FlatProgram) (plans : List FunctionPlan) (table cod
 
     pub jump_steps : (q : ℕ) (i : FlatInstruction) → instruction_at p f pc ≡ Some i → Leads i pc q
         → made_by p i ≡ none → Becomes s s' s.values s.memory s.accesses
-        → JumpStands (layout m table code) (address f pc) (address f q) → Steps f q s' frames c 2
+        → JumpStands (layout_of m table code) (address f pc) (address f q) → Steps f q s' frames c 2
     jump_steps q i at leads makes b t =
-        let j = jumps (layout m table code) fit t.form t.begin t.p t.t c h.view (h.pc_is ∙ t.from_is) t.begin_low
+        let j = jumps (layout_of m table code) fit t.form t.begin t.p t.t c h.view (h.pc_is ∙ t.from_is) t.begin_low
         t.begin_whole t.p_low t.t_low t.reach
-        (subst (λ z. AllStand (layout m table code) z (jump_instrs t.form 0 t.p t.t)) (sym h.pc_is) t.stands) h.shows in
+        (subst (λ z. AllStand (layout_of m table code) z (jump_instrs t.form 0 t.p t.t)) (sym h.pc_is) t.stands)
+        h.shows in
         same_steps q i 2 at leads makes b j.steps j.few j.view j.comes (j.pc ∙ sym t.to_is) (λ r no far. j.others r far)
         j.memory j.accesses
 
@@ -499,8 +494,8 @@ module _ (m : MapSizes) (p : FlatProgram) (plans : List FunctionPlan) (table cod
     unfolding block
     turn_steps at b =
         let is = block m p plans f pc flat.Turn in
-        let go = straight_comes (layout m table code) fit is c h.view
-        (subst (λ q. AllStand (layout m table code) q is) (sym h.pc_is) (laid.blocks f pc flat.Turn at)) (tt, tt)
+        let go = straight_comes (layout_of m table code) fit is c h.view
+        (subst (λ q. AllStand (layout_of m table code) q is) (sym h.pc_is) (laid.blocks f pc flat.Turn at)) (tt, tt)
         h.shows in
         same_steps (pc + 1) flat.Turn (length is) at (inl refl) refl b 1 (omega arith) (performs is h.view) go
         (ap (λ q. q + 4) h.pc_is ∙ sym (laid.next f pc flat.Turn at tt)) (λ r no far. refl) refl
@@ -514,7 +509,7 @@ module _ (m : MapSizes) (p : FlatProgram) (plans : List FunctionPlan) (table cod
     branch_steps op y z past at b =
         let k = keeping p plans f in
         let i = flat.Branch op y z past in
-        let l = layout m table code in
+        let l = layout_of m table code in
         let is = operands k.place k.base y z in
         let live = operator_reads f pc y z g i there at refl in
         let u = has_operands (object_bytes m) (space_bytes m) k.base (record_of m p f frames) k.room k.place y z h.view

@@ -38,11 +38,12 @@ use Rattle.rv_blocks.proofs.Local.{used_nonzero}
 use Rattle.rv_blocks.proofs.Reports.{reports_are_short}
 use Rattle.rv_follows.specs.Code.{keeping, block, IsLaid, IsEncodable}
 use Rattle.rv_follows.specs.Matching.{object_bytes, space_bytes, record_of, IsAt, ShowsSame, Meets, HasEnded}
+use Rattle.rv_follows.specs.Start.{layout_of}
 use Rattle.rv_follows.proofs.Runs.{Comes, straight_comes, all_append}
 use Rattle.rv_follows.proofs.Regions.{AreRegions, flat_before}
 use Rattle.rv_follows.proofs.Sound.{IsSound}
-use Rattle.rv_follows.proofs.Standing.{frame_of, made, moves, before_untouched, record_behind}
-use Rattle.rv_follows.proofs.Locals.{layout, among_one, among_none, Steps}
+use Rattle.rv_follows.proofs.Standing.{frame_of, made, moves, before_untouched, record_behind, among_one}
+use Rattle.rv_follows.proofs.Locals.{among_none, Steps}
 use Rattle.rv_follows.proofs.Asks.{asking, asking_asks, IsAsking, immediate, immediate_other, small_immediate}
 use Rattle.rv_follows.proofs.Asks.{stored_byte, reports, receiving, receives}
 
@@ -56,7 +57,7 @@ kept_behind fp room area n v w (location.Register r) below regs mem h = regs r h
 
 module _ (m : MapSizes) (p : FlatProgram) (plans : List FunctionPlan) (table code : List ℕ)
     (address : (function pc : ℕ) → ℕ) (entry : (function : ℕ) → ℕ) (regions : AreRegions m) (ok : IsSound p plans)
-    (fit : Fits (layout m table code)) (laid : IsLaid m p plans (layout m table code) address entry)
+    (fit : Fits (layout_of m table code)) (laid : IsLaid m p plans (layout_of m table code) address entry)
     (can : IsEncodable p) where
   -- the machine ends within so many instructions
   pub record Ends (status : ℕ) (report : List ℕ) (s' : State) (c : Configuration) (most : ℕ) : Type 0 where
@@ -105,7 +106,7 @@ module _ (m : MapSizes) (p : FlatProgram) (plans : List FunctionPlan) (table cod
       (ap (λ z. is_among z y) makes ∙ among_none y)) ∙ sym (ap (λ z. z y) values))
 
   module _ (f pc : ℕ) (g : FlatFunction) (s s' : State) (frames : List Frame) (c : Configuration)
-      (h : Meets m p plans (layout m table code) address f pc s frames c) (words : IsOfWords s)
+      (h : Meets m p plans (layout_of m table code) address f pc s frames c) (words : IsOfWords s)
       (there : function_in p f ≡ Some g) where
     frame : HasFrame (space_bytes m) (keeping p plans f).base (record_of m p f frames) (keeping p plans f).room h.view
     frame = frame_of m p plans address regions ok can.rooms f pc g s frames h.view there h.is_at
@@ -118,7 +119,7 @@ module _ (m : MapSizes) (p : FlatProgram) (plans : List FunctionPlan) (table cod
     unfolding block
     put_steps x at values memory accesses input output taken =
         let k = keeping p plans f in
-        let l = layout m table code in
+        let l = layout_of m table code in
         let i = flat.Put x in
         let fp = record_of m p f frames in
         let live = ok.reads f pc g i there at x (rw (among_one x) refl) in
@@ -202,7 +203,7 @@ module _ (m : MapSizes) (p : FlatProgram) (plans : List FunctionPlan) (table cod
 
     -- behind the call: the answer stands in a0, and a byte in the words of arguments
     received_steps : (x answer n : ℕ) (d : Configuration) (w : View) → instruction_at p f pc ≡ Some (flat.Get x)
-        → pc + 1 < length g.body → Shows (layout m table code) d w → w.pc ≡ address f pc + 4 * 5
+        → pc + 1 < length g.body → Shows (layout_of m table code) d w → w.pc ≡ address f pc + 4 * 5
         → IsAt m p plans address f pc s frames w → w.registers 10 ≡ answer
         → wrap (w.memory (region_start m Arguments) * answer % 2 ^ 64 + wrap (answer + (2 ^ 64 - 1))) ≡ n → n < 2 ^ 64
         → w.accesses ≡ s.accesses → ShowsSame d s'
@@ -212,7 +213,7 @@ module _ (m : MapSizes) (p : FlatProgram) (plans : List FunctionPlan) (table cod
     unfolding block
     received_steps x answer n d w at inside shows pc_is is_at ten e small seen outside values memory accesses run =
         let k = keeping p plans f in
-        let l = layout m table code in
+        let l = layout_of m table code in
         let i = flat.Get x in
         let fp = record_of m p f frames in
         let rd = used (k.place x) 5 in
@@ -269,14 +270,14 @@ module _ (m : MapSizes) (p : FlatProgram) (plans : List FunctionPlan) (table cod
     -- the call's arguments stand ready
     pub record Asked (number descriptor : ℕ) : Type 0 where
       pub view : View
-      pub comes : Comes (layout m table code) 4 c view
+      pub comes : Comes (layout_of m table code) 4 c view
       pub ask : IsAsking h.view view number descriptor 1 (region_start m Arguments)
       pub pc_is : view.pc ≡ address f pc + 4 * 4
 
     asked : (number descriptor : ℕ) → number < 2 ^ 11 → descriptor < 2 ^ 11
-        → AllStand (layout m table code) (address f pc) (asking number descriptor 1) → Asked number descriptor
+        → AllStand (layout_of m table code) (address f pc) (asking number descriptor 1) → Asked number descriptor
     asked number descriptor hn hd stand =
-        let l = layout m table code in
+        let l = layout_of m table code in
         let ask = asking_asks h.view number descriptor 1 (region_start m Arguments) hn hd (omega arith) h.is_at.zero_is
         h.is_at.arguments (omega (arith, regions.arguments, regions.calls, regions.end)) in
         record {
@@ -295,7 +296,7 @@ module _ (m : MapSizes) (p : FlatProgram) (plans : List FunctionPlan) (table cod
         (length (block m p plans f pc (flat.Get x)))
     unfolding block
     get_nothing_steps x at inside empty values memory accesses input output taken =
-        let l = layout m table code in
+        let l = layout_of m table code in
         let i = flat.Get x in
         let k = keeping p plans f in
         let tail = received_block (k.place x) k.base in
@@ -333,7 +334,7 @@ module _ (m : MapSizes) (p : FlatProgram) (plans : List FunctionPlan) (table cod
         (length (block m p plans f pc (flat.Get x)))
     unfolding block
     get_byte_steps x byte rest at inside some values memory accesses input output taken =
-        let l = layout m table code in
+        let l = layout_of m table code in
         let i = flat.Get x in
         let k = keeping p plans f in
         let tail = received_block (k.place x) k.base in
@@ -378,7 +379,7 @@ module _ (m : MapSizes) (p : FlatProgram) (plans : List FunctionPlan) (table cod
     unfolding block
     exit_steps x at accesses output taken =
         let k = keeping p plans f in
-        let l = layout m table code in
+        let l = layout_of m table code in
         let i = flat.Exit x in
         let fp = record_of m p f frames in
         let live = ok.reads f pc g i there at x (rw (among_one x) refl) in
@@ -431,7 +432,7 @@ module _ (m : MapSizes) (p : FlatProgram) (plans : List FunctionPlan) (table cod
         → Ends (code_of e) (report_of e) s' c (length (block m p plans f pc (flat.End e)))
     unfolding block
     end_steps e at accesses output taken =
-        let l = layout m table code in
+        let l = layout_of m table code in
         let i = flat.End e in
         let bytes = report_of e in
         let status = code_of e in

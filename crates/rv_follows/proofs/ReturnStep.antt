@@ -2,8 +2,8 @@
 use Rattle.std.proofs.Common.{◌≡◌, ◌≢◌, ℕ, ◌+◌, ◌-◌, ◌*◌, ◌%◌, ◌^◌, ◌<◌, ◌≤◌, ◌⊎◌, inl, inr, refl, sym}
 use Rattle.std.proofs.Common.{ap, ◌∙◌, subst, arith, ⊎_elim, Bool, true, false, List, [], ◌∷◌, ◌++◌, length, Some}
 use Rattle.std.proofs.Common.{length-append, true≢false}
-use Rattle.std.specs.Prelude.{if◌then◌else◌, not, ◌||◌, nat_le, nat_lt}
-use Rattle.std.proofs.lemmas.Bool.{lt-ltb, le-leb, and_parts, and_from, not-true, cases_Bool, leb-true, ltb-true}
+use Rattle.std.specs.Prelude.{if◌then◌else◌, not, nat_le, nat_lt}
+use Rattle.std.proofs.lemmas.Bool.{and_parts, and_from, not-true, cases_Bool, leb-true, ltb-true}
 use Rattle.addr_map.specs.Places.{MapSizes, region_start, region_size, spaces_begin}
 use Rattle.addr_map.specs.declared.region.Region.TheVariants.{Arguments, Calls, RuntimeCalls}
 use Rattle.rv_isa.specs.declared.instruction.Instr.{Instr}
@@ -32,17 +32,18 @@ use Rattle.rv_isa.specs.declared.instruction.RegOp.TheVariants.{Sub}
 use Rattle.rv_follows.specs.Code.{keeping, block, IsLaid, IsEncodable, CallShape, wanted, call_part, back_part}
 use Rattle.rv_follows.specs.Matching.{object_bytes, space_bytes, record_of, Waits, Wait, IsAt}
 use Rattle.rv_follows.specs.Matching.{Meets}
+use Rattle.rv_follows.specs.Start.{layout_of}
 use Rattle.rv_follows.proofs.Runs.{Comes, straight_comes, all_append}
 use Rattle.rv_follows.proofs.Regions.{AreRegions, flat_before}
 use Rattle.rv_follows.proofs.Sound.{IsSound}
 use Rattle.rv_follows.proofs.Standing.{frame_of, IsKind, kind, wait_same, record_behind, function_there}
-use Rattle.rv_follows.proofs.Locals.{layout, Steps}
+use Rattle.rv_follows.proofs.Locals.{among_from, or_last, Steps}
 use Rattle.rv_follows.proofs.CallSim.{IsWaiting, outside_by, base_by}
 use Rattle.rv_follows.proofs.ReturnSim.{call_of, leaves, Backs, backs}
 
 module _ (m : MapSizes) (p : FlatProgram) (plans : List FunctionPlan) (table code : List ℕ)
     (address : (function pc : ℕ) → ℕ) (entry : (function : ℕ) → ℕ) (regions : AreRegions m) (ok : IsSound p plans)
-    (fit : Fits (layout m table code)) (laid : IsLaid m p plans (layout m table code) address entry)
+    (fit : Fits (layout_of m table code)) (laid : IsLaid m p plans (layout_of m table code) address entry)
     (can : IsEncodable p) where
   -- the frames' registers, before the return and behind it
   pub record AreTops (x : Frame) (xs : List Frame) (v w : View) : Type 0 where
@@ -113,9 +114,6 @@ module _ (m : MapSizes) (p : FlatProgram) (plans : List FunctionPlan) (table cod
   other_is : (into n y z : ℕ) (results values : Values) → is_among (many into n) z ≡ false
       → with_results into n results y values z ≡ values z
   other_is into n y z results values e = ap (λ b. if b then results (y + (z - into)) else values z) e
-
-  among_from : (into n j : ℕ) → j < n → is_among (many into n) (into + j) ≡ true
-  among_from into n j lt = rw (le-leb into (into + j) (omega arith), lt-ltb (into + j) (into + n) (omega arith)) refl
 
   -- the machine's state behind the call
   caller_at : (f pc y : ℕ) (g gx : FlatFunction) (s s' : State) (x : Frame) (xs : List Frame) (v w z : View)
@@ -215,7 +213,7 @@ module _ (m : MapSizes) (p : FlatProgram) (plans : List FunctionPlan) (table cod
       }
 
   pub return_steps : (f pc y : ℕ) (g : FlatFunction) (s s' : State) (x : Frame) (xs : List Frame) (c : Configuration)
-      → Meets m p plans (layout m table code) address f pc s (x ∷ xs) c → IsOfWords s
+      → Meets m p plans (layout_of m table code) address f pc s (x ∷ xs) c → IsOfWords s
       → function_in p f ≡ Some g → instruction_at p f pc ≡ Some (flat.Return y)
       → s'.values ≡ with_results x.into g.results s.values y x.values → s'.memory ≡ s.memory
       → s'.accesses ≡ s.accesses → s'.input ≡ s.input → s'.output ≡ s.output → s'.taken ≡ s.taken
@@ -226,7 +224,7 @@ module _ (m : MapSizes) (p : FlatProgram) (plans : List FunctionPlan) (table cod
       → Steps m p plans table code address entry regions ok fit laid can x.function x.next s' xs c most
   unfolding block
   return_steps f pc y g s s' x xs c h words there at values memory accesses input output taken most bound =
-      let l = layout m table code in
+      let l = layout_of m table code in
       let kf = keeping p plans f in
       let kx = keeping p plans x.function in
       let fp = record_of m p f (x ∷ xs) in
@@ -339,11 +337,6 @@ module _ (m : MapSizes) (p : FlatProgram) (plans : List FunctionPlan) (table cod
           → is_read (record { left = none; right = none; others = many first n }) (first + k) ≡ true
       read_one first n k lt = or_last (is_among none (first + k)) (is_among none (first + k))
           (is_among (many first n) (first + k)) (among_from first n k lt)
-        where
-          or_last : (a b d : Bool) → d ≡ true → (a || (b || d)) ≡ true
-          or_last true b d e = refl
-          or_last false true d e = refl
-          or_last false false d e = e
 
       some_low : (l : Layout) (pc : ℕ) (is : List Instr) → AllStand l pc is → 0 < length is → pc < 2 ^ 64
       some_low l pc [] stand some = absurd (omega arith)

@@ -3,7 +3,7 @@ use Rattle.std.proofs.Common.{◌≡◌, ◌≢◌, ℕ, ◌+◌, ◌-◌, ◌*�
 use Rattle.std.proofs.Common.{ap, ◌∙◌, subst, arith, Bool, true, false, List, [], ◌∷◌, ◌++◌, length, Option, Some}
 use Rattle.std.proofs.Common.{None, length-append}
 use Rattle.std.specs.Prelude.{if◌then◌else◌, not, ◌&&◌, ◌||◌, ◌==◌, nat_le}
-use Rattle.std.proofs.lemmas.Bool.{lt-ltb, le-leb, and_parts, leb-true, eqb-true}
+use Rattle.std.proofs.lemmas.Bool.{and_parts, leb-true, eqb-true}
 use Rattle.words.specs.TwosComplement.{low_bits}
 use Rattle.addr_map.specs.Places.{MapSizes, region_size, function_address, functions_begin}
 use Rattle.addr_map.specs.declared.region.Region.TheVariants.{RuntimeCalls}
@@ -39,16 +39,17 @@ use Rattle.rv_calls.proofs.Lengths.{save_length, restore_length, give_length, ta
 use Rattle.rv_calls.proofs.Lengths.{retreat_length, return_length, entry_length}
 use Rattle.rv_follows.specs.Code.{keeping, IsLaid, IsEncodable, CallShape, shape_of, wanted, back_part}
 use Rattle.rv_follows.specs.Matching.{object_bytes, space_bytes, record_of, Meets}
+use Rattle.rv_follows.specs.Start.{layout_of}
 use Rattle.rv_follows.proofs.Bounds.{Weighs, weighs, end_most, constant_bound, move_bound, operate_bound}
 use Rattle.rv_follows.proofs.Bounds.{operate32_bound}
 use Rattle.rv_follows.proofs.Bounds.{branch_bound, charged_bound, put_bound, exit_bound, turn_bound, end_bound}
 use Rattle.rv_follows.proofs.Regions.{AreRegions}
 use Rattle.rv_follows.proofs.Sound.{IsSound}
-use Rattle.rv_follows.proofs.Standing.{function_there, frame_of, IsKind, kind}
-use Rattle.rv_follows.proofs.Locals.{layout, Becomes, among_one, constant_steps, move_steps}
+use Rattle.rv_follows.proofs.Standing.{among_one, function_there, frame_of, IsKind, kind}
+use Rattle.rv_follows.proofs.Locals.{Becomes, constant_steps, move_steps}
 use Rattle.rv_follows.proofs.Locals.{operate_steps, operate32_steps, jump_steps, turn_steps}
 use Rattle.rv_follows.proofs.Locals.{turn_takes_one, branch_steps, charged_steps, place_in, made_in, right_in}
-use Rattle.rv_follows.proofs.Locals.{operator_reads}
+use Rattle.rv_follows.proofs.Locals.{among_from, operator_reads, or_last}
 use Rattle.rv_follows.proofs.Outside.{put_steps, exit_steps, end_steps}
 use Rattle.rv_follows.proofs.Calling.{Aims}
 use Rattle.rv_follows.proofs.CallSim.{IsCall, call_steps}
@@ -56,14 +57,6 @@ use Rattle.rv_follows.proofs.ReturnSim.{call_of}
 use Rattle.rv_follows.proofs.ReturnStep.{return_steps}
 use Rattle.rv_follows.proofs.Whole.{StageSteps, more_steps, from_steps, from_ends, inside_of, plain, same}
 use Rattle.rv_follows.proofs.Whole.{load_stage, store_stage, get_stage}
-
-or_last : (a b d : Bool) → d ≡ true → (a || (b || d)) ≡ true
-or_last true b d e = refl
-or_last false true d e = refl
-or_last false false d e = e
-
-among_from : (first n j : ℕ) → j < n → is_among (many first n) (first + j) ≡ true
-among_from first n j lt = rw (le-leb first (first + j) (omega arith), lt-ltb (first + j) (first + n) (omega arith)) refl
 
 -- the function of a program that an address names has it
 found_by : (p : FlatProgram) (a q : ℕ) → function_at p a ≡ Some q → a ≡ function_address q
@@ -89,7 +82,7 @@ less_rooms p x xs = (refl, refl)
 
 module _ (m : MapSizes) (p : FlatProgram) (plans : List FunctionPlan) (table code : List ℕ)
     (address : (function pc : ℕ) → ℕ) (entry : (function : ℕ) → ℕ) (regions : AreRegions m) (ok : IsSound p plans)
-    (fit : Fits (layout m table code)) (laid : IsLaid m p plans (layout m table code) address entry)
+    (fit : Fits (layout_of m table code)) (laid : IsLaid m p plans (layout_of m table code) address entry)
     (can : IsEncodable p) where
   -- what is wanted behind a call has places of its own
   own_wanted : (f place : ℕ) (g : FlatFunction) (into n : ℕ) → function_in p f ≡ Some g
@@ -140,7 +133,7 @@ module _ (m : MapSizes) (p : FlatProgram) (plans : List FunctionPlan) (table cod
   room_by true f g k n r fits fits' = omega (arith, ok.room f g k.there, k.runtime, regions.end)
 
   module _ (f pc : ℕ) (g : FlatFunction) (t : State) (frames : List Frame) (c : Configuration)
-      (h : Meets m p plans (layout m table code) address f pc t frames c) (words : IsOfWords t)
+      (h : Meets m p plans (layout_of m table code) address f pc t frames c) (words : IsOfWords t)
       (there : function_in p f ≡ Some g) where
     room_small : (keeping p plans f).room < 2 ^ 31 - 2 ^ 11
     room_small = room_by g.is_runtime f g (kind m p plans address regions ok can.rooms f g g.is_runtime there refl)
@@ -337,7 +330,7 @@ module _ (m : MapSizes) (p : FlatProgram) (plans : List FunctionPlan) (table cod
         let r = results_of (function_in p f) in
         let results : r ≡ g.results = ap results_of there in
         let s' : State = record t { values = with_results x.into r t.values y x.values } in
-        let h' = subst (λ q. Meets m p plans (layout m table code) address f pc t q c) e h in
+        let h' = subst (λ q. Meets m p plans (layout_of m table code) address f pc t q c) e h in
         let rb = return_length (keeping p plans f) y g.results in
         let q = h'.is_at.wait.0 in
         let there_x = function_there p x.function q.place q.call q.at in

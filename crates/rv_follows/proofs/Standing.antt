@@ -34,6 +34,10 @@ function_there p f pc i at = by (function_in p f) refl
         sym (ap (λ o. slice_get (body_of o) pc) e) ∙ at in cc
     by (Some g) e = (g, e)
 
+-- a register is among those that are it alone
+pub among_one : (z : ℕ) → is_among (one z) z ≡ true
+among_one z = rw (le-leb z z (omega arith), lt-ltb z (z + 1) (omega arith)) refl
+
 module _ (m : MapSizes) (p : FlatProgram) (plans : List FunctionPlan) (address : (function pc : ℕ) → ℕ)
     (regions : AreRegions m) (ok : IsSound p plans)
     (some : (f : ℕ) (g : FlatFunction) → function_in p f ≡ Some g → 8 ≤ g.room) where
@@ -251,9 +255,6 @@ module _ (m : MapSizes) (p : FlatProgram) (plans : List FunctionPlan) (address :
       ∙ h.held y live_here ∙ sym (ap (λ z. z y) values ∙ put_other s.values x n y ne))
       (cases_eq y x))
     where
-      among_one : (z : ℕ) → is_among (one z) z ≡ true
-      among_one z = rw (le-leb z z (omega arith), lt-ltb z (z + 1) (omega arith)) refl
-
       among_other : (z y : ℕ) → y ≢ z → is_among (one z) y ≡ false
       among_other z y ne = ⊎_elim
           (λ e. let q = and_parts (nat_le z y) (nat_lt y (z + 1)) e in

@@ -1,10 +1,12 @@
 -- Every step of a run, on the machine.
-use Rattle.std.proofs.Common.{◌≡◌, ℕ, zero, suc, ◌+◌, ◌*◌, ◌<◌, ◌≤◌, inl, refl, sym}
+use Rattle.std.proofs.Common.{◌≡◌, ℕ, ◌+◌, ◌*◌, ◌<◌, ◌≤◌, inl, refl, sym}
 use Rattle.std.proofs.Common.{ap, ◌∙◌, arith, ⊎_elim, Bool, true, false, List, [], ◌∷◌, ◌++◌, length, Some}
 use Rattle.std.proofs.Common.{None}
 use Rattle.std.specs.Prelude.{if◌then◌else◌, not, ◌&&◌, slice_get, drop}
 use Rattle.std.proofs.lemmas.Bool.{cases_lt}
 use Rattle.std.proofs.lemmas.List.{append-nil}
+use Rattle.std.proofs.lemmas.Option.{slice_get_past}
+use Rattle.std.proofs.Math.Bool.{or-true}
 use Rattle.addr_map.specs.Places.{MapSizes}
 use Rattle.behaviours.specs.Shown.{Access, Read, Write}
 use Rattle.rv_isa.specs.declared.instruction.LoadOp.{LoadOp}
@@ -27,17 +29,14 @@ use Rattle.rv_sim.specs.Run.{Configuration, Turn, runs}
 use Rattle.rv_view.specs.Views.{Fits}
 use Rattle.rv_follows.specs.Code.{keeping, block, IsLaid, IsEncodable}
 use Rattle.rv_follows.specs.Matching.{Meets, HasEnded}
+use Rattle.rv_follows.specs.Start.{layout_of}
 use Rattle.rv_follows.proofs.Bounds.{weighs, load_bound, store_bound, get_bound}
 use Rattle.rv_follows.proofs.Regions.{AreRegions}
 use Rattle.rv_follows.proofs.Sound.{IsSound}
-use Rattle.rv_follows.proofs.Locals.{layout, Becomes, Steps, place_in, made_in, among_one, or_true}
+use Rattle.rv_follows.proofs.Standing.{among_one}
+use Rattle.rv_follows.proofs.Locals.{Becomes, Steps, place_in, made_in}
 use Rattle.rv_follows.proofs.Locals.{load_steps, store_steps}
 use Rattle.rv_follows.proofs.Outside.{Ends, get_nothing_steps, get_byte_steps}
-
-get_none : {A : Type 0} (xs : List A) (k : ℕ) → length xs ≤ k → slice_get xs k ≡ None
-get_none [] k h = refl
-get_none (x ∷ xs) zero h = absurd (omega arith)
-get_none (x ∷ xs) (suc k) h = get_none xs k (omega arith)
 
 -- a state with an access, field by field
 access_becomes : (b : Bool) (t : State) (extra : List Access)
@@ -72,11 +71,11 @@ access_work false t extra = refl
 
 module _ (m : MapSizes) (p : FlatProgram) (plans : List FunctionPlan) (table code : List ℕ)
     (address : (function pc : ℕ) → ℕ) (entry : (function : ℕ) → ℕ) (regions : AreRegions m) (ok : IsSound p plans)
-    (fit : Fits (layout m table code)) (laid : IsLaid m p plans (layout m table code) address entry)
+    (fit : Fits (layout_of m table code)) (laid : IsLaid m p plans (layout_of m table code) address entry)
     (can : IsEncodable p) where
   -- a turn of the machine is where a stage of the run is
   abbrev pub Matches : Stage → Turn → Type 0
-  Matches (Stands f pc s frames) t = (t.1 ≡ None) × Meets m p plans (layout m table code) address f pc s frames t.0
+  Matches (Stands f pc s frames) t = (t.1 ≡ None) × Meets m p plans (layout_of m table code) address f pc s frames t.0
   Matches (Over status report s) t = HasEnded status report s t
   Matches Stuck t = ⊥
 
@@ -133,13 +132,13 @@ module _ (m : MapSizes) (p : FlatProgram) (plans : List FunctionPlan) (table cod
       → (step m p (Stands f q s frames) ≡ Stuck → ⊥) → function_in p f ≡ Some g → q < length g.body
   inside_of f q g s frames fine there = ⊎_elim (λ lt. lt)
       (λ le. absurd (fine (ap (λ o. at_instruction m p o f q s frames)
-      (ap (λ o. slice_get (body_of o) q) there ∙ get_none g.body q le))))
+      (ap (λ o. slice_get (body_of o) q) there ∙ slice_get_past g.body q le))))
       (cases_lt q (length g.body))
 
   -- the state that has done the work of this step
   pub meets_worked : (f pc : ℕ) (s : State) (frames : List Frame) (c : Configuration) (n : ℕ)
-      → Meets m p plans (layout m table code) address f pc s frames c
-      → Meets m p plans (layout m table code) address f pc (record s { work = n }) frames c
+      → Meets m p plans (layout_of m table code) address f pc s frames c
+      → Meets m p plans (layout_of m table code) address f pc (record s { work = n }) frames c
   meets_worked f pc s frames c n h = record {
     view = h.view;
     shows = h.shows;
@@ -178,7 +177,7 @@ module _ (m : MapSizes) (p : FlatProgram) (plans : List FunctionPlan) (table cod
   same t = plain t t.values
 
   module _ (f pc : ℕ) (g : FlatFunction) (t : State) (frames : List Frame) (c : Configuration)
-      (h : Meets m p plans (layout m table code) address f pc t frames c) (words : IsOfWords t)
+      (h : Meets m p plans (layout_of m table code) address f pc t frames c) (words : IsOfWords t)
       (there : function_in p f ≡ Some g) where
     -- ---- loads and stores
     pub load_stage : (op : LoadOp) (x y o : ℕ) (b : Bool) → instruction_at p f pc ≡ Some (flat.Load op x y o)
@@ -258,7 +257,7 @@ module _ (m : MapSizes) (p : FlatProgram) (plans : List FunctionPlan) (table cod
         (place_in m p plans table code address entry regions ok fit laid can f pc y g there
         (ok.reads f pc g i there at y (rw (among_one y) refl)))
         (place_in m p plans table code address entry regions ok fit laid can f pc x g there
-        (ok.reads f pc g i there at x (rw (among_one x) (or_true (is_among (one y) x))))) in
+        (ok.reads f pc g i there at x (rw (among_one x) (or-true (is_among (one y) x))))) in
         let w = weighs p f (keeping p plans f).room g there (ok.room f g there) in
         let turns = access_turns shows t' extra in
         let done = access_work shows t' extra in

@@ -1,6 +1,7 @@
 -- How much memory the segments of an image take.
-use Rattle.std.proofs.Common.{◌≡◌, ℕ, zero, suc, ◌+◌, ◌*◌, ◌<◌, ◌≤◌, List, length, map, arith, ◌∙◌}
+use Rattle.std.proofs.Common.{ℕ, ◌+◌, ◌*◌, ◌<◌, ◌≤◌, List, length, map, arith}
 use Rattle.std.proofs.Common.{length-append, ◌++◌, true}
+use Rattle.std.proofs.lemmas.List.{length-map}
 use Rattle.addr_map.specs.Places.{MapSizes, AreMapped, region_size, region_start}
 use Rattle.addr_map.specs.declared.region.Region.TheVariants.{Shadow, Locks, FreeLocks, Blocks}
 use Rattle.addr_map.specs.declared.region.Region.TheVariants.{StructureValues, Cells, Arguments, Calls, RuntimeCalls}
@@ -8,13 +9,13 @@ use Rattle.rv_isa.specs.Table.{word_of}
 use Rattle.elf_image.specs.Writing.{IsInOrder}
 use Rattle.flat_meaning.specs.declared.function.FlatProgram.{FlatProgram}
 use Rattle.reg_plan.specs.declared.plan.FunctionPlan.{FunctionPlan}
-use Rattle.rv_calls.specs.Calls.{row}
 use Rattle.rv_follows.specs.Matching.{object_bytes, space_bytes}
 use Rattle.rv_follows.specs.Start.{start_block}
 use Rattle.rv_follows.proofs.Regions.{regions}
-use Rattle.rv_segments.specs.Segments.{begin, rows_below, table_words, code_words, words_below}
+use Rattle.rv_layout.proofs.Bytes.{bytes_length}
+use Rattle.rv_segments.specs.Segments.{rows_below, table_words, code_words, words_below}
 use Rattle.rv_segments.specs.Segments.{FitsSegments}
-use Rattle.rv_segments.proofs.Parts.{map_length, bytes_length}
+use Rattle.rv_segments.proofs.Standing.{rows_length}
 use Rattle.rv_image.specs.Image.{written}
 
 -- ---- data
@@ -52,20 +53,13 @@ spaces_size m h = omega (arith, shadow_size m h, locks_size m h, free_locks_size
 -- ---- code
 
 -- the start stands behind the jump table, whose entries have four words
-rows_length : (m : MapSizes) (p : FlatProgram) (plans : List FunctionPlan) (n : ℕ)
-    → length (rows_below m p plans n) ≡ 4 * n
-unfolding rows_below
-rows_length m p plans zero = omega arith
-rows_length m p plans (suc n) = let r = rows_length m p plans n in
-    length-append (rows_below m p plans n) (row (begin m p plans n)) ∙ omega arith
-
 table_length : (m : MapSizes) (p : FlatProgram) (plans : List FunctionPlan)
     → 4 * length p.functions < length (table_words m p plans)
 table_length m p plans =
     let rows = rows_below m p plans (length p.functions) in
     let a = rows_length m p plans (length p.functions) in
     let b = length-append rows (start_block m p) in
-    let c = map_length word_of (rows ++ start_block m p) in
+    let c = length-map (rows ++ start_block m p) word_of in
     let d = length-append (map word_of (rows ++ start_block m p)) (words_below m p plans true (length p.functions)) in
     omega arith
 

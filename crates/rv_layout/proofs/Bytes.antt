@@ -2,6 +2,8 @@
 use Rattle.std.proofs.Common.{◌≡◌, ℕ, zero, suc, ◌+◌, ◌*◌, ◌%◌, ◌^◌, ◌<◌, ◌≤◌, List, [], ◌∷◌, ◌++◌, length, drop}
 use Rattle.std.proofs.Common.{Some, sym, ap, ◌∙◌, arith, length-append, append_assoc}
 use Rattle.std.specs.Prelude.{slice_get}
+use Rattle.std.proofs.Math.Seq.{drop-append-add}
+use Rattle.std.proofs.lemmas.Option.{slice_get_within}
 use Rattle.byteorder.specs.Endian.{little_number, little_bytes}
 use Rattle.byteorder.specs.Numbers.{little_number-reads_back}
 use Rattle.addr_map.specs.Places.{functions_begin, code_begin, code_size}
@@ -10,11 +12,6 @@ use Rattle.rv_view.specs.Segments.{segments}
 use Rattle.rv_view.specs.Views.{Layout}
 use Rattle.rv_view.proofs.Places.{fetch_table, fetch_code}
 use Rattle.rv_layout.specs.Lists.{bytes_of, AreWords32, HasBytes, HasWordsAt}
-
-drop_past : (xs ys : List ℕ) (k : ℕ) → drop (length xs + k) (xs ++ ys) ≡ drop k ys
-drop_past [] ys k = let e : 0 + k ≡ k = omega arith in ap (λ n. drop n ys) e
-drop_past (x ∷ xs) ys k = let e : suc (length xs) + k ≡ suc (length xs + k) = omega arith in
-    ap (λ n. drop n (x ∷ (xs ++ ys))) e ∙ drop_past xs ys k
 
 word_at : (ws post : List ℕ) (k w : ℕ) → slice_get ws k ≡ Some w → w < 2 ^ 32
     → little_number 4 (drop (4 * k) (bytes_of ws ++ post)) ≡ w
@@ -28,14 +25,10 @@ word_at (x ∷ xs) post (suc k) w h small =
     let e : 4 * suc k ≡ suc (suc (suc (suc (4 * k)))) = omega arith in
     ap (λ n. little_number 4 (drop n (bytes_of (x ∷ xs) ++ post))) e ∙ word_at xs post k w h small
 
-bytes_length : (ws : List ℕ) → length (bytes_of ws) ≡ 4 * length ws
+-- four bytes for each word
+pub bytes_length : (ws : List ℕ) → length (bytes_of ws) ≡ 4 * length ws
 bytes_length [] = omega arith
 bytes_length (x ∷ xs) = let r = bytes_length xs in omega arith
-
-get_below : (ws : List ℕ) (k w : ℕ) → slice_get ws k ≡ Some w → k < length ws
-get_below [] k w e = cc
-get_below (x ∷ xs) zero w e = omega arith
-get_below (x ∷ xs) (suc k) w e = let r = get_below xs k w e in omega arith
 
 -- a word of a segment
 word_in : (segment : List ℕ) (at : ℕ) (ws : List ℕ) → HasBytes segment at ws → AreWords32 ws → (k w : ℕ)
@@ -46,12 +39,12 @@ word_in segment at ws h small k w e =
     let len = length-append h.before all in
     let len2 = length-append (bytes_of ws) h.behind in
     let bytes = bytes_length ws in
-    let inside = get_below ws k w e in
+    let inside = slice_get_within ws k w e in
     let at_is = h.at_is in
     let whole : length segment ≡ length (h.before ++ all) = ap length h.is in (
       ap (λ n. little_number 4 (drop (n + 4 * k) segment)) (sym h.at_is)
           ∙ ap (λ z. little_number 4 (drop (length h.before + 4 * k) z)) h.is
-          ∙ ap (little_number 4) (drop_past h.before all (4 * k))
+          ∙ ap (little_number 4) (drop-append-add h.before all (4 * k))
           ∙ word_at ws h.behind k w e (small k w e),
       omega arith,
     )

@@ -175,8 +175,9 @@ jumps_fit Short p t = ((omega arith, omega arith, omega arith), tt)
 jumps_fit Near p t = ((omega arith, omega arith, omega arith), tt)
 jumps_fit Far p t = ((omega arith, omega arith), ((omega arith, omega arith, omega arith), tt))
 
-branches_fit : (form : Form) (op : BranchOp) (a b p t : ℕ) → a < 32 → b < 32 → AllOfTable (branch_instrs form op a b
-    p t)
+-- the instructions of a branch fit their fields
+pub branches_fit : (form : Form) (op : BranchOp) (a b p t : ℕ) → a < 32 → b < 32
+    → AllOfTable (branch_instrs form op a b p t)
 branches_fit Short op a b p t ha hb = ((omega arith, omega arith, omega arith, omega arith), tt)
 branches_fit Near op a b p t ha hb = (
   (omega arith, omega arith, omega arith, omega arith),

@@ -2,7 +2,6 @@
 use Rattle.std.proofs.Common.{ℕ, suc, ◌+◌, ◌<◌, List, [], ◌∷◌, ◌++◌, length, map}
 use Rattle.std.proofs.Common.{arith}
 use Rattle.addr_map.specs.Places.{MapSizes}
-use Rattle.rv_isa.specs.declared.instruction.BranchOp.{BranchOp}
 use Rattle.rv_isa.specs.declared.instruction.Instr.{Instr}
 use Rattle.rv_isa.specs.Table.{word_of, IsOfTable}
 use Rattle.rv_asm.specs.declared.form.Form.{Form}
@@ -10,7 +9,7 @@ use Rattle.rv_asm.specs.declared.form.Form.TheVariants.{Short, Near, Far}
 use Rattle.rv_asm.specs.declared.item.Item.{Item}
 use Rattle.rv_asm.specs.declared.item.Item.TheVariants as item
 use Rattle.rv_asm.specs.Forms.{size_of, label_place, target_place, forms_of}
-use Rattle.rv_asm.specs.Words.{jump_instrs, branch_instrs, instrs_of, words_from, words_of}
+use Rattle.rv_asm.specs.Words.{jump_instrs, instrs_of, words_from, words_of}
 use Rattle.flat_meaning.specs.declared.instruction.FlatInstruction.{FlatInstruction}
 use Rattle.flat_meaning.specs.declared.instruction.FlatInstruction.TheVariants as flat
 use Rattle.flat_meaning.specs.declared.function.FlatProgram.{FlatProgram}
@@ -22,6 +21,7 @@ use Rattle.rv_follows.specs.Code.{keeping, block}
 use Rattle.rv_layout.specs.Lists.{plain, tail_of, items_from, items_of, AreWords32}
 use Rattle.rv_layout.proofs.Table.{AllOfTable, HasFields, entry_fits, keeping_fits, block_fits, used_field}
 use Rattle.rv_layout.proofs.Table.{used_right_field}
+use Rattle.rv_layout.proofs.Placed.{branches_fit}
 use Rattle.rv_segments.proofs.Small.{words_small, both_small}
 
 -- the registers and the instruction of an item fit their fields
@@ -89,13 +89,6 @@ jumps_fit : (form : Form) (link p t : ℕ) → link < 32 → AllOfTable (jump_in
 jumps_fit Short link p t h = ((h, omega arith, omega arith), tt)
 jumps_fit Near link p t h = ((h, omega arith, omega arith), tt)
 jumps_fit Far link p t h = ((omega arith, omega arith), ((h, omega arith, omega arith), tt))
-
-branches_fit : (form : Form) (op : BranchOp) (a b p t : ℕ) → a < 32 → b < 32
-    → AllOfTable (branch_instrs form op a b p t)
-branches_fit Short op a b p t ha hb = ((ha, hb, omega arith, omega arith), tt)
-branches_fit Near op a b p t ha hb = ((ha, hb, omega arith, omega arith), ((omega arith, omega arith, omega arith), tt))
-branches_fit Far op a b p t ha hb =
-    ((ha, hb, omega arith, omega arith), jumps_fit Far 0 (p + 1) t (omega arith))
 
 instrs_fit : (form : Form) (p t : ℕ) (i : Item) → IsOfFields i → AllOfTable (instrs_of form p t i)
 instrs_fit form p t (item.Label l) h = tt

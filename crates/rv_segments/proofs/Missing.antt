@@ -1,7 +1,8 @@
 -- The list of a number that no function has can be assembled as well.
-use Rattle.std.proofs.Common.{◌≡◌, ℕ, zero, suc, ◌^◌, ◌<◌, ◌≤◌, List, [], ◌∷◌, ◌++◌, length, Option, None}
+use Rattle.std.proofs.Common.{◌≡◌, ℕ, ◌^◌, ◌<◌, ◌≤◌, List, [], ◌∷◌, ◌++◌, length, Option, None}
 use Rattle.std.proofs.Common.{refl, sym, ap, ◌∙◌, subst, arith}
 use Rattle.std.specs.Prelude.{slice_get}
+use Rattle.std.proofs.lemmas.Option.{slice_get_past}
 use Rattle.addr_map.specs.Places.{MapSizes}
 use Rattle.rv_isa.specs.declared.instruction.Instr.{Instr}
 use Rattle.rv_isa.specs.declared.instruction.Instr.TheVariants.{Ebreak}
@@ -18,11 +19,6 @@ use Rattle.rv_calls.specs.Calls.{take, entry_block}
 use Rattle.rv_follows.specs.Code.{keeping_of, keeping}
 use Rattle.rv_layout.specs.Lists.{plain, items_from, items_of}
 use Rattle.rv_segments.proofs.Labels.{labels_meet}
-
-get_none : {A : Type 0} (xs : List A) (k : ℕ) → length xs ≤ k → slice_get xs k ≡ None
-get_none [] k le = refl
-get_none (x ∷ xs) zero le = absurd (omega arith)
-get_none (x ∷ xs) (suc k) le = get_none xs k (omega arith)
 
 short : Instr → List Item
 short i = item.Instr i ∷ item.Label 0 ∷ item.Instr Ebreak ∷ []
@@ -58,5 +54,6 @@ pub missing_assemblable : (m : MapSizes) (p : FlatProgram) (plans : List Functio
     → length p.functions ≤ f → IsAssemblable (items_of m p plans f)
 missing_assemblable m p plans f le = labels_meet m p plans f
     (subst (λ items. longest_size items < 2 ^ 28)
-    (sym (same_items m p plans f ∙ ap (items_if m p plans f) (get_none p.functions f le) ∙ none_short m p plans f))
+    (sym (same_items m p plans f ∙ ap (items_if m p plans f) (slice_get_past p.functions f le)
+    ∙ none_short m p plans f))
     (short_room (first_of_none (slice_get plans f))))

@@ -1,8 +1,10 @@
 -- Lists that stand in longer ones.
-use Rattle.std.proofs.Common.{◌≡◌, ℕ, suc, ◌+◌, ◌*◌, List, [], ◌∷◌, ◌++◌, length, map}
-use Rattle.std.proofs.Common.{refl, sym, ap, ◌∙◌, arith, length-append, append_assoc}
+use Rattle.std.proofs.Common.{◌≡◌, ℕ, ◌+◌, ◌*◌, List, [], ◌∷◌, ◌++◌, length, map}
+use Rattle.std.proofs.Common.{refl, sym, ap, ◌∙◌, length-append, append_assoc}
+use Rattle.std.proofs.lemmas.List.{append-nil, length-map, map-append}
 use Rattle.byteorder.specs.Endian.{little_bytes}
 use Rattle.rv_layout.specs.Lists.{bytes_of, HasBytes}
+use Rattle.rv_layout.proofs.Bytes.{bytes_length}
 
 -- a list stands in another from a place on
 pub record StandsIn {A : Type 0} (whole : List A) (at : ℕ) (part : List A) : Type 0 where
@@ -11,16 +13,12 @@ pub record StandsIn {A : Type 0} (whole : List A) (at : ℕ) (part : List A) : T
   pub is : whole ≡ before ++ (part ++ behind)
   pub at_is : length before ≡ at
 
-append_none : {A : Type 0} (xs : List A) → xs ++ [] ≡ xs
-append_none [] = refl
-append_none (x ∷ xs) = ap (λ ys. x ∷ ys) (append_none xs)
-
 -- the last of a list
 pub stands_last : {A : Type 0} (xs part : List A) → StandsIn (xs ++ part) (length xs) part
 stands_last xs part = record {
   before = xs;
   behind = [];
-  is = ap (λ ys. xs ++ ys) (sym (append_none part));
+  is = ap (λ ys. xs ++ ys) (sym (append-nil part));
   at_is = refl;
 }
 
@@ -47,32 +45,20 @@ stands_right xs ys part at h = record {
   at_is = length-append xs h.before ∙ ap (λ n. length xs + n) h.at_is;
 }
 
-map_append : {A B : Type 0} (f : A → B) (xs ys : List A) → map f (xs ++ ys) ≡ map f xs ++ map f ys
-map_append f [] ys = refl
-map_append f (x ∷ xs) ys = ap (λ zs. f x ∷ zs) (map_append f xs ys)
-
-pub map_length : {A B : Type 0} (f : A → B) (xs : List A) → length (map f xs) ≡ length xs
-map_length f [] = refl
-map_length f (x ∷ xs) = ap suc (map_length f xs)
-
 pub stands_mapped : {A B : Type 0} (f : A → B) (xs part : List A) (at : ℕ) → StandsIn xs at part
     → StandsIn (map f xs) at (map f part)
 stands_mapped f xs part at h = record {
   before = map f h.before;
   behind = map f h.behind;
-  is = ap (map f) h.is ∙ map_append f h.before (part ++ h.behind)
-      ∙ ap (λ zs. map f h.before ++ zs) (map_append f part h.behind);
-  at_is = map_length f h.before ∙ h.at_is;
+  is = ap (map f) h.is ∙ map-append f h.before (part ++ h.behind)
+      ∙ ap (λ zs. map f h.before ++ zs) (map-append f part h.behind);
+  at_is = length-map h.before f ∙ h.at_is;
 }
 
 bytes_append : (xs ys : List ℕ) → bytes_of (xs ++ ys) ≡ bytes_of xs ++ bytes_of ys
 bytes_append [] ys = refl
 bytes_append (x ∷ xs) ys = ap (λ zs. little_bytes 4 x ++ zs) (bytes_append xs ys)
     ∙ sym (append_assoc (little_bytes 4 x) (bytes_of xs) (bytes_of ys))
-
-pub bytes_length : (ws : List ℕ) → length (bytes_of ws) ≡ 4 * length ws
-bytes_length [] = omega arith
-bytes_length (x ∷ xs) = let r = bytes_length xs in omega arith
 
 -- words that stand in a list have their bytes in its bytes
 pub stands_in_bytes : (ws part : List ℕ) (at : ℕ) → StandsIn ws at part → HasBytes (bytes_of ws) (4 * at) part

@@ -21,11 +21,11 @@ use Rattle.rv_calls.specs.Calls.{row}
 use Rattle.rv_follows.specs.Start.{layout_of, start_block}
 use Rattle.rv_follows.proofs.Sound.{get_below}
 use Rattle.rv_layout.specs.Lists.{bytes_of, items_of, HasWordsAt, ArePlaced}
-use Rattle.rv_layout.proofs.Bytes.{stand_in_code, stand_in_table}
+use Rattle.rv_layout.proofs.Bytes.{bytes_length, stand_in_code, stand_in_table}
 use Rattle.rv_layout.proofs.Table.{AllOfTable}
 use Rattle.rv_segments.specs.Segments.{is_of, function_words, words_below, start_address, begin_if, begin}
 use Rattle.rv_segments.specs.Segments.{code_words, table_words, FitsSegments}
-use Rattle.rv_segments.proofs.Parts.{StandsIn, bytes_length, stands_in_bytes}
+use Rattle.rv_segments.proofs.Parts.{StandsIn, stands_in_bytes}
 use Rattle.rv_segments.proofs.Small.{words_small}
 use Rattle.rv_segments.proofs.Assembled.{function_small}
 use Rattle.rv_segments.proofs.Missing.{missing_assemblable}

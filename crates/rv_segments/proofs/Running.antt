@@ -22,9 +22,9 @@ use Rattle.rv_follows.specs.Matching.{object_bytes, space_bytes}
 use Rattle.rv_follows.specs.Start.{layout_of, IsStartable, begins}
 use Rattle.rv_follows.proofs.Follows.{machine_follows}
 use Rattle.rv_layout.specs.Lists.{bytes_of, address_in}
+use Rattle.rv_layout.proofs.Bytes.{bytes_length}
 use Rattle.rv_layout.proofs.Laid.{laid}
 use Rattle.rv_segments.specs.Segments.{start_address, begin, function_words, code_words, table_words, FitsSegments}
-use Rattle.rv_segments.proofs.Parts.{bytes_length}
 use Rattle.rv_segments.proofs.Placed.{place, placed, start_is_there}
 
 pub segments_fit : (m : MapSizes) (p : FlatProgram) (plans : List FunctionPlan) → AreMapped m

@@ -3,6 +3,7 @@ use Rattle.std.proofs.Common.{◌≡◌, ℕ, zero, suc, ◌+◌, ◌*◌, ◌<�
 use Rattle.std.proofs.Common.{length, map, sym, ap, ◌∙◌, subst, arith, ⊎_elim, length-append}
 use Rattle.std.specs.Prelude.{if◌then◌else◌}
 use Rattle.std.proofs.lemmas.Bool.{cases_lt}
+use Rattle.std.proofs.lemmas.List.{length-map}
 use Rattle.addr_map.specs.Places.{MapSizes}
 use Rattle.rv_isa.specs.Table.{word_of}
 use Rattle.flat_meaning.specs.declared.function.FlatProgram.{FlatProgram}
@@ -13,7 +14,6 @@ use Rattle.rv_follows.specs.Start.{start_block}
 use Rattle.rv_segments.specs.Segments.{is_of, function_words, words_if, words_below, begin, rows_below, code_words}
 use Rattle.rv_segments.specs.Segments.{table_words}
 use Rattle.rv_segments.proofs.Parts.{StandsIn, stands_last, stands_left, stands_right, stands_mapped}
-use Rattle.rv_segments.proofs.Parts.{map_length}
 
 module _ (m : MapSizes) (p : FlatProgram) (plans : List FunctionPlan) where
   -- the words of a function among those of all below a number
@@ -36,7 +36,7 @@ module _ (m : MapSizes) (p : FlatProgram) (plans : List FunctionPlan) where
       (cases_lt k n)
 
   -- the entry of a function in the jump table, which has four instructions
-  rows_length : (n : ℕ) → length (rows_below m p plans n) ≡ 4 * n
+  pub rows_length : (n : ℕ) → length (rows_below m p plans n) ≡ 4 * n
   unfolding rows_below
   rows_length zero = omega arith
   rows_length (suc n) = let r = rows_length n in
@@ -82,7 +82,7 @@ module _ (m : MapSizes) (p : FlatProgram) (plans : List FunctionPlan) where
   first_length =
       let rows = rows_below m p plans (length p.functions) in
       let len = rows_length (length p.functions) in
-      map_length word_of (rows ++ start_block m p) ∙ length-append rows (start_block m p) ∙ omega arith
+      length-map (rows ++ start_block m p) word_of ∙ length-append rows (start_block m p) ∙ omega arith
 
   pub runtime_stands : (k : ℕ) → k < length p.functions → is_of true (function_in p k) ≡ true
       → StandsIn (table_words m p plans) (4 * length p.functions + 9 + length (words_below m p plans true k))

@@ -1,13 +1,15 @@
 -- Elements of lists of statements and of items of a switch.
-use Rattle.std.proofs.Common.{◌≡◌, ℕ, zero, suc, ◌+◌, ◌-◌, ◌≤◌, ◌<◌, Bool, true, false, List, [], ◌∷◌, length, map}
+use Rattle.std.proofs.Common.{◌≡◌, ℕ, zero, suc, ◌+◌, ◌-◌, ◌≤◌, ◌<◌, true, List, [], ◌∷◌, length, map}
 use Rattle.std.proofs.Common.{drop, refl, sym, ap, ◌∙◌, arith}
-use Rattle.std.specs.Prelude.{get_or, set, ◌&&◌}
+use Rattle.std.specs.Prelude.{get_or, set}
+use Rattle.std.proofs.lemmas.Bool.{and_parts}
 use Rattle.c_tree.specs.declared.statement.CaseLabel.{CaseLabel}
 use Rattle.c_tree.specs.declared.statement.Statement.{Statement as CodeStatement}
 use Rattle.c_tree.specs.declared.statement.SwitchItem.{SwitchItem as CodeItem}
 use Rattle.c_tree.specs.declared.statement.Statement.TheFolds.{fold_out-SwitchItem}
 use Rattle.c_tree.specs.Statements.{Statement, statements_in, items_in}
 use Rattle.c_tree.specs.View.{statement_of, statement_step, item_step}
+use Rattle.expression_lowering.proofs.Views.{drop_from}
 use Rattle.statement_parts.specs.Items.{item_of}
 use Rattle.statement_lowering.specs.Sizes.{statement_height, each_height, items_height, statement_count, each_count}
 use Rattle.statement_lowering.specs.Sizes.{items_count}
@@ -15,14 +17,6 @@ use Rattle.statement_lowering.specs.Switches.{are_decided, each_decided, items_d
 
 pub of_item : (x : CodeItem) → item_of x ≡ (x.labels, statement_of x.statement)
 of_item x = fold_out-SwitchItem Statement (List CaseLabel × Statement) statement_step item_step x
-
-pub drop_from : {A : Type 0} (xs : List A) (k : ℕ) (x : A) → k < length xs → x ≡ get_or xs k x
-    → drop k xs ≡ x ∷ drop (k + 1) xs
-drop_from [] k x lt e = absurd (omega (arith, lt))
-drop_from (y ∷ xs) zero x lt e = ap (λ z. z ∷ xs) (sym e)
-drop_from (y ∷ xs) (suc k) x lt e =
-    let at : suc (k + 1) ≡ suc k + 1 = omega arith in
-    drop_from xs k x (omega (arith, lt)) e ∙ ap (λ n. x ∷ drop n (y ∷ xs)) at
 
 -- within a list the value behind it says nothing
 pub get_any : {A : Type 0} (xs : List A) (k : ℕ) (x y : A) → k < length xs → get_or xs k x ≡ get_or xs k y
@@ -50,14 +44,6 @@ drop_set xs i x ge le =
     let at : i - 1 + 1 ≡ i = omega (arith, ge) in
     ap (λ p. x ∷ drop p xs) (sym at) ∙ sym (set_from xs (i - 1) x (omega (arith, ge, le)))
 
-left_true : (a b : Bool) → a && b ≡ true → a ≡ true
-left_true true b e = refl
-left_true false b e = cc
-
-right_true : (a b : Bool) → a && b ≡ true → b ≡ true
-right_true true b e = e
-right_true false b e = cc
-
 -- statements
 
 pub height_at : (xs : List CodeStatement) (k : ℕ) (x : CodeStatement) → k < length xs → x ≡ get_or xs k x
@@ -76,11 +62,11 @@ pub decided_at : (xs : List CodeStatement) (k : ℕ) (x : CodeStatement) → k <
     → each_decided (statements_in (map statement_of xs)) ≡ true → are_decided (statement_of x) ≡ true
 decided_at [] k x lt e h = absurd (omega (arith, lt))
 decided_at (y ∷ xs) zero x lt e h =
-    ap (λ z. are_decided (statement_of z)) e ∙ left_true (are_decided (statement_of y)) (each_decided (statements_in
-    (map statement_of xs))) h
+    ap (λ z. are_decided (statement_of z)) e
+    ∙ (and_parts (are_decided (statement_of y)) (each_decided (statements_in (map statement_of xs))) h).0
 decided_at (y ∷ xs) (suc k) x lt e h =
     decided_at xs k x (omega (arith, lt)) e
-    (right_true (are_decided (statement_of y)) (each_decided (statements_in (map statement_of xs))) h)
+    (and_parts (are_decided (statement_of y)) (each_decided (statements_in (map statement_of xs))) h).1
 
 -- items
 
@@ -103,7 +89,7 @@ pub item_decided_at : (xs : List CodeItem) (k : ℕ) (x : CodeItem) → k < leng
 item_decided_at [] k x lt e h = absurd (omega (arith, lt))
 item_decided_at (y ∷ xs) zero x lt e h =
     ap (λ z. are_decided (statement_of z.statement)) e ∙ sym (ap (λ i. are_decided i.1) (of_item y))
-    ∙ left_true (are_decided (item_of y).1) (items_decided (items_in (map item_of xs))) h
+    ∙ (and_parts (are_decided (item_of y).1) (items_decided (items_in (map item_of xs))) h).0
 item_decided_at (y ∷ xs) (suc k) x lt e h =
     item_decided_at xs k x (omega (arith, lt)) e
-    (right_true (are_decided (item_of y).1) (items_decided (items_in (map item_of xs))) h)
+    (and_parts (are_decided (item_of y).1) (items_decided (items_in (map item_of xs))) h).1

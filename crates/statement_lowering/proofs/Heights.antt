@@ -1,5 +1,5 @@
 -- What statements need is what their expressions need.
-use Rattle.std.proofs.Common.{◌≡◌, ℕ, ◌≤◌, [], ◌∷◌, ◌++◌, arith}
+use Rattle.std.proofs.Common.{◌≡◌, ℕ, ◌≤◌, [], ◌∷◌, ◌++◌, arith, le_trans}
 use Rattle.std.specs.Prelude.{max}
 use Rattle.c_tree.specs.Blocks.{contents_of, each_contents, items_contents, first_contents, if_any}
 use Rattle.c_tree.specs.Room.{height, greatest_height}
@@ -49,9 +49,6 @@ behind_value {b = b} e q r k h = omega (arith, k, h)
 itself : (p : ℕ) → max 1 p ≤ max 1 p
 itself p = omega arith
 
-at_most : {a b c : ℕ} → a ≤ b → b ≤ c → a ≤ c
-at_most h k = omega (arith, h, k)
-
 -- the parts of a `for` stand in another order
 in_order : (first test step s : ℕ) → max (max first (max test step)) s ≤ max first (max test (max step s))
 in_order first test step s = omega arith
@@ -83,7 +80,7 @@ mutual
       (greatest_height (if_any condition ++ (if_any step ++ contents_of s))) _
       (itself (greatest_height (first_contents first))) tested
       (greatest_and (first_contents first) (if_any condition ++ (if_any step ++ contents_of s))) in
-      at_most (in_order (most (first_contents first)) (most (if_any condition)) (most (if_any step))
+      le_trans (in_order (most (first_contents first)) (most (if_any condition)) (most (if_any step))
       (statement_height s))
       whole
   height_of (switch e line is) = value_beside (height e) (greatest_height (items_contents is)) (height_of_items is)

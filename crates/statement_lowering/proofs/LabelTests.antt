@@ -1,6 +1,7 @@
 -- The tests of labels.
 use Rattle.std.proofs.Common.{◌≡◌, ℕ, ◌+◌, ◌-◌, ◌≤◌, ◌<◌, Bool, true, false, List, [], ◌∷◌, length, map, drop, refl}
 use Rattle.std.proofs.Common.{sym, ap, ◌∙◌, subst, arith}
+use Rattle.std.proofs.lemmas.Bool.{or_left, or_right}
 use Rattle.std.specs.Prelude.{get_or, ◌||◌, if◌then◌else◌}
 use Rattle.c_tree.specs.declared.statement.CaseLabel.{CaseLabel}
 use Rattle.c_tree.specs.declared.statement.CaseLabel.TheVariants.{Case, Default}
@@ -14,12 +15,13 @@ use Rattle.expression_lowering.specs.declared.emitter.Emitter.{Emitter}
 use Rattle.expression_lowering.specs.Emitted.{Added}
 use Rattle.expression_lowering.proofs.Growing.{emits_none, emits_then, emits_within, added_emits, added_holds}
 use Rattle.expression_lowering.proofs.Growing.{fills_before}
+use Rattle.expression_lowering.proofs.Views.{drop_from}
 use Rattle.statement_parts.specs.Items.{item_of}
 use Rattle.statement_parts.proofs.InitializerParts.{drop_before}
 use Rattle.statement_lowering.specs.Weights.{labels_weight}
 use Rattle.statement_lowering.specs.Code.{LabelsCode, TestsCode, tests_weight}
 use Rattle.statement_lowering.specs.Switches.{default_start}
-use Rattle.statement_lowering.proofs.Elements.{of_item, drop_number, drop_from, get_any}
+use Rattle.statement_lowering.proofs.Elements.{of_item, drop_number, get_any}
 
 pub no_labels_code : {a : Emitter} {item n : ℕ} → LabelsCode a a [] item n n
 no_labels_code = record { emits = emits_none 1; stands = λ c f other e. refl }
@@ -43,14 +45,6 @@ one_before c (Case w) ls item other n k m h hs =
     (h.0, h.1, subst (λ i. LowersLabels c ls item other i m) (sym h.2) hs)
 one_before c Default ls item other n k m h hs = (h.0, subst (λ i. LowersLabels c ls item other i m) (sym h.1) hs)
 
-first_of : (a b : Bool) → a ≡ true → a || b ≡ true
-first_of true b e = refl
-first_of false b e = cc
-
-second_of : (a b : Bool) → b ≡ true → a || b ≡ true
-second_of true b e = refl
-second_of false b e = e
-
 alone : (a : Bool) → a || false ≡ true → a ≡ true
 alone true e = refl
 alone false e = cc
@@ -61,8 +55,8 @@ more_labels {item = item} {n = n} {k = k} {m = m} l ls hs h = record {
   emits = emits_then 1 (labels_weight (l ∷ ls)) hs.emits h.emits (omega arith) (omega arith) (λ w. omega arith);
   stands = λ p f other e.
       one_before p l ls item other n k m
-      (h.stands p f other (λ d. e (first_of (is_default l) (any_default ls) (alone (is_default l) d))))
-      (hs.stands p (fills_before h.emits f) other (λ d. e (second_of (is_default l) (any_default ls) d)));
+      (h.stands p f other (λ d. e (or_left (is_default l) (any_default ls) (alone (is_default l) d))))
+      (hs.stands p (fills_before h.emits f) other (λ d. e (or_right (is_default l) (any_default ls) d)));
 }
 
 pub next_label : {a b c : Emitter} {item n k m : ℕ} (ls : List CaseLabel) (i : ℕ) (l : CaseLabel) → 1 ≤ i

@@ -1,5 +1,5 @@
 -- Statements without statements in them, and conditions.
-use Rattle.std.proofs.Common.{ℕ, ◌+◌, ◌<◌, List, [], ◌∷◌, Some, None, refl, sym, ap, subst, arith}
+use Rattle.std.proofs.Common.{ℕ, List, [], ◌∷◌, Some, None, refl, sym, ap, subst, arith}
 use Rattle.std.specs.Prelude.{max}
 use Rattle.c_tree.specs.declared.expression.Expression.{Expression as CodeExpression}
 use Rattle.c_tree.specs.declared.program.Variable.{Variable}
@@ -9,9 +9,7 @@ use Rattle.c_tree.specs.Statements.{continue, return}
 use Rattle.c_tree.specs.View.{expression_of}
 use Rattle.c_tree.specs.Room.{height}
 use Rattle.tac_ir.specs.declared.instruction.Instruction.TheVariants as tac
-use Rattle.c_lower.specs.Homes.{used}
 use Rattle.c_lower.specs.Values.{LowersTaking}
-use Rattle.c_lower.proofs.Homes.{fits}
 use Rattle.expression_lowering.specs.declared.emitter.Emitter.{Emitter}
 use Rattle.expression_lowering.specs.Weights.{taking_weight}
 use Rattle.expression_lowering.specs.Emitted.{Added, ExpressionCode}
@@ -21,14 +19,9 @@ use Rattle.expression_lowering.proofs.Growing.{fills_before}
 use Rattle.expression_lowering.proofs.Views.{of_expression}
 use Rattle.statement_parts.specs.declared.exits.Exits.{Exits}
 use Rattle.statement_parts.specs.Code.{most, DeclaredCode}
-use Rattle.statement_parts.proofs.InitializerParts.{evaluated_emits, condition_some}
+use Rattle.statement_parts.proofs.InitializerParts.{evaluated_emits, condition_some, room_for}
 use Rattle.statement_lowering.specs.Weights.{result_weight}
 use Rattle.statement_lowering.specs.Code.{StatementCode, ResultCode}
-
--- an expression that is evaluated into temporary 0 needs no more than its height
-pub value_room : (e : CodeExpression) (limit : ℕ) → height (expression_of e) < limit
-    → 0 + used (expression_of e) < limit
-value_room e limit h = omega (arith, fits (expression_of e), h)
 
 pub evaluated_code : {vs : List Variable} {a b : Emitter} {e : Expression} {n : ℕ} {x : Exits}
     → ExpressionCode a b e 0 n x.next → StatementCode vs a b (expression_statement e) n x
@@ -80,14 +73,14 @@ returned_some {e = e} h = record {
   stands = λ c v f. h.stands c f;
 }
 
-pub ruleset evaluating = (evaluated_code, value_room)
+pub ruleset evaluating = (evaluated_code, room_for)
 
 pub ruleset declaring = (declared_code)
 
 pub ruleset nothing_done = (empty_code, break_code, continue_code)
 
-pub ruleset resulting = (result_code, value_room)
+pub ruleset resulting = (result_code, room_for)
 
 pub ruleset returning = (returned_some)
 
-pub ruleset branching = (condition_some, value_room)
+pub ruleset branching = (condition_some, room_for)

@@ -70,10 +70,6 @@ items_whole {n = n} h = record { first = n; from = h }
 
 -- where a switch goes on without a label
 
-same_false : (b : Bool) → not b ≡ true → b ≡ false
-same_false true e = cc
-same_false false e = refl
-
 no_default : (is : SwitchItems) (starts : List ℕ) (end : ℕ) → has_default is ≡ false → default_start is starts end ≡ end
 no_default no_items starts end e = refl
 no_default (items labels s is) [] end e = refl

@@ -21,7 +21,7 @@ use Rattle.expression_lowering.specs.Emitted.{Added, Emits, ExpressionCode}
 use Rattle.expression_lowering.specs.Last.{TextAdded}
 use Rattle.expression_lowering.proofs.Growing.{emits_none, emits_then, emits_within, added_emits, added_holds}
 use Rattle.expression_lowering.proofs.Growing.{fills_before}
-use Rattle.expression_lowering.proofs.Views.{of_expression}
+use Rattle.expression_lowering.proofs.Views.{of_expression, drop_from}
 use Rattle.statement_parts.specs.Weights.{content_weight, parts_weight, initializer_weight, declared_weight}
 use Rattle.statement_parts.specs.Weights.{condition_weight}
 use Rattle.statement_parts.specs.Code.{most, contents_in, ContentCode, PartsCode, InitializerCode}
@@ -29,6 +29,7 @@ use Rattle.statement_parts.specs.Code.{DeclaredCode, FirstCode, ConditionCode, P
 
 -- heights
 
+-- an expression that is evaluated into temporary 0 needs no more than its height
 pub room_for : (e : CodeExpression) (limit : ℕ) → height (expression_of e) < limit → 0 + used (expression_of e) < limit
 room_for e limit h = omega (arith, fits (expression_of e), h)
 
@@ -86,14 +87,6 @@ parts_more {k = k} q qs hs h =
       emits = emits_then top (parts_weight (q ∷ qs)) hs.emits h.emits (omega arith) (omega arith) (λ w. omega arith);
       stands = λ p f. (k, h.stands p f, hs.stands p (fills_before h.emits f));
     }
-
-drop_from : {A : Type 0} (xs : List A) (k : ℕ) (x : A) → k < length xs → x ≡ get_or xs k x → drop k xs ≡ x
-    ∷ drop (k + 1) xs
-drop_from [] k x lt e = absurd (omega (arith, lt))
-drop_from (y ∷ xs) zero x lt e = ap (λ z. z ∷ xs) (sym e)
-drop_from (y ∷ xs) (suc k) x lt e =
-    let at : suc (k + 1) ≡ suc k + 1 = omega arith in
-    drop_from xs k x (omega (arith, lt)) e ∙ ap (λ n. x ∷ drop n (y ∷ xs)) at
 
 -- the elements behind a model, of which one stands before the others
 pub drop_before : {A B : Type 0} (f : A → B) (xs : List A) (i : ℕ) (x : A) → 1 ≤ i → i ≤ length xs → x

@@ -2,7 +2,7 @@
 use Rattle.std.proofs.Common.{◌≡◌, ◌≢◌, ℕ, zero, suc, ◌+◌, ◌*◌, ◌≤◌, ◌<◌, Bool, true, false, List, [], ◌∷◌, ◌++◌}
 use Rattle.std.proofs.Common.{length, Option, Some, None, refl, sym, ap, ◌∙◌, subst, arith}
 use Rattle.std.proofs.lemmas.Bool.{eqb-true, eqb-false}
-use Rattle.std.proofs.lemmas.Option.{slice_get_within}
+use Rattle.std.proofs.lemmas.Option.{same_Some, slice_get_within}
 use Rattle.std.specs.Prelude.{slice_get, slice_set, max, ◌==◌}
 use Rattle.c_tree.specs.declared.program.Variable.{Variable}
 use Rattle.c_tree.specs.Tree.{Expression}
@@ -42,9 +42,6 @@ set_other (z ∷ xs) zero (suc m) y ne = refl
 set_other (z ∷ xs) (suc n) zero y ne = refl
 set_other (z ∷ xs) (suc n) (suc m) y ne = set_other xs n m y (λ e. ne (ap suc e))
 
-same_some : {A : Type 0} {x y : A} → Some x ≡ Some y → x ≡ y
-same_some e = cc
-
 -- a node that is filled
 
 filled_other : {a b : Emitter} {n : ℕ} {i : Instruction} → Filled a b n i → (m : ℕ) → m ≢ n
@@ -59,7 +56,7 @@ pub filled_fills : {a b : Emitter} {n : ℕ} {i : Instruction} {c : Placed} → 
     → Fills a c
 filled_fills {a = a} {b = b} {n = n} f h g = record {
   code = λ m j r k.
-      let ne : m ≢ n = λ e. subst IsReal (same_some (sym k ∙ ap (slice_get a.code.items) e ∙ h)) r in
+      let ne : m ≢ n = λ e. subst IsReal (same_Some _ _ (sym k ∙ ap (slice_get a.code.items) e ∙ h)) r in
       g.code m j r (filled_other f m ne ∙ k);
   keys = λ m x k. g.keys m x (subst (λ l. HasAt l m x) (sym f.keys) k);
   blocks = λ m x k. g.blocks m x (subst (λ l. HasAt l m x) (sym f.blocks) k);
@@ -84,7 +81,7 @@ fits_by : {a b : Emitter} {n : ℕ} {i : Instruction} (limit : ℕ) → Filled a
     → temporaries j ≤ limit
 fits_by {b = b} {n = n} {i = i} limit f h le g m j k true e =
     let here : Some j ≡ Some i = sym k ∙ ap (slice_get b.code.items) (eqb-true m n e) ∙ filled_here f h in
-    subst (λ x. temporaries x ≤ limit) (sym (same_some here)) le
+    subst (λ x. temporaries x ≤ limit) (sym (same_Some _ _ here)) le
 fits_by {n = n} limit f h le g m j k false e = g.by m j (sym (filled_other f m (eqb-false m n e)) ∙ k)
 
 pub filled_fits : {a b : Emitter} {n : ℕ} {i : Instruction} (limit : ℕ) → Filled a b n i → Has a n tac.Reserved
@@ -97,7 +94,7 @@ set_weight : (is : List Instruction) (n : ℕ) (i : Instruction) (w : Weights) �
     → weight_of i w ≡ w.turn → code_weight (slice_set is n i) w ≡ code_weight is w
 set_weight [] n i w h e = refl
 set_weight (j ∷ is) zero i w h e =
-    let here : weight_of j w ≡ w.turn = ap (λ k. weight_of k w) (same_some h) in omega (arith, here, e)
+    let here : weight_of j w ≡ w.turn = ap (λ k. weight_of k w) (same_Some _ _ h) in omega (arith, here, e)
 set_weight (j ∷ is) (suc n) i w h e = omega (arith, set_weight is n i w h e)
 
 pub filled_weight : {a b : Emitter} {n : ℕ} {i : Instruction} → Filled a b n i → Has a n tac.Reserved

@@ -2,6 +2,7 @@
 use Rattle.std.proofs.Common.{◌≡◌, ℕ, zero, suc, ◌+◌, Bool, true, false, List, [], ◌∷◌, map, refl, sym, ap, ◌∙◌}
 use Rattle.std.proofs.Common.{arith, ◌<◌, eq-eqb, ne_eqb}
 use Rattle.std.specs.Prelude.{slice_get, ◌||◌, ◌&&◌, ◌==◌, if◌then◌else◌}
+use Rattle.std.proofs.Math.Bool.{or-false}
 use Rattle.c_tree.specs.declared.program.Variable.{Variable}
 use Rattle.c_tree.specs.Blocks.{no_variable, closed, is_among, opened, block_objects}
 use Rattle.source_meaning.specs.Blocks.{has_objects}
@@ -60,16 +61,12 @@ below n x (v ∷ vs) lt =
     ap (λ b. (b && v.is_object) || one_from n (suc x) vs) (ne_eqb n x (λ e. omega (arith, e, lt)))
     ∙ below n (suc x) vs (omega (arith, lt))
 
-either_false : (b : Bool) → b || false ≡ b
-either_false true = refl
-either_false false = refl
-
 place_from : (x k : ℕ) (vs : List Variable) → one_from (x + k) x vs ≡ if_object (slice_get vs k)
 place_from x k [] = refl
 place_from x zero (v ∷ vs) =
     ap (λ b. (b && v.is_object) || one_from (x + 0) (suc x) vs) (eq-eqb (x + 0) x (omega arith))
     ∙ ap (λ b. v.is_object || b) (below (x + 0) (suc x) vs (omega arith))
-    ∙ either_false v.is_object
+    ∙ or-false v.is_object
 place_from x (suc k) (v ∷ vs) =
     let at : x + suc k ≡ suc x + k = omega arith in
     ap (λ b. (b && v.is_object) || one_from (x + suc k) (suc x) vs)

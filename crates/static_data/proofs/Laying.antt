@@ -5,6 +5,8 @@ use Rattle.std.proofs.Common.{refl, sym, ap, ◌∙◌, subst, arith, Some, appe
 use Rattle.std.specs.Prelude.{get_or, nat_le, Err}
 use Rattle.std.specs.List.{list_all}
 use Rattle.std.proofs.lemmas.Bool.{and_parts, and_from}
+use Rattle.std.proofs.lemmas.List.{append-nil, drop_all, drop_more}
+use Rattle.std.proofs.lemmas.Option.{get_or_from_slice_get, slice_get-get_or}
 use Rattle.obj_memory.specs.declared.value.Value.{Value}
 use Rattle.obj_memory.specs.declared.value.Tag.TheVariants.{OfFunction}
 use Rattle.obj_memory.specs.Heap.{rounded_up}
@@ -20,35 +22,22 @@ use Rattle.c_tree.specs.View.{static_of}
 use Rattle.c_const.specs.Addresses.{Pointers}
 use Rattle.c_const.specs.Contents.{is_laid_out, is_inside, are_inside, initial_contents}
 use Rattle.constant_meaning.specs.Leaving.{AreBytes}
+use Rattle.constant_meaning.proofs.Statics.{ends}
 use Rattle.source_meaning.specs.Expressions.{function_pointer}
 use Rattle.source_meaning.specs.Meaning.{statics_end}
 use Rattle.tac_ir.specs.declared.function.StaticData.{StaticData}
 use Rattle.static_data.specs.Data.{static_pointers, function_pointers, pointer_at, IsData, AreData, fault_or}
 use Rattle.static_data.specs.Data.{first_fault}
 
-pub ends : (os : List StaticObject) (offset : ℕ) → offset ≤ statics_end os offset
-ends [] offset = omega arith
-ends (o ∷ os) offset = let rest = ends os (rounded_up 16 offset + size_of_kind o.kind) in omega (arith, rest)
-
-drop_from : {A : Type 0} (xs : List A) (k : ℕ) (x : A) → k < length xs → x ≡ get_or xs k x
-    → drop k xs ≡ x ∷ drop (k + 1) xs
-drop_from [] k x lt e = absurd (omega (arith, lt))
-drop_from (y ∷ xs) zero x lt e = ap (λ z. z ∷ xs) (sym e)
-drop_from (y ∷ xs) (suc k) x lt e =
-    let at : suc (k + 1) ≡ suc k + 1 = omega arith in
-    drop_from xs k x (omega (arith, lt)) e ∙ ap (λ n. x ∷ drop n (y ∷ xs)) at
-
--- within a list the value behind it says nothing
-pub get_any : {A : Type 0} (xs : List A) (k : ℕ) (x y : A) → k < length xs → get_or xs k x ≡ get_or xs k y
-get_any [] k x y lt = absurd (omega (arith, lt))
-get_any (z ∷ xs) zero x y lt = refl
-get_any (z ∷ xs) (suc k) x y lt = get_any xs k x y (omega (arith, lt))
+-- what is found within a list is found whatever stands behind it
+again : (xs : List CodeObject) (i : ℕ) (x : CodeObject) → i < length xs → get_or xs i x ≡ get_or xs i (get_or xs i x)
+again xs i x lt = sym (get_or_from_slice_get xs i (get_or xs i x) (get_or xs i x) (slice_get-get_or xs i x lt))
 
 -- the objects from a number on
 
 from_here : (xs : List CodeObject) (i : ℕ) (x : CodeObject) → i < length xs → x ≡ get_or xs i x
     → map static_of (drop i xs) ≡ static_of x ∷ map static_of (drop (i + 1) xs)
-from_here xs i x lt e = ap (map static_of) (drop_from xs i x lt e)
+from_here xs i x lt e = ap (map static_of) (drop_more xs i x lt ∙ ap (λ z. z ∷ drop (i + 1) xs) (sym e))
 
 pub pointers_step : (xs : List CodeObject) (i offset : ℕ) (x : CodeObject) → i < length xs → x ≡ get_or xs i x
     → (done : List Value) → done ++ static_pointers (map static_of (drop i xs)) i offset
@@ -93,7 +82,7 @@ pub next_below : (xs : List CodeObject) (i offset end : ℕ) (x : CodeObject) �
     → statics_end (map static_of (drop i xs)) offset ≡ end → end ≤ 0x400000
     → rounded_up 16 offset + size_of_kind (get_or xs i x).kind ≤ 0x400000
 next_below xs i offset end x lt h small =
-    omega (arith, small, end_below xs i offset end (get_or xs i x) lt (get_any xs i x (get_or xs i x) lt) h)
+    omega (arith, small, end_below xs i offset end (get_or xs i x) lt (again xs i x lt) h)
 
 pub next_end : (xs : List CodeObject) (i offset start size end : ℕ) (x : CodeObject) → i < length xs
     → start ≡ rounded_up 16 offset → size ≡ size_of_kind (get_or xs i x).kind
@@ -102,7 +91,7 @@ pub next_end : (xs : List CodeObject) (i offset start size end : ℕ) (x : CodeO
 next_end xs i offset start size end x lt es ez h =
     let behind = map static_of (drop (i + 1) xs) in
     ap (λ n. statics_end behind (n + size)) es ∙ ap (λ n. statics_end behind (rounded_up 16 offset + n)) ez
-    ∙ sym (end_step xs i offset (get_or xs i x) lt (get_any xs i x (get_or xs i x) lt)) ∙ h
+    ∙ sym (end_step xs i offset (get_or xs i x) lt (again xs i x lt)) ∙ h
 
 pub next_pointers : (xs : List CodeObject) (i offset start size : ℕ) (x : CodeObject) (done more all : List Value)
     → i < length xs → start ≡ rounded_up 16 offset → size ≡ size_of_kind (get_or xs i x).kind
@@ -115,7 +104,7 @@ next_pointers xs i offset start size x done more all lt es ez em h =
     (done ++ pointer_at i (objects_begin + n) m ∷ []) ++ static_pointers behind (i + 1) (n + m) in
     ap (λ ps. ps ++ static_pointers behind (i + 1) (start + size)) em ∙ ap (λ n. made n size) es
     ∙ ap (made (rounded_up 16 offset)) ez
-    ∙ sym (pointers_step xs i offset (get_or xs i x) lt (get_any xs i x (get_or xs i x) lt) done) ∙ h
+    ∙ sym (pointers_step xs i offset (get_or xs i x) lt (again xs i x lt) done) ∙ h
 
 pub next_functions : (i count word : ℕ) (done more all : List Value) → i < count → word ≡ function_address i
     → more ≡ done ++ record { word = word; tag = OfFunction i } ∷ []
@@ -144,19 +133,11 @@ continue_more {ps = ps} {d = d} {done = done} xs i x lt e c h same = record {
       subst (AreData ps (map static_of xs)) (sym (ap (λ ds. ds ++ rest) same ∙ append_assoc done (d ∷ []) rest)) before;
 }
 
-drop_all : {A : Type 0} (xs : List A) → drop (length xs) xs ≡ []
-drop_all [] = refl
-drop_all (x ∷ xs) = drop_all xs
-
-append_none : {A : Type 0} (xs : List A) → xs ++ [] ≡ xs
-append_none [] = refl
-append_none (x ∷ xs) = ap (λ ys. x ∷ ys) (append_none xs)
-
 pub continue_all : {ps : Pointers} {done : List StaticData} (xs : List CodeObject) (i : ℕ) → i ≡ length xs
     → Continue ps xs i done → AreData ps (map static_of xs) done
 continue_all {ps = ps} {done = done} xs i e c =
-    let none : drop i xs ≡ [] = ap (λ n. drop n xs) e ∙ drop_all xs in
-    subst (AreData ps (map static_of xs)) (append_none done)
+    let none : drop i xs ≡ [] = drop_all i xs (omega (arith, e)) in
+    subst (AreData ps (map static_of xs)) (append-nil done)
     (c.by [] (subst (λ os. AreData ps (map static_of os) []) (sym none) tt))
 
 -- the first fault

@@ -3,6 +3,7 @@ use Rattle.std.proofs.Common.{true, ◌≡◌, ℕ, zero, suc, ◌+◌, ◌≤�
 use Rattle.std.proofs.Common.{refl}
 use Rattle.std.proofs.Common.{sym, ap, ◌∙◌, subst, arith}
 use Rattle.std.specs.Prelude.{slice_get}
+use Rattle.std.proofs.lemmas.Option.{same_Some}
 use Rattle.addr_map.specs.Places.{objects_begin, region_start}
 use Rattle.sb_base.specs.Budgets.{BudgetSizes}
 use Rattle.obj_memory.specs.declared.value.Value.{Value}
@@ -35,9 +36,6 @@ unfolding region_start
 begins p budgets = refl
 
 -- the pointer to a placed object
-same_some : {x y : Value} → Some x ≡ Some y → x ≡ y
-same_some e = cc
-
 to_new : (n : ℕ) (address size : ℕ) (all : Objects) → object_at all n ≡ new_object Static address size
     → pointer_at n address size ≡ pointer_to n all
 unfolding pointer_to new_object
@@ -57,7 +55,7 @@ statics_point (o ∷ os) n offset all at zero v e =
     let same : n + 0 ≡ n = omega arith in
     let here = to_new n (objects_begin + rounded_up 16 offset) (size_of_kind o.kind) all (ap (object_at all)
     (sym same) ∙ at 0) in
-    sym (same_some e) ∙ here ∙ ap (λ i. pointer_to i all) (sym same)
+    sym (same_Some _ _ e) ∙ here ∙ ap (λ i. pointer_to i all) (sym same)
 statics_point (o ∷ os) n offset all at (suc k) v e =
     let same : n + suc k ≡ suc n + k = omega arith in
     statics_point os (suc n) (rounded_up 16 offset + size_of_kind o.kind) all
@@ -68,7 +66,7 @@ functions_point : (f n k : ℕ) (v : Value) → slice_get (function_pointers f n
 functions_point f zero k v e = cc
 functions_point f (suc n) zero v e =
     let same : f ≡ f + 0 = omega arith in
-    sym (same_some e) ∙ ap function_pointer same
+    sym (same_Some _ _ e) ∙ ap function_pointer same
 functions_point f (suc n) (suc k) v e =
     let same : suc f + k ≡ f + suc k = omega arith in
     functions_point (suc f) n k v e ∙ ap function_pointer same

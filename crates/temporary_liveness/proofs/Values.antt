@@ -3,6 +3,7 @@ use Rattle.std.proofs.Common.{◌≡◌, ◌⊎◌, inl, inr, ℕ, suc, ◌+◌,
 use Rattle.std.proofs.Common.{Some, refl, sym, ◌∙◌, subst, arith}
 use Rattle.std.specs.Prelude.{slice_get, ◌==◌, ◌||◌}
 use Rattle.std.proofs.lemmas.Bool.{eqb-true, eqb-false, and_parts, leb-true, ltb-true, false≢true}
+use Rattle.std.proofs.Math.Bool.{or-false}
 use Rattle.c_tree.specs.declared.expression.Kind.{Kind}
 use Rattle.c_tree.specs.declared.expression.Kind.TheVariants.{Void, Scalar as OfScalar, Structure, Array}
 use Rattle.c_tree.specs.Tree.{Expression, expression, Expressions, no_expressions, expressions, Lvalue, lvalue, Node}
@@ -41,10 +42,6 @@ joined P d n y (inr r) = let lo = r.0 in let hi = r.1 in by (y == d) refl
 none_among : (P : Temporaries) (d y : ℕ) → AndAmong P d 0 y → P y
 none_among P d y (inl p) = p
 none_among P d y (inr r) = absurd (let lo = r.0 in let hi = r.1 in omega arith)
-
-or_false : (b : Bool) → (b || false) ≡ b
-or_false true = refl
-or_false false = refl
 
 pub no_reads : (P : Temporaries) (y : ℕ) → false ≡ true → P y
 no_reads P y e = absurd (false≢true e)
@@ -159,7 +156,7 @@ module _ (c : Placed) (k : ℕ) where
         of_expression a P d n l.0 l.1 (changes P d l.0 m _ l.2 (λ x q. q) h (λ y. refl) (λ y. refl))
     of_node (step u fixity p) kind line P d n m l h =
         of_lvalue p P d n l.0 l.3
-        (changes P d l.0 m _ l.4 (λ x q. q) h (λ y. or_false (y == d)) (λ y. refl))
+        (changes P d l.0 m _ l.4 (λ x q. q) h (λ y. or-false (y == d)) (λ y. refl))
     of_node (step_plain u fixity x) kind line P d n m l h = makes P d n m _ l (λ x q. q) h (λ y e. e) (λ y. refl)
     of_node (call f args) kind line P d n m l h =
         of_arguments args P d n l.0 l.1 (gathers P d l.0 m _ l.2 (λ x q. q) h (count args) (λ y. refl) (λ y. refl))

@@ -5,7 +5,7 @@ use Rattle.statement_lowering.proofs.Compound.{next_statement, block_code, if_co
 use Rattle.statement_lowering.proofs.Elements.{get_any, height_at, nodes_at, decided_at, item_height_at}
 use Rattle.statement_lowering.proofs.Elements.{item_nodes_at, item_decided_at}
 use Rattle.statement_lowering.proofs.Loops.{while_code, do_code, for_code}
-use Rattle.statement_lowering.proofs.SingleStatements.{value_room}
+use Rattle.statement_parts.proofs.InitializerParts.{room_for}
 use Rattle.statement_lowering.proofs.Switches.{next_item, switch_code}
 use Rattle.statement_lowering.proofs.statement.+lowering.Goals as goal
 
@@ -55,7 +55,7 @@ switch_items-loop-i-preserved t c =
     }
 
 pub switch-expression-requires : goal.switch-expression-requires
-switch-expression-requires t c = value_room c.args.e.now _ c.requires.value
+switch-expression-requires t c = room_for c.args.e.now _ c.requires.value
 
 pub block-returns : goal.block-returns
 block-returns t c =

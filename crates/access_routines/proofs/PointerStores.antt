@@ -44,13 +44,13 @@ use Rattle.flat_routines.specs.Effects.{worked, effects, AreAllowed}
 use Rattle.flat_routines.specs.Metadata.{View, metadata_in, entry_registers, held_registers, IsObjectWord}
 use Rattle.flat_routines.proofs.Rules.{line_on, unless, weaken}
 use Rattle.flat_routines.proofs.Regions.{laid_out}
+use Rattle.flat_routines.proofs.Branches.{if_differ, if_same}
 use Rattle.flat_objects.specs.StandsFor.{Views, Keys, spell, StandsFor}
 use Rattle.flat_objects.specs.Changes.{Changes, IsPut}
 use Rattle.flat_objects.proofs.Changing.{word_of, changed}
 use Rattle.flat_objects.proofs.Moves.{put_stands}
 use Rattle.shadow_space.specs.Form.{HasWritten, IsWriteRoutine}
 use Rattle.shadow_space.proofs.Entries.{context_of}
-use Rattle.heap_space.proofs.Regions.{if_differ, if_same}
 use Rattle.flat_actions.specs.Actions.{AreSpacesGood, IsFor, IsHeldBy, Nowhere, Word, Pointer as InPointer, Leaves}
 use Rattle.flat_actions.specs.Actions.{program_basis}
 use Rattle.flat_actions.specs.Actions.{HasGiven, views_of, work_of}

@@ -39,6 +39,7 @@ use Rattle.flat_routines.proofs.Straight.{run_straight}
 use Rattle.flat_routines.proofs.Rules.{line_on, branch, jump_on, arrived, weaken}
 use Rattle.flat_routines.proofs.Regions.{laid_out}
 use Rattle.flat_routines.proofs.Words.{same_metadata}
+use Rattle.flat_routines.proofs.Branches.{if_equal, if_unequal}
 use Rattle.flat_objects.specs.StandsFor.{Views, Keys, spell}
 use Rattle.shadow_space.specs.Form.{HasRead, IsReadRoutine}
 use Rattle.shadow_space.proofs.Entries.{context_of}
@@ -46,7 +47,6 @@ use Rattle.flat_actions.specs.Actions.{IsFor, IsHeldBy, Word, Pointer as InPoint
 use Rattle.flat_actions.specs.Actions.{program_basis}
 use Rattle.access_routines.specs.declared.held.HeldScalar.TheVariants.{Pointer}
 use Rattle.access_routines.specs.Accessing.{IsLoadRoutine, word_code, no_entry, load_pointer_code}
-use Rattle.access_routines.proofs.Tests.{if_equal, if_unequal}
 use Rattle.access_routines.proofs.Places.{direct_allowed, of_objects, number_there, word_there, entry_there, none_there}
 use Rattle.access_routines.proofs.Places.{access_allowed}
 use Rattle.access_routines.proofs.Shown.{ShowsOne, shows_one_then, one_at_work, is_shown, load_is, given_read}

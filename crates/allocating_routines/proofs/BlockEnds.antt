@@ -15,6 +15,7 @@ use Rattle.flat_routines.specs.Registers.{AreBelow, OthersStay}
 use Rattle.flat_routines.specs.Routine.{HasAt, Outcome, Reaches, Never}
 use Rattle.flat_routines.specs.Metadata.{View, ShowsNothing}
 use Rattle.flat_routines.proofs.Rules.{next}
+use Rattle.flat_routines.proofs.Showing.{shows_both}
 use Rattle.flat_objects.specs.StandsFor.{Views, Keys, IsLock, global_lock}
 use Rattle.flat_objects.proofs.Changing.{live_is_made}
 use Rattle.shadow_space.proofs.Entries.{context_of}
@@ -29,7 +30,6 @@ use Rattle.flat_actions.specs.Actions.{AreSpacesGood, IsFor}
 use Rattle.flat_actions.specs.Actions.{views_of}
 use Rattle.flat_actions.proofs.Standing.{shown_still}
 use Rattle.allocating_routines.specs.Freeing.{IsBlockEnded}
-use Rattle.space_routines.proofs.Quiet.{shows_both}
 use Rattle.allocating_routines.proofs.Zeroed.{AreLocal}
 use Rattle.allocating_routines.proofs.BlockMemory.{good_by_table, locks_by_table, block_ended}
 use Rattle.allocating_routines.proofs.BlockDeath.{block_died}

@@ -31,6 +31,8 @@ use Rattle.flat_routines.specs.Effects.{worked}
 use Rattle.flat_routines.specs.Metadata.{View, held_registers, ShowsNothing}
 use Rattle.flat_routines.proofs.Steps.{has_front, has_back}
 use Rattle.flat_routines.proofs.Rules.{next, arrived, weaken}
+use Rattle.flat_routines.proofs.Branches.{are_equal, are_not_equal}
+use Rattle.flat_routines.proofs.Showing.{shows_both}
 use Rattle.flat_objects.specs.StandsFor.{Views, Keys, spell}
 use Rattle.shadow_space.proofs.Entries.{context_of}
 use Rattle.lock_space.specs.Routines.{IsReleaseRoutine}
@@ -41,15 +43,14 @@ use Rattle.flat_actions.specs.Actions.{IsFor, Word, Pointer, AreHeldBy, IsHeldBy
 use Rattle.flat_actions.specs.Actions.{work_of}
 use Rattle.flat_actions.specs.Ranges.{IsTaggedMoveRoutine}
 use Rattle.flat_actions.proofs.Standing.{for_still, ended_still}
-use Rattle.space_routines.proofs.Quiet.{shows_both, shows_worked, worked_words}
+use Rattle.space_routines.proofs.Quiet.{shows_worked, worked_words}
 use Rattle.flat_actions.specs.Actions.{runtime_basis}
 use Rattle.allocating_routines.specs.Premises.{AreStanding}
 use Rattle.allocating_routines.specs.Allocating.{IsAllocateRoutine}
 use Rattle.allocating_routines.specs.Freeing.{found_test}
 use Rattle.allocating_routines.specs.Reallocating.{IsReallocRoutine, tests_code, replace_code, realloc_code}
 use Rattle.allocating_routines.proofs.Stretches.{goes_past, goes_into}
-use Rattle.allocating_routines.proofs.Stretches.{are_equal}
-use Rattle.allocating_routines.proofs.Stretches.{are_not_equal, above_none}
+use Rattle.allocating_routines.proofs.Stretches.{above_none}
 use Rattle.allocating_routines.proofs.Zeroed.{AreLocal}
 use Rattle.allocating_routines.proofs.Leaving.{leaves_from, either_of}
 use Rattle.allocating_routines.proofs.Allocates.{rows_are_blocks}

@@ -30,6 +30,8 @@ use Rattle.flat_routines.proofs.Steps.{has_front, has_back}
 use Rattle.flat_routines.proofs.Rules.{next, weaken, arrived}
 use Rattle.flat_routines.proofs.Distinct.{AreRegisters}
 use Rattle.flat_routines.proofs.Regions.{laid_out}
+use Rattle.flat_routines.proofs.Branches.{not_below, is_below}
+use Rattle.flat_routines.proofs.Showing.{shows_both}
 use Rattle.flat_objects.specs.StandsFor.{Views, Keys, IsHere}
 use Rattle.flat_objects.specs.Changes.{IsMoved}
 use Rattle.flat_objects.proofs.Changing.{live_is_made}
@@ -38,12 +40,11 @@ use Rattle.shadow_space.proofs.Entries.{context_of, agrees_shows, agrees_memory}
 use Rattle.lock_space.specs.Routines.{IsReleaseRoutine}
 use Rattle.heap_space.specs.Table.{block_total}
 use Rattle.heap_space.specs.Routines.{IsReleaseRoutine as IsUnlistRoutine}
-use Rattle.heap_space.proofs.Regions.{not_below, is_below}
 use Rattle.flat_actions.specs.Actions.{IsFor, Pointer, HasGiven, StaysElsewhere, views_of}
 use Rattle.flat_actions.specs.Ranges.{IsToMove, HasMovedTagged, IsTaggedMoveRoutine}
 use Rattle.flat_actions.proofs.Standing.{good_still, shown_still, spells_still, none_of_none}
 use Rattle.allocating_routines.specs.Reallocating.{lesser_code, replace_code}
-use Rattle.space_routines.proofs.Quiet.{shows_both, shows_worked}
+use Rattle.space_routines.proofs.Quiet.{shows_worked}
 use Rattle.allocating_routines.proofs.Stretches.{IsDone, stretch_on, goes_past, goes_into}
 use Rattle.space_routines.proofs.Quiet.{worked_words}
 use Rattle.allocating_routines.proofs.Zeroed.{AreLocal}

@@ -21,6 +21,7 @@ use Rattle.flat_routines.proofs.Rules.{line, next, weaken}
 use Rattle.flat_routines.proofs.Distinct.{AreRegisters, register_of, registers_rename, others_stay}
 use Rattle.flat_routines.proofs.Regions.{IsLaidOut, laid_out}
 use Rattle.flat_routines.proofs.Wrapped.{routine}
+use Rattle.flat_routines.proofs.Showing.{shows_both}
 use Rattle.flat_objects.proofs.Changing.{global_is_lock}
 use Rattle.shadow_space.specs.Form.{IsClearRoutine, HasCleared}
 use Rattle.shadow_space.proofs.Entries.{context_of, agrees_shows, agrees_memory}
@@ -31,7 +32,6 @@ use Rattle.heap_space.proofs.Local.{good_kept as table_kept}
 use Rattle.flat_actions.specs.Actions.{AreSpacesGood}
 use Rattle.allocating_routines.specs.Zeroing.{IsToZero, IsZeroed, HasZeroed, IsZeroRoutine, word_bytes, begin_zero}
 use Rattle.allocating_routines.specs.Zeroing.{zero_until, to_the_end, zero_bytes, zero_code}
-use Rattle.space_routines.proofs.Quiet.{shows_both}
 use Rattle.allocating_routines.proofs.Stretches.{stretch_on, others_below}
 use Rattle.allocating_routines.proofs.Zeros.{Filling, fills}
 

@@ -23,8 +23,8 @@ use Rattle.flat_routines.specs.Effects.{worked, effects, AreAllowed}
 use Rattle.flat_routines.specs.Metadata.{ShowsNothing}
 use Rattle.flat_routines.proofs.Steps.{has_front}
 use Rattle.flat_routines.proofs.Rules.{line, loop, weaken, Turns}
+use Rattle.flat_routines.proofs.Branches.{not_below, is_below}
 use Rattle.shadow_space.proofs.Entries.{context_of}
-use Rattle.heap_space.proofs.Regions.{not_below, is_below}
 use Rattle.allocating_routines.specs.Zeroing.{zero_one, zero_until}
 
 -- ---- stores of zero

@@ -2,13 +2,13 @@
 use Rattle.std.proofs.Common.{◌≡◌, ◌≢◌, ℕ, zero, suc, ◌+◌, ◌-◌, ◌*◌, ◌%◌, ◌^◌, ◌<◌, ◌≤◌, ⊎_elim, List, [], ◌∷◌, ◌++◌}
 use Rattle.std.proofs.Common.{Bool, true, false, ◌==◌, ◌&&◌, not, if◌then◌else◌, refl, sym, ap, ◌∙◌, subst, arith}
 use Rattle.std.specs.Prelude.{nat_lt, nat_le}
-use Rattle.std.proofs.lemmas.Bool.{cases_eq, eq-eqb, ne_eqb, eqb-true, eqb-false, ltb-true, le-ltb, lt-leb, and_right}
+use Rattle.std.proofs.lemmas.Bool.{cases_eq, eq-eqb, ne_eqb, ltb-true, le-ltb, lt-leb, and_right}
 use Rattle.std.proofs.lemmas.Bool.{cond-false}
 use Rattle.sb_base.specs.declared.ending.Ending.TheVariants.{Spatial}
 use Rattle.addr_map.specs.Places.{MapSizes}
 use Rattle.rv_isa.specs.declared.instruction.BranchOp.TheVariants.{Beq, Bne}
 use Rattle.rv_isa.specs.declared.instruction.RegOp.TheVariants.{Add}
-use Rattle.rv_isa.specs.Results.{reg_result, extended, branch_taken, bit_of}
+use Rattle.rv_isa.specs.Results.{reg_result, extended, bit_of}
 use Rattle.obj_memory.specs.declared.value.Bounds.{Bounds}
 use Rattle.obj_memory.specs.declared.value.Tag.TheVariants.{OfObject}
 use Rattle.obj_memory.specs.declared.value.Value.{Value}
@@ -33,16 +33,15 @@ use Rattle.flat_routines.specs.Effects.{worked, effects, AreAllowed}
 use Rattle.flat_routines.specs.Metadata.{ShowsNothing}
 use Rattle.flat_routines.proofs.Steps.{has_self, has_front, has_back}
 use Rattle.flat_routines.proofs.Rules.{weaken, line_on, branch, jump_back, arrived, ended}
+use Rattle.flat_routines.proofs.Branches.{if_equal, if_unequal, if_apart, if_alike}
 use Rattle.flat_objects.specs.StandsFor.{Views, Keys}
 use Rattle.shadow_space.proofs.Entries.{context_of}
-use Rattle.heap_space.proofs.Regions.{if_differ, if_same}
 use Rattle.flat_judging.specs.Judging.{judge_code}
 use Rattle.flat_actions.specs.Actions.{Word}
 use Rattle.comparing_routines.specs.Answering.{IsAnswered, IsWorking}
 use Rattle.comparing_routines.specs.Comparing.{order_code, pair_code, string_loop, strcmp_code}
 use Rattle.flat_actions.proofs.Looking.{looked, looked_by}
 use Rattle.comparing_routines.proofs.Looks.{byte_of, AreBytesOf, one_loaded}
-use Rattle.comparing_routines.proofs.Seeks.{if_equal, if_unequal}
 
 -- ---- how two bytes compare
 
@@ -55,12 +54,6 @@ order_by false false h = refl
 
 pub order_is : (x y : ℕ) → (bit_of (nat_lt y x) + (2 ^ 64 - bit_of (nat_lt x y))) % 2 ^ 64 ≡ (order x y).word
 order_is x y = order_by (nat_lt x y) (nat_lt y x) (λ e. le-ltb y x (let l = ltb-true x y e in omega arith))
-
-pub if_apart : (a b : ℕ) → branch_taken Bne a b ≡ true → a ≢ b
-if_apart a b t = eqb-false a b (if_differ a b t)
-
-pub if_alike : (a b : ℕ) → branch_taken Bne a b ≡ false → a ≡ b
-if_alike a b t = eqb-true a b (if_same a b t)
 
 -- ---- the source at the end of bounds
 

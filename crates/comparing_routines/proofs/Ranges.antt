@@ -23,12 +23,12 @@ use Rattle.flat_routines.specs.Effects.{worked, effects, AreAllowed}
 use Rattle.flat_routines.specs.Metadata.{ShowsNothing}
 use Rattle.flat_routines.proofs.Steps.{has_self, has_front, has_back}
 use Rattle.flat_routines.proofs.Rules.{weaken, line_on, branch, jump_back, arrived}
+use Rattle.flat_routines.proofs.Branches.{if_equal, if_unequal, if_apart, if_alike}
 use Rattle.shadow_space.proofs.Entries.{context_of}
 use Rattle.flat_judging.specs.Judging.{judge_code}
 use Rattle.comparing_routines.specs.Comparing.{order_code, pair_code, range_loop, memcmp_code}
 use Rattle.comparing_routines.proofs.Looks.{one_loaded}
-use Rattle.comparing_routines.proofs.Seeks.{if_equal, if_unequal}
-use Rattle.comparing_routines.proofs.Pairs.{order_is, if_apart, if_alike, own_left, own_right}
+use Rattle.comparing_routines.proofs.Pairs.{order_is, own_left, own_right}
 
 -- ---- the registers of the routine alone: 0 to 4 and 5 to 9 the pointers, 10 the size, 11 the result, 12 and 13 the
 -- cursors, 14 and 15 the bytes, 16 the end of the first range

@@ -43,6 +43,7 @@ use Rattle.flat_routines.proofs.Rules.{weaken, line_on, branch, arrived}
 use Rattle.flat_routines.proofs.Regions.{laid_out}
 use Rattle.flat_routines.proofs.Distinct.{AreRegisters, register_of}
 use Rattle.flat_routines.proofs.Words.{same_metadata}
+use Rattle.flat_routines.proofs.Branches.{if_equal, if_unequal}
 use Rattle.flat_objects.specs.StandsFor.{Views, Keys, Spells, StandsFor}
 use Rattle.shadow_space.proofs.Entries.{context_of}
 use Rattle.space_routines.proofs.Quiet.{quiet_words, worked_words}
@@ -52,7 +53,6 @@ use Rattle.flat_actions.specs.Actions.{IsFor, Word, Pointer, views_of, work_of, 
 use Rattle.flat_actions.proofs.Judged.{judged_then, located_then, after_judge}
 use Rattle.comparing_routines.specs.Answering.{IsAnswered}
 use Rattle.comparing_routines.specs.Comparing.{memcmp_code, IsMemcmp}
-use Rattle.comparing_routines.proofs.Seeks.{if_equal, if_unequal}
 use Rattle.comparing_routines.proofs.Pairs.{own_left, own_right}
 use Rattle.flat_actions.proofs.Standing.{same_then}
 use Rattle.comparing_routines.proofs.Ranges.{own_memcmp, has_first, has_second, has_range_start, range_start, StandsAt}

@@ -1,13 +1,13 @@
 -- `strchr` alone: a byte is sought as in the source.
 use Rattle.std.proofs.Common.{◌≡◌, ◌≢◌, ℕ, zero, suc, ◌+◌, ◌*◌, ◌%◌, ◌^◌, ◌≤◌, ⊎_elim, List, [], ◌∷◌, ◌++◌}
-use Rattle.std.proofs.Common.{true, false, ◌==◌, refl, sym, ap, ◌∙◌, subst, arith}
-use Rattle.std.proofs.lemmas.Bool.{cases_eq, eq-eqb, ne_eqb, eqb-true, eqb-false}
+use Rattle.std.proofs.Common.{true, ◌==◌, refl, sym, ap, ◌∙◌, subst, arith}
+use Rattle.std.proofs.lemmas.Bool.{cases_eq, eq-eqb, ne_eqb}
 use Rattle.sb_base.specs.declared.ending.Ending.TheVariants.{Spatial}
 use Rattle.addr_map.specs.Places.{MapSizes}
 use Rattle.rv_isa.specs.declared.instruction.BranchOp.TheVariants.{Beq, Bne}
 use Rattle.rv_isa.specs.declared.instruction.RegOp.TheVariants.{Add}
 use Rattle.rv_isa.specs.declared.instruction.LoadOp.TheVariants.{Lbu}
-use Rattle.rv_isa.specs.Results.{reg_result, extended, branch_taken}
+use Rattle.rv_isa.specs.Results.{reg_result, extended}
 use Rattle.obj_memory.specs.declared.value.Bounds.{Bounds}
 use Rattle.obj_memory.specs.declared.value.Tag.TheVariants.{OfObject}
 use Rattle.obj_memory.specs.declared.value.Value.{Value}
@@ -30,9 +30,9 @@ use Rattle.flat_routines.specs.Effects.{worked, effects}
 use Rattle.flat_routines.specs.Metadata.{metadata_in, ShowsNothing}
 use Rattle.flat_routines.proofs.Steps.{has_self, has_front, has_back}
 use Rattle.flat_routines.proofs.Rules.{weaken, line_on, branch, jump_on, jump_back, arrived, ended}
+use Rattle.flat_routines.proofs.Branches.{if_equal, if_unequal, if_apart, if_alike}
 use Rattle.flat_objects.specs.StandsFor.{Views, Keys, spell, Spells}
 use Rattle.shadow_space.proofs.Entries.{context_of}
-use Rattle.heap_space.proofs.Regions.{if_differ, if_same}
 use Rattle.flat_judging.specs.Judging.{judge_code}
 use Rattle.flat_actions.specs.Actions.{Pointer}
 use Rattle.comparing_routines.specs.Answering.{IsAnswered, IsWorking}
@@ -41,14 +41,6 @@ use Rattle.flat_actions.proofs.Looking.{looked}
 use Rattle.comparing_routines.proofs.Looks.{byte_of, AreBytesOf, one_loaded}
 
 -- ---- branches
-
-pub if_equal : (a b : ℕ) → branch_taken Beq a b ≡ true → a ≡ b
-unfolding branch_taken
-if_equal a b e = eqb-true a b e
-
-pub if_unequal : (a b : ℕ) → branch_taken Beq a b ≡ false → a ≢ b
-unfolding branch_taken
-if_unequal a b e = eqb-false a b e
 
 -- ---- the registers of the routine alone: 0 to 4 the string, 5 the byte, 6 to 10 the result, of which 6 is the cursor,
 -- 11 the byte that is looked at, and 12 the byte that is sought
@@ -318,13 +310,10 @@ module _ (map : MapSizes) (charge weight line : ℕ) (g : Views) (k : Keys) (fun
           reaches = subst (λ r. Reaches c C 11 (Goes 14 f) 31 (A r)) (sym is)
               (another ne nz Q 7
               (branch c C 6 18 (stepped f) Bne 6 (Register 2) 1 31 Q has.1.1.1.1.0
-              (λ t. absurd (differs _ _ t (omega arith)))
+              (λ t. absurd (if_apart _ _ t (omega arith)))
               (λ t. ended c C 5 (Spatial line) (worked c (stepped f)) 19 31 Q has.1.1.1.1.1.0
               (refl, refl, working, quiet _ refl refl refl refl refl))));
         }
-      where
-        differs : (a b : ℕ) → branch_taken Bne a b ≡ true → a ≢ b
-        differs a b t = eqb-false a b (if_differ a b t)
 
     further : byte ≢ ch → byte ≢ 0 → (j : ℕ) → left ≡ suc j → Seeks j (w + 1) (moved 1 p)
         (worked c (worked c (stepped f)))
@@ -345,11 +334,8 @@ module _ (map : MapSizes) (charge weight line : ℕ) (g : Views) (k : Keys) (fun
               (branch c C (suc (6 * r.spent + 5)) 18 (stepped f) Bne 6 (Register 2) 1 31 Q has.1.1.1.1.0
               (λ t. jump_back c C (6 * r.spent + 5) 20 6 14 (worked c (stepped f)) 31 Q has.1.1.1.1.1.1.0 refl
               r.reaches)
-              (λ t. absurd (let q = same _ _ t in omega arith)))));
+              (λ t. absurd (let q = if_alike _ _ t in omega arith)))));
         }
-      where
-        same : (a b : ℕ) → branch_taken Bne a b ≡ false → a ≡ b
-        same a b t = eqb-true a b (if_same a b t)
 
     next_cursor : (j : ℕ) → left ≡ suc j → IsCursor j (moved 1 p) (worked c (worked c (stepped f)))
     next_cursor j e =

@@ -21,7 +21,7 @@ use Rattle.flat_routines.specs.Routine.{Does, Either, Never}
 use Rattle.flat_routines.specs.Renaming.{through}
 use Rattle.flat_routines.specs.Effects.{AreAllowed}
 use Rattle.flat_routines.proofs.Regions.{IsLaidOut}
-use Rattle.space_routines.proofs.Quiet.{shows_both}
+use Rattle.flat_routines.proofs.Showing.{shows_both}
 use Rattle.flat_actions.specs.Ranges.{IsObjectRange, IsToMove, HasMovedBytes, IsByteMoveRoutine}
 use Rattle.flat_actions.proofs.Standing.{others_trans}
 use Rattle.moving_routines.specs.Copying.{OneByte, Cells, AreCells, HasCopied, IsToCopy, CopiesOne, move_cells}

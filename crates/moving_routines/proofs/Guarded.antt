@@ -3,7 +3,6 @@ use Rattle.std.proofs.Common.{◌≡◌, ◌≢◌, ℕ, ◌+◌, ◌*◌, List,
 use Rattle.std.proofs.Common.{sym, ap, ◌∙◌, subst, arith, suc, ◌==◌}
 use Rattle.std.proofs.lemmas.Bool.{eqb-true, eqb-false}
 use Rattle.rv_isa.specs.declared.instruction.BranchOp.TheVariants.{Beq}
-use Rattle.rv_isa.specs.Results.{branch_taken}
 use Rattle.obj_memory.specs.declared.value.Value.{Value}
 use Rattle.obj_memory.specs.declared.value.Tag.{Tag}
 use Rattle.obj_memory.specs.declared.value.Tag.TheVariants.{Untagged, OfFunction, OfObject}
@@ -27,6 +26,7 @@ use Rattle.flat_routines.proofs.Rules.{Holds, taken, in_sequence}
 use Rattle.flat_routines.proofs.Distinct.{AreRegisters, register_of, registers_rename, others_stay}
 use Rattle.flat_routines.proofs.Words.{same_metadata}
 use Rattle.flat_routines.proofs.Wrapped.{straight_routine}
+use Rattle.flat_routines.proofs.Branches.{if_equal, if_unequal}
 use Rattle.flat_objects.specs.StandsFor.{Views, Keys, Spells, spell}
 use Rattle.flat_judging.specs.Judging.{IsSameBut}
 use Rattle.flat_actions.specs.Actions.{IsFor, KeepsHeld, Nowhere, Pointer, HasGiven, Leaves}
@@ -34,14 +34,6 @@ use Rattle.flat_actions.proofs.Standing.{for_still, given_still, spells_still, n
 use Rattle.flat_actions.specs.Lists.{give_code, guarded_code}
 use Rattle.moving_routines.proofs.Steps.{does_weaken, unless_does}
 use Rattle.moving_routines.proofs.Judged.{work_done, left_since}
-
-if_equal : (a b : ℕ) → branch_taken Beq a b ≡ true → a ≡ b
-unfolding branch_taken
-if_equal a b e = eqb-true a b e
-
-if_unequal : (a b : ℕ) → branch_taken Beq a b ≡ false → a ≢ b
-unfolding branch_taken
-if_unequal a b e = eqb-false a b e
 
 -- ---- a pointer is given
 

@@ -11,9 +11,9 @@ use Rattle.flat_routines.specs.Registers.{AreBelow}
 use Rattle.flat_routines.specs.Routine.{Does, Either, Never}
 use Rattle.flat_routines.specs.Metadata.{View, IsObjectWord, KeepsShadow}
 use Rattle.flat_routines.proofs.Regions.{IsLaidOut, laid_out}
+use Rattle.flat_routines.proofs.Showing.{shows_both}
 use Rattle.flat_objects.specs.Changes.{KeepsTables}
 use Rattle.flat_objects.proofs.Changing.{global_is_lock}
-use Rattle.space_routines.proofs.Quiet.{shows_both}
 use Rattle.lock_space.specs.Locks.{KeepsLocks}
 use Rattle.lock_space.proofs.Spaces.{locks_laid_out}
 use Rattle.lock_space.proofs.Local.{lock_kept, counter_kept, good_kept as locks_kept}

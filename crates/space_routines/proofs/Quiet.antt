@@ -22,6 +22,7 @@ use Rattle.flat_routines.specs.Metadata.{ShowsNothing}
 use Rattle.flat_routines.proofs.Steps.{has_self, run_fits}
 use Rattle.flat_routines.proofs.Straight.{run_straight}
 use Rattle.flat_routines.proofs.Regions.{IsLaidOut, shadow_not_shown}
+use Rattle.flat_routines.proofs.Showing.{shows_both}
 use Rattle.space_routines.specs.Quiet.{IsInSpaces, IsQuiet, AreQuiet}
 
 -- ---- allowed
@@ -65,16 +66,6 @@ quiet_allowed c [] s q = tt
 quiet_allowed c (i ∷ is) s q = (one_allowed c i s q.0, quiet_allowed c is (effect c i s) q.1)
 
 -- ---- nothing shown
-
--- nothing is shown twice over, and counting work shows nothing
-pub shows_both : (s s1 s2 : State) → ShowsNothing s s1 → ShowsNothing s1 s2 → ShowsNothing s s2
-shows_both s s1 s2 h k = record {
-  input = k.input ∙ h.input;
-  output = k.output ∙ h.output;
-  taken = k.taken ∙ h.taken;
-  accesses = k.accesses ∙ h.accesses;
-  turns = k.turns ∙ h.turns;
-}
 
 pub shows_worked : (c : Context) (s s1 : State) → ShowsNothing s s1 → ShowsNothing s (worked c s1)
 shows_worked c s s1 h = record {

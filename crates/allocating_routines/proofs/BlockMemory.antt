@@ -5,6 +5,7 @@ use Rattle.addr_map.specs.Places.{MapSizes, AreMapped, spaces_begin, region_size
 use Rattle.flat_meaning.specs.Memory.{Bytes, load}
 use Rattle.flat_routines.specs.Metadata.{View, KeepsShadow}
 use Rattle.flat_routines.proofs.Regions.{laid_out}
+use Rattle.flat_routines.proofs.Words.{IsLocal}
 use Rattle.flat_objects.specs.StandsFor.{IsLock}
 use Rattle.flat_objects.proofs.Changing.{global_is_lock}
 use Rattle.lock_space.specs.Locks.{key_counter, AreLocksGood, KeepsButLocks, KeepsLocks}
@@ -19,7 +20,6 @@ use Rattle.flat_actions.specs.Actions.{AreSpacesGood}
 use Rattle.allocating_routines.specs.Zeroing.{IsZeroed}
 use Rattle.allocating_routines.specs.Births.{IsKeyTaken, IsBlockMade, IsRangeMade}
 use Rattle.allocating_routines.specs.Freeing.{IsBlockEnded}
-use Rattle.allocating_routines.proofs.Zeroed.{AreLocal}
 
 -- how the spaces follow one another
 pub record DoSpacesFollow (s : MapSizes) : Type 0 where
@@ -39,7 +39,7 @@ spaces_follow s h =
     small_heap l = omega arith
 
 module _ (map : MapSizes) (mapped : AreMapped map) (entry : View) (IsGood : Bytes → Type 0)
-    (local : AreLocal map entry IsGood) where
+    (local : IsLocal map entry IsGood) where
   lie : DoSpacesFollow map
   lie = spaces_follow map mapped
 

@@ -33,6 +33,7 @@ use Rattle.flat_routines.proofs.Steps.{has_front, has_back}
 use Rattle.flat_routines.proofs.Rules.{next, arrived, weaken}
 use Rattle.flat_routines.proofs.Branches.{are_equal, are_not_equal}
 use Rattle.flat_routines.proofs.Showing.{shows_both}
+use Rattle.flat_routines.proofs.Words.{IsLocal}
 use Rattle.flat_objects.specs.StandsFor.{Views, Keys, spell}
 use Rattle.shadow_space.proofs.Entries.{context_of}
 use Rattle.lock_space.specs.Routines.{IsReleaseRoutine}
@@ -51,7 +52,6 @@ use Rattle.allocating_routines.specs.Freeing.{found_test}
 use Rattle.allocating_routines.specs.Reallocating.{IsReallocRoutine, tests_code, replace_code, realloc_code}
 use Rattle.allocating_routines.proofs.Stretches.{goes_past, goes_into}
 use Rattle.allocating_routines.proofs.Stretches.{above_none}
-use Rattle.allocating_routines.proofs.Zeroed.{AreLocal}
 use Rattle.allocating_routines.proofs.Leaving.{leaves_from, either_of}
 use Rattle.allocating_routines.proofs.Allocates.{rows_are_blocks}
 use Rattle.allocating_routines.proofs.BlockBirth.{LiesInHeap}
@@ -64,7 +64,7 @@ use Rattle.allocating_routines.proofs.FreedTests.{IsFreed, IsTested, AreOutcomes
 use Rattle.allocating_routines.proofs.Replaces.{replaces_reached}
 
 module _ (map : MapSizes) (mapped : AreMapped map) (entry : View) (IsGood : Bytes → Type 0)
-    (local : AreLocal map entry IsGood) (h : Held) (size : ℕ) (into : Held) (line t : ℕ)
+    (local : IsLocal map entry IsGood) (h : Held) (size : ℕ) (into : Held) (line t : ℕ)
     (old_below : AreBelow t (held_registers h)) (size_below : size < t) (into_below : AreBelow t (held_registers into))
     (old_apart : AreNoneOf (held_registers h) (held_registers into)) (size_apart : IsNoneOf size (held_registers into))
     (find block' move unlist unlock : List FlatInstruction)
@@ -414,7 +414,7 @@ module _ (map : MapSizes) (mapped : AreMapped map) (entry : View) (IsGood : Byte
     reallocs = ⊎_elim (λ null. null_reached null) (λ some. some_reached some) (cases_eq v.word 0)
 
 pub realloc_does : (map : MapSizes) → AreMapped map → (entry : View) (IsGood : Bytes → Type 0)
-    → AreLocal map entry IsGood → (h : Held) (size : ℕ) (into : Held) (line t : ℕ) → AreBelow t (held_registers h)
+    → IsLocal map entry IsGood → (h : Held) (size : ℕ) (into : Held) (line t : ℕ) → AreBelow t (held_registers h)
     → size < t → AreBelow t (held_registers into) → AreNoneOf (held_registers h) (held_registers into)
     → IsNoneOf size (held_registers into) → (find block' move unlist unlock : List FlatInstruction)
     → IsFindRoutine map h.value h.tag.key (t + 1) (t + 2) (t + 4) find

@@ -32,6 +32,7 @@ use Rattle.flat_routines.proofs.Distinct.{AreRegisters}
 use Rattle.flat_routines.proofs.Regions.{laid_out}
 use Rattle.flat_routines.proofs.Branches.{not_below, is_below}
 use Rattle.flat_routines.proofs.Showing.{shows_both}
+use Rattle.flat_routines.proofs.Words.{IsLocal}
 use Rattle.flat_objects.specs.StandsFor.{Views, Keys, IsHere}
 use Rattle.flat_objects.specs.Changes.{IsMoved}
 use Rattle.flat_objects.proofs.Changing.{live_is_made}
@@ -47,7 +48,6 @@ use Rattle.allocating_routines.specs.Reallocating.{lesser_code, replace_code}
 use Rattle.space_routines.proofs.Quiet.{shows_worked}
 use Rattle.allocating_routines.proofs.Stretches.{IsDone, stretch_on, goes_past, goes_into}
 use Rattle.space_routines.proofs.Quiet.{worked_words}
-use Rattle.allocating_routines.proofs.Zeroed.{AreLocal}
 use Rattle.allocating_routines.proofs.Allocates.{rows_are_blocks}
 use Rattle.allocating_routines.proofs.BlockBirth.{LiesInHeap}
 use Rattle.allocating_routines.proofs.BlockEnds.{HasEndedBlock, ends_block}
@@ -62,7 +62,7 @@ unfolding new_object
 unfolding_new p z = (refl, refl, refl)
 
 module _ (map : MapSizes) (mapped : AreMapped map) (entry : View) (IsGood : Bytes → Type 0)
-    (local : AreLocal map entry IsGood) (old : Held) (size : ℕ) (into : Held) (t : ℕ)
+    (local : IsLocal map entry IsGood) (old : Held) (size : ℕ) (into : Held) (t : ℕ)
     (old_below : AreBelow t (held_registers old)) (size_below : size < t)
     (into_below : AreBelow t (held_registers into))
     (move unlist unlock : List FlatInstruction)

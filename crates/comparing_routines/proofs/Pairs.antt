@@ -34,14 +34,16 @@ use Rattle.flat_routines.specs.Metadata.{ShowsNothing}
 use Rattle.flat_routines.proofs.Steps.{has_self, has_front, has_back}
 use Rattle.flat_routines.proofs.Rules.{weaken, line_on, branch, jump_back, arrived, ended}
 use Rattle.flat_routines.proofs.Branches.{if_equal, if_unequal, if_apart, if_alike}
+use Rattle.flat_routines.proofs.Words.{byte_loaded}
+use Rattle.flat_routines.proofs.Showing.{shows_on}
 use Rattle.flat_objects.specs.StandsFor.{Views, Keys}
 use Rattle.shadow_space.proofs.Entries.{context_of}
 use Rattle.flat_judging.specs.Judging.{judge_code}
 use Rattle.flat_actions.specs.Actions.{Word}
 use Rattle.comparing_routines.specs.Answering.{IsAnswered, IsWorking}
 use Rattle.comparing_routines.specs.Comparing.{order_code, pair_code, string_loop, strcmp_code}
-use Rattle.flat_actions.proofs.Looking.{looked, looked_by}
-use Rattle.comparing_routines.proofs.Looks.{byte_of, AreBytesOf, one_loaded}
+use Rattle.flat_actions.proofs.Looking.{looked, looked_by, moved_tag, moved_word}
+use Rattle.comparing_routines.proofs.Looks.{byte_of, AreBytesOf}
 
 -- ---- how two bytes compare
 
@@ -159,14 +161,6 @@ module _ (map : MapSizes) (charge weight line : ℕ) (g : Views) (k : Keys) (fun
   abbrev both_stepped : State → State
   both_stepped f = effects c (Operate Add 12 12 (Number 1) ∷ []) (worked c (stepped f))
 
-  moved_tag : (p : Value) → (moved 1 p).tag ≡ p.tag
-  unfolding moved
-  moved_tag p = refl
-
-  moved_word : (p : Value) → p.word + 1 < 2 ^ 64 → (moved 1 p).word ≡ p.word + 1
-  unfolding moved
-  moved_word p l = omega arith
-
   module _ (left left' w : ℕ) (p q : Value) (f : State) (h : ArePaired left left' p q f) where
     abbrev x : ℕ
     x = byte_of x0.objects n p.word
@@ -198,14 +192,14 @@ module _ (map : MapSizes) (charge weight line : ℕ) (g : Views) (k : Keys) (fun
     unfolding put extended
     first_is =
         let l = h.left_is in
-        ap (load 1 f.memory) at_first ∙ one_loaded f.memory p.word ∙ ap (λ m. m p.word) h.memory
+        ap (load 1 f.memory) at_first ∙ byte_loaded f.memory p.word ∙ ap (λ m. m p.word) h.memory
         ∙ bytes.there p.word h.from (omega arith)
 
     second_is : (loaded f).values 14 ≡ y
     unfolding put extended
     second_is =
         let l = h.left_is' in
-        ap (load 1 f.memory) at_second ∙ one_loaded f.memory q.word ∙ ap (λ m. m q.word) h.memory
+        ap (load 1 f.memory) at_second ∙ byte_loaded f.memory q.word ∙ ap (λ m. m q.word) h.memory
         ∙ bytes'.there q.word h.from' (omega arith)
 
     may_load : AreAllowed c (pair_code 11 12 13 14) f
@@ -215,16 +209,6 @@ module _ (map : MapSizes) (charge weight line : ℕ) (g : Views) (k : Keys) (fun
           ap (λ a. is_allowed map a 1) at_first ∙ bytes.allowed p.word h.from (omega arith),
           (ap (λ a. is_allowed map a 1) at_second ∙ bytes'.allowed q.word h.from' (omega arith), tt),
         )
-
-    quiet : (z : State) → z.input ≡ f.input → z.output ≡ f.output → z.taken ≡ f.taken → z.accesses ≡ f.accesses
-        → z.turns ≡ f.turns → ShowsNothing f0 z
-    quiet z a b c d e = let s = h.shows in record {
-      input = a ∙ s.input;
-      output = b ∙ s.output;
-      taken = c ∙ s.taken;
-      accesses = d ∙ s.accesses;
-      turns = e ∙ s.turns;
-    }
 
     working : (i : ℕ) → IsWorking x0 (at_work i x0)
     working i = record { work = i; same = refl }
@@ -267,7 +251,8 @@ module _ (map : MapSizes) (charge weight line : ℕ) (g : Views) (k : Keys) (fun
           reaches = line_on c C (pair_code 11 12 13 14) 8 23 f 37 (A (run left w p q)) may_load (has.0, (has.1.0, tt))
               (branch c C 7 25 (loaded f) Bne 13 (Register 14) 8 37 (A (run left w p q)) has.1.1.0
               (λ t. weaken c C 3 7 (Goes 34 (worked c (loaded f))) 37 _ _ (omega arith) (λ o r. r)
-              (ordered (worked c (loaded f)) first_is second_is refl (quiet _ refl refl refl refl refl) is))
+              (ordered (worked c (loaded f)) first_is second_is refl
+              (shows_on f0 f _ h.shows refl refl refl refl refl) is))
               (λ t. absurd (ne (sym first_is ∙ if_alike _ _ t ∙ second_is))));
         }
 
@@ -284,7 +269,8 @@ module _ (map : MapSizes) (charge weight line : ℕ) (g : Views) (k : Keys) (fun
               (λ t. absurd (if_apart _ _ t (first_is ∙ e ∙ sym second_is)))
               (λ t. branch c C 6 26 (worked c (loaded f)) Beq 13 (Number 0) 7 37 (A (run left w p q)) has.1.1.1.0
               (λ t2. weaken c C 3 6 (Goes 34 (worked c (worked c (loaded f)))) 37 _ _ (omega arith) (λ o r. r)
-              (ordered (worked c (worked c (loaded f))) first_is second_is refl (quiet _ refl refl refl refl refl) is))
+              (ordered (worked c (worked c (loaded f))) first_is second_is refl
+              (shows_on f0 f _ h.shows refl refl refl refl refl) is))
               (λ t2. absurd (if_unequal _ _ t2 (first_is ∙ z)))));
         }
 
@@ -343,7 +329,7 @@ module _ (map : MapSizes) (charge weight line : ℕ) (g : Views) (k : Keys) (fun
                 (branch c C 4 28 (stepped f) Bne 11 (Register 2) 1 37 Q has.1.1.1.1.1.0
                 (λ t. absurd (if_apart _ _ t (omega arith)))
                 (λ t. ended c C 3 (Spatial line) (worked c (stepped f)) 29 37 Q has.1.1.1.1.1.1.0
-                (refl, refl, working (w + 1 + 1), quiet _ refl refl refl refl refl))));
+                (refl, refl, working (w + 1 + 1), shows_on f0 f _ h.shows refl refl refl refl refl))));
           }
 
       -- up to the test of the second bound
@@ -381,7 +367,7 @@ module _ (map : MapSizes) (charge weight line : ℕ) (g : Views) (k : Keys) (fun
                 (branch c C 7 31 (both_stepped f) Bne 12 (Register 7) 1 37 Q has.1.1.1.1.1.1.1.1.0
                 (λ t. absurd (if_apart _ _ t (omega arith)))
                 (λ t. ended c C 6 (Spatial line) (worked c (both_stepped f)) 32 37 Q has.1.1.1.1.1.1.1.1.1.0
-                (refl, refl, working (w + 1 + 1 + 1), quiet _ refl refl refl refl refl))));
+                (refl, refl, working (w + 1 + 1 + 1), shows_on f0 f _ h.shows refl refl refl refl refl))));
           }
         where
           second_refused : on (look (moved 1 q) line (at_work (w + 1 + 1 + 1) x0)) (λ u.
@@ -442,7 +428,7 @@ module _ (map : MapSizes) (charge weight line : ℕ) (g : Views) (k : Keys) (fun
             bound = bounds_are.0;
             other_bound = bounds_are.1;
             memory = h.memory;
-            shows = quiet _ refl refl refl refl refl;
+            shows = shows_on f0 f _ h.shows refl refl refl refl refl;
           }
 
     turn : ((j j' : ℕ) → left ≡ suc j → ArePaired j j' (moved 1 p) (moved 1 q) (worked c (worked c (both_stepped f)))

@@ -31,14 +31,16 @@ use Rattle.flat_routines.specs.Metadata.{metadata_in, ShowsNothing}
 use Rattle.flat_routines.proofs.Steps.{has_self, has_front, has_back}
 use Rattle.flat_routines.proofs.Rules.{weaken, line_on, branch, jump_on, jump_back, arrived, ended}
 use Rattle.flat_routines.proofs.Branches.{if_equal, if_unequal, if_apart, if_alike}
+use Rattle.flat_routines.proofs.Words.{byte_loaded}
+use Rattle.flat_routines.proofs.Showing.{shows_on}
 use Rattle.flat_objects.specs.StandsFor.{Views, Keys, spell, Spells}
 use Rattle.shadow_space.proofs.Entries.{context_of}
 use Rattle.flat_judging.specs.Judging.{judge_code}
 use Rattle.flat_actions.specs.Actions.{Pointer}
 use Rattle.comparing_routines.specs.Answering.{IsAnswered, IsWorking}
 use Rattle.comparing_routines.specs.Seeking.{seek_loop, null_code, same_entry_code, seek_start, seek_code, strchr_code}
-use Rattle.flat_actions.proofs.Looking.{looked}
-use Rattle.comparing_routines.proofs.Looks.{byte_of, AreBytesOf, one_loaded}
+use Rattle.flat_actions.proofs.Looking.{looked, moved_tag}
+use Rattle.comparing_routines.proofs.Looks.{byte_of, AreBytesOf}
 
 -- ---- branches
 
@@ -139,8 +141,8 @@ module _ (map : MapSizes) (charge weight line : ℕ) (g : Views) (k : Keys) (fun
   is_loaded left p f h =
       let l = h.left_is in let s = h.shows in
       record {
-        byte_is = ap (load 1 f.memory) (at_cursor left p f h) ∙ one_loaded f.memory p.word ∙ ap (λ m. m p.word) h.memory
-            ∙ bytes.there p.word h.from (omega arith);
+        byte_is = ap (load 1 f.memory) (at_cursor left p f h) ∙ byte_loaded f.memory p.word
+            ∙ ap (λ m. m p.word) h.memory ∙ bytes.there p.word h.from (omega arith);
         sought = h.sought;
         cursor = h.cursor;
         bound = h.bound;
@@ -163,10 +165,6 @@ module _ (map : MapSizes) (charge weight line : ℕ) (g : Views) (k : Keys) (fun
   moved_word : (left : ℕ) (p : Value) (f : State) → IsCursor left p f → (moved 1 p).word ≡ p.word + 1
   unfolding moved
   moved_word left p f h = let l = h.left_is in let s = bytes.small in omega arith
-
-  moved_tag : (p : Value) → (moved 1 p).tag ≡ p.tag
-  unfolding moved
-  moved_tag p = refl
 
   -- the pointer to the byte, and null
   found_given : (p : Value) (f : State) → IsLoaded p (byte_of x0.objects n p.word) f
@@ -206,16 +204,6 @@ module _ (map : MapSizes) (charge weight line : ℕ) (g : Views) (k : Keys) (fun
     working : IsWorking x0 (at_work (w + 1) x0)
     working = record { work = w + 1; same = refl }
 
-    quiet : (y : State) → y.input ≡ (loaded f).input → y.output ≡ (loaded f).output → y.taken ≡ (loaded f).taken
-        → y.accesses ≡ (loaded f).accesses → y.turns ≡ (loaded f).turns → ShowsNothing f0 y
-    quiet y a b c d e = let s = l.shows in record {
-      input = a ∙ s.input;
-      output = b ∙ s.output;
-      taken = c ∙ s.taken;
-      accesses = d ∙ s.accesses;
-      turns = e ∙ s.turns;
-    }
-
     has : HasAt C 14 (seek_loop 6 2 line 11 12)
     has = has_loop line
 
@@ -237,7 +225,7 @@ module _ (map : MapSizes) (charge weight line : ℕ) (g : Views) (k : Keys) (fun
               (arrived c C 5 z 31 31 Q refl (record {
                 source = working;
                 memory = h.memory;
-                shows = quiet z refl refl refl refl refl;
+                shows = shows_on f0 (loaded f) z l.shows refl refl refl refl refl;
                 given = found_given p f l;
               })))
               (λ t. absurd (if_unequal _ _ t (l.byte_is ∙ e ∙ sym l.sought)))));
@@ -268,7 +256,7 @@ module _ (map : MapSizes) (charge weight line : ℕ) (g : Views) (k : Keys) (fun
               (arrived c C 2 (worked c z) 31 31 Q refl (record {
                 source = working;
                 memory = h.memory;
-                shows = quiet (worked c z) refl refl refl refl refl;
+                shows = shows_on f0 (loaded f) (worked c z) l.shows refl refl refl refl refl;
                 given = null_given f;
               }))))
               (λ t2. absurd (if_unequal _ _ t2 (l.byte_is ∙ e))))));
@@ -312,7 +300,7 @@ module _ (map : MapSizes) (charge weight line : ℕ) (g : Views) (k : Keys) (fun
               (branch c C 6 18 (stepped f) Bne 6 (Register 2) 1 31 Q has.1.1.1.1.0
               (λ t. absurd (if_apart _ _ t (omega arith)))
               (λ t. ended c C 5 (Spatial line) (worked c (stepped f)) 19 31 Q has.1.1.1.1.1.0
-              (refl, refl, working, quiet _ refl refl refl refl refl))));
+              (refl, refl, working, shows_on f0 (loaded f) _ l.shows refl refl refl refl refl))));
         }
 
     further : byte ≢ ch → byte ≢ 0 → (j : ℕ) → left ≡ suc j → Seeks j (w + 1) (moved 1 p)
@@ -349,7 +337,7 @@ module _ (map : MapSizes) (charge weight line : ℕ) (g : Views) (k : Keys) (fun
           sought = s.sought;
           entry = s.entry ∙ ap (spell g k) (sym (moved_tag p));
           memory = h.memory;
-          shows = quiet _ refl refl refl refl refl;
+          shows = shows_on f0 (loaded f) _ l.shows refl refl refl refl refl;
         }
 
     turn : ((j : ℕ) → left ≡ suc j → Seeks j (w + 1) (moved 1 p) (worked c (worked c (stepped f)))) → Seeks left w p f

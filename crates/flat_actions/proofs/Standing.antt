@@ -93,6 +93,11 @@ held_still g k objects Nowhere v results t f f' o b n s = tt
 held_still g k objects (Word r) v results t f f' o b n s = o r b.0 n.0 ∙ s
 held_still g k objects (Pointer h) v results t f f' o b n s = (spells_still g k v h results t f f' o b n s.0, s.1)
 
+-- the registers of each holder lie below the scratch registers
+abbrev pub AreAllBelow : (scratch : ℕ) → List Holder → Type 0
+AreAllBelow t [] = Unit {0}
+AreAllBelow t (h ∷ hs) = AreBelow t (registers_of h) × AreAllBelow t hs
+
 -- no register is among none
 pub none_of_none : (xs : List ℕ) → AreNoneOf xs []
 none_of_none [] = tt

@@ -46,10 +46,10 @@ use Rattle.heap_space.proofs.Inserting.{same_four, words_at}
 
 -- ---- rows without one
 
-removed_here : (a : ℕ) (r : BlockRow) (rs : List BlockRow) → r.start ≡ a → without_row a (r ∷ rs) ≡ rs
+pub removed_here : (a : ℕ) (r : BlockRow) (rs : List BlockRow) → r.start ≡ a → without_row a (r ∷ rs) ≡ rs
 removed_here a r rs e = cond-true _ rs (r ∷ without_row a rs) (eq-eqb r.start a e)
 
-removed_behind : (a : ℕ) (r : BlockRow) (rs : List BlockRow) → r.start ≢ a
+pub removed_behind : (a : ℕ) (r : BlockRow) (rs : List BlockRow) → r.start ≢ a
     → without_row a (r ∷ rs) ≡ r ∷ without_row a rs
 removed_behind a r rs ne = cond-false _ rs (r ∷ without_row a rs) (ne_eqb r.start a ne)
 

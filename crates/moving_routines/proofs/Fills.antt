@@ -14,13 +14,13 @@ use Rattle.flat_routines.specs.Routine.{Does, Either, Never, until_code}
 use Rattle.flat_routines.specs.Renaming.{through}
 use Rattle.flat_routines.specs.Effects.{worked, AreAllowed}
 use Rattle.flat_routines.specs.Metadata.{ShowsNothing}
-use Rattle.flat_routines.proofs.Regions.{IsLaidOut}
+use Rattle.flat_routines.proofs.Regions.{IsLaidOut, object_allowed}
 use Rattle.flat_routines.proofs.Branches.{are_equal, are_not_equal}
 use Rattle.flat_routines.proofs.Showing.{shows_both}
 use Rattle.flat_actions.specs.Ranges.{IsObjectRange, IsToFill, HasFilled, IsFillRoutine}
 use Rattle.moving_routines.specs.Filling.{fill_places, fill_body, fill_code}
 use Rattle.moving_routines.proofs.Steps.{both_quiet, quiet_weaken, until_does, IsGlued, glued, named}
-use Rattle.moving_routines.proofs.Bytes.{in_runtime, object_allowed, byte_stored, byte_beside}
+use Rattle.moving_routines.proofs.Bytes.{in_runtime, byte_stored, byte_beside}
 
 -- k of n bytes from an address on are left to be filled with b, since a state
 record Filling (map : MapSizes) (byte a n b t : ℕ) (s : State) (k : ℕ) (y : State) : Type 0 where

@@ -1,7 +1,7 @@
 -- A range moved with its tags: its bytes, and then the entries of its whole words.
 use Rattle.std.proofs.Common.{◌≡◌, ℕ, ◌+◌, ◌-◌, ◌*◌, ◌<◌, ◌≤◌, ◌⊎◌, inl, inr, List, []}
-use Rattle.std.proofs.Common.{◌∷◌, ◌++◌, refl, sym, ◌∙◌, subst, arith}
-use Rattle.addr_map.specs.declared.region.Region.TheVariants.{Heap, Shadow, Locks, Blocks, StructureValues}
+use Rattle.std.proofs.Common.{◌∷◌, ◌++◌, sym, ◌∙◌, subst, arith}
+use Rattle.addr_map.specs.declared.region.Region.TheVariants.{Heap, Shadow, StructureValues}
 use Rattle.addr_map.specs.Places.{MapSizes, AreMapped, spaces_begin, region_size, region_start, region_end}
 use Rattle.flat_meaning.specs.declared.instruction.FlatInstruction.{FlatInstruction}
 use Rattle.flat_meaning.specs.Memory.{Bytes, KeepsBut}
@@ -9,9 +9,10 @@ use Rattle.flat_meaning.specs.State.{State}
 use Rattle.flat_meaning.specs.Meaning.{Context}
 use Rattle.flat_routines.specs.Registers.{AreBelow}
 use Rattle.flat_routines.specs.Routine.{Does, Either, Never}
-use Rattle.flat_routines.specs.Metadata.{View, IsObjectWord, KeepsShadow}
-use Rattle.flat_routines.proofs.Regions.{IsLaidOut, laid_out}
+use Rattle.flat_routines.specs.Metadata.{View, KeepsShadow}
+use Rattle.flat_routines.proofs.Regions.{IsLaidOut, laid_out, are_behind}
 use Rattle.flat_routines.proofs.Showing.{shows_both}
+use Rattle.flat_routines.proofs.Words.{IsLocal}
 use Rattle.flat_objects.specs.Changes.{KeepsTables}
 use Rattle.flat_objects.proofs.Changing.{global_is_lock}
 use Rattle.lock_space.specs.Locks.{KeepsLocks}
@@ -30,15 +31,6 @@ use Rattle.moving_routines.proofs.Bytes.{in_runtime}
 use Rattle.moving_routines.proofs.Words.{HasMovedWords, IsToMoveWords, words_move}
 
 -- ---- spaces behind the shadow space
-
-pub record AreBehind (map : MapSizes) : Type 0 where
-  pub locks : region_start map Locks ≡ spaces_begin + region_size map Shadow
-  pub blocks : region_start map Locks ≤ region_start map Blocks
-  pub values : region_start map Blocks + region_size map Blocks ≡ region_start map StructureValues
-
-pub are_behind : (map : MapSizes) → AreBehind map
-unfolding region_start
-are_behind map = record { locks = refl; blocks = omega arith; values = refl }
 
 -- memory changed in a range of object space and in the shadow space alone
 pub record ChangesRange (map : MapSizes) (d n : ℕ) (m m' : Bytes) : Type 0 where
@@ -77,12 +69,6 @@ spaces_stay map IsGood d n m m' mapped good h shadow = record {
       good.locks;
   table = table_kept map m m' (table_laid_out map mapped) (table_stays map d n m m' h) good.table;
 }
-
--- what a form of the shadow space says of equal bytes
-abbrev pub IsLocal : MapSizes → View → (Bytes → Type 0) → Type 0
-IsLocal map entry IsGood =
-    (m m' : Bytes) → KeepsShadow map m m' → IsGood m
-    → IsGood m' × ((a : ℕ) → IsObjectWord map a → entry m' a ≡ entry m a)
 
 -- a change of a range of object space leaves the shadow space
 pub shadow_stays : (map : MapSizes) (d n : ℕ) (m m' : Bytes) → IsLaidOut map → d + n ≤ region_end map Heap

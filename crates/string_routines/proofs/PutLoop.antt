@@ -23,9 +23,10 @@ use Rattle.flat_routines.proofs.Rules.{weaken, line, line_on, loop}
 use Rattle.flat_routines.proofs.Distinct.{AreRegisters, register_of, registers_rename, others_stay}
 use Rattle.flat_routines.proofs.Wrapped.{routine}
 use Rattle.flat_routines.proofs.Branches.{are_equal, are_not_equal}
+use Rattle.flat_routines.proofs.Regions.{object_allowed}
+use Rattle.flat_routines.proofs.Words.{byte_loaded}
 use Rattle.shadow_space.proofs.Entries.{context_of, agrees_memory}
 use Rattle.flat_actions.specs.Ranges.{IsObjectRange}
-use Rattle.moving_routines.proofs.Bytes.{byte_loaded, object_allowed}
 use Rattle.string_routines.specs.Putting.{bytes_from, IsToPut, HasPut, IsPutRoutine, put_body, put_code}
 
 -- alone: 0 from, 1 to, 2 the cursor, 3 the byte; k bytes are left of n

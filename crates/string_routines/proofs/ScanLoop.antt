@@ -33,9 +33,9 @@ use Rattle.flat_routines.specs.Metadata.{ShowsNothing}
 use Rattle.flat_routines.proofs.Rules.{weaken, line_on, branch, arrived, ended, jump_back}
 use Rattle.flat_routines.proofs.Branches.{if_differ, if_same, if_equal, if_unequal}
 use Rattle.flat_routines.proofs.Showing.{shows_on}
+use Rattle.flat_routines.proofs.Words.{byte_loaded}
 use Rattle.behaviours.specs.Shown.{Read}
 use Rattle.flat_actions.specs.Scanning.{IsWorked}
-use Rattle.moving_routines.proofs.Bytes.{byte_loaded}
 use Rattle.string_routines.specs.Scanning.{scan_loop}
 use Rattle.flat_actions.proofs.Looking.{worked_on, looked}
 use Rattle.string_routines.proofs.Runtime.{runtime_not_shown}
@@ -203,7 +203,8 @@ module _ (c : Context) (runtime : c.is_runtime ≡ true) (code : List FlatInstru
         byte = ap (load 1 f.memory) a ∙ byte_loaded f.memory v.word ∙ ap (λ m. m v.word) h.memory ∙ there;
         there = there;
         allowed = ap (λ z. is_allowed c.sizes z 1) a ∙ string.allowed v.word h.from below;
-        shows = shows_on start f (loaded f) h.shows refl refl refl (runtime_not_shown c runtime _ 1 Read f.accesses) refl;
+        shows = shows_on start f (loaded f) h.shows refl refl refl (runtime_not_shown c runtime _ 1 Read f.accesses)
+            refl;
       }
 
   moves_on : (k : ℕ) (x : Source) (v : Value) (f : State) → v.word < b.bound → IsAt (suc k) x v f

@@ -38,7 +38,7 @@ use Rattle.flat_routines.specs.Routine.{HasAt, Reaches}
 use Rattle.flat_routines.specs.Effects.{effects}
 use Rattle.flat_routines.specs.Metadata.{View}
 use Rattle.flat_routines.proofs.Rules.{line_on, arrived, weaken}
-use Rattle.flat_routines.proofs.Regions.{laid_out, are_behind}
+use Rattle.flat_routines.proofs.Regions.{laid_out, spaces_follow}
 use Rattle.flat_routines.proofs.Words.{IsLocal}
 use Rattle.flat_objects.specs.StandsFor.{Views, Keys, StandsFor}
 use Rattle.flat_objects.specs.Changes.{IsPut}
@@ -203,7 +203,8 @@ module _ (map : MapSizes) (mapped : AreMapped map) (entry : View) (IsGood : Byte
         } in
         let elsewhere = written_elsewhere map x.objects (write_bytes put p x.objects) n p v f.memory m'
         (keeps_bytes put p x.objects) allowed (λ b l out. store_beside n f.memory v.word new.word b out)
-        (λ b l. store_keeps map n f.memory v.word new.word low b (let first = (are_behind map).locks in omega arith)) in
+        (λ b l. store_keeps map n f.memory v.word new.word low b
+        (let first = (spaces_follow map).shadow in omega arith)) in
         let left = given_written g k IsGood t x a (write_bytes put p x.objects) f stored (integer 0) stands
         (subst (StandsFor g k (write_bytes put p x.objects)) (sym memory_is) objects_stand)
         (subst (AreSpacesGood map IsGood) (sym memory_is)

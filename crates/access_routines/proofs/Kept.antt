@@ -10,7 +10,7 @@ use Rattle.addr_map.specs.Places.{MapSizes, AreMapped, spaces_begin, region_star
 use Rattle.flat_meaning.specs.Memory.{Bytes, put, store}
 use Rattle.flat_meaning.proofs.Stored.{put_same, store_beside}
 use Rattle.flat_routines.specs.Metadata.{View, KeepsShadow}
-use Rattle.flat_routines.proofs.Regions.{are_behind}
+use Rattle.flat_routines.proofs.Regions.{spaces_follow}
 use Rattle.flat_routines.proofs.Words.{IsLocal}
 use Rattle.flat_objects.specs.Changes.{KeepsTables, IsPut}
 use Rattle.flat_objects.proofs.Changing.{global_is_lock}
@@ -28,14 +28,14 @@ KeepsTablesBytes map m m' = (b : ℕ) → region_start map Locks ≤ b → m' b 
 
 pub structures_behind : (map : MapSizes) → region_start map Locks ≤ region_start map StructureValues
 structures_behind map =
-    let b = are_behind map in let first = b.blocks in let last = b.values in omega arith
+    let b = spaces_follow map in let first = b.locks in let last = b.table in omega arith
 
 module _ (map : MapSizes) (mapped : AreMapped map) (functions : ℕ) (types : ℕ → ℕ) (entry : View)
     (IsGood : Bytes → Type 0) (m m' : Bytes) (keep : KeepsTablesBytes map m m') (good : AreSpacesGood map IsGood m)
   where
     pub tables_stay : KeepsTables (views_of map functions types entry) m m'
     tables_stay =
-        let lie = locks_laid_out map mapped in let behind = (are_behind map).blocks in
+        let lie = locks_laid_out map mapped in let behind = (spaces_follow map).locks in
         record {
           locks = λ a l. lock_kept map m m' lie (λ i il. keep _ (omega arith)) a l;
           counter = counter_kept map m m' lie (λ i il. keep _ (omega arith));
@@ -44,7 +44,7 @@ module _ (map : MapSizes) (mapped : AreMapped map) (functions : ℕ) (types : �
 
     pub spaces_stay : IsGood m' → AreSpacesGood map IsGood m'
     spaces_stay shadow =
-        let behind = (are_behind map).blocks in
+        let behind = (spaces_follow map).locks in
         record {
           shadow = shadow;
           locks = locks_kept map m m' (locks_laid_out map mapped) (λ i il. keep _ (omega arith))
@@ -96,7 +96,7 @@ module _ (map : MapSizes) (n : ℕ) (m : Bytes) (a v : ℕ) (low : a + n ≤ spa
   store_keeps b l = store_beside n m a v b (inr (omega arith))
 
   pub store_keeps_tables : KeepsTablesBytes map m (store n m a v)
-  store_keeps_tables b l = let first = (are_behind map).locks in store_keeps b (omega arith)
+  store_keeps_tables b l = let first = (spaces_follow map).shadow in store_keeps b (omega arith)
 
   pub store_keeps_shadow : KeepsShadow map m (store n m a v)
   store_keeps_shadow i l = store_keeps (spaces_begin + i) (omega arith)

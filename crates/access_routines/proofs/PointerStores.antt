@@ -44,7 +44,7 @@ use Rattle.flat_routines.specs.Routine.{HasAt, Outcome, Continues, Halts, Reache
 use Rattle.flat_routines.specs.Effects.{worked, effects, AreAllowed}
 use Rattle.flat_routines.specs.Metadata.{View, metadata_in, entry_registers, held_registers, IsObjectWord}
 use Rattle.flat_routines.proofs.Rules.{line_on, unless, weaken}
-use Rattle.flat_routines.proofs.Regions.{laid_out, are_behind}
+use Rattle.flat_routines.proofs.Regions.{laid_out, spaces_follow}
 use Rattle.flat_routines.proofs.Branches.{if_differ, if_same}
 use Rattle.flat_routines.proofs.Words.{IsLocal}
 use Rattle.flat_objects.specs.StandsFor.{Views, Keys, spell, StandsFor}
@@ -290,7 +290,7 @@ module _ (map : MapSizes) (mapped : AreMapped map) (entry : View) (IsGood : Byte
         let at : y.values address ≡ v.word = stays address below.0 tt ∙ held in
         let entry_is : metadata_in y.values from.tag ≡ spell gx k new.tag =
         entry_stays [] t f y from.tag stays below.1.1 (none_of_none (entry_registers from.tag)) ∙ value.0.tag in
-        let first = (are_behind map).locks in
+        let first = (spaces_follow map).shadow in
         let low' : (b : ℕ) → b < spaces_begin → z.memory b ≡ m1 b =
         λ b l. q.memory b (inl l) ∙ ap (λ m. m b) memory_is in
         let keep : KeepsTablesBytes map m1 z.memory =

@@ -90,8 +90,6 @@ module _ (g : Views) (k : Keys) where
       ⊎_elim (λ live. absurd (differs (st.locks.live o live))) (λ dead. dead)
       (cases_Bool (object_at objects o).is_live)
 
--- ---- branches
-
 -- work plays no part
 same_at_work : (t : ℕ) (s y : State) (n : ℕ) → IsSameBut t s y → IsSameBut t s (record y { work = n })
 same_at_work t s y n b = let q = b.shows in record {

@@ -19,7 +19,7 @@ use Rattle.flat_routines.specs.Metadata.{View, no_metadata, IsObjectWord, KeepsS
 use Rattle.flat_routines.proofs.Steps.{has_front, has_back, has_self}
 use Rattle.flat_routines.proofs.Rules.{line, next, weaken}
 use Rattle.flat_routines.proofs.Distinct.{AreRegisters, register_of, registers_rename, others_stay}
-use Rattle.flat_routines.proofs.Regions.{IsLaidOut, laid_out, are_behind}
+use Rattle.flat_routines.proofs.Regions.{IsLaidOut, laid_out, spaces_follow}
 use Rattle.flat_routines.proofs.Wrapped.{routine}
 use Rattle.flat_routines.proofs.Showing.{shows_both}
 use Rattle.flat_routines.proofs.Words.{IsLocal}
@@ -226,7 +226,7 @@ module _ (map : MapSizes) (mapped : AreMapped map) (entry : View) (IsGood : Byte
       let a = p.aligned in
       let shadow : KeepsShadow map m1 m2 = λ i l. two (spaces_begin + i) (inr (omega arith)) in
       let still = local m1 m2 shadow good in
-      let behind = (are_behind map).locks in (
+      let behind = (spaces_follow map).shadow in (
         still.0,
         record {
           zeros = zeros;

@@ -42,8 +42,6 @@ use Rattle.comparing_routines.specs.Seeking.{seek_loop, null_code, same_entry_co
 use Rattle.flat_actions.proofs.Looking.{looked, moved_tag}
 use Rattle.comparing_routines.proofs.Looks.{byte_of, AreBytesOf}
 
--- ---- branches
-
 -- ---- the registers of the routine alone: 0 to 4 the string, 5 the byte, 6 to 10 the result, of which 6 is the cursor,
 -- 11 the byte that is looked at, and 12 the byte that is sought
 

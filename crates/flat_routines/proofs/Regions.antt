@@ -33,15 +33,15 @@ laid_out m h = record {
   cells = omega arith;
 }
 
--- how the other spaces of the runtime lie behind the shadow space
-pub record AreBehind (m : MapSizes) : Type 0 where
-  pub locks : region_start m Locks ≡ spaces_begin + region_size m Shadow
-  pub blocks : region_start m Locks ≤ region_start m Blocks
-  pub values : region_start m Blocks + region_size m Blocks ≡ region_start m StructureValues
+-- how the spaces of the runtime follow one another
+pub record DoSpacesFollow (m : MapSizes) : Type 0 where
+  pub shadow : region_start m Locks ≡ spaces_begin + region_size m Shadow
+  pub locks : region_start m Locks ≤ region_start m Blocks
+  pub table : region_start m Blocks + region_size m Blocks ≡ region_start m StructureValues
 
-pub are_behind : (m : MapSizes) → AreBehind m
+pub spaces_follow : (m : MapSizes) → DoSpacesFollow m
 unfolding region_start
-are_behind m = record { locks = refl; blocks = omega arith; values = refl }
+spaces_follow m = record { shadow = refl; locks = omega arith; table = refl }
 
 -- an access of object space is allowed, at a place that is known by an equation
 pub object_allowed : (m : MapSizes) (a b n : ℕ) → a ≡ b → objects_begin ≤ b → b + n ≤ region_end m Heap

@@ -79,10 +79,12 @@ IsLocal map entry IsGood =
 
 -- ---- loads
 
+-- a byte that is loaded is the one at its place
 pub byte_loaded : (m : Bytes) (a : ℕ) → load 1 m a ≡ m a
 unfolding load
 byte_loaded m a = omega arith
 
+-- a word is zero in a memory of zeros
 pub zero_loaded : (a : ℕ) → load 8 (λ b. 0) a ≡ 0
 unfolding load
 zero_loaded a = refl

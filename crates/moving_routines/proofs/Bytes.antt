@@ -31,7 +31,7 @@ use Rattle.moving_routines.proofs.Cells.{cells_move}
 abbrev pub in_runtime : MapSizes → (charge weight : ℕ) → Context
 in_runtime map charge weight = record { sizes = map; is_runtime = true; charge = charge; weight = weight }
 
--- a byte stored and loaded
+-- a byte stored
 pub byte_stored : (m : Bytes) (a v : ℕ) → store 1 m a v a ≡ v % 256
 unfolding store
 byte_stored m a v = put_same m a (v % 256)

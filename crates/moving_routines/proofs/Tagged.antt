@@ -10,7 +10,7 @@ use Rattle.flat_meaning.specs.Meaning.{Context}
 use Rattle.flat_routines.specs.Registers.{AreBelow}
 use Rattle.flat_routines.specs.Routine.{Does, Either, Never}
 use Rattle.flat_routines.specs.Metadata.{View, KeepsShadow}
-use Rattle.flat_routines.proofs.Regions.{IsLaidOut, laid_out, are_behind}
+use Rattle.flat_routines.proofs.Regions.{IsLaidOut, laid_out, spaces_follow}
 use Rattle.flat_routines.proofs.Showing.{shows_both}
 use Rattle.flat_routines.proofs.Words.{IsLocal}
 use Rattle.flat_objects.specs.Changes.{KeepsTables}
@@ -38,16 +38,16 @@ pub record ChangesRange (map : MapSizes) (d n : ℕ) (m m' : Bytes) : Type 0 whe
   pub high : (a : ℕ) → spaces_begin + region_size map Shadow ≤ a → m' a ≡ m a
 
 pub locks_stay : (map : MapSizes) (d n : ℕ) (m m' : Bytes) → ChangesRange map d n m m' → KeepsLocks map m m'
-locks_stay map d n m m' h i l = let b = are_behind map in let x = b.locks in h.high _ (omega arith)
+locks_stay map d n m m' h i l = let b = spaces_follow map in let x = b.shadow in h.high _ (omega arith)
 
 pub table_stays : (map : MapSizes) (d n : ℕ) (m m' : Bytes) → ChangesRange map d n m m' → KeepsTable map m m'
 table_stays map d n m m' h i l =
-    let b = are_behind map in let x = b.locks in let y = b.blocks in h.high _ (omega arith)
+    let b = spaces_follow map in let x = b.shadow in let y = b.locks in h.high _ (omega arith)
 
 pub behind_stays : (map : MapSizes) (d n : ℕ) (m m' : Bytes) → ChangesRange map d n m m' → (a : ℕ)
     → region_start map StructureValues ≤ a → m' a ≡ m a
 behind_stays map d n m m' h a l =
-    let b = are_behind map in let x = b.locks in let y = b.blocks in let z = b.values in h.high a (omega arith)
+    let b = spaces_follow map in let x = b.shadow in let y = b.locks in let z = b.table in h.high a (omega arith)
 
 -- so the runtime's tables stay, and all spaces are good on
 pub tables_stay : (map : MapSizes) (functions : ℕ) (types : ℕ → ℕ) (entry : View) (IsGood : Bytes → Type 0) (d n : ℕ)

@@ -29,14 +29,10 @@ others_both xs t s s1 s2 h k x l none = k x l none ∙ h x l none
 pub others_below : (t u : ℕ) (xs : List ℕ) (s s' : State) → OthersStay [] u s s' → t ≤ u → OthersStay xs t s s'
 others_below t u xs s s' h le x l none = h x (omega arith) tt
 
--- a register from t on is none of those below, and what lies below t lies below more
+-- a register from t on is none of those below
 pub above_none : (t x : ℕ) (ys : List ℕ) → AreBelow t ys → t ≤ x → IsNoneOf x ys
 above_none t x [] h l = tt
 above_none t x (y ∷ ys) h l = ((λ e. let a = h.0 in omega arith), above_none t x ys h.1 l)
-
-pub below_more : (t u : ℕ) (ys : List ℕ) → AreBelow t ys → t ≤ u → AreBelow u ys
-below_more t u [] h l = tt
-below_more t u (y ∷ ys) h l = ((let a = h.0 in omega arith), below_more t u ys h.1 l)
 
 -- ---- a stretch over registers that are known by their places in lists
 

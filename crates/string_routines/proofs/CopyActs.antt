@@ -22,6 +22,7 @@ use Rattle.flat_routines.proofs.Steps.{has_front, has_back}
 use Rattle.flat_routines.specs.Metadata.{held_registers, entry_registers}
 use Rattle.flat_routines.proofs.Rules.{weaken}
 use Rattle.flat_routines.proofs.Words.{IsLocal}
+use Rattle.flat_routines.proofs.Distinct.{below_more}
 use Rattle.flat_objects.specs.StandsFor.{Views, Keys, Spells}
 use Rattle.flat_judging.specs.Judging.{IsJudgeRoutine}
 use Rattle.flat_actions.specs.Actions.{Basis, Pointer, Nowhere, IsHeldBy, IsFor, Leaves, IsAction, context_in}
@@ -34,7 +35,6 @@ use Rattle.moving_routines.proofs.Guarded.{act_then_gives}
 use Rattle.string_routines.specs.Copying.{size_code}
 use Rattle.string_routines.proofs.Handing.{IsSince, left_from}
 use Rattle.string_routines.proofs.AfterScan.{over, after_scan}
-use Rattle.string_routines.proofs.Fresh.{below_more}
 use Rattle.string_routines.proofs.StringCopies.{copied, copied_gives, copied_works, copied_is, IsToCopy, copies}
 
 -- ---- `strcpy`

@@ -25,6 +25,7 @@ use Rattle.obj_memory.proofs.Keeping.{keeps_bytes}
 use Rattle.source_meaning.specs.State.{State as Source, Gives, on, ◌>>◌, done}
 use Rattle.source_meaning.specs.Actions.{integer, place_or_stop, write_scalar, store as source_store}
 use Rattle.source_meaning.specs.Keeping.{IsDirect}
+use Rattle.source_meaning.proofs.Holding.{direct_allowed}
 use Rattle.flat_meaning.specs.declared.instruction.FlatInstruction.{FlatInstruction}
 use Rattle.flat_meaning.specs.Memory.{Bytes, store}
 use Rattle.flat_meaning.specs.Spaces.{is_of_objects, is_allowed}
@@ -37,7 +38,8 @@ use Rattle.flat_routines.specs.Routine.{HasAt, Reaches}
 use Rattle.flat_routines.specs.Effects.{effects}
 use Rattle.flat_routines.specs.Metadata.{View}
 use Rattle.flat_routines.proofs.Rules.{line_on, arrived, weaken}
-use Rattle.flat_routines.proofs.Regions.{laid_out}
+use Rattle.flat_routines.proofs.Regions.{laid_out, spaces_follow}
+use Rattle.flat_routines.proofs.Words.{IsLocal}
 use Rattle.flat_objects.specs.StandsFor.{Views, Keys, StandsFor}
 use Rattle.flat_objects.specs.Changes.{IsPut}
 use Rattle.flat_objects.proofs.Moves.{put_stands}
@@ -48,10 +50,10 @@ use Rattle.flat_actions.specs.Actions.{HasGiven, Leaves, views_of, work_of}
 use Rattle.flat_actions.proofs.Standing.{keeps_same}
 use Rattle.access_routines.specs.declared.held.HeldScalar.TheVariants.{Integer}
 use Rattle.access_routines.specs.Accessing.{IsStoreRoutine, store_op, store_integer_code}
-use Rattle.access_routines.proofs.Places.{direct_allowed, of_objects, lies_last, access_allowed}
+use Rattle.access_routines.proofs.Places.{of_objects, lies_last, access_allowed}
 use Rattle.access_routines.proofs.Shown.{ShowsOne, is_shown, with_noted, shown_one}
 use Rattle.access_routines.proofs.Integers.{address_is}
-use Rattle.access_routines.proofs.Kept.{IsLocal, KeepsTablesBytes, structures_behind, locks_first, store_keeps}
+use Rattle.access_routines.proofs.Kept.{KeepsTablesBytes, structures_behind, store_keeps}
 use Rattle.access_routines.proofs.Kept.{store_is_put, store_good}
 
 -- the instruction of a type stores as many bytes as the type has
@@ -201,7 +203,8 @@ module _ (map : MapSizes) (mapped : AreMapped map) (entry : View) (IsGood : Byte
         } in
         let elsewhere = written_elsewhere map x.objects (write_bytes put p x.objects) n p v f.memory m'
         (keeps_bytes put p x.objects) allowed (λ b l out. store_beside n f.memory v.word new.word b out)
-        (λ b l. store_keeps map n f.memory v.word new.word low b (let first = locks_first map in omega arith)) in
+        (λ b l. store_keeps map n f.memory v.word new.word low b
+        (let first = (spaces_follow map).shadow in omega arith)) in
         let left = given_written g k IsGood t x a (write_bytes put p x.objects) f stored (integer 0) stands
         (subst (StandsFor g k (write_bytes put p x.objects)) (sym memory_is) objects_stand)
         (subst (AreSpacesGood map IsGood) (sym memory_is)

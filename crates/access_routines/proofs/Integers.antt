@@ -15,6 +15,7 @@ use Rattle.obj_memory.specs.Sound.{IsAllowed}
 use Rattle.source_meaning.specs.State.{State as Source}
 use Rattle.source_meaning.specs.Actions.{load as source_load}
 use Rattle.source_meaning.specs.Keeping.{IsDirect}
+use Rattle.source_meaning.proofs.Holding.{direct_allowed}
 use Rattle.flat_meaning.specs.declared.instruction.FlatInstruction.{FlatInstruction}
 use Rattle.flat_meaning.specs.Memory.{Bytes, load}
 use Rattle.flat_meaning.specs.Spaces.{is_allowed}
@@ -32,7 +33,7 @@ use Rattle.shadow_space.proofs.Entries.{context_of}
 use Rattle.flat_actions.specs.Actions.{IsFor, IsHeldBy, Word, Leaves, views_of, work_of, program_basis}
 use Rattle.access_routines.specs.declared.held.HeldScalar.TheVariants.{Integer}
 use Rattle.access_routines.specs.Accessing.{IsLoadRoutine, load_op, load_integer_code}
-use Rattle.access_routines.proofs.Places.{load_size, load_fits, direct_allowed, of_objects, number_there}
+use Rattle.access_routines.proofs.Places.{load_size, load_fits, of_objects, number_there}
 use Rattle.access_routines.proofs.Places.{access_allowed}
 use Rattle.access_routines.proofs.Shown.{ShowsOne, is_shown, load_is, given_read}
 

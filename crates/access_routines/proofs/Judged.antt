@@ -39,7 +39,7 @@ use Rattle.flat_actions.specs.Actions.{Leaves, Basis, context_in, IsAction, IsAc
 use Rattle.flat_actions.proofs.Standing.{for_still, held_still, none_of_none, others_trans, shown_still}
 use Rattle.access_routines.specs.Testing.{IsTested, spatial_code, temporal_code}
 use Rattle.access_routines.proofs.Tests.{spatial_does, temporal_does}
-use Rattle.flat_actions.proofs.Standing.{same_then}
+use Rattle.flat_actions.proofs.Standing.{same_then, AreAllBelow}
 
 -- ---- in the source
 
@@ -91,10 +91,6 @@ both_tests_then h line t size n r items access e sizes same =
     ∙ ap (λ l. (spatial_code h (Number n) line t ++ temporal_code h line t) ++ l) same
 
 -- ---- in flat code
-
-abbrev pub AreAllBelow : (scratch : ℕ) → List Holder → Type 0
-AreAllBelow t [] = Unit {0}
-AreAllBelow t (h ∷ hs) = AreBelow t (registers_of h) × AreAllBelow t hs
 
 all_held : (g : Views) (k : Keys) (objects : Objects) (t : ℕ) (f f' : State) (hs : List Holder) (vs : List Value)
     → AreAllBelow t hs → OthersStay [] t f f' → AreHeldBy g k objects hs vs f.values

@@ -5,11 +5,13 @@ use Rattle.std.specs.Int.{byte_at, bytes_low_first}
 use Rattle.std.proofs.Math.Nat.{div-one, div-div-eq-div-mul, pow-succ'}
 use Rattle.byteorder.specs.Endian.{little_bytes}
 use Rattle.byteorder.specs.Numbers.{length-bytes_low_first}
-use Rattle.addr_map.specs.declared.region.Region.TheVariants.{Shadow, Locks, Blocks, StructureValues}
-use Rattle.addr_map.specs.Places.{MapSizes, AreMapped, spaces_begin, region_size, region_start}
+use Rattle.addr_map.specs.declared.region.Region.TheVariants.{Locks, StructureValues}
+use Rattle.addr_map.specs.Places.{MapSizes, AreMapped, spaces_begin, region_start}
 use Rattle.flat_meaning.specs.Memory.{Bytes, put, store}
 use Rattle.flat_meaning.proofs.Stored.{put_same, store_beside}
-use Rattle.flat_routines.specs.Metadata.{View, IsObjectWord, KeepsShadow}
+use Rattle.flat_routines.specs.Metadata.{View, KeepsShadow}
+use Rattle.flat_routines.proofs.Regions.{spaces_follow}
+use Rattle.flat_routines.proofs.Words.{IsLocal}
 use Rattle.flat_objects.specs.Changes.{KeepsTables, IsPut}
 use Rattle.flat_objects.proofs.Changing.{global_is_lock}
 use Rattle.lock_space.proofs.Spaces.{locks_laid_out}
@@ -24,33 +26,16 @@ use Rattle.flat_actions.specs.Actions.{AreSpacesGood, views_of}
 abbrev pub KeepsTablesBytes : MapSizes → Bytes → Bytes → Type 0
 KeepsTablesBytes map m m' = (b : ℕ) → region_start map Locks ≤ b → m' b ≡ m b
 
--- what depends on the shadow space alone
-abbrev pub IsLocal : MapSizes → View → (Bytes → Type 0) → Type 0
-IsLocal map entry IsGood =
-    (m m' : Bytes) → KeepsShadow map m m' → IsGood m → IsGood m' ×
-    ((a : ℕ) → IsObjectWord map a → entry m' a ≡ entry m a)
-
-record AreLaidBehind (map : MapSizes) : Type 0 where
-  locks : region_start map Locks ≡ spaces_begin + region_size map Shadow
-  blocks : region_start map Locks ≤ region_start map Blocks
-  structures : region_start map Locks ≤ region_start map StructureValues
-
-laid_behind : (map : MapSizes) → AreLaidBehind map
-unfolding region_start
-laid_behind map = record { locks = refl; blocks = omega arith; structures = omega arith }
-
-pub locks_first : (map : MapSizes) → region_start map Locks ≡ spaces_begin + region_size map Shadow
-locks_first map = (laid_behind map).locks
-
 pub structures_behind : (map : MapSizes) → region_start map Locks ≤ region_start map StructureValues
-structures_behind map = (laid_behind map).structures
+structures_behind map =
+    let b = spaces_follow map in let first = b.locks in let last = b.table in omega arith
 
 module _ (map : MapSizes) (mapped : AreMapped map) (functions : ℕ) (types : ℕ → ℕ) (entry : View)
     (IsGood : Bytes → Type 0) (m m' : Bytes) (keep : KeepsTablesBytes map m m') (good : AreSpacesGood map IsGood m)
   where
     pub tables_stay : KeepsTables (views_of map functions types entry) m m'
     tables_stay =
-        let lie = locks_laid_out map mapped in let behind = (laid_behind map).blocks in
+        let lie = locks_laid_out map mapped in let behind = (spaces_follow map).locks in
         record {
           locks = λ a l. lock_kept map m m' lie (λ i il. keep _ (omega arith)) a l;
           counter = counter_kept map m m' lie (λ i il. keep _ (omega arith));
@@ -59,7 +44,7 @@ module _ (map : MapSizes) (mapped : AreMapped map) (functions : ℕ) (types : �
 
     pub spaces_stay : IsGood m' → AreSpacesGood map IsGood m'
     spaces_stay shadow =
-        let behind = (laid_behind map).blocks in
+        let behind = (spaces_follow map).locks in
         record {
           shadow = shadow;
           locks = locks_kept map m m' (locks_laid_out map mapped) (λ i il. keep _ (omega arith))
@@ -111,7 +96,7 @@ module _ (map : MapSizes) (n : ℕ) (m : Bytes) (a v : ℕ) (low : a + n ≤ spa
   store_keeps b l = store_beside n m a v b (inr (omega arith))
 
   pub store_keeps_tables : KeepsTablesBytes map m (store n m a v)
-  store_keeps_tables b l = let first = (laid_behind map).locks in store_keeps b (omega arith)
+  store_keeps_tables b l = let first = (spaces_follow map).shadow in store_keeps b (omega arith)
 
   pub store_keeps_shadow : KeepsShadow map m (store n m a v)
   store_keeps_shadow i l = store_keeps (spaces_begin + i) (omega arith)

@@ -17,10 +17,8 @@ use Rattle.obj_memory.specs.declared.value.Tag.TheVariants.{Untagged}
 use Rattle.obj_memory.specs.declared.value.Place.{Place}
 use Rattle.obj_memory.specs.Integers.{size_of, fit}
 use Rattle.obj_memory.specs.Objects.{Objects, object_at}
-use Rattle.obj_memory.specs.Judgement.{place_in}
 use Rattle.obj_memory.specs.Access.{bytes_at, tag_of, tag_at}
 use Rattle.obj_memory.specs.Sound.{IsAllowed}
-use Rattle.source_meaning.specs.Keeping.{IsDirect}
 use Rattle.flat_meaning.specs.Memory.{Bytes, load}
 use Rattle.flat_meaning.specs.Spaces.{is_of_objects, is_allowed}
 use Rattle.flat_routines.specs.Metadata.{no_metadata, IsObjectWord}
@@ -79,13 +77,6 @@ load_fits LongLong n l = omega arith
 load_fits UnsignedLongLong n l = omega arith
 
 -- ---- places
-
--- a pointer to bytes of a live object may access them
-pub direct_allowed : (objects : Objects) (v : Value) (n : ℕ) (d : IsDirect objects v n)
-    → IsAllowed objects v n (place_in objects d.object v.word)
-direct_allowed objects v n d =
-    let start = d.start in let end = d.end in
-    record { place = record { made = d.made; room = omega arith }; live = d.live; address = omega arith }
 
 module _ (g : Views) (k : Keys) (objects : Objects) (m : Bytes) (ok : IsLaidOut g.sizes) (st : StandsFor g k objects m)
     (v : Value) (n : ℕ) (p : Place) (a : IsAllowed objects v n p) where

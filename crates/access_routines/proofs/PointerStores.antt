@@ -28,6 +28,7 @@ use Rattle.obj_memory.proofs.Reading.{object_set, object_set_other}
 use Rattle.source_meaning.specs.State.{State as Source, ◌>>◌, done}
 use Rattle.source_meaning.specs.Actions.{integer, store as source_store}
 use Rattle.source_meaning.specs.Keeping.{IsDirect}
+use Rattle.source_meaning.proofs.Holding.{direct_allowed}
 use Rattle.flat_meaning.specs.declared.instruction.RightOperand.TheVariants.{Number}
 use Rattle.flat_meaning.specs.declared.instruction.FlatInstruction.{FlatInstruction}
 use Rattle.flat_meaning.specs.declared.instruction.FlatInstruction.TheVariants.{Operate, Store}
@@ -43,25 +44,26 @@ use Rattle.flat_routines.specs.Routine.{HasAt, Outcome, Continues, Halts, Reache
 use Rattle.flat_routines.specs.Effects.{worked, effects, AreAllowed}
 use Rattle.flat_routines.specs.Metadata.{View, metadata_in, entry_registers, held_registers, IsObjectWord}
 use Rattle.flat_routines.proofs.Rules.{line_on, unless, weaken}
-use Rattle.flat_routines.proofs.Regions.{laid_out}
+use Rattle.flat_routines.proofs.Regions.{laid_out, spaces_follow}
+use Rattle.flat_routines.proofs.Branches.{if_differ, if_same}
+use Rattle.flat_routines.proofs.Words.{IsLocal}
 use Rattle.flat_objects.specs.StandsFor.{Views, Keys, spell, StandsFor}
 use Rattle.flat_objects.specs.Changes.{Changes, IsPut}
 use Rattle.flat_objects.proofs.Changing.{word_of, changed}
 use Rattle.flat_objects.proofs.Moves.{put_stands}
 use Rattle.shadow_space.specs.Form.{HasWritten, IsWriteRoutine}
 use Rattle.shadow_space.proofs.Entries.{context_of}
-use Rattle.heap_space.proofs.Regions.{if_differ, if_same}
 use Rattle.flat_actions.specs.Actions.{AreSpacesGood, IsFor, IsHeldBy, Nowhere, Word, Pointer as InPointer, Leaves}
 use Rattle.flat_actions.specs.Actions.{program_basis}
 use Rattle.flat_actions.specs.Actions.{HasGiven, views_of, work_of}
 use Rattle.flat_actions.proofs.Standing.{entry_stays, none_of_none}
 use Rattle.access_routines.specs.declared.held.HeldScalar.TheVariants.{Pointer}
 use Rattle.access_routines.specs.Accessing.{IsStoreRoutine, store_pointer_code}
-use Rattle.access_routines.proofs.Places.{direct_allowed, of_objects, lies_last, word_there, access_allowed}
+use Rattle.access_routines.proofs.Places.{of_objects, lies_last, word_there, access_allowed}
 use Rattle.access_routines.proofs.Shown.{ShowsOne, shows_one_then, one_at_work, is_shown}
 use Rattle.access_routines.proofs.Integers.{address_is}
 use Rattle.access_routines.proofs.Pointers.{effects_words, if_aligned, if_misaligned}
-use Rattle.access_routines.proofs.Kept.{IsLocal, KeepsTablesBytes, locks_first, store_keeps_tables, store_is_put}
+use Rattle.access_routines.proofs.Kept.{KeepsTablesBytes, store_keeps_tables, store_is_put}
 use Rattle.access_routines.proofs.Kept.{store_good}
 use Rattle.access_routines.proofs.Kept.{tables_stay, spaces_stay}
 use Rattle.access_routines.proofs.IntegerStores.{store_is, given_written, written_elsewhere}
@@ -288,7 +290,7 @@ module _ (map : MapSizes) (mapped : AreMapped map) (entry : View) (IsGood : Byte
         let at : y.values address ≡ v.word = stays address below.0 tt ∙ held in
         let entry_is : metadata_in y.values from.tag ≡ spell gx k new.tag =
         entry_stays [] t f y from.tag stays below.1.1 (none_of_none (entry_registers from.tag)) ∙ value.0.tag in
-        let first = locks_first map in
+        let first = (spaces_follow map).shadow in
         let low' : (b : ℕ) → b < spaces_begin → z.memory b ≡ m1 b =
         λ b l. q.memory b (inl l) ∙ ap (λ m. m b) memory_is in
         let keep : KeepsTablesBytes map m1 z.memory =

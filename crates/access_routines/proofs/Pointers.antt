@@ -17,6 +17,7 @@ use Rattle.obj_memory.specs.Sound.{IsAllowed}
 use Rattle.source_meaning.specs.State.{State as Source}
 use Rattle.source_meaning.specs.Actions.{load as source_load}
 use Rattle.source_meaning.specs.Keeping.{IsDirect}
+use Rattle.source_meaning.proofs.Holding.{direct_allowed}
 use Rattle.flat_meaning.specs.declared.instruction.RightOperand.TheVariants.{Number}
 use Rattle.flat_meaning.specs.declared.instruction.FlatInstruction.{FlatInstruction}
 use Rattle.flat_meaning.specs.declared.instruction.FlatInstruction.TheVariants.{Operate, Load, Branch, JumpForward}
@@ -39,6 +40,7 @@ use Rattle.flat_routines.proofs.Straight.{run_straight}
 use Rattle.flat_routines.proofs.Rules.{line_on, branch, jump_on, arrived, weaken}
 use Rattle.flat_routines.proofs.Regions.{laid_out}
 use Rattle.flat_routines.proofs.Words.{same_metadata}
+use Rattle.flat_routines.proofs.Branches.{if_equal, if_unequal}
 use Rattle.flat_objects.specs.StandsFor.{Views, Keys, spell}
 use Rattle.shadow_space.specs.Form.{HasRead, IsReadRoutine}
 use Rattle.shadow_space.proofs.Entries.{context_of}
@@ -46,8 +48,7 @@ use Rattle.flat_actions.specs.Actions.{IsFor, IsHeldBy, Word, Pointer as InPoint
 use Rattle.flat_actions.specs.Actions.{program_basis}
 use Rattle.access_routines.specs.declared.held.HeldScalar.TheVariants.{Pointer}
 use Rattle.access_routines.specs.Accessing.{IsLoadRoutine, word_code, no_entry, load_pointer_code}
-use Rattle.access_routines.proofs.Tests.{if_equal, if_unequal}
-use Rattle.access_routines.proofs.Places.{direct_allowed, of_objects, number_there, word_there, entry_there, none_there}
+use Rattle.access_routines.proofs.Places.{of_objects, number_there, word_there, entry_there, none_there}
 use Rattle.access_routines.proofs.Places.{access_allowed}
 use Rattle.access_routines.proofs.Shown.{ShowsOne, shows_one_then, one_at_work, is_shown, load_is, given_read}
 use Rattle.access_routines.proofs.Integers.{address_is}

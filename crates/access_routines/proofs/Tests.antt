@@ -2,14 +2,14 @@
 use Rattle.std.proofs.Common.{◌≡◌, ◌≢◌, ℕ, ◌+◌, ◌-◌, ◌%◌, ◌^◌, ◌<◌, ◌≤◌, ◌⊎◌, inl, inr, ⊎_elim, List, []}
 use Rattle.std.proofs.Common.{◌∷◌, Bool, true, false, refl, sym, ap, ◌∙◌, subst, arith}
 use Rattle.std.specs.Prelude.{nat_le}
-use Rattle.std.proofs.lemmas.Bool.{eqb-true, eqb-false, le-leb, lt-leb, and_from, and_left, and_right, cases_Bool}
+use Rattle.std.proofs.lemmas.Bool.{le-leb, lt-leb, and_from, and_left, and_right, cases_Bool}
 use Rattle.sb_base.specs.declared.ending.Ending.TheVariants.{Spatial, Temporal}
 use Rattle.sb_base.specs.Endings.{code_of, report_of}
 use Rattle.addr_map.specs.Places.{AreMapped}
 use Rattle.rv_isa.specs.declared.instruction.BranchOp.TheVariants.{Beq, Bgeu}
 use Rattle.rv_isa.specs.declared.instruction.RegOp.TheVariants.{Sub}
 use Rattle.rv_isa.specs.declared.instruction.LoadOp.TheVariants.{Ld}
-use Rattle.rv_isa.specs.Results.{reg_result, extended, branch_taken}
+use Rattle.rv_isa.specs.Results.{reg_result, extended}
 use Rattle.obj_memory.specs.declared.value.Tag.{Tag}
 use Rattle.obj_memory.specs.declared.value.Tag.TheVariants.{Untagged, OfFunction, OfObject}
 use Rattle.obj_memory.specs.declared.value.Value.{Value}
@@ -36,11 +36,11 @@ use Rattle.flat_routines.specs.Effects.{worked, effects}
 use Rattle.flat_routines.specs.Metadata.{held_registers}
 use Rattle.flat_routines.proofs.Rules.{branch, line_on, arrived, ended}
 use Rattle.flat_routines.proofs.Regions.{laid_out, shadow_not_shown}
+use Rattle.flat_routines.proofs.Branches.{if_not_below, if_below, if_equal, if_unequal}
 use Rattle.flat_objects.specs.StandsFor.{Views, Keys, spell, StandsFor, IsLock}
 use Rattle.shadow_space.proofs.Entries.{context_of}
 use Rattle.space_routines.proofs.Quiet.{space_allowed, shows_itself}
 use Rattle.lock_space.proofs.Spaces.{locks_laid_out}
-use Rattle.heap_space.proofs.Regions.{if_not_below, if_below}
 use Rattle.flat_judging.specs.Judging.{IsSameBut}
 use Rattle.access_routines.specs.Testing.{IsToTest, IsBelow, IsTested, IsSpatialRoutine, spatial_code}
 use Rattle.access_routines.specs.Testing.{IsTemporalRoutine, temporal_code}
@@ -89,16 +89,6 @@ module _ (g : Views) (k : Keys) where
   dead_by_lock objects m (OfObject o b) a n st sound e differs =
       ⊎_elim (λ live. absurd (differs (st.locks.live o live))) (λ dead. dead)
       (cases_Bool (object_at objects o).is_live)
-
--- ---- branches
-
-pub if_equal : (a b : ℕ) → branch_taken Beq a b ≡ true → a ≡ b
-unfolding branch_taken
-if_equal a b e = eqb-true a b e
-
-pub if_unequal : (a b : ℕ) → branch_taken Beq a b ≡ false → a ≢ b
-unfolding branch_taken
-if_unequal a b e = eqb-false a b e
 
 -- work plays no part
 same_at_work : (t : ℕ) (s y : State) (n : ℕ) → IsSameBut t s y → IsSameBut t s (record y { work = n })

@@ -39,7 +39,9 @@ use Rattle.flat_routines.specs.Metadata.{View, held_registers, ShowsNothing}
 use Rattle.flat_routines.proofs.Steps.{has_front, has_back}
 use Rattle.flat_routines.proofs.Rules.{next, ended, arrived, weaken}
 use Rattle.flat_routines.proofs.Distinct.{AreRegisters}
-use Rattle.flat_routines.proofs.Words.{same_metadata}
+use Rattle.flat_routines.proofs.Words.{same_metadata, IsLocal}
+use Rattle.flat_routines.proofs.Branches.{are_equal, are_not_equal, is_less, is_not_less}
+use Rattle.flat_routines.proofs.Showing.{shows_both}
 use Rattle.flat_objects.specs.StandsFor.{Views, Keys, Spells, IsTable, StandsFor}
 use Rattle.shadow_space.proofs.Entries.{context_of, agrees_shows, agrees_memory}
 use Rattle.lock_space.specs.Locks.{key_counter}
@@ -61,11 +63,9 @@ use Rattle.allocating_routines.specs.Births.{with_key, IsBlockMade}
 use Rattle.allocating_routines.specs.Allocating.{IsAllocateRoutine, keys_code, untagged, key_test, whole_bounds}
 use Rattle.allocating_routines.specs.Allocating.{make_code}
 use Rattle.allocating_routines.specs.Allocating.{malloc_code}
-use Rattle.space_routines.proofs.Quiet.{shows_both, shows_worked}
+use Rattle.space_routines.proofs.Quiet.{shows_worked}
 use Rattle.allocating_routines.proofs.Stretches.{IsDone, stretch_on, goes_past, goes_into}
 use Rattle.space_routines.proofs.Quiet.{worked_words}
-use Rattle.allocating_routines.proofs.Stretches.{are_equal, are_not_equal, is_less, is_not_less}
-use Rattle.allocating_routines.proofs.Zeroed.{AreLocal}
 use Rattle.allocating_routines.proofs.FreeLocks.{free_for_a_block}
 use Rattle.allocating_routines.proofs.BlockBirth.{LiesInHeap, place_lies, held_after, keys_keep, block_born}
 use Rattle.allocating_routines.proofs.BlockBirth.{block_elsewhere}
@@ -129,7 +129,7 @@ pointer_is objects p z =
     }) (new_last Allocated p z objects)
 
 module _ (map : MapSizes) (mapped : AreMapped map) (entry : View) (IsGood : Bytes → Type 0)
-    (local : AreLocal map entry IsGood) (size : ℕ) (into : Held) (t : ℕ)
+    (local : IsLocal map entry IsGood) (size : ℕ) (into : Held) (t : ℕ)
     (below : AreBelow t (size ∷ held_registers into)) (apart : IsNoneOf size (held_registers into))
     (distinct : AreDistinct (held_registers into)) (place fresh zero : List FlatInstruction)
     (places : IsPlaceRoutine map size (t + 1) (t + 2) (t + 4) place)
@@ -582,7 +582,7 @@ module _ (map : MapSizes) (mapped : AreMapped map) (entry : View) (IsGood : Byte
   allocates = record { from = λ code pc s has w p. reached code pc s has w p.0 p.1 p.2 }
 
 pub allocate_does : (map : MapSizes) → AreMapped map → (entry : View) (IsGood : Bytes → Type 0)
-    → AreLocal map entry IsGood → (size : ℕ) (into : Held) (line t : ℕ) → AreBelow t (size ∷ held_registers into)
+    → IsLocal map entry IsGood → (size : ℕ) (into : Held) (line t : ℕ) → AreBelow t (size ∷ held_registers into)
     → IsNoneOf size (held_registers into) → AreDistinct (held_registers into) →
     (place fresh zero : List FlatInstruction)
     → IsPlaceRoutine map size (t + 1) (t + 2) (t + 4) place

@@ -5,12 +5,12 @@ use Rattle.std.proofs.lemmas.Bool.{cases_eq}
 use Rattle.addr_map.specs.Places.{MapSizes, AreMapped, spaces_begin}
 use Rattle.obj_memory.specs.declared.object.Storage.TheVariants.{Static, Automatic, Allocated}
 use Rattle.obj_memory.specs.Objects.{ObjectState, Objects, object_at, with_dead}
-use Rattle.obj_memory.specs.Sound.{IsSound, AreDisjoint}
+use Rattle.obj_memory.specs.Sound.{AreDisjoint}
 use Rattle.obj_memory.proofs.Making.{dead_is_dead, dead_other, dead_object, disjoint_dead}
-use Rattle.obj_memory.proofs.Soundness.{sound_dead}
 use Rattle.source_meaning.specs.State.{State as Source, Home, NoObject, InObject}
 use Rattle.source_meaning.specs.Blocks.{without_homes}
 use Rattle.source_meaning.proofs.Holding.{length-dead}
+use Rattle.source_meaning.proofs.Laying.{without_sound}
 use Rattle.flat_meaning.specs.Memory.{Bytes, load}
 use Rattle.flat_routines.specs.Metadata.{View, IsObjectWord}
 use Rattle.flat_routines.proofs.Regions.{laid_out}
@@ -87,13 +87,6 @@ without_dead (InObject o ∷ hs) n objects l h =
     (subst (λ i. (object_at (with_dead i objects) n).is_live ≡ false) here (dead_is_dead n objects)))
     (λ later. without_dead hs n (with_dead o objects) (omega arith) later)
     h
-
-without_sound : (functions : ℕ) (homes : List Home) (objects : Objects) → IsSound functions objects
-    → IsSound functions (without_homes homes objects)
-without_sound functions [] objects h = h
-without_sound functions (NoObject ∷ hs) objects h = without_sound functions hs objects h
-without_sound functions (InObject o ∷ hs) objects h = without_sound functions hs (with_dead o objects)
-    (sound_dead o objects h)
 
 without_disjoint : (homes : List Home) (objects : Objects) → AreDisjoint objects
     → AreDisjoint (without_homes homes objects)

@@ -15,6 +15,8 @@ use Rattle.flat_routines.specs.Registers.{AreBelow, OthersStay}
 use Rattle.flat_routines.specs.Routine.{HasAt, Outcome, Reaches, Never}
 use Rattle.flat_routines.specs.Metadata.{View, ShowsNothing}
 use Rattle.flat_routines.proofs.Rules.{next}
+use Rattle.flat_routines.proofs.Showing.{shows_both}
+use Rattle.flat_routines.proofs.Words.{IsLocal}
 use Rattle.flat_objects.specs.StandsFor.{Views, Keys, IsLock, global_lock}
 use Rattle.flat_objects.proofs.Changing.{live_is_made}
 use Rattle.shadow_space.proofs.Entries.{context_of}
@@ -29,15 +31,13 @@ use Rattle.flat_actions.specs.Actions.{AreSpacesGood, IsFor}
 use Rattle.flat_actions.specs.Actions.{views_of}
 use Rattle.flat_actions.proofs.Standing.{shown_still}
 use Rattle.allocating_routines.specs.Freeing.{IsBlockEnded}
-use Rattle.space_routines.proofs.Quiet.{shows_both}
-use Rattle.allocating_routines.proofs.Zeroed.{AreLocal}
 use Rattle.allocating_routines.proofs.BlockMemory.{good_by_table, locks_by_table, block_ended}
 use Rattle.allocating_routines.proofs.BlockDeath.{block_died}
 use Rattle.allocating_routines.proofs.TableRows.{has_start}
 use Rattle.allocating_routines.proofs.SourceFrees.{ended_in}
 
 module _ (map : MapSizes) (mapped : AreMapped map) (entry : View) (IsGood : Bytes → Type 0)
-    (local : AreLocal map entry IsGood) (at held t : ℕ) (below : AreBelow t (at ∷ held ∷ []))
+    (local : IsLocal map entry IsGood) (at held t : ℕ) (below : AreBelow t (at ∷ held ∷ []))
     (unlist unlock : List FlatInstruction) (unlists : IsUnlistRoutine map at (t + 4) unlist)
     (unlocks : IsReleaseRoutine map held (t + 4) unlock) (functions : ℕ) (types : ℕ → ℕ) (k : Keys) (x : Source) (n : ℕ)
     (live : (object_at x.objects n).is_live ≡ true) (block : (object_at x.objects n).storage ≡ Allocated)

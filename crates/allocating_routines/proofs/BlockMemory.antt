@@ -1,10 +1,11 @@
 -- The memory while a block is made: its row, then its key, then its bytes.
-use Rattle.std.proofs.Common.{◌≡◌, ℕ, suc, ◌+◌, ◌≤◌, inl, inr, sym, ap, ◌∙◌, arith}
-use Rattle.addr_map.specs.declared.region.Region.TheVariants.{Heap, Shadow, Locks, Blocks, StructureValues}
-use Rattle.addr_map.specs.Places.{MapSizes, AreMapped, spaces_begin, region_size, region_start, region_end}
+use Rattle.std.proofs.Common.{◌≡◌, ℕ, suc, ◌+◌, inl, inr, sym, ap, ◌∙◌, arith}
+use Rattle.addr_map.specs.declared.region.Region.TheVariants.{Locks, Blocks}
+use Rattle.addr_map.specs.Places.{MapSizes, AreMapped, spaces_begin, region_start}
 use Rattle.flat_meaning.specs.Memory.{Bytes, load}
 use Rattle.flat_routines.specs.Metadata.{View, KeepsShadow}
-use Rattle.flat_routines.proofs.Regions.{laid_out}
+use Rattle.flat_routines.proofs.Regions.{DoSpacesFollow, spaces_follow}
+use Rattle.flat_routines.proofs.Words.{IsLocal}
 use Rattle.flat_objects.specs.StandsFor.{IsLock}
 use Rattle.flat_objects.proofs.Changing.{global_is_lock}
 use Rattle.lock_space.specs.Locks.{key_counter, AreLocksGood, KeepsButLocks, KeepsLocks}
@@ -19,29 +20,11 @@ use Rattle.flat_actions.specs.Actions.{AreSpacesGood}
 use Rattle.allocating_routines.specs.Zeroing.{IsZeroed}
 use Rattle.allocating_routines.specs.Births.{IsKeyTaken, IsBlockMade, IsRangeMade}
 use Rattle.allocating_routines.specs.Freeing.{IsBlockEnded}
-use Rattle.allocating_routines.proofs.Zeroed.{AreLocal}
-
--- how the spaces follow one another
-pub record DoSpacesFollow (s : MapSizes) : Type 0 where
-  pub heap : region_end s Heap ≤ spaces_begin
-  pub shadow : region_start s Locks ≡ spaces_begin + region_size s Shadow
-  pub locks : region_start s Locks ≤ region_start s Blocks
-  pub table : region_start s Blocks + region_size s Blocks ≡ region_start s StructureValues
-
-pub spaces_follow : (s : MapSizes) → AreMapped s → DoSpacesFollow s
-unfolding region_start
-spaces_follow s h =
-    let ok = laid_out s h in let lie = locks_laid_out s h in
-    let small = ok.small in let a = lie.cells in let b = lie.blocks in
-    record { heap = small_heap ok.small; shadow = omega arith; locks = omega arith; table = omega arith }
-  where
-    small_heap : region_end s Heap ≤ 293601280 → region_end s Heap ≤ spaces_begin
-    small_heap l = omega arith
 
 module _ (map : MapSizes) (mapped : AreMapped map) (entry : View) (IsGood : Bytes → Type 0)
-    (local : AreLocal map entry IsGood) where
+    (local : IsLocal map entry IsGood) where
   lie : DoSpacesFollow map
-  lie = spaces_follow map mapped
+  lie = spaces_follow map
 
   -- ---- where only the table of blocks changes
 

@@ -25,20 +25,22 @@ use Rattle.flat_routines.specs.Effects.{worked}
 use Rattle.flat_routines.specs.Metadata.{View, held_registers, ShowsNothing}
 use Rattle.flat_routines.proofs.Steps.{has_front, has_back}
 use Rattle.flat_routines.proofs.Rules.{arrived, weaken}
-use Rattle.flat_routines.proofs.Distinct.{AreRegisters}
+use Rattle.flat_routines.proofs.Distinct.{AreRegisters, below_more}
 use Rattle.flat_routines.proofs.Words.{same_metadata}
+use Rattle.flat_routines.proofs.Branches.{differ, do_not_differ}
+use Rattle.flat_routines.proofs.Showing.{shows_both}
 use Rattle.flat_objects.specs.StandsFor.{Views, Keys, Spells}
 use Rattle.shadow_space.proofs.Entries.{context_of, agrees_shows, agrees_memory}
 use Rattle.flat_actions.specs.Actions.{IsFor, Word, Pointer, AreHeldBy, Leaves, views_of, context_in, work_of}
 use Rattle.flat_actions.proofs.Standing.{for_still, given_still}
-use Rattle.space_routines.proofs.Quiet.{shows_both, shows_worked, worked_words}
+use Rattle.space_routines.proofs.Quiet.{shows_worked, worked_words}
 use Rattle.flat_actions.specs.Actions.{runtime_basis}
 use Rattle.allocating_routines.specs.Premises.{AreStanding}
 use Rattle.allocating_routines.specs.Allocating.{IsAllocateRoutine, IsCallocRoutine, product_code}
 use Rattle.allocating_routines.specs.Allocating.{null_code}
 use Rattle.allocating_routines.specs.Allocating.{calloc_code}
 use Rattle.allocating_routines.proofs.Stretches.{IsDone, stretch_on, goes_past, goes_into}
-use Rattle.allocating_routines.proofs.Stretches.{differ, do_not_differ, above_none, below_more}
+use Rattle.allocating_routines.proofs.Stretches.{above_none}
 use Rattle.allocating_routines.proofs.Leaving.{leaves_from}
 
 abbrev by_size : Bool → Setting → (size line : ℕ) → Source → Completed Value
@@ -78,7 +80,7 @@ module _ (map : MapSizes) (mapped : AreMapped map) (entry : View) (IsGood : Byte
     none = tt;
     distinct = distinct;
     ins_below = tt;
-    res_below = below_more t (t + 2) (held_registers into) below.1.1 (omega arith);
+    res_below = below_more t (t + 2) (held_registers into) (omega arith) below.1.1;
     from = tt;
     own_distinct = tt;
   }

@@ -31,6 +31,9 @@ use Rattle.flat_routines.specs.Metadata.{View, ShowsNothing}
 use Rattle.flat_routines.proofs.Steps.{has_front, has_back}
 use Rattle.flat_routines.proofs.Rules.{next, ended, arrived, weaken}
 use Rattle.flat_routines.proofs.Distinct.{AreRegisters, register_of}
+use Rattle.flat_routines.proofs.Branches.{not_below, is_below, is_less, is_not_less}
+use Rattle.flat_routines.proofs.Showing.{shows_both}
+use Rattle.flat_routines.proofs.Words.{IsLocal}
 use Rattle.flat_objects.specs.StandsFor.{Views, Keys, StandsFor}
 use Rattle.shadow_space.proofs.Entries.{context_of, agrees_shows, agrees_memory}
 use Rattle.lock_space.specs.Locks.{key_counter}
@@ -40,7 +43,7 @@ use Rattle.heap_space.specs.Table.{block_total, block_rows, row_cell}
 use Rattle.heap_space.proofs.Lists.{rows_length}
 use Rattle.flat_actions.specs.Actions.{AreSpacesGood, IsFor, HasEnded, views_of}
 use Rattle.flat_actions.proofs.Standing.{shown_still, ended_still}
-use Rattle.space_routines.proofs.Quiet.{shows_both, shows_worked, worked_words}
+use Rattle.space_routines.proofs.Quiet.{shows_worked, worked_words}
 use Rattle.allocating_routines.specs.declared.entering.EntryRegisters.{EntryRegisters}
 use Rattle.allocating_routines.specs.Zeroing.{IsZeroed, HasZeroed, IsZeroRoutine}
 use Rattle.allocating_routines.specs.Allocating.{keys_code, key_test}
@@ -49,8 +52,6 @@ use Rattle.allocating_routines.specs.Entering.{block_bytes, CanEnter, registers_
 use Rattle.allocating_routines.specs.Entering.{IsEnterRoutine, round_code, room_code, room_test, end_of_block}
 use Rattle.allocating_routines.specs.Entering.{enter_code}
 use Rattle.allocating_routines.proofs.Stretches.{IsDone, stretch_on, goes_past, goes_into}
-use Rattle.allocating_routines.proofs.Stretches.{is_less, is_not_less}
-use Rattle.allocating_routines.proofs.Zeroed.{AreLocal}
 use Rattle.allocating_routines.proofs.FreeLocks.{stack_laid_out, free_for_automatics}
 use Rattle.allocating_routines.proofs.BlockBirth.{held_after, keys_keep}
 use Rattle.allocating_routines.proofs.BlockMemory.{good_by_locks, range_made}
@@ -58,10 +59,9 @@ use Rattle.allocating_routines.proofs.EntryBirths.{stack_in_space, entry_born, e
 use Rattle.allocating_routines.proofs.Seeks.{keys_allowed, found_keys, keys_shown}
 use Rattle.allocating_routines.proofs.SourceEntries.{homes_from, entered_in, block_of, no_space, no_more_keys}
 use Rattle.allocating_routines.proofs.SourceEntries.{enters_block, end_by_bytes, some_bytes, few_bytes}
-use Rattle.heap_space.proofs.Regions.{not_below, is_below}
 
 module _ (map : MapSizes) (mapped : AreMapped map) (entry : View) (IsGood : Bytes → Type 0)
-    (local : AreLocal map entry IsGood) (top bytes : ℕ) (to : EntryRegisters) (line t : ℕ)
+    (local : IsLocal map entry IsGood) (top bytes : ℕ) (to : EntryRegisters) (line t : ℕ)
     (ins_below : AreBelow t (top ∷ bytes ∷ [])) (to_below : AreBelow t (registers_in to))
     (apart : AreNoneOf (top ∷ bytes ∷ []) (registers_in to)) (distinct : AreDistinct (registers_in to))
     (fresh zero : List FlatInstruction) (freshens : IsFreshRoutine map to.key to.lock (t + 4) fresh)
@@ -509,7 +509,7 @@ module _ (map : MapSizes) (mapped : AreMapped map) (entry : View) (IsGood : Byte
         (cases_lt (region_end map Stack) (objects_end vs x.stacked))
 
 pub enter_does : (map : MapSizes) → AreMapped map → (entry : View) (IsGood : Bytes → Type 0)
-    → AreLocal map entry IsGood → (top bytes : ℕ) (to : EntryRegisters) (line t : ℕ) → AreBelow t (top ∷ bytes ∷ [])
+    → IsLocal map entry IsGood → (top bytes : ℕ) (to : EntryRegisters) (line t : ℕ) → AreBelow t (top ∷ bytes ∷ [])
     → AreBelow t (registers_in to) → AreNoneOf (top ∷ bytes ∷ []) (registers_in to) → AreDistinct (registers_in to)
     → (fresh zero : List FlatInstruction) → IsFreshRoutine map to.key to.lock (t + 4) fresh
     → IsZeroRoutine map entry IsGood to.first bytes (t + 4) zero

@@ -34,6 +34,8 @@ use Rattle.flat_routines.specs.Metadata.{View, held_registers, ShowsNothing}
 use Rattle.flat_routines.proofs.Steps.{has_front, has_back}
 use Rattle.flat_routines.proofs.Rules.{next, ended, weaken}
 use Rattle.flat_routines.proofs.Distinct.{AreRegisters}
+use Rattle.flat_routines.proofs.Branches.{are_equal, are_not_equal, differ, do_not_differ}
+use Rattle.flat_routines.proofs.Showing.{shows_both}
 use Rattle.flat_objects.specs.StandsFor.{Views, Keys, spell, IsLock}
 use Rattle.shadow_space.proofs.Entries.{context_of, agrees_shows, agrees_memory}
 use Rattle.lock_space.proofs.Spaces.{locks_laid_out, allowed_at}
@@ -43,10 +45,9 @@ use Rattle.heap_space.specs.Routines.{HasFound, IsFound, IsFindRoutine}
 use Rattle.flat_actions.specs.Actions.{IsFor, Pointer, IsHeldBy}
 use Rattle.flat_actions.specs.Actions.{views_of}
 use Rattle.allocating_routines.specs.Freeing.{life_test, found_test}
-use Rattle.space_routines.proofs.Quiet.{shows_both, shows_worked}
+use Rattle.space_routines.proofs.Quiet.{shows_worked}
 use Rattle.allocating_routines.proofs.Stretches.{IsDone, stretch_on, goes_past, goes_into}
 use Rattle.space_routines.proofs.Quiet.{worked_words}
-use Rattle.allocating_routines.proofs.Stretches.{are_equal, are_not_equal, differ, do_not_differ}
 use Rattle.allocating_routines.proofs.FoundRows.{parts_of_start, found_is_start, not_found_is_none}
 use Rattle.allocating_routines.proofs.SourceBlocks.{sought_in}
 use Rattle.allocating_routines.proofs.SourceFrees.{freed_untagged, freed_function, freed_dead}

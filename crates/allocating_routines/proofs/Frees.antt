@@ -28,6 +28,9 @@ use Rattle.flat_routines.specs.Effects.{worked}
 use Rattle.flat_routines.specs.Metadata.{View, held_registers, ShowsNothing}
 use Rattle.flat_routines.proofs.Steps.{has_front, has_back}
 use Rattle.flat_routines.proofs.Rules.{arrived, weaken}
+use Rattle.flat_routines.proofs.Branches.{are_equal, are_not_equal}
+use Rattle.flat_routines.proofs.Showing.{shows_both}
+use Rattle.flat_routines.proofs.Words.{IsLocal}
 use Rattle.flat_objects.specs.StandsFor.{Views, Keys, spell}
 use Rattle.flat_objects.proofs.Changing.{live_is_made}
 use Rattle.shadow_space.proofs.Entries.{context_of}
@@ -39,11 +42,9 @@ use Rattle.flat_actions.specs.Actions.{IsFor, Pointer, Nowhere, AreHeldBy, IsHel
 use Rattle.flat_actions.specs.Actions.{views_of, context_in, work_of}
 use Rattle.flat_actions.proofs.Standing.{for_still, given_still, ended_still, keeps_same}
 use Rattle.allocating_routines.specs.Freeing.{IsFreeRoutine, life_test, found_test, end_code, free_code}
-use Rattle.space_routines.proofs.Quiet.{shows_both, shows_worked}
+use Rattle.space_routines.proofs.Quiet.{shows_worked}
 use Rattle.allocating_routines.proofs.Stretches.{goes_past, goes_into}
 use Rattle.space_routines.proofs.Quiet.{worked_words}
-use Rattle.allocating_routines.proofs.Stretches.{are_equal, are_not_equal}
-use Rattle.allocating_routines.proofs.Zeroed.{AreLocal}
 use Rattle.allocating_routines.proofs.Allocates.{rows_are_blocks}
 use Rattle.allocating_routines.proofs.SourceBlocks.{sought_in}
 use Rattle.allocating_routines.proofs.SourceFrees.{then_dead, frees_null, frees_by}
@@ -51,7 +52,7 @@ use Rattle.allocating_routines.proofs.FreedTests.{AreOutcomes, tested}
 use Rattle.allocating_routines.proofs.BlockEnds.{ends_block}
 
 module _ (map : MapSizes) (mapped : AreMapped map) (entry : View) (IsGood : Bytes → Type 0)
-    (local : AreLocal map entry IsGood) (h : Held) (line t : ℕ) (below : AreBelow t (held_registers h))
+    (local : IsLocal map entry IsGood) (h : Held) (line t : ℕ) (below : AreBelow t (held_registers h))
     (find unlist unlock : List FlatInstruction)
     (finds : IsFindRoutine map h.value h.tag.key (t + 1) (t + 2) (t + 4) find)
     (unlists : IsUnlistRoutine map h.value (t + 4) unlist) (unlocks : IsReleaseRoutine map h.tag.lock (t + 4) unlock)
@@ -200,7 +201,7 @@ module _ (map : MapSizes) (mapped : AreMapped map) (entry : View) (IsGood : Byte
     frees = ⊎_elim (λ null. frees_nothing null) (λ some. frees_some some) (cases_eq v.word 0)
 
 pub free_does : (map : MapSizes) → AreMapped map → (entry : View) (IsGood : Bytes → Type 0)
-    → AreLocal map entry IsGood → (h : Held) (line t : ℕ) → AreBelow t (held_registers h)
+    → IsLocal map entry IsGood → (h : Held) (line t : ℕ) → AreBelow t (held_registers h)
     → (find unlist unlock : List FlatInstruction) → IsFindRoutine map h.value h.tag.key (t + 1) (t + 2) (t + 4) find
     → IsUnlistRoutine map h.value (t + 4) unlist → IsReleaseRoutine map h.tag.lock (t + 4) unlock
     → IsFreeRoutine map entry IsGood h line t (free_code find unlist unlock h line t (t + 2))

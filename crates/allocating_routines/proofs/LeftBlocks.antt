@@ -9,6 +9,8 @@ use Rattle.flat_meaning.specs.Meaning.{Goes}
 use Rattle.flat_routines.specs.Routine.{Outcome, Continues, Halts, Either, Never}
 use Rattle.flat_routines.specs.Metadata.{View}
 use Rattle.flat_routines.proofs.Rules.{weaken}
+use Rattle.flat_routines.proofs.Words.{IsLocal}
+use Rattle.flat_routines.proofs.Regions.{spaces_follow}
 use Rattle.shadow_space.proofs.Entries.{context_of}
 use Rattle.lock_space.specs.Routines.{HasReleased, IsReleaseRoutine}
 use Rattle.heap_space.proofs.Local.{rows_kept}
@@ -16,12 +18,11 @@ use Rattle.heap_space.proofs.Regions.{table_laid_out}
 use Rattle.flat_actions.specs.Actions.{IsFor, views_of}
 use Rattle.flat_actions.proofs.Standing.{shown_still}
 use Rattle.allocating_routines.specs.Entering.{AreOfLock, HasLeft, IsLeaveRoutine}
-use Rattle.allocating_routines.proofs.Zeroed.{AreLocal}
-use Rattle.allocating_routines.proofs.BlockMemory.{spaces_follow, shadow_by_locks, table_by_locks, good_by_locks}
+use Rattle.allocating_routines.proofs.BlockMemory.{shadow_by_locks, table_by_locks, good_by_locks}
 use Rattle.allocating_routines.proofs.BlockDeaths.{lock_not_global, lock_used, lock_is_one, block_left}
 
 pub leave_does : (map : MapSizes) → AreMapped map → (entry : View) (IsGood : Bytes → Type 0)
-    → AreLocal map entry IsGood → (lock t : ℕ) (r : List FlatInstruction) → IsReleaseRoutine map lock t r
+    → IsLocal map entry IsGood → (lock t : ℕ) (r : List FlatInstruction) → IsReleaseRoutine map lock t r
     → IsLeaveRoutine map entry IsGood lock t r
 leave_does map mapped entry IsGood local lock t r releases functions types k x b charge weight = record {
   from = λ code pc s has w p.
@@ -42,7 +43,7 @@ leave_does map mapped entry IsGood local lock t r releases functions types k x b
         → (y : Outcome) → Either (HasReleased map lock t s) Never y
         → Either (HasLeft (views_of map functions types entry) k IsGood t (leave_block b x) s) Never y
     by s f of (Continues s') d =
-        let follow = spaces_follow map mapped in
+        let follow = spaces_follow map in
         let shadow = follow.shadow in let locks = follow.locks in let table = follow.table in
         record {
           stands = record {

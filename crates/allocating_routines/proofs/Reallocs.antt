@@ -31,6 +31,9 @@ use Rattle.flat_routines.specs.Effects.{worked}
 use Rattle.flat_routines.specs.Metadata.{View, held_registers, ShowsNothing}
 use Rattle.flat_routines.proofs.Steps.{has_front, has_back}
 use Rattle.flat_routines.proofs.Rules.{next, arrived, weaken}
+use Rattle.flat_routines.proofs.Branches.{are_equal, are_not_equal}
+use Rattle.flat_routines.proofs.Showing.{shows_both}
+use Rattle.flat_routines.proofs.Words.{IsLocal}
 use Rattle.flat_objects.specs.StandsFor.{Views, Keys, spell}
 use Rattle.shadow_space.proofs.Entries.{context_of}
 use Rattle.lock_space.specs.Routines.{IsReleaseRoutine}
@@ -41,16 +44,14 @@ use Rattle.flat_actions.specs.Actions.{IsFor, Word, Pointer, AreHeldBy, IsHeldBy
 use Rattle.flat_actions.specs.Actions.{work_of}
 use Rattle.flat_actions.specs.Ranges.{IsTaggedMoveRoutine}
 use Rattle.flat_actions.proofs.Standing.{for_still, ended_still}
-use Rattle.space_routines.proofs.Quiet.{shows_both, shows_worked, worked_words}
+use Rattle.space_routines.proofs.Quiet.{shows_worked, worked_words}
 use Rattle.flat_actions.specs.Actions.{runtime_basis}
 use Rattle.allocating_routines.specs.Premises.{AreStanding}
 use Rattle.allocating_routines.specs.Allocating.{IsAllocateRoutine}
 use Rattle.allocating_routines.specs.Freeing.{found_test}
 use Rattle.allocating_routines.specs.Reallocating.{IsReallocRoutine, tests_code, replace_code, realloc_code}
 use Rattle.allocating_routines.proofs.Stretches.{goes_past, goes_into}
-use Rattle.allocating_routines.proofs.Stretches.{are_equal}
-use Rattle.allocating_routines.proofs.Stretches.{are_not_equal, above_none}
-use Rattle.allocating_routines.proofs.Zeroed.{AreLocal}
+use Rattle.allocating_routines.proofs.Stretches.{above_none}
 use Rattle.allocating_routines.proofs.Leaving.{leaves_from, either_of}
 use Rattle.allocating_routines.proofs.Allocates.{rows_are_blocks}
 use Rattle.allocating_routines.proofs.BlockBirth.{LiesInHeap}
@@ -63,7 +64,7 @@ use Rattle.allocating_routines.proofs.FreedTests.{IsFreed, IsTested, AreOutcomes
 use Rattle.allocating_routines.proofs.Replaces.{replaces_reached}
 
 module _ (map : MapSizes) (mapped : AreMapped map) (entry : View) (IsGood : Bytes → Type 0)
-    (local : AreLocal map entry IsGood) (h : Held) (size : ℕ) (into : Held) (line t : ℕ)
+    (local : IsLocal map entry IsGood) (h : Held) (size : ℕ) (into : Held) (line t : ℕ)
     (old_below : AreBelow t (held_registers h)) (size_below : size < t) (into_below : AreBelow t (held_registers into))
     (old_apart : AreNoneOf (held_registers h) (held_registers into)) (size_apart : IsNoneOf size (held_registers into))
     (find block' move unlist unlock : List FlatInstruction)
@@ -413,7 +414,7 @@ module _ (map : MapSizes) (mapped : AreMapped map) (entry : View) (IsGood : Byte
     reallocs = ⊎_elim (λ null. null_reached null) (λ some. some_reached some) (cases_eq v.word 0)
 
 pub realloc_does : (map : MapSizes) → AreMapped map → (entry : View) (IsGood : Bytes → Type 0)
-    → AreLocal map entry IsGood → (h : Held) (size : ℕ) (into : Held) (line t : ℕ) → AreBelow t (held_registers h)
+    → IsLocal map entry IsGood → (h : Held) (size : ℕ) (into : Held) (line t : ℕ) → AreBelow t (held_registers h)
     → size < t → AreBelow t (held_registers into) → AreNoneOf (held_registers h) (held_registers into)
     → IsNoneOf size (held_registers into) → (find block' move unlist unlock : List FlatInstruction)
     → IsFindRoutine map h.value h.tag.key (t + 1) (t + 2) (t + 4) find

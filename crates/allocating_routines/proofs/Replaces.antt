@@ -30,6 +30,9 @@ use Rattle.flat_routines.proofs.Steps.{has_front, has_back}
 use Rattle.flat_routines.proofs.Rules.{next, weaken, arrived}
 use Rattle.flat_routines.proofs.Distinct.{AreRegisters}
 use Rattle.flat_routines.proofs.Regions.{laid_out}
+use Rattle.flat_routines.proofs.Branches.{not_below, is_below}
+use Rattle.flat_routines.proofs.Showing.{shows_both}
+use Rattle.flat_routines.proofs.Words.{IsLocal}
 use Rattle.flat_objects.specs.StandsFor.{Views, Keys, IsHere}
 use Rattle.flat_objects.specs.Changes.{IsMoved}
 use Rattle.flat_objects.proofs.Changing.{live_is_made}
@@ -38,15 +41,13 @@ use Rattle.shadow_space.proofs.Entries.{context_of, agrees_shows, agrees_memory}
 use Rattle.lock_space.specs.Routines.{IsReleaseRoutine}
 use Rattle.heap_space.specs.Table.{block_total}
 use Rattle.heap_space.specs.Routines.{IsReleaseRoutine as IsUnlistRoutine}
-use Rattle.heap_space.proofs.Regions.{not_below, is_below}
 use Rattle.flat_actions.specs.Actions.{IsFor, Pointer, HasGiven, StaysElsewhere, views_of}
 use Rattle.flat_actions.specs.Ranges.{IsToMove, HasMovedTagged, IsTaggedMoveRoutine}
 use Rattle.flat_actions.proofs.Standing.{good_still, shown_still, spells_still, none_of_none}
 use Rattle.allocating_routines.specs.Reallocating.{lesser_code, replace_code}
-use Rattle.space_routines.proofs.Quiet.{shows_both, shows_worked}
+use Rattle.space_routines.proofs.Quiet.{shows_worked}
 use Rattle.allocating_routines.proofs.Stretches.{IsDone, stretch_on, goes_past, goes_into}
 use Rattle.space_routines.proofs.Quiet.{worked_words}
-use Rattle.allocating_routines.proofs.Zeroed.{AreLocal}
 use Rattle.allocating_routines.proofs.Allocates.{rows_are_blocks}
 use Rattle.allocating_routines.proofs.BlockBirth.{LiesInHeap}
 use Rattle.allocating_routines.proofs.BlockEnds.{HasEndedBlock, ends_block}
@@ -61,7 +62,7 @@ unfolding new_object
 unfolding_new p z = (refl, refl, refl)
 
 module _ (map : MapSizes) (mapped : AreMapped map) (entry : View) (IsGood : Bytes → Type 0)
-    (local : AreLocal map entry IsGood) (old : Held) (size : ℕ) (into : Held) (t : ℕ)
+    (local : IsLocal map entry IsGood) (old : Held) (size : ℕ) (into : Held) (t : ℕ)
     (old_below : AreBelow t (held_registers old)) (size_below : size < t)
     (into_below : AreBelow t (held_registers into))
     (move unlist unlock : List FlatInstruction)

@@ -18,13 +18,13 @@ use Rattle.flat_routines.specs.Metadata.{held_registers, ShowsNothing}
 use Rattle.flat_routines.proofs.Steps.{has_front, has_back}
 use Rattle.flat_routines.proofs.Rules.{next}
 use Rattle.flat_routines.proofs.Distinct.{AreRegisters, register_of}
+use Rattle.flat_routines.proofs.Showing.{shows_both}
 use Rattle.shadow_space.proofs.Entries.{context_of, agrees_shows, agrees_memory}
 use Rattle.lock_space.specs.Locks.{keys_cell, key_counter}
 use Rattle.lock_space.proofs.Spaces.{AreLocksLaidOut, locks_laid_out, allowed_at}
 use Rattle.heap_space.specs.Table.{block_total, block_rows, IsTableGood, KeepsButTable}
 use Rattle.heap_space.specs.Routines.{HasPlaced, IsPlacedIn, place_of, IsPlaceRoutine}
 use Rattle.allocating_routines.specs.Allocating.{keys_code, untagged}
-use Rattle.space_routines.proofs.Quiet.{shows_both}
 use Rattle.allocating_routines.proofs.Stretches.{IsDone, stretch_on}
 
 -- ---- how many keys were made: 0 the number, 1 the next key

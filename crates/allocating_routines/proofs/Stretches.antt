@@ -1,13 +1,10 @@
 -- Code without jumps between routines whose instructions are not known.
-use Rattle.std.proofs.Common.{◌≡◌, ◌≢◌, ℕ, suc, ◌+◌, ◌<◌, ◌≤◌, List, [], ◌∷◌, ◌++◌, true, false, not, Some, map, length}
+use Rattle.std.proofs.Common.{◌≡◌, ℕ, suc, ◌+◌, ◌≤◌, List, [], ◌∷◌, ◌++◌, true, false, Some, map, length}
 use Rattle.std.proofs.Common.{sym}
 use Rattle.std.proofs.Common.{ap, ◌∙◌, subst, arith}
 use Rattle.std.specs.Prelude.{slice_get}
-use Rattle.std.proofs.lemmas.Bool.{eq-eqb, ne_eqb, lt-ltb, le-ltb}
 use Rattle.std.proofs.lemmas.List.{length-map}
 use Rattle.rv_isa.specs.declared.instruction.BranchOp.{BranchOp}
-use Rattle.rv_isa.specs.declared.instruction.BranchOp.TheVariants.{Beq, Bne, Bltu}
-use Rattle.rv_isa.specs.Results.{branch_taken}
 use Rattle.flat_meaning.specs.declared.instruction.RightOperand.{RightOperand}
 use Rattle.flat_meaning.specs.declared.instruction.FlatInstruction.{FlatInstruction}
 use Rattle.flat_meaning.specs.declared.instruction.FlatInstruction.TheVariants.{Branch}
@@ -32,14 +29,10 @@ others_both xs t s s1 s2 h k x l none = k x l none ∙ h x l none
 pub others_below : (t u : ℕ) (xs : List ℕ) (s s' : State) → OthersStay [] u s s' → t ≤ u → OthersStay xs t s s'
 others_below t u xs s s' h le x l none = h x (omega arith) tt
 
--- a register from t on is none of those below, and what lies below t lies below more
+-- a register from t on is none of those below
 pub above_none : (t x : ℕ) (ys : List ℕ) → AreBelow t ys → t ≤ x → IsNoneOf x ys
 above_none t x [] h l = tt
 above_none t x (y ∷ ys) h l = ((λ e. let a = h.0 in omega arith), above_none t x ys h.1 l)
-
-pub below_more : (t u : ℕ) (ys : List ℕ) → AreBelow t ys → t ≤ u → AreBelow u ys
-below_more t u [] h l = tt
-below_more t u (y ∷ ys) h l = ((let a = h.0 in omega arith), below_more t u ys h.1 l)
 
 -- ---- a stretch over registers that are known by their places in lists
 
@@ -85,29 +78,3 @@ module _ (c : Context) (code : List FlatInstruction) where
       → Reaches c code b (Goes (pc + 1) (worked c s)) end R → Reaches c code (suc b) (Goes pc s) end R
   goes_into b pc s op x y past end R at e r =
       branch c code b pc s op x y past end R at (λ h. absurd (let no : true ≡ false = sym h ∙ e in cc)) (λ h. r)
-
--- the operands of branches
-
-pub are_equal : (a b : ℕ) → a ≡ b → branch_taken Beq a b ≡ true
-unfolding branch_taken
-are_equal a b e = eq-eqb a b e
-
-pub are_not_equal : (a b : ℕ) → a ≢ b → branch_taken Beq a b ≡ false
-unfolding branch_taken
-are_not_equal a b e = ne_eqb a b e
-
-pub is_less : (a b : ℕ) → a < b → branch_taken Bltu a b ≡ true
-unfolding branch_taken
-is_less a b l = lt-ltb a b l
-
-pub is_not_less : (a b : ℕ) → b ≤ a → branch_taken Bltu a b ≡ false
-unfolding branch_taken
-is_not_less a b l = le-ltb a b l
-
-pub differ : (a b : ℕ) → a ≢ b → branch_taken Bne a b ≡ true
-unfolding branch_taken
-differ a b e = ap not (ne_eqb a b e)
-
-pub do_not_differ : (a b : ℕ) → a ≡ b → branch_taken Bne a b ≡ false
-unfolding branch_taken
-do_not_differ a b e = ap not (eq-eqb a b e)

@@ -1,29 +1,23 @@
 -- The table of live blocks with one row more, and without one.
-use Rattle.std.proofs.Common.{◌≡◌, ◌≢◌, ℕ, zero, suc, ◌<◌, ◌≤◌, ◌⊎◌, inl, inr, ⊎_elim, List, [], ◌∷◌, true, length}
+use Rattle.std.proofs.Common.{◌≡◌, ◌≢◌, ℕ, zero, suc, ◌<◌, ◌⊎◌, inl, inr, ⊎_elim, List, [], ◌∷◌, true, length}
 use Rattle.std.proofs.Common.{get_or, refl, sym, ◌∙◌, subst, arith}
-use Rattle.std.proofs.lemmas.Bool.{cases_eq, cases_lt, cond-true, cond-false, eq-eqb, ne_eqb}
+use Rattle.std.proofs.lemmas.Bool.{cases_eq, cases_lt}
 use Rattle.obj_memory.specs.declared.object.Storage.TheVariants.{Allocated}
 use Rattle.obj_memory.specs.Objects.{Objects, object_at}
 use Rattle.flat_objects.specs.StandsFor.{BlockRow, Keys, no_row, IsRowOf, IsTable}
 use Rattle.heap_space.specs.Rows.{row_end, AreInOrder, with_row, without_row, HasStart}
 use Rattle.heap_space.proofs.Lists.{row_first, row_behind}
+use Rattle.heap_space.proofs.Objects.{starts_above}
+use Rattle.heap_space.proofs.Removing.{removed_here, removed_behind}
 
 -- ---- rows in order
-
--- those behind an address
-from_low : (low high : ℕ) (rows : List BlockRow) → AreInOrder low high rows → (i : ℕ) → i < length rows
-    → low ≤ (get_or rows i no_row).start
-from_low low high [] h i l = absurd (omega arith)
-from_low low high (r ∷ rs) h zero l = h.0
-from_low low high (r ∷ rs) h (suc i) l =
-    let a = from_low (row_end r) high rs h.2 i (omega arith) in let b = h.0 in omega arith
 
 pub starts_rise : (low high : ℕ) (rows : List BlockRow) → AreInOrder low high rows → (i j : ℕ) → i < j
     → j < length rows → (get_or rows i no_row).start < (get_or rows j no_row).start
 starts_rise low high [] h i j l k = absurd (omega arith)
 starts_rise low high (r ∷ rs) h i zero l k = absurd (omega arith)
 starts_rise low high (r ∷ rs) h zero (suc j) l k =
-    let a = from_low (row_end r) high rs h.2 j (omega arith) in omega arith
+    let a = starts_above (row_end r) high rs h.2 j (omega arith) in omega arith
 starts_rise low high (r ∷ rs) h (suc i) (suc j) l k = starts_rise (row_end r) high rs h.2 i j (omega arith)
     (omega arith)
 
@@ -107,13 +101,6 @@ module _ (k k' : Keys) (old new : Objects) (rows : List BlockRow) (x : BlockRow)
 
 -- ---- one less
 
-without_here : (a : ℕ) (r : BlockRow) (rs : List BlockRow) → r.start ≡ a → without_row a (r ∷ rs) ≡ rs
-without_here a r rs e = cond-true _ rs (r ∷ without_row a rs) (eq-eqb r.start a e)
-
-without_later : (a : ℕ) (r : BlockRow) (rs : List BlockRow) → r.start ≢ a
-    → without_row a (r ∷ rs) ≡ r ∷ without_row a rs
-without_later a r rs e = cond-false _ rs (r ∷ without_row a rs) (ne_eqb r.start a e)
-
 -- each is an old one that starts elsewhere
 abbrev IsOldBut : (a : ℕ) → (row : BlockRow) → List BlockRow → Type 0
 IsOldBut a row rows = (j : ℕ) × (j < length rows) × (row ≡ get_or rows j no_row) × (row.start ≢ a)
@@ -122,12 +109,12 @@ old_but : (low high a : ℕ) (rows : List BlockRow) → AreInOrder low high rows
     → i < length (without_row a rows) → IsOldBut a (get_or (without_row a rows) i no_row) rows
 old_but low high a [] h i l = absurd (omega arith)
 old_but low high a (r ∷ rs) h i l = ⊎_elim
-    (λ b. (let e = without_here a r rs b in
+    (λ b. (let e = removed_here a r rs b in
     subst (λ ys. IsOldBut a (get_or ys i no_row) (r ∷ rs)) (sym e)
     (let k : i < length rs = subst (λ ys. i < length ys) e l in
-    let above = from_low (row_end r) high rs h.2 i k in
+    let above = starts_above (row_end r) high rs h.2 i k in
     (suc i, omega arith, refl, λ q. omega arith))))
-    (λ b. (let e = without_later a r rs b in
+    (λ b. (let e = removed_behind a r rs b in
     subst (λ ys. IsOldBut a (get_or ys i no_row) (r ∷ rs)) (sym e)
     (later (λ j k. old_but (row_end r) high a rs h.2 j k) b i (subst (λ ys. i < length ys) e l))))
     (cases_eq r.start a)
@@ -144,8 +131,8 @@ still_stands : (a : ℕ) (rows : List BlockRow) (j : ℕ) → j < length rows �
     → Stands (get_or rows j no_row) (without_row a rows)
 still_stands a [] j l ne = absurd (omega arith)
 still_stands a (r ∷ rs) j l ne = ⊎_elim
-    (λ b. subst (Stands (get_or (r ∷ rs) j no_row)) (sym (without_here a r rs b)) (here b j l ne))
-    (λ b. subst (Stands (get_or (r ∷ rs) j no_row)) (sym (without_later a r rs b))
+    (λ b. subst (Stands (get_or (r ∷ rs) j no_row)) (sym (removed_here a r rs b)) (here b j l ne))
+    (λ b. subst (Stands (get_or (r ∷ rs) j no_row)) (sym (removed_behind a r rs b))
     (later (λ i h d. still_stands a rs i h d) j l ne))
     (cases_eq r.start a)
   where

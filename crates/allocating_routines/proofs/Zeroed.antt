@@ -19,8 +19,10 @@ use Rattle.flat_routines.specs.Metadata.{View, no_metadata, IsObjectWord, KeepsS
 use Rattle.flat_routines.proofs.Steps.{has_front, has_back, has_self}
 use Rattle.flat_routines.proofs.Rules.{line, next, weaken}
 use Rattle.flat_routines.proofs.Distinct.{AreRegisters, register_of, registers_rename, others_stay}
-use Rattle.flat_routines.proofs.Regions.{IsLaidOut, laid_out}
+use Rattle.flat_routines.proofs.Regions.{IsLaidOut, laid_out, spaces_follow}
 use Rattle.flat_routines.proofs.Wrapped.{routine}
+use Rattle.flat_routines.proofs.Showing.{shows_both}
+use Rattle.flat_routines.proofs.Words.{IsLocal}
 use Rattle.flat_objects.proofs.Changing.{global_is_lock}
 use Rattle.shadow_space.specs.Form.{IsClearRoutine, HasCleared}
 use Rattle.shadow_space.proofs.Entries.{context_of, agrees_shows, agrees_memory}
@@ -31,20 +33,10 @@ use Rattle.heap_space.proofs.Local.{good_kept as table_kept}
 use Rattle.flat_actions.specs.Actions.{AreSpacesGood}
 use Rattle.allocating_routines.specs.Zeroing.{IsToZero, IsZeroed, HasZeroed, IsZeroRoutine, word_bytes, begin_zero}
 use Rattle.allocating_routines.specs.Zeroing.{zero_until, to_the_end, zero_bytes, zero_code}
-use Rattle.space_routines.proofs.Quiet.{shows_both}
 use Rattle.allocating_routines.proofs.Stretches.{stretch_on, others_below}
 use Rattle.allocating_routines.proofs.Zeros.{Filling, fills}
 
--- what holds of a form of the shadow space: entries depend on its bytes alone
-abbrev pub AreLocal : MapSizes → View → (Bytes → Type 0) → Type 0
-AreLocal map entry IsGood = (m m' : Bytes) → KeepsShadow map m m' → IsGood m
-    → IsGood m' × ((a : ℕ) → IsObjectWord map a → entry m' a ≡ entry m a)
-
 -- ---- the spaces behind the shadow space stay good with their bytes
-
-pub locks_behind : (m : MapSizes) → region_start m Locks ≡ spaces_begin + region_size m Shadow
-unfolding region_start
-locks_behind m = refl
 
 pub spaces_stay : (map : MapSizes) (IsGood : Bytes → Type 0) (m m' : Bytes) → AreMapped map → AreSpacesGood map IsGood m
     → IsGood m' → ((b : ℕ) → region_start map Locks ≤ b → m' b ≡ m b) → AreSpacesGood map IsGood m'
@@ -214,7 +206,7 @@ zeros_does map first bytes t n count charge weight ok below =
 -- ---- the whole routine
 
 module _ (map : MapSizes) (mapped : AreMapped map) (entry : View) (IsGood : Bytes → Type 0)
-    (local : AreLocal map entry IsGood) (first bytes t : ℕ) (below : AreBelow t (first ∷ bytes ∷ []))
+    (local : IsLocal map entry IsGood) (first bytes t : ℕ) (below : AreBelow t (first ∷ bytes ∷ []))
     (clear : List FlatInstruction) (clears : IsClearRoutine map entry IsGood first t (t + 1) clear) where
   abbrev tail : List FlatInstruction
   tail = zero_bytes first bytes t (t + 1) (t + 2)
@@ -234,7 +226,7 @@ module _ (map : MapSizes) (mapped : AreMapped map) (entry : View) (IsGood : Byte
       let a = p.aligned in
       let shadow : KeepsShadow map m1 m2 = λ i l. two (spaces_begin + i) (inr (omega arith)) in
       let still = local m1 m2 shadow good in
-      let behind = locks_behind map in (
+      let behind = (spaces_follow map).shadow in (
         still.0,
         record {
           zeros = zeros;

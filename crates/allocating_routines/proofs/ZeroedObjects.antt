@@ -11,7 +11,7 @@ use Rattle.obj_memory.proofs.Making.{zeroed_object, zeroed_other}
 use Rattle.obj_memory.proofs.Soundness.{sound_zeroed}
 use Rattle.flat_meaning.specs.Memory.{Bytes}
 use Rattle.flat_routines.specs.Metadata.{View, no_metadata}
-use Rattle.flat_routines.proofs.Regions.{laid_out}
+use Rattle.flat_routines.proofs.Regions.{laid_out, spaces_follow}
 use Rattle.flat_objects.specs.StandsFor.{Views, Keys, spell, IsHere, StandsFor}
 use Rattle.flat_objects.specs.Changes.{Changes}
 use Rattle.flat_objects.proofs.Changing.{live_is_made, changed}
@@ -22,7 +22,6 @@ use Rattle.heap_space.proofs.Regions.{table_laid_out}
 use Rattle.heap_space.proofs.Local.{rows_kept}
 use Rattle.flat_actions.specs.Actions.{views_of}
 use Rattle.allocating_routines.specs.Zeroing.{IsZeroed}
-use Rattle.allocating_routines.proofs.BlockMemory.{spaces_follow}
 
 module _ (map : MapSizes) (mapped : AreMapped map) (functions : ℕ) (types : ℕ → ℕ) (entry : View) (k : Keys)
     (objects : Objects) (n : ℕ) (m m' : Bytes) (st : StandsFor (views_of map functions types entry) k objects m)
@@ -46,7 +45,7 @@ module _ (map : MapSizes) (mapped : AreMapped map) (functions : ℕ) (types : �
 
   changes : Changes g k o zero_object m m'
   changes =
-      let follow = spaces_follow map mapped in let locks = follow.locks in
+      let follow = spaces_follow map in let locks = follow.locks in
       record {
         here = here;
         bytes = λ a l out. zeroed.beside a l out;

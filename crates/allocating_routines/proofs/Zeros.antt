@@ -1,8 +1,7 @@
 -- A range of object space becomes zero.
 use Rattle.std.proofs.Common.{◌≡◌, ℕ, zero, suc, ◌+◌, ◌-◌, ◌*◌, ◌%◌, ◌^◌, ◌<◌, ◌≤◌, inl, inr, ⊎_elim, List}
-use Rattle.std.proofs.Common.{[], ◌∷◌, true, ◌||◌, refl, sym, ap, ◌∙◌, subst, arith}
-use Rattle.std.specs.Prelude.{nat_le}
-use Rattle.std.proofs.lemmas.Bool.{le-leb, and_from, cases_lt}
+use Rattle.std.proofs.Common.{[], ◌∷◌, true, refl, sym, ap, ◌∙◌, subst, arith}
+use Rattle.std.proofs.lemmas.Bool.{cases_lt}
 use Rattle.std.proofs.Math.Nat.{suc-mul}
 use Rattle.addr_map.specs.declared.region.Region.TheVariants.{Heap}
 use Rattle.addr_map.specs.Places.{MapSizes, objects_begin, region_end}
@@ -13,7 +12,6 @@ use Rattle.flat_meaning.specs.declared.instruction.RightOperand.TheVariants.{Reg
 use Rattle.flat_meaning.specs.declared.instruction.FlatInstruction.{FlatInstruction}
 use Rattle.flat_meaning.specs.declared.instruction.FlatInstruction.TheVariants.{JumpBack}
 use Rattle.flat_meaning.specs.Memory.{Bytes, put, store, KeepsBut}
-use Rattle.flat_meaning.specs.Spaces.{is_of_runtime, is_allowed}
 use Rattle.flat_meaning.specs.State.{State}
 use Rattle.flat_meaning.specs.Words.{IsOfWords}
 use Rattle.flat_meaning.specs.Meaning.{Context, Goes}
@@ -23,8 +21,9 @@ use Rattle.flat_routines.specs.Effects.{worked, effects, AreAllowed}
 use Rattle.flat_routines.specs.Metadata.{ShowsNothing}
 use Rattle.flat_routines.proofs.Steps.{has_front}
 use Rattle.flat_routines.proofs.Rules.{line, loop, weaken, Turns}
+use Rattle.flat_routines.proofs.Branches.{not_below, is_below}
+use Rattle.flat_routines.proofs.Regions.{object_allowed}
 use Rattle.shadow_space.proofs.Entries.{context_of}
-use Rattle.heap_space.proofs.Regions.{not_below, is_below}
 use Rattle.allocating_routines.specs.Zeroing.{zero_one, zero_until}
 
 -- ---- stores of zero
@@ -39,14 +38,6 @@ zero_stored (suc n) m a zero l =
 zero_stored (suc n) m a (suc i) l =
     let e : a + suc i ≡ suc a + i = omega arith in
     subst (λ b. store n (put m a 0) (suc a) 0 b ≡ 0) (sym e) (zero_stored n (put m a 0) (suc a) i (omega arith))
-
--- an access of object space is allowed
-pub object_allowed : (m : MapSizes) (a b n : ℕ) → a ≡ b → objects_begin ≤ b → b + n ≤ region_end m Heap
-    → is_allowed m a n ≡ true
-object_allowed m a b n e lo hi =
-    ap (λ x. is_allowed m x n) e
-    ∙ ap (λ x. x || is_of_runtime m b n) (and_from (nat_le objects_begin b) (nat_le (b + n) (region_end m Heap))
-    (le-leb objects_begin b lo) (le-leb (b + n) (region_end m Heap) hi))
 
 -- ---- a loop: 2 the end, 3 the cursor, 4 zero
 

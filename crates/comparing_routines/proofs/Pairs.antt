@@ -2,13 +2,13 @@
 use Rattle.std.proofs.Common.{◌≡◌, ◌≢◌, ℕ, zero, suc, ◌+◌, ◌-◌, ◌*◌, ◌%◌, ◌^◌, ◌<◌, ◌≤◌, ⊎_elim, List, [], ◌∷◌, ◌++◌}
 use Rattle.std.proofs.Common.{Bool, true, false, ◌==◌, ◌&&◌, not, if◌then◌else◌, refl, sym, ap, ◌∙◌, subst, arith}
 use Rattle.std.specs.Prelude.{nat_lt, nat_le}
-use Rattle.std.proofs.lemmas.Bool.{cases_eq, eq-eqb, ne_eqb, eqb-true, eqb-false, ltb-true, le-ltb, lt-leb, and_right}
+use Rattle.std.proofs.lemmas.Bool.{cases_eq, eq-eqb, ne_eqb, ltb-true, le-ltb, lt-leb, and_right}
 use Rattle.std.proofs.lemmas.Bool.{cond-false}
 use Rattle.sb_base.specs.declared.ending.Ending.TheVariants.{Spatial}
 use Rattle.addr_map.specs.Places.{MapSizes}
 use Rattle.rv_isa.specs.declared.instruction.BranchOp.TheVariants.{Beq, Bne}
 use Rattle.rv_isa.specs.declared.instruction.RegOp.TheVariants.{Add}
-use Rattle.rv_isa.specs.Results.{reg_result, extended, branch_taken, bit_of}
+use Rattle.rv_isa.specs.Results.{reg_result, extended, bit_of}
 use Rattle.obj_memory.specs.declared.value.Bounds.{Bounds}
 use Rattle.obj_memory.specs.declared.value.Tag.TheVariants.{OfObject}
 use Rattle.obj_memory.specs.declared.value.Value.{Value}
@@ -33,16 +33,17 @@ use Rattle.flat_routines.specs.Effects.{worked, effects, AreAllowed}
 use Rattle.flat_routines.specs.Metadata.{ShowsNothing}
 use Rattle.flat_routines.proofs.Steps.{has_self, has_front, has_back}
 use Rattle.flat_routines.proofs.Rules.{weaken, line_on, branch, jump_back, arrived, ended}
+use Rattle.flat_routines.proofs.Branches.{if_equal, if_unequal, if_apart, if_alike}
+use Rattle.flat_routines.proofs.Words.{byte_loaded}
+use Rattle.flat_routines.proofs.Showing.{shows_on}
 use Rattle.flat_objects.specs.StandsFor.{Views, Keys}
 use Rattle.shadow_space.proofs.Entries.{context_of}
-use Rattle.heap_space.proofs.Regions.{if_differ, if_same}
 use Rattle.flat_judging.specs.Judging.{judge_code}
 use Rattle.flat_actions.specs.Actions.{Word}
 use Rattle.comparing_routines.specs.Answering.{IsAnswered, IsWorking}
 use Rattle.comparing_routines.specs.Comparing.{order_code, pair_code, string_loop, strcmp_code}
-use Rattle.flat_actions.proofs.Looking.{looked, looked_by}
-use Rattle.comparing_routines.proofs.Looks.{byte_of, AreBytesOf, one_loaded}
-use Rattle.comparing_routines.proofs.Seeks.{if_equal, if_unequal}
+use Rattle.flat_actions.proofs.Looking.{looked, looked_by, moved_tag, moved_word}
+use Rattle.comparing_routines.proofs.Looks.{byte_of, AreBytesOf}
 
 -- ---- how two bytes compare
 
@@ -55,12 +56,6 @@ order_by false false h = refl
 
 pub order_is : (x y : ℕ) → (bit_of (nat_lt y x) + (2 ^ 64 - bit_of (nat_lt x y))) % 2 ^ 64 ≡ (order x y).word
 order_is x y = order_by (nat_lt x y) (nat_lt y x) (λ e. le-ltb y x (let l = ltb-true x y e in omega arith))
-
-pub if_apart : (a b : ℕ) → branch_taken Bne a b ≡ true → a ≢ b
-if_apart a b t = eqb-false a b (if_differ a b t)
-
-pub if_alike : (a b : ℕ) → branch_taken Bne a b ≡ false → a ≡ b
-if_alike a b t = eqb-true a b (if_same a b t)
 
 -- ---- the source at the end of bounds
 
@@ -166,14 +161,6 @@ module _ (map : MapSizes) (charge weight line : ℕ) (g : Views) (k : Keys) (fun
   abbrev both_stepped : State → State
   both_stepped f = effects c (Operate Add 12 12 (Number 1) ∷ []) (worked c (stepped f))
 
-  moved_tag : (p : Value) → (moved 1 p).tag ≡ p.tag
-  unfolding moved
-  moved_tag p = refl
-
-  moved_word : (p : Value) → p.word + 1 < 2 ^ 64 → (moved 1 p).word ≡ p.word + 1
-  unfolding moved
-  moved_word p l = omega arith
-
   module _ (left left' w : ℕ) (p q : Value) (f : State) (h : ArePaired left left' p q f) where
     abbrev x : ℕ
     x = byte_of x0.objects n p.word
@@ -205,14 +192,14 @@ module _ (map : MapSizes) (charge weight line : ℕ) (g : Views) (k : Keys) (fun
     unfolding put extended
     first_is =
         let l = h.left_is in
-        ap (load 1 f.memory) at_first ∙ one_loaded f.memory p.word ∙ ap (λ m. m p.word) h.memory
+        ap (load 1 f.memory) at_first ∙ byte_loaded f.memory p.word ∙ ap (λ m. m p.word) h.memory
         ∙ bytes.there p.word h.from (omega arith)
 
     second_is : (loaded f).values 14 ≡ y
     unfolding put extended
     second_is =
         let l = h.left_is' in
-        ap (load 1 f.memory) at_second ∙ one_loaded f.memory q.word ∙ ap (λ m. m q.word) h.memory
+        ap (load 1 f.memory) at_second ∙ byte_loaded f.memory q.word ∙ ap (λ m. m q.word) h.memory
         ∙ bytes'.there q.word h.from' (omega arith)
 
     may_load : AreAllowed c (pair_code 11 12 13 14) f
@@ -222,16 +209,6 @@ module _ (map : MapSizes) (charge weight line : ℕ) (g : Views) (k : Keys) (fun
           ap (λ a. is_allowed map a 1) at_first ∙ bytes.allowed p.word h.from (omega arith),
           (ap (λ a. is_allowed map a 1) at_second ∙ bytes'.allowed q.word h.from' (omega arith), tt),
         )
-
-    quiet : (z : State) → z.input ≡ f.input → z.output ≡ f.output → z.taken ≡ f.taken → z.accesses ≡ f.accesses
-        → z.turns ≡ f.turns → ShowsNothing f0 z
-    quiet z a b c d e = let s = h.shows in record {
-      input = a ∙ s.input;
-      output = b ∙ s.output;
-      taken = c ∙ s.taken;
-      accesses = d ∙ s.accesses;
-      turns = e ∙ s.turns;
-    }
 
     working : (i : ℕ) → IsWorking x0 (at_work i x0)
     working i = record { work = i; same = refl }
@@ -274,7 +251,8 @@ module _ (map : MapSizes) (charge weight line : ℕ) (g : Views) (k : Keys) (fun
           reaches = line_on c C (pair_code 11 12 13 14) 8 23 f 37 (A (run left w p q)) may_load (has.0, (has.1.0, tt))
               (branch c C 7 25 (loaded f) Bne 13 (Register 14) 8 37 (A (run left w p q)) has.1.1.0
               (λ t. weaken c C 3 7 (Goes 34 (worked c (loaded f))) 37 _ _ (omega arith) (λ o r. r)
-              (ordered (worked c (loaded f)) first_is second_is refl (quiet _ refl refl refl refl refl) is))
+              (ordered (worked c (loaded f)) first_is second_is refl
+              (shows_on f0 f _ h.shows refl refl refl refl refl) is))
               (λ t. absurd (ne (sym first_is ∙ if_alike _ _ t ∙ second_is))));
         }
 
@@ -291,7 +269,8 @@ module _ (map : MapSizes) (charge weight line : ℕ) (g : Views) (k : Keys) (fun
               (λ t. absurd (if_apart _ _ t (first_is ∙ e ∙ sym second_is)))
               (λ t. branch c C 6 26 (worked c (loaded f)) Beq 13 (Number 0) 7 37 (A (run left w p q)) has.1.1.1.0
               (λ t2. weaken c C 3 6 (Goes 34 (worked c (worked c (loaded f)))) 37 _ _ (omega arith) (λ o r. r)
-              (ordered (worked c (worked c (loaded f))) first_is second_is refl (quiet _ refl refl refl refl refl) is))
+              (ordered (worked c (worked c (loaded f))) first_is second_is refl
+              (shows_on f0 f _ h.shows refl refl refl refl refl) is))
               (λ t2. absurd (if_unequal _ _ t2 (first_is ∙ z)))));
         }
 
@@ -350,7 +329,7 @@ module _ (map : MapSizes) (charge weight line : ℕ) (g : Views) (k : Keys) (fun
                 (branch c C 4 28 (stepped f) Bne 11 (Register 2) 1 37 Q has.1.1.1.1.1.0
                 (λ t. absurd (if_apart _ _ t (omega arith)))
                 (λ t. ended c C 3 (Spatial line) (worked c (stepped f)) 29 37 Q has.1.1.1.1.1.1.0
-                (refl, refl, working (w + 1 + 1), quiet _ refl refl refl refl refl))));
+                (refl, refl, working (w + 1 + 1), shows_on f0 f _ h.shows refl refl refl refl refl))));
           }
 
       -- up to the test of the second bound
@@ -388,7 +367,7 @@ module _ (map : MapSizes) (charge weight line : ℕ) (g : Views) (k : Keys) (fun
                 (branch c C 7 31 (both_stepped f) Bne 12 (Register 7) 1 37 Q has.1.1.1.1.1.1.1.1.0
                 (λ t. absurd (if_apart _ _ t (omega arith)))
                 (λ t. ended c C 6 (Spatial line) (worked c (both_stepped f)) 32 37 Q has.1.1.1.1.1.1.1.1.1.0
-                (refl, refl, working (w + 1 + 1 + 1), quiet _ refl refl refl refl refl))));
+                (refl, refl, working (w + 1 + 1 + 1), shows_on f0 f _ h.shows refl refl refl refl refl))));
           }
         where
           second_refused : on (look (moved 1 q) line (at_work (w + 1 + 1 + 1) x0)) (λ u.
@@ -449,7 +428,7 @@ module _ (map : MapSizes) (charge weight line : ℕ) (g : Views) (k : Keys) (fun
             bound = bounds_are.0;
             other_bound = bounds_are.1;
             memory = h.memory;
-            shows = quiet _ refl refl refl refl refl;
+            shows = shows_on f0 f _ h.shows refl refl refl refl refl;
           }
 
     turn : ((j j' : ℕ) → left ≡ suc j → ArePaired j j' (moved 1 p) (moved 1 q) (worked c (worked c (both_stepped f)))

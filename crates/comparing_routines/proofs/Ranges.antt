@@ -23,12 +23,13 @@ use Rattle.flat_routines.specs.Effects.{worked, effects, AreAllowed}
 use Rattle.flat_routines.specs.Metadata.{ShowsNothing}
 use Rattle.flat_routines.proofs.Steps.{has_self, has_front, has_back}
 use Rattle.flat_routines.proofs.Rules.{weaken, line_on, branch, jump_back, arrived}
+use Rattle.flat_routines.proofs.Branches.{if_equal, if_unequal, if_apart, if_alike}
+use Rattle.flat_routines.proofs.Words.{byte_loaded}
+use Rattle.flat_routines.proofs.Showing.{shows_on}
 use Rattle.shadow_space.proofs.Entries.{context_of}
 use Rattle.flat_judging.specs.Judging.{judge_code}
 use Rattle.comparing_routines.specs.Comparing.{order_code, pair_code, range_loop, memcmp_code}
-use Rattle.comparing_routines.proofs.Looks.{one_loaded}
-use Rattle.comparing_routines.proofs.Seeks.{if_equal, if_unequal}
-use Rattle.comparing_routines.proofs.Pairs.{order_is, if_apart, if_alike, own_left, own_right}
+use Rattle.comparing_routines.proofs.Pairs.{order_is, own_left, own_right}
 
 -- ---- the registers of the routine alone: 0 to 4 and 5 to 9 the pointers, 10 the size, 11 the result, 12 and 13 the
 -- cursors, 14 and 15 the bytes, 16 the end of the first range
@@ -145,12 +146,12 @@ module _ (map : MapSizes) (charge weight line : ℕ) (f0 : State) where
       first_is : (loaded f).values 14 ≡ x
       unfolding put extended
       first_is =
-          ap (load 1 f.memory) at_first ∙ one_loaded f.memory p ∙ ap (λ m. m p) h.memory ∙ (here x xs p h.first).0
+          ap (load 1 f.memory) at_first ∙ byte_loaded f.memory p ∙ ap (λ m. m p) h.memory ∙ (here x xs p h.first).0
 
       second_is : (loaded f).values 15 ≡ y
       unfolding put extended
       second_is =
-          ap (load 1 f.memory) at_second ∙ one_loaded f.memory q ∙ ap (λ m. m q) h.memory
+          ap (load 1 f.memory) at_second ∙ byte_loaded f.memory q ∙ ap (λ m. m q) h.memory
           ∙ (here y ys q h.second).0
 
       may_load : AreAllowed c (pair_code 12 13 14 15) f
@@ -159,16 +160,6 @@ module _ (map : MapSizes) (charge weight line : ℕ) (f0 : State) where
         ap (λ a. is_allowed map a 1) at_first ∙ (here x xs p h.first).1,
         (ap (λ a. is_allowed map a 1) at_second ∙ (here y ys q h.second).1, tt),
       )
-
-      quiet : (z : State) → z.input ≡ f.input → z.output ≡ f.output → z.taken ≡ f.taken → z.accesses ≡ f.accesses
-          → z.turns ≡ f.turns → ShowsNothing f0 z
-      quiet z a b c d e = let s = h.shows in record {
-        input = a ∙ s.input;
-        output = b ∙ s.output;
-        taken = c ∙ s.taken;
-        accesses = d ∙ s.accesses;
-        turns = e ∙ s.turns;
-      }
 
       has : HasAt C 25 (range_loop 12 13 16 14 15)
       has = has_loop line
@@ -202,7 +193,7 @@ module _ (map : MapSizes) (charge weight line : ℕ) (f0 : State) where
           (has_order line)
           (arrived c C 0 ordered 35 35 Q refl (record {
             memory = h.memory;
-            shows = quiet ordered refl refl refl refl refl;
+            shows = shows_on f0 f ordered h.shows refl refl refl refl refl;
             given = word_is;
           })))
           (λ t. absurd (ne (sym first_is ∙ if_alike _ _ t ∙ second_is))))))
@@ -253,7 +244,7 @@ module _ (map : MapSizes) (charge weight line : ℕ) (f0 : State) where
             (branch c C 0 30 (stepped f) Beq 12 (Register 16) 4 35 Q has.1.1.1.1.1.0
             (λ t. arrived c C 0 (worked c (stepped f)) 35 35 Q refl (record {
               memory = h.memory;
-              shows = quiet (worked c (stepped f)) refl refl refl refl refl;
+              shows = shows_on f0 f (worked c (stepped f)) h.shows refl refl refl refl refl;
               given = kept.1;
             }))
             (λ t. absurd (if_unequal _ _ t (omega arith))))))
@@ -286,7 +277,7 @@ module _ (map : MapSizes) (charge weight line : ℕ) (f0 : State) where
               end = omega arith;
               none = kept.1;
               memory = h.memory;
-              shows = quiet (worked c (worked c (stepped f))) refl refl refl refl refl;
+              shows = shows_on f0 f (worked c (worked c (stepped f))) h.shows refl refl refl refl refl;
             }
 
   compares : (x : ℕ) (xs : List ℕ) (y : ℕ) (ys : List ℕ) (p q : ℕ) (f : State) → AreRanged (x ∷ xs) (y ∷ ys) p q f

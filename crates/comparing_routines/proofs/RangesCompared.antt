@@ -1,12 +1,10 @@
 -- `memcmp` in flat code is the source's.
-use Rattle.std.proofs.Common.{◌≡◌, ◌≢◌, ℕ, suc, ◌+◌, ◌*◌, ◌<◌, ◌≤◌, ⊎_elim, List, [], ◌∷◌, true}
+use Rattle.std.proofs.Common.{◌≡◌, ◌≢◌, ℕ, suc, ◌+◌, ◌*◌, ◌<◌, ⊎_elim, List, [], ◌∷◌, true}
 use Rattle.std.proofs.Common.{get_or, drop, refl, sym, ap, ◌∙◌, subst, arith}
-use Rattle.std.specs.Prelude.{nat_le}
-use Rattle.std.proofs.lemmas.Bool.{cases_eq, eq-eqb, ne_eqb, and_from, le-leb}
+use Rattle.std.proofs.lemmas.Bool.{cases_eq, eq-eqb, ne_eqb}
 use Rattle.std.proofs.lemmas.List.{get_or-drop, get_or-take}
 use Rattle.sb_base.specs.declared.ending.Ending.TheVariants.{Spatial, Temporal}
-use Rattle.addr_map.specs.declared.region.Region.TheVariants.{Heap}
-use Rattle.addr_map.specs.Places.{MapSizes, AreMapped, objects_begin, region_end}
+use Rattle.addr_map.specs.Places.{MapSizes, AreMapped}
 use Rattle.rv_isa.specs.declared.instruction.BranchOp.TheVariants.{Beq}
 use Rattle.rv_isa.specs.Results.{reg_result}
 use Rattle.obj_memory.specs.declared.value.Value.{Value}
@@ -29,7 +27,6 @@ use Rattle.flat_meaning.specs.declared.instruction.RightOperand.TheVariants.{Num
 use Rattle.flat_meaning.specs.declared.instruction.FlatInstruction.{FlatInstruction}
 use Rattle.flat_meaning.specs.declared.instruction.FlatInstruction.TheVariants.{Constant}
 use Rattle.flat_meaning.specs.Memory.{Bytes, put}
-use Rattle.flat_meaning.specs.Spaces.{is_of_objects, is_allowed}
 use Rattle.flat_meaning.specs.State.{State}
 use Rattle.flat_meaning.specs.Words.{IsOfWords}
 use Rattle.flat_meaning.specs.Meaning.{Context, Goes}
@@ -40,9 +37,10 @@ use Rattle.flat_routines.specs.Effects.{worked, effects}
 use Rattle.flat_routines.specs.Metadata.{View, metadata_in, held_registers, ShowsNothing}
 use Rattle.flat_routines.proofs.Steps.{has_self}
 use Rattle.flat_routines.proofs.Rules.{weaken, line_on, branch, arrived}
-use Rattle.flat_routines.proofs.Regions.{laid_out}
+use Rattle.flat_routines.proofs.Regions.{laid_out, object_allowed}
 use Rattle.flat_routines.proofs.Distinct.{AreRegisters, register_of}
 use Rattle.flat_routines.proofs.Words.{same_metadata}
+use Rattle.flat_routines.proofs.Branches.{if_equal, if_unequal}
 use Rattle.flat_objects.specs.StandsFor.{Views, Keys, Spells, StandsFor}
 use Rattle.shadow_space.proofs.Entries.{context_of}
 use Rattle.space_routines.proofs.Quiet.{quiet_words, worked_words}
@@ -52,7 +50,6 @@ use Rattle.flat_actions.specs.Actions.{IsFor, Word, Pointer, views_of, work_of, 
 use Rattle.flat_actions.proofs.Judged.{judged_then, located_then, after_judge}
 use Rattle.comparing_routines.specs.Answering.{IsAnswered}
 use Rattle.comparing_routines.specs.Comparing.{memcmp_code, IsMemcmp}
-use Rattle.comparing_routines.proofs.Seeks.{if_equal, if_unequal}
 use Rattle.comparing_routines.proofs.Pairs.{own_left, own_right}
 use Rattle.flat_actions.proofs.Standing.{same_then}
 use Rattle.comparing_routines.proofs.Ranges.{own_memcmp, has_first, has_second, has_range_start, range_start, StandsAt}
@@ -109,16 +106,9 @@ bytes_stand g k x charge weight line f v n p mapped st al =
           ((st.here p.object al.live).bytes (p.offset + i) (omega arith))
           ∙ sym (get_or-drop p.offset o.bytes i 0)
           ∙ sym (get_or-take n (drop p.offset o.bytes) i 0 (omega arith)));
-      allowed = λ i l. in_objects g.sizes (v.word + i) (omega arith) (omega arith);
+      allowed = λ i l. object_allowed g.sizes (v.word + i) (v.word + i) 1 refl (omega arith) (omega arith);
       small = omega arith;
     }
-  where
-    in_objects : (s : MapSizes) (a : ℕ) → objects_begin ≤ a → a + 1 ≤ region_end s Heap → is_allowed s a 1 ≡ true
-    in_objects s a lo hi =
-        let e : is_of_objects s a 1 ≡ true =
-        and_from (nat_le objects_begin a) (nat_le (a + 1) (region_end s Heap)) (le-leb objects_begin a lo)
-        (le-leb (a + 1) (region_end s Heap) hi) in
-        rw e
 
 -- ---- the routine alone
 

@@ -1,13 +1,13 @@
 -- `strchr` alone: a byte is sought as in the source.
 use Rattle.std.proofs.Common.{◌≡◌, ◌≢◌, ℕ, zero, suc, ◌+◌, ◌*◌, ◌%◌, ◌^◌, ◌≤◌, ⊎_elim, List, [], ◌∷◌, ◌++◌}
-use Rattle.std.proofs.Common.{true, false, ◌==◌, refl, sym, ap, ◌∙◌, subst, arith}
-use Rattle.std.proofs.lemmas.Bool.{cases_eq, eq-eqb, ne_eqb, eqb-true, eqb-false}
+use Rattle.std.proofs.Common.{true, ◌==◌, refl, sym, ap, ◌∙◌, subst, arith}
+use Rattle.std.proofs.lemmas.Bool.{cases_eq, eq-eqb, ne_eqb}
 use Rattle.sb_base.specs.declared.ending.Ending.TheVariants.{Spatial}
 use Rattle.addr_map.specs.Places.{MapSizes}
 use Rattle.rv_isa.specs.declared.instruction.BranchOp.TheVariants.{Beq, Bne}
 use Rattle.rv_isa.specs.declared.instruction.RegOp.TheVariants.{Add}
 use Rattle.rv_isa.specs.declared.instruction.LoadOp.TheVariants.{Lbu}
-use Rattle.rv_isa.specs.Results.{reg_result, extended, branch_taken}
+use Rattle.rv_isa.specs.Results.{reg_result, extended}
 use Rattle.obj_memory.specs.declared.value.Bounds.{Bounds}
 use Rattle.obj_memory.specs.declared.value.Tag.TheVariants.{OfObject}
 use Rattle.obj_memory.specs.declared.value.Value.{Value}
@@ -30,25 +30,17 @@ use Rattle.flat_routines.specs.Effects.{worked, effects}
 use Rattle.flat_routines.specs.Metadata.{metadata_in, ShowsNothing}
 use Rattle.flat_routines.proofs.Steps.{has_self, has_front, has_back}
 use Rattle.flat_routines.proofs.Rules.{weaken, line_on, branch, jump_on, jump_back, arrived, ended}
+use Rattle.flat_routines.proofs.Branches.{if_equal, if_unequal, if_apart, if_alike}
+use Rattle.flat_routines.proofs.Words.{byte_loaded}
+use Rattle.flat_routines.proofs.Showing.{shows_on}
 use Rattle.flat_objects.specs.StandsFor.{Views, Keys, spell, Spells}
 use Rattle.shadow_space.proofs.Entries.{context_of}
-use Rattle.heap_space.proofs.Regions.{if_differ, if_same}
 use Rattle.flat_judging.specs.Judging.{judge_code}
 use Rattle.flat_actions.specs.Actions.{Pointer}
 use Rattle.comparing_routines.specs.Answering.{IsAnswered, IsWorking}
 use Rattle.comparing_routines.specs.Seeking.{seek_loop, null_code, same_entry_code, seek_start, seek_code, strchr_code}
-use Rattle.flat_actions.proofs.Looking.{looked}
-use Rattle.comparing_routines.proofs.Looks.{byte_of, AreBytesOf, one_loaded}
-
--- ---- branches
-
-pub if_equal : (a b : ℕ) → branch_taken Beq a b ≡ true → a ≡ b
-unfolding branch_taken
-if_equal a b e = eqb-true a b e
-
-pub if_unequal : (a b : ℕ) → branch_taken Beq a b ≡ false → a ≢ b
-unfolding branch_taken
-if_unequal a b e = eqb-false a b e
+use Rattle.flat_actions.proofs.Looking.{looked, moved_tag}
+use Rattle.comparing_routines.proofs.Looks.{byte_of, AreBytesOf}
 
 -- ---- the registers of the routine alone: 0 to 4 the string, 5 the byte, 6 to 10 the result, of which 6 is the cursor,
 -- 11 the byte that is looked at, and 12 the byte that is sought
@@ -147,8 +139,8 @@ module _ (map : MapSizes) (charge weight line : ℕ) (g : Views) (k : Keys) (fun
   is_loaded left p f h =
       let l = h.left_is in let s = h.shows in
       record {
-        byte_is = ap (load 1 f.memory) (at_cursor left p f h) ∙ one_loaded f.memory p.word ∙ ap (λ m. m p.word) h.memory
-            ∙ bytes.there p.word h.from (omega arith);
+        byte_is = ap (load 1 f.memory) (at_cursor left p f h) ∙ byte_loaded f.memory p.word
+            ∙ ap (λ m. m p.word) h.memory ∙ bytes.there p.word h.from (omega arith);
         sought = h.sought;
         cursor = h.cursor;
         bound = h.bound;
@@ -171,10 +163,6 @@ module _ (map : MapSizes) (charge weight line : ℕ) (g : Views) (k : Keys) (fun
   moved_word : (left : ℕ) (p : Value) (f : State) → IsCursor left p f → (moved 1 p).word ≡ p.word + 1
   unfolding moved
   moved_word left p f h = let l = h.left_is in let s = bytes.small in omega arith
-
-  moved_tag : (p : Value) → (moved 1 p).tag ≡ p.tag
-  unfolding moved
-  moved_tag p = refl
 
   -- the pointer to the byte, and null
   found_given : (p : Value) (f : State) → IsLoaded p (byte_of x0.objects n p.word) f
@@ -214,16 +202,6 @@ module _ (map : MapSizes) (charge weight line : ℕ) (g : Views) (k : Keys) (fun
     working : IsWorking x0 (at_work (w + 1) x0)
     working = record { work = w + 1; same = refl }
 
-    quiet : (y : State) → y.input ≡ (loaded f).input → y.output ≡ (loaded f).output → y.taken ≡ (loaded f).taken
-        → y.accesses ≡ (loaded f).accesses → y.turns ≡ (loaded f).turns → ShowsNothing f0 y
-    quiet y a b c d e = let s = l.shows in record {
-      input = a ∙ s.input;
-      output = b ∙ s.output;
-      taken = c ∙ s.taken;
-      accesses = d ∙ s.accesses;
-      turns = e ∙ s.turns;
-    }
-
     has : HasAt C 14 (seek_loop 6 2 line 11 12)
     has = has_loop line
 
@@ -245,7 +223,7 @@ module _ (map : MapSizes) (charge weight line : ℕ) (g : Views) (k : Keys) (fun
               (arrived c C 5 z 31 31 Q refl (record {
                 source = working;
                 memory = h.memory;
-                shows = quiet z refl refl refl refl refl;
+                shows = shows_on f0 (loaded f) z l.shows refl refl refl refl refl;
                 given = found_given p f l;
               })))
               (λ t. absurd (if_unequal _ _ t (l.byte_is ∙ e ∙ sym l.sought)))));
@@ -276,7 +254,7 @@ module _ (map : MapSizes) (charge weight line : ℕ) (g : Views) (k : Keys) (fun
               (arrived c C 2 (worked c z) 31 31 Q refl (record {
                 source = working;
                 memory = h.memory;
-                shows = quiet (worked c z) refl refl refl refl refl;
+                shows = shows_on f0 (loaded f) (worked c z) l.shows refl refl refl refl refl;
                 given = null_given f;
               }))))
               (λ t2. absurd (if_unequal _ _ t2 (l.byte_is ∙ e))))));
@@ -318,13 +296,10 @@ module _ (map : MapSizes) (charge weight line : ℕ) (g : Views) (k : Keys) (fun
           reaches = subst (λ r. Reaches c C 11 (Goes 14 f) 31 (A r)) (sym is)
               (another ne nz Q 7
               (branch c C 6 18 (stepped f) Bne 6 (Register 2) 1 31 Q has.1.1.1.1.0
-              (λ t. absurd (differs _ _ t (omega arith)))
+              (λ t. absurd (if_apart _ _ t (omega arith)))
               (λ t. ended c C 5 (Spatial line) (worked c (stepped f)) 19 31 Q has.1.1.1.1.1.0
-              (refl, refl, working, quiet _ refl refl refl refl refl))));
+              (refl, refl, working, shows_on f0 (loaded f) _ l.shows refl refl refl refl refl))));
         }
-      where
-        differs : (a b : ℕ) → branch_taken Bne a b ≡ true → a ≢ b
-        differs a b t = eqb-false a b (if_differ a b t)
 
     further : byte ≢ ch → byte ≢ 0 → (j : ℕ) → left ≡ suc j → Seeks j (w + 1) (moved 1 p)
         (worked c (worked c (stepped f)))
@@ -345,11 +320,8 @@ module _ (map : MapSizes) (charge weight line : ℕ) (g : Views) (k : Keys) (fun
               (branch c C (suc (6 * r.spent + 5)) 18 (stepped f) Bne 6 (Register 2) 1 31 Q has.1.1.1.1.0
               (λ t. jump_back c C (6 * r.spent + 5) 20 6 14 (worked c (stepped f)) 31 Q has.1.1.1.1.1.1.0 refl
               r.reaches)
-              (λ t. absurd (let q = same _ _ t in omega arith)))));
+              (λ t. absurd (let q = if_alike _ _ t in omega arith)))));
         }
-      where
-        same : (a b : ℕ) → branch_taken Bne a b ≡ false → a ≡ b
-        same a b t = eqb-true a b (if_same a b t)
 
     next_cursor : (j : ℕ) → left ≡ suc j → IsCursor j (moved 1 p) (worked c (worked c (stepped f)))
     next_cursor j e =
@@ -363,7 +335,7 @@ module _ (map : MapSizes) (charge weight line : ℕ) (g : Views) (k : Keys) (fun
           sought = s.sought;
           entry = s.entry ∙ ap (spell g k) (sym (moved_tag p));
           memory = h.memory;
-          shows = quiet _ refl refl refl refl refl;
+          shows = shows_on f0 (loaded f) _ l.shows refl refl refl refl refl;
         }
 
     turn : ((j : ℕ) → left ≡ suc j → Seeks j (w + 1) (moved 1 p) (worked c (worked c (stepped f)))) → Seeks left w p f

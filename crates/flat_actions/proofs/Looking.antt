@@ -1,6 +1,6 @@
 -- A byte looked at in the source, and what the verdict on it says of the tag.
 use Rattle.std.proofs.Common.{◌≡◌, ◌≢◌, ℕ, ◌+◌, ◌-◌, ◌≤◌, List, [], ◌∷◌, Bool, true, false}
-use Rattle.std.proofs.Common.{◌&&◌, if◌then◌else◌, get_or, drop, take, refl, sym, ap, ◌∙◌, arith}
+use Rattle.std.proofs.Common.{◌&&◌, if◌then◌else◌, get_or, drop, take, refl, sym, ap, ◌∙◌, arith, ◌<◌, ◌^◌}
 use Rattle.std.specs.Prelude.{nat_le, slice_index}
 use Rattle.std.proofs.lemmas.Bool.{le-leb, leb-true, and_from, cond-true}
 use Rattle.std.proofs.lemmas.List.{get_or-drop}
@@ -14,7 +14,7 @@ use Rattle.obj_memory.specs.declared.int_type.IntType.TheVariants.{UnsignedChar}
 use Rattle.obj_memory.specs.declared.judgement.Verdict.{Verdict}
 use Rattle.obj_memory.specs.declared.judgement.Verdict.TheVariants.{Outside, Dead, Inside}
 use Rattle.obj_memory.specs.Objects.{Objects, object_at}
-use Rattle.obj_memory.specs.Judgement.{place_in, judge, judged}
+use Rattle.obj_memory.specs.Judgement.{place_in, judge, judged, moved}
 use Rattle.obj_memory.specs.Integers.{fit, size_of}
 use Rattle.obj_memory.specs.Access.{read_value}
 use Rattle.obj_memory.specs.Sound.{IsSound}
@@ -23,6 +23,15 @@ use Rattle.source_meaning.specs.Acting.{at_work}
 use Rattle.source_meaning.specs.Bytes.{look}
 use Rattle.source_meaning.specs.Strings.{reach_by, reach}
 use Rattle.flat_actions.proofs.Judged.{judged_then, located_then}
+
+-- a value moved one byte on
+pub moved_tag : (v : Value) → (moved 1 v).tag ≡ v.tag
+unfolding moved
+moved_tag v = refl
+
+pub moved_word : (v : Value) → v.word + 1 < 2 ^ 64 → (moved 1 v).word ≡ v.word + 1
+unfolding moved
+moved_word v small = omega arith
 
 first_of : (bs : List ℕ) → slice_index (take 1 bs) 0 ≡ get_or bs 0 0
 first_of [] = refl

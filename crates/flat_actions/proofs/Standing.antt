@@ -14,11 +14,11 @@ use Rattle.flat_routines.specs.declared.registers.Entry.{Entry}
 use Rattle.flat_routines.specs.Registers.{IsNoneOf, AreNoneOf, AreBelow, OthersStay}
 use Rattle.flat_routines.specs.Metadata.{ShowsNothing, held_registers, metadata_in}
 use Rattle.flat_routines.proofs.Words.{same_metadata}
+use Rattle.flat_routines.proofs.Showing.{shows_both}
 use Rattle.flat_objects.specs.StandsFor.{Views, Keys, Spells, StandsFor}
 use Rattle.flat_actions.specs.Actions.{AreSpacesGood, IsShown, IsFor, Holder, Nowhere, Word, Pointer, registers_of}
 use Rattle.flat_actions.specs.Actions.{IsHeldBy, IsGivenIn, StaysElsewhere, KeepsHeld, HasGiven, HasEnded}
 use Rattle.flat_judging.specs.Judging.{IsSameBut}
-use Rattle.space_routines.proofs.Quiet.{shows_both}
 
 -- ---- states
 
@@ -92,6 +92,11 @@ pub held_still : (g : Views) (k : Keys) (objects : Objects) (h : Holder) (v : Va
 held_still g k objects Nowhere v results t f f' o b n s = tt
 held_still g k objects (Word r) v results t f f' o b n s = o r b.0 n.0 ∙ s
 held_still g k objects (Pointer h) v results t f f' o b n s = (spells_still g k v h results t f f' o b n s.0, s.1)
+
+-- the registers of each holder lie below the scratch registers
+abbrev pub AreAllBelow : (scratch : ℕ) → List Holder → Type 0
+AreAllBelow t [] = Unit {0}
+AreAllBelow t (h ∷ hs) = AreBelow t (registers_of h) × AreAllBelow t hs
 
 -- no register is among none
 pub none_of_none : (xs : List ℕ) → AreNoneOf xs []

@@ -10,6 +10,7 @@ use Rattle.flat_meaning.specs.Memory.{Bytes, load}
 use Rattle.flat_meaning.specs.State.{State}
 use Rattle.flat_meaning.proofs.Stored.{load_kept}
 use Rattle.flat_routines.specs.Metadata.{View, IsObjectWord}
+use Rattle.flat_routines.proofs.Words.{zero_loaded}
 use Rattle.flat_objects.specs.StandsFor.{Views, IsLock, global_lock, spell, StandsFor}
 use Rattle.flat_objects.specs.Start.{start_keys, IsStart}
 use Rattle.flat_objects.proofs.Starts.{starts as start_stands}
@@ -27,10 +28,6 @@ read_at : (entry : View) (m : Bytes) (es : List StartEntry) (i : ℕ) → i < le
 read_at entry m [] i l h = absurd (omega arith)
 read_at entry m (e ∷ es) zero l h = h.0
 read_at entry m (e ∷ es) (suc i) l h = read_at entry m es i (omega arith) h.1
-
-no_bytes : (a : ℕ) → load 8 (λ b. 0) a ≡ 0
-unfolding load
-no_bytes a = refl
 
 -- a tag is none or not
 by_tag : (t : Tag) (P : Type 0) → (t ≡ Untagged → P) → (t ≢ Untagged → P) → P
@@ -70,7 +67,7 @@ module _ (map : MapSizes) (mapped : AreMapped map) (functions : ℕ) (types : �
       let lie = locks_laid_out map mapped in
       let own = own_lock map a lie is ne in
       let begins = own.begins in let ends = own.ends in let cells = lie.cells in let blocks = lie.blocks in
-      load_kept 8 (λ b. 0) m a (λ i l. spaces.locks.zeros (a + i) (omega arith) (omega arith)) ∙ no_bytes a
+      load_kept 8 (λ b. 0) m a (λ i l. spaces.locks.zeros (a + i) (omega arith) (omega arith)) ∙ zero_loaded a
 
   is_start : IsStart g objects m
   is_start = record {

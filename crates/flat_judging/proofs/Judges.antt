@@ -1,8 +1,8 @@
 -- The judgement in flat code is that of the objects.
 use Rattle.std.proofs.Common.{◌≡◌, ◌≢◌, ℕ, ◌+◌, ◌-◌, ◌%◌, ◌^◌, ◌<◌, ◌≤◌, ◌⊎◌, inl, inr, ⊎_elim, List, []}
-use Rattle.std.proofs.Common.{◌∷◌, true, false, ◌&&◌, if◌then◌else◌, refl, sym, ap, ◌∙◌, subst, arith}
+use Rattle.std.proofs.Common.{◌∷◌, ◌&&◌, if◌then◌else◌, refl, sym, ap, ◌∙◌, subst, arith}
 use Rattle.std.specs.Prelude.{nat_le}
-use Rattle.std.proofs.lemmas.Bool.{eqb-true, eqb-false, le-leb, lt-leb, and_from, and_left, and_right, cond-true}
+use Rattle.std.proofs.lemmas.Bool.{le-leb, lt-leb, and_from, and_left, and_right, cond-true}
 use Rattle.std.proofs.lemmas.Bool.{cond-false, cases_Bool}
 use Rattle.sb_base.specs.declared.ending.Ending.TheVariants.{Spatial, Temporal}
 use Rattle.sb_base.specs.Endings.{code_of, report_of}
@@ -11,7 +11,7 @@ use Rattle.addr_map.specs.Places.{spaces_begin, region_end}
 use Rattle.rv_isa.specs.declared.instruction.BranchOp.TheVariants.{Beq, Bgeu}
 use Rattle.rv_isa.specs.declared.instruction.RegOp.TheVariants.{Sub}
 use Rattle.rv_isa.specs.declared.instruction.LoadOp.TheVariants.{Ld}
-use Rattle.rv_isa.specs.Results.{reg_result, extended, branch_taken}
+use Rattle.rv_isa.specs.Results.{reg_result, extended}
 use Rattle.obj_memory.specs.declared.value.Tag.{Tag}
 use Rattle.obj_memory.specs.declared.value.Tag.TheVariants.{Untagged, OfFunction, OfObject}
 use Rattle.obj_memory.specs.declared.value.Place.{Place}
@@ -37,11 +37,11 @@ use Rattle.flat_routines.proofs.Rules.{branch, line_on, arrived, ended}
 use Rattle.flat_routines.proofs.Distinct.{AreRegisters, register_of, registers_rename, others_stay}
 use Rattle.flat_routines.proofs.Regions.{IsLaidOut, laid_out, shadow_not_shown}
 use Rattle.flat_routines.proofs.Wrapped.{routine_that_may_end}
+use Rattle.flat_routines.proofs.Branches.{if_not_below, if_below, if_equal, if_unequal}
 use Rattle.flat_objects.specs.StandsFor.{Views, Keys, spell, StandsFor, IsLock}
 use Rattle.shadow_space.proofs.Entries.{context_of, agrees_shows, agrees_memory}
 use Rattle.space_routines.proofs.Quiet.{space_allowed}
 use Rattle.lock_space.proofs.Spaces.{AreLocksLaidOut, locks_laid_out}
-use Rattle.heap_space.proofs.Regions.{if_not_below, if_below}
 use Rattle.flat_judging.specs.Judging.{IsToJudge, IsSameBut, IsJudged, IsJudgeRoutine, judge_code}
 
 -- the routine alone: 0 the address, 1 to 4 the tag, 5 the size, 6 scratch
@@ -67,14 +67,6 @@ data Failing (line : ℕ) (v : State) (status : ℕ) (report : List ℕ) : Type 
 
 abbrev Failed : ℕ → State → (status : ℕ) → (report : List ℕ) → State → Type 0
 Failed line v status report y = IsStill v y × Failing line v status report
-
-if_equal : (a b : ℕ) → branch_taken Beq a b ≡ true → a ≡ b
-unfolding branch_taken
-if_equal a b e = eqb-true a b e
-
-if_unequal : (a b : ℕ) → branch_taken Beq a b ≡ false → a ≢ b
-unfolding branch_taken
-if_unequal a b e = eqb-false a b e
 
 -- a lock word may be loaded
 record IsLockPlace (c : Context) (a : ℕ) : Type 0 where

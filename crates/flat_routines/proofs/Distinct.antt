@@ -48,6 +48,11 @@ abbrev pub AreFrom : (scratch : ℕ) → List ℕ → Type 0
 AreFrom t [] = Unit {0}
 AreFrom t (y ∷ ys) = (t ≤ y) × AreFrom t ys
 
+-- what lies below some register lies below each later one
+pub below_more : (t u : ℕ) (xs : List ℕ) → t ≤ u → AreBelow t xs → AreBelow u xs
+below_more t u [] le below = tt
+below_more t u (x ∷ xs) le below = let l = below.0 in (omega arith, below_more t u xs le below.1)
+
 none_from : (x t : ℕ) (ys : List ℕ) → x < t → AreFrom t ys → IsNoneOf x ys
 none_from x t [] l h = tt
 none_from x t (y ∷ ys) l h = (omega (arith, h.0), none_from x t ys l h.1)

@@ -8,3 +8,5 @@ pub mod Distinct
 pub mod Lifted
 pub mod Regions
 pub mod Words
+pub mod Branches
+pub mod Showing

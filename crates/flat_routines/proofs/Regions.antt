@@ -1,14 +1,15 @@
 -- How the spaces lie, in the form in which proofs of routines use it.
-use Rattle.std.proofs.Common.{◌≡◌, ℕ, ◌+◌, ◌*◌, ◌%◌, ◌≤◌, Bool, true, false, not, ◌&&◌, ◌||◌, if◌then◌else◌, List}
+use Rattle.std.proofs.Common.{◌≡◌, ℕ, ◌+◌, ◌*◌, ◌%◌, ◌≤◌, true, false, not, ◌&&◌, ◌||◌, if◌then◌else◌, List}
 use Rattle.std.proofs.Common.{[], ◌∷◌, ◌++◌}
 use Rattle.std.proofs.Common.{refl, ap, ◌∙◌, arith}
 use Rattle.std.specs.Prelude.{nat_le}
-use Rattle.std.proofs.lemmas.Bool.{le-leb, lt-leb}
+use Rattle.std.proofs.lemmas.Bool.{le-leb, lt-leb, and_from}
+use Rattle.std.proofs.Math.Bool.{and-false, or-true}
 use Rattle.behaviours.specs.Shown.{Access, AccessKind}
-use Rattle.addr_map.specs.declared.region.Region.TheVariants.{Heap, Shadow, Cells}
+use Rattle.addr_map.specs.declared.region.Region.TheVariants.{Heap, Shadow, Locks, Blocks, Cells, StructureValues}
 use Rattle.addr_map.specs.Places.{MapSizes, AreMapped, objects_begin, spaces_begin, region_size, region_start}
 use Rattle.addr_map.specs.Places.{region_end}
-use Rattle.flat_meaning.specs.Spaces.{is_of_objects, is_allowed}
+use Rattle.flat_meaning.specs.Spaces.{is_of_objects, is_of_runtime, is_allowed}
 use Rattle.flat_meaning.specs.Meaning.{Context}
 use Rattle.flat_routines.specs.Effects.{with_shown}
 
@@ -32,6 +33,25 @@ laid_out m h = record {
   cells = omega arith;
 }
 
+-- how the spaces of the runtime follow one another
+pub record DoSpacesFollow (m : MapSizes) : Type 0 where
+  pub shadow : region_start m Locks ≡ spaces_begin + region_size m Shadow
+  pub locks : region_start m Locks ≤ region_start m Blocks
+  pub table : region_start m Blocks + region_size m Blocks ≡ region_start m StructureValues
+
+pub spaces_follow : (m : MapSizes) → DoSpacesFollow m
+unfolding region_start
+spaces_follow m = record { shadow = refl; locks = omega arith; table = refl }
+
+-- an access of object space is allowed, at a place that is known by an equation
+pub object_allowed : (m : MapSizes) (a b n : ℕ) → a ≡ b → objects_begin ≤ b → b + n ≤ region_end m Heap
+    → is_allowed m a n ≡ true
+object_allowed m a b n e lo hi =
+    ap (λ x. is_allowed m x n) e
+    ∙ ap (λ x. x || is_of_runtime m b n)
+    (and_from (nat_le objects_begin b) (nat_le (b + n) (region_end m Heap)) (le-leb objects_begin b lo)
+    (le-leb (b + n) (region_end m Heap) hi))
+
 -- an access of the shadow space is allowed, and none of object space
 pub shadow_allowed : (m : MapSizes) (a n : ℕ) → IsLaidOut m → spaces_begin ≤ a
     → a + n ≤ spaces_begin + region_size m Shadow → is_allowed m a n ≡ true
@@ -41,11 +61,7 @@ shadow_allowed m a n ok lo hi =
     let two : nat_le (a + n) (region_end m Cells) ≡ true = le-leb (a + n) (region_end m Cells) (omega arith) in
     ap (λ b. is_of_objects m a n || (b && nat_le (a + n) (region_end m Cells))) one
     ∙ ap (λ b. is_of_objects m a n || b) two
-    ∙ or_true (is_of_objects m a n)
-  where
-    or_true : (b : Bool) → b || true ≡ true
-    or_true true = refl
-    or_true false = refl
+    ∙ or-true (is_of_objects m a n)
 
 pub shadow_not_shown : (c : Context) (a n : ℕ) (kind : AccessKind) (accesses : List Access) → IsLaidOut c.sizes
     → spaces_begin ≤ a → with_shown c a n kind accesses ≡ accesses
@@ -54,11 +70,7 @@ shadow_not_shown c a n kind accesses ok lo =
     let beyond : nat_le (a + n) (region_end c.sizes Heap) ≡ false =
     lt-leb (a + n) (region_end c.sizes Heap) (omega arith) in
     let none : is_of_objects c.sizes a n ≡ false =
-    ap (λ b. nat_le objects_begin a && b) beyond ∙ and_false (nat_le objects_begin a) in
+    ap (λ b. nat_le objects_begin a && b) beyond ∙ and-false (nat_le objects_begin a) in
     let off : (not c.is_runtime && is_of_objects c.sizes a n) ≡ false =
-    ap (λ b. not c.is_runtime && b) none ∙ and_false (not c.is_runtime) in
+    ap (λ b. not c.is_runtime && b) none ∙ and-false (not c.is_runtime) in
     ap (λ b. if b then accesses ++ record { address = a; size = n; kind = kind } ∷ [] else accesses) off
-  where
-    and_false : (b : Bool) → b && false ≡ false
-    and_false true = refl
-    and_false false = refl

@@ -1,8 +1,9 @@
--- Four words one after another in memory: an entry.
-use Rattle.std.proofs.Common.{◌≡◌, ℕ, ◌+◌, ◌^◌, ◌<◌, ◌≤◌, inl, inr, ⊎_elim, ap, ◌∙◌, subst, arith}
+-- Loads, and four words one after another in memory: an entry.
+use Rattle.std.proofs.Common.{◌≡◌, ℕ, ◌+◌, ◌^◌, ◌<◌, ◌≤◌, inl, inr, ⊎_elim, refl, ap, ◌∙◌, subst, arith}
+use Rattle.addr_map.specs.Places.{MapSizes}
 use Rattle.flat_meaning.specs.Memory.{Bytes, load, store, Keeps, KeepsBut}
 use Rattle.flat_meaning.proofs.Stored.{load_stored, load_beside, store_beside, load_kept}
-use Rattle.flat_routines.specs.Metadata.{Metadata, metadata_at}
+use Rattle.flat_routines.specs.Metadata.{Metadata, metadata_at, View, IsObjectWord, KeepsShadow}
 
 -- the four words are stored from an address on
 abbrev pub store_four : Bytes → ℕ → Metadata → Bytes
@@ -67,3 +68,23 @@ loaded_at m p a b c d e0 e1 e2 e3 =
 pub stored_at : (m : Bytes) (p a b c d : ℕ) (e : Metadata) → a ≡ p → b ≡ p + 8 → c ≡ p + 16 → d ≡ p + 24
     → store 8 (store 8 (store 8 (store 8 m a e.base) b e.bound) c e.key) d e.lock ≡ store_four m p e
 stored_at m p a b c d e e0 e1 e2 e3 = cc
+
+-- ---- a form of the shadow space
+
+-- its entries, and whether it is good, depend on the bytes of the shadow space alone
+abbrev pub IsLocal : MapSizes → View → (Bytes → Type 0) → Type 0
+IsLocal map entry IsGood =
+    (m m' : Bytes) → KeepsShadow map m m' → IsGood m
+    → IsGood m' × ((a : ℕ) → IsObjectWord map a → entry m' a ≡ entry m a)
+
+-- ---- loads
+
+-- a byte that is loaded is the one at its place
+pub byte_loaded : (m : Bytes) (a : ℕ) → load 1 m a ≡ m a
+unfolding load
+byte_loaded m a = omega arith
+
+-- a word is zero in a memory of zeros
+pub zero_loaded : (a : ℕ) → load 8 (λ b. 0) a ≡ 0
+unfolding load
+zero_loaded a = refl

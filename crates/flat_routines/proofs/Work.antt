@@ -1,9 +1,9 @@
 -- How much work a run within a function does at most.
 use Rattle.std.proofs.Common.{◌≡◌, ℕ, zero, suc, ◌+◌, ◌-◌, ◌*◌, ◌≤◌, List, Bool, true, false, Option, Some, None}
-use Rattle.std.proofs.Common.{length, subst, ap, ◌∙◌}
+use Rattle.std.proofs.Common.{length, subst}
 use Rattle.std.proofs.Common.{arith, refl, not, ◌&&◌, if◌then◌else◌, [], ◌∷◌, ◌++◌}
 use Rattle.std.specs.Prelude.{slice_get}
-use Rattle.std.proofs.Math.Nat.{suc-mul, mul_comm}
+use Rattle.std.proofs.Math.Nat.{mul_comm, mul-add}
 use Rattle.sb_base.specs.Endings.{report_of}
 use Rattle.behaviours.specs.Shown.{AccessKind, Read, Write}
 use Rattle.rv_isa.specs.Results.{load_bytes, extended, store_bytes}
@@ -28,25 +28,10 @@ AtMost w k n (Ends status report s) = s.work ≤ k + w * (n + length report)
 AtMost w k n Leaves = Unit {0}
 AtMost w k n Fails = Unit {0}
 
-spread : (w a b : ℕ) → w * (a + b) ≡ w * a + w * b
-spread w zero b =
-    let e : w * 0 ≡ 0 * w = mul_comm w 0 in
-    let f : 0 + b ≡ b = omega arith in
-    ap (λ q. w * q) f ∙ omega arith
-spread w (suc a) b =
-    let r = spread w a b in
-    let f : suc a + b ≡ suc (a + b) = omega arith in
-    let e = suc_left w (a + b) in
-    let g = suc_left w a in
-    ap (λ q. w * q) f ∙ omega arith
-  where
-    suc_left : (w a : ℕ) → w * suc a ≡ w + w * a
-    suc_left w a = mul_comm w (suc a) ∙ suc-mul a w ∙ ap (λ q. q + w) (mul_comm a w) ∙ omega arith
-
 module _ (c : Context) (k n : ℕ) where
   keeps : (s s' : State) → s.work ≤ k + c.weight * n → s'.work ≤ s.work + 2 * c.weight
       → s'.work ≤ k + c.weight * (n + 2)
-  keeps s s' h le = let e = spread c.weight n 2 in let f = mul_comm c.weight 2 in omega arith
+  keeps s s' h le = let e = mul-add c.weight n 2 in let f = mul_comm c.weight 2 in omega arith
 
   access_work : (a size : ℕ) (kind : AccessKind) (s : State) → (with_access c a size kind s).work ≡ s.work
   access_work a size kind s = by (not c.is_runtime && is_of_objects c.sizes a size)
@@ -102,9 +87,9 @@ module _ (c : Context) (k n : ℕ) where
       subst (λ q. s.work + c.weight ≤ k + c.weight * q) e (keeps s (counted c (Exit x) s) h (omega arith))
   one (End e) pc s h =
       let b = length (report_of e) in
-      let d = spread c.weight n (2 + b) in
-      let f = spread c.weight 2 b in
-      let g = spread c.weight 1 b in
+      let d = mul-add c.weight n (2 + b) in
+      let f = mul-add c.weight 2 b in
+      let g = mul-add c.weight 1 b in
       let i = mul_comm c.weight 2 in
       let j : n + (2 + b) ≡ n + 2 + b = omega arith in
       subst (λ q. s.work + c.weight * (1 + b) ≤ k + c.weight * q) j (omega (arith, mul_comm c.weight 1))
@@ -118,7 +103,7 @@ module _ (c : Context) (k n : ℕ) where
       by None = tt
       by (Some i) = one i pc s h
   step_most code (Ends status report s) h =
-      let e = spread c.weight (n + length report) 2 in
+      let e = mul-add c.weight (n + length report) 2 in
       let f : n + length report + 2 ≡ n + 2 + length report = omega arith in
       subst (λ q. s.work ≤ k + c.weight * q) f (omega arith)
   step_most code Leaves h = tt
@@ -160,5 +145,5 @@ reaches_within c code b pc s place Q t =
     let within = t.within in
     let whole : n + more ≡ 2 * b + report_length t.outcome = omega arith in
     let w = work_within c code t.steps pc s place t.outcome t.comes in
-    let e = spread c.weight n more in
+    let e = mul-add c.weight n more in
     subst (λ q. work_of t.outcome ≤ s.work + c.weight * q) whole (omega arith)

@@ -26,6 +26,7 @@ use Rattle.flat_routines.proofs.Steps.{has_front, has_back, has_self}
 use Rattle.flat_routines.proofs.Distinct.{AreRegisters, register_of, registers_rename, others_stay}
 use Rattle.flat_routines.proofs.Regions.{IsLaidOut, laid_out}
 use Rattle.flat_routines.proofs.Wrapped.{routine}
+use Rattle.flat_routines.proofs.Branches.{not_below, is_below, if_differ, if_same}
 use Rattle.flat_objects.specs.StandsFor.{BlockRow}
 use Rattle.shadow_space.proofs.Entries.{context_of, agrees_shows, agrees_memory}
 use Rattle.space_routines.specs.Quiet.{AreQuiet}
@@ -35,7 +36,7 @@ use Rattle.space_routines.proofs.Rules.{quiet_branch, quiet_loop, quiet_weaken}
 use Rattle.heap_space.specs.Rows.{size_of}
 use Rattle.heap_space.specs.Table.{total_cell, row_cell, row_at, rows_from, block_rows}
 use Rattle.heap_space.specs.Routines.{IsFound, HasFound, HasBlocks, IsFindRoutine, begin_rows, look_at, find_code}
-use Rattle.heap_space.proofs.Regions.{IsTableLaidOut, table_laid_out, not_below, is_below, if_differ, if_same}
+use Rattle.heap_space.proofs.Regions.{IsTableLaidOut, table_laid_out}
 
 -- ---- the first match
 

@@ -1,10 +1,10 @@
 -- A row is inserted: those behind it are moved up by one.
-use Rattle.std.proofs.Common.{◌≡◌, ◌≢◌, ℕ, zero, suc, ◌+◌, ◌-◌, ◌*◌, ◌%◌, ◌^◌, ◌<◌, ◌≤◌, ◌⊎◌, inl, inr, ⊎_elim, List}
-use Rattle.std.proofs.Common.{[], ◌∷◌, true, false, refl, sym, ap, ◌∙◌, subst, arith}
-use Rattle.std.proofs.lemmas.Bool.{cases_lt, eq-eqb, ne_eqb}
+use Rattle.std.proofs.Common.{◌≡◌, ℕ, zero, suc, ◌+◌, ◌-◌, ◌*◌, ◌%◌, ◌^◌, ◌<◌, ◌≤◌, ◌⊎◌, inl, inr, ⊎_elim, List}
+use Rattle.std.proofs.Common.{[], ◌∷◌, refl, sym, ap, ◌∙◌, subst, arith}
+use Rattle.std.proofs.lemmas.Bool.{cases_lt}
 use Rattle.addr_map.specs.Places.{MapSizes}
 use Rattle.rv_isa.specs.declared.instruction.BranchOp.TheVariants.{Beq}
-use Rattle.rv_isa.specs.Results.{reg_result, extended, branch_taken}
+use Rattle.rv_isa.specs.Results.{reg_result, extended}
 use Rattle.flat_meaning.specs.declared.instruction.RightOperand.TheVariants.{Register}
 use Rattle.flat_meaning.specs.declared.instruction.FlatInstruction.{FlatInstruction}
 use Rattle.flat_meaning.specs.declared.instruction.FlatInstruction.TheVariants.{JumpBack}
@@ -19,6 +19,7 @@ use Rattle.flat_routines.specs.Metadata.{metadata_at, ShowsNothing}
 use Rattle.flat_routines.proofs.Steps.{has_front}
 use Rattle.flat_routines.proofs.Regions.{IsLaidOut}
 use Rattle.flat_routines.proofs.Words.{store_four, IsOfFourWords, four_read, four_beside, metadata_kept}
+use Rattle.flat_routines.proofs.Branches.{are_equal, are_not_equal}
 use Rattle.space_routines.specs.Quiet.{AreQuiet}
 use Rattle.space_routines.proofs.Quiet.{in_spaces}
 use Rattle.space_routines.proofs.Rules.{ReachesQuietly, QuietTurn, quiet_end, quiet_loop}
@@ -128,14 +129,6 @@ pub record HasMoved (c : Context) (m : Bytes) (size key place i end total : ℕ)
   pub carries : Carries c size key place i end values
   pub moved : AreMovedUp c.sizes i total m m'
 
-pub equal_taken : (a b : ℕ) → a ≡ b → branch_taken Beq a b ≡ true
-unfolding branch_taken
-equal_taken a b e = eq-eqb a b e
-
-pub differ_not_taken : (a b : ℕ) → a ≢ b → branch_taken Beq a b ≡ false
-unfolding branch_taken
-differ_not_taken a b ne = ne_eqb a b ne
-
 module _ (c : Context) (ok : IsLaidOut c.sizes) (lie : IsTableLaidOut c.sizes) (start : State) (m : Bytes)
     (size key place i end total : ℕ) (few : total < c.sizes.budgets.blocks) where
   abbrev I : ℕ → Values → Bytes → Type 0
@@ -210,13 +203,13 @@ module _ (c : Context) (ok : IsLaidOut c.sizes) (lie : IsTableLaidOut c.sizes) (
       let f = h.from in let cu = h.carries.cursor in
       let none : i + 0 ≡ i = omega arith in
       inr (
-        equal_taken (v.values 7) (v.values 6) (omega arith),
+        are_equal (v.values 7) (v.values 6) (omega arith),
         record { carries = h.carries; moved = subst (λ j. AreMovedUp c.sizes j total m v.memory) none h.so_far },
       )
   each (suc k) v w shown h has whole =
       let f = h.from in let cu = h.carries.cursor in
       inl (
-        differ_not_taken (v.values 7) (v.values 6) (λ e. omega arith),
+        are_not_equal (v.values 7) (v.values 6) (λ e. omega arith),
         k,
         refl,
         λ s1. quiet_end c ok (alone c.sizes) start move_body 29 (worked c v)

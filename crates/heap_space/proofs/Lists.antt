@@ -1,9 +1,10 @@
 -- Rows as lists: gaps, insertion, and rows in memory.
 use Rattle.std.proofs.Common.{◌≡◌, ℕ, zero, suc, ◌+◌, ◌*◌, ◌%◌, ◌<◌, ◌≤◌, ⊎_elim, List, [], ◌∷◌}
-use Rattle.std.proofs.Common.{◌++◌, Bool, true, false, ◌&&◌, Some, None, if◌then◌else◌, length, refl, sym, ap}
+use Rattle.std.proofs.Common.{◌++◌, ◌&&◌, Some, None, if◌then◌else◌, length, refl, sym, ap}
 use Rattle.std.proofs.Common.{◌∙◌, subst, arith, append_assoc}
 use Rattle.std.specs.Prelude.{nat_lt, nat_le}
 use Rattle.std.proofs.lemmas.Bool.{cases_lt, cond-true, cond-false, lt-ltb, le-ltb, le-leb, lt-leb}
+use Rattle.std.proofs.Math.Bool.{and-false}
 use Rattle.obj_memory.specs.Heap.{block_room}
 use Rattle.flat_meaning.specs.Memory.{Bytes, load}
 use Rattle.flat_routines.specs.Metadata.{Metadata, metadata_at}
@@ -77,11 +78,7 @@ too_high low high blocks size rows l =
     ap (λ b. if nat_lt (length rows) blocks && b then Some (first_gap low (block_room size) rows) else None)
     (lt-leb (first_gap low (block_room size) rows + block_room size) high l)
     ∙ ap (λ b. if b then Some (first_gap low (block_room size) rows) else None)
-    (and_false (nat_lt (length rows) blocks))
-  where
-    and_false : (b : Bool) → b && false ≡ false
-    and_false true = refl
-    and_false false = refl
+    (and-false (nat_lt (length rows) blocks))
 
 pub has_place : (low high blocks size : ℕ) (rows : List BlockRow) → length rows < blocks
     → first_gap low (block_room size) rows + block_room size ≤ high

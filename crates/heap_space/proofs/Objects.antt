@@ -13,8 +13,8 @@ use Rattle.heap_space.specs.Rows.{row_end, AreInOrder, first_gap, row_place}
 use Rattle.heap_space.proofs.Lists.{gap_here, gap_behind, gap_most, gap_aligned, too_many, too_high, has_place}
 use Rattle.heap_space.proofs.Counting.{live_block, block_parts, rows_counted}
 
--- the rows behind an address
-starts_above : (low high : ℕ) (rows : List BlockRow) → AreInOrder low high rows → (i : ℕ) → i < length rows
+-- rows in order start behind their first address
+pub starts_above : (low high : ℕ) (rows : List BlockRow) → AreInOrder low high rows → (i : ℕ) → i < length rows
     → low ≤ (get_or rows i no_row).start
 starts_above low high [] h i l = absurd (omega arith)
 starts_above low high (r ∷ rs) h zero l = h.0

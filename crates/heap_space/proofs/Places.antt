@@ -26,6 +26,7 @@ use Rattle.flat_routines.proofs.Distinct.{AreFrom, AreRegisters, register_of, re
 use Rattle.flat_routines.proofs.Regions.{IsLaidOut, laid_out}
 use Rattle.flat_routines.proofs.Words.{store_four, IsOfFourWords, same_metadata, stored_at, four_beside}
 use Rattle.flat_routines.proofs.Wrapped.{routine}
+use Rattle.flat_routines.proofs.Branches.{if_not_below, if_below, if_less, if_not_less}
 use Rattle.shadow_space.proofs.Entries.{context_of, agrees_shows, agrees_memory}
 use Rattle.space_routines.specs.Quiet.{AreQuiet}
 use Rattle.space_routines.proofs.Quiet.{in_spaces, shows_itself, quiet_words, worked_words}
@@ -35,8 +36,7 @@ use Rattle.heap_space.specs.Rows.{AreInOrder, first_gap}
 use Rattle.heap_space.specs.Table.{total_cell, row_cell, block_total, block_rows, IsTableGood}
 use Rattle.heap_space.specs.Routines.{HasPlaced, HasBlocks, IsPlaceRoutine, round_size}
 use Rattle.heap_space.specs.Routines.{write_row, insert_code, seek_code, count_code, place_code}
-use Rattle.heap_space.proofs.Regions.{IsTableLaidOut, table_laid_out, last_of_heap, if_less, if_not_less, if_below}
-use Rattle.heap_space.proofs.Regions.{if_not_below}
+use Rattle.heap_space.proofs.Regions.{IsTableLaidOut, table_laid_out, last_of_heap}
 use Rattle.heap_space.proofs.Lists.{gap_most, gap_in_heap, too_many, too_high, rows_length}
 use Rattle.heap_space.proofs.Seeking.{alone, seek_body, Found, seeks}
 use Rattle.heap_space.proofs.Inserting.{move_body, Carries, HasMoved, moves}

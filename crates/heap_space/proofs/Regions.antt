@@ -1,12 +1,8 @@
 -- How the table of live blocks and the heap lie.
-use Rattle.std.proofs.Common.{◌≡◌, ℕ, ◌+◌, ◌*◌, ◌%◌, ◌^◌, ◌<◌, ◌≤◌, Bool, true, false, not, ap, arith}
-use Rattle.std.specs.Prelude.{◌==◌, nat_lt}
-use Rattle.std.proofs.lemmas.Bool.{lt-ltb, le-ltb, ltb-true, ltb-false}
+use Rattle.std.proofs.Common.{◌≡◌, ◌+◌, ◌*◌, ◌%◌, ◌^◌, ◌<◌, ◌≤◌, arith}
 use Rattle.addr_map.specs.declared.region.Region.TheVariants.{Heap, Blocks, Cells}
 use Rattle.addr_map.specs.Places.{MapSizes, AreMapped, objects_begin, spaces_begin, region_size, region_start}
 use Rattle.addr_map.specs.Places.{region_last, region_end}
-use Rattle.rv_isa.specs.declared.instruction.BranchOp.TheVariants.{Bne, Bltu, Bgeu}
-use Rattle.rv_isa.specs.Results.{branch_taken}
 
 pub record IsTableLaidOut (s : MapSizes) : Type 0 where
   pub first : spaces_begin ≤ region_start s Blocks
@@ -41,44 +37,6 @@ table_laid_out s h = record {
   some_block = h.budgets.some_block;
   few = h.budgets.blocks;
 }
-
--- ---- branches by their operands
-
-pub not_below : (a b : ℕ) → b ≤ a → branch_taken Bgeu a b ≡ true
-unfolding branch_taken
-not_below a b l = ap not (le-ltb a b l)
-
-pub is_below : (a b : ℕ) → a < b → branch_taken Bgeu a b ≡ false
-unfolding branch_taken
-is_below a b l = ap not (lt-ltb a b l)
-
-turned : (b c : Bool) → not b ≡ c → b ≡ not c
-turned true c e = ap not e
-turned false c e = ap not e
-
-pub if_not_below : (a b : ℕ) → branch_taken Bgeu a b ≡ true → b ≤ a
-unfolding branch_taken
-if_not_below a b e = ltb-false a b (turned (nat_lt a b) true e)
-
-pub if_below : (a b : ℕ) → branch_taken Bgeu a b ≡ false → a < b
-unfolding branch_taken
-if_below a b e = ltb-true a b (turned (nat_lt a b) false e)
-
-pub if_differ : (a b : ℕ) → branch_taken Bne a b ≡ true → (a == b) ≡ false
-unfolding branch_taken
-if_differ a b e = turned (a == b) true e
-
-pub if_same : (a b : ℕ) → branch_taken Bne a b ≡ false → (a == b) ≡ true
-unfolding branch_taken
-if_same a b e = turned (a == b) false e
-
-pub if_less : (a b : ℕ) → branch_taken Bltu a b ≡ true → a < b
-unfolding branch_taken
-if_less a b e = ltb-true a b e
-
-pub if_not_less : (a b : ℕ) → branch_taken Bltu a b ≡ false → b ≤ a
-unfolding branch_taken
-if_not_less a b e = ltb-false a b e
 
 -- the last address of the heap
 pub last_of_heap : (s : MapSizes) → IsTableLaidOut s → region_last s Heap + 1 ≡ region_end s Heap

@@ -28,6 +28,7 @@ use Rattle.flat_routines.proofs.Distinct.{AreRegisters, register_of, registers_r
 use Rattle.flat_routines.proofs.Regions.{IsLaidOut, laid_out}
 use Rattle.flat_routines.proofs.Words.{store_four, four_read, four_beside, metadata_kept}
 use Rattle.flat_routines.proofs.Wrapped.{routine}
+use Rattle.flat_routines.proofs.Branches.{are_equal, are_not_equal}
 use Rattle.flat_objects.specs.StandsFor.{BlockRow}
 use Rattle.shadow_space.proofs.Entries.{context_of, agrees_shows, agrees_memory}
 use Rattle.space_routines.specs.Quiet.{AreQuiet}
@@ -41,14 +42,14 @@ use Rattle.heap_space.specs.Routines.{HasRemoved, HasBlocks, IsReleaseRoutine, b
 use Rattle.heap_space.specs.Routines.{release_code}
 use Rattle.heap_space.proofs.Regions.{IsTableLaidOut, table_laid_out}
 use Rattle.heap_space.proofs.Lists.{rows_same, rows_append, rows_onward, end_same}
-use Rattle.heap_space.proofs.Inserting.{same_four, words_at, equal_taken, differ_not_taken}
+use Rattle.heap_space.proofs.Inserting.{same_four, words_at}
 
 -- ---- rows without one
 
-removed_here : (a : ℕ) (r : BlockRow) (rs : List BlockRow) → r.start ≡ a → without_row a (r ∷ rs) ≡ rs
+pub removed_here : (a : ℕ) (r : BlockRow) (rs : List BlockRow) → r.start ≡ a → without_row a (r ∷ rs) ≡ rs
 removed_here a r rs e = cond-true _ rs (r ∷ without_row a rs) (eq-eqb r.start a e)
 
-removed_behind : (a : ℕ) (r : BlockRow) (rs : List BlockRow) → r.start ≢ a
+pub removed_behind : (a : ℕ) (r : BlockRow) (rs : List BlockRow) → r.start ≢ a
     → without_row a (r ∷ rs) ≡ r ∷ without_row a rs
 removed_behind a r rs ne = cond-false _ rs (r ∷ without_row a rs) (ne_eqb r.start a ne)
 
@@ -207,9 +208,9 @@ module _ (c : Context) (ok : IsLaidOut c.sizes) (lie : IsTableLaidOut c.sizes) (
       → QuietTurn c ok (alone c.sizes) start 7 Beq 3 (Register 0) seek_body 2 (Seeking c m a) (FoundRow c m a) has k v
   seek_each zero v shown h has whole = absurd h.has
   seek_each (suc k) v shown h has whole = ⊎_elim
-      (λ e. inr (equal_taken (v.values 3) (v.values 0) e, found_row k v.values v.memory h e))
+      (λ e. inr (are_equal (v.values 3) (v.values 0) e, found_row k v.values v.memory h e))
       (λ ne. inl (
-        differ_not_taken (v.values 3) (v.values 0) ne,
+        are_not_equal (v.values 3) (v.values 0) ne,
         k,
         refl,
         λ s1. seek_turn k (worked c v) s1 h ne has,
@@ -318,13 +319,13 @@ module _ (c : Context) (ok : IsLaidOut c.sizes) (lie : IsTableLaidOut c.sizes) (
       let cursor = h.cursor in let last = h.last in let count = h.count in
       let all : h.done ≡ left = omega arith in
       inr (
-        equal_taken (v.values 1) (v.values 2) (omega arith),
+        are_equal (v.values 1) (v.values 2) (omega arith),
         subst (λ d. AreMovedDown c.sizes i d m v.memory) all h.so_far,
       )
   down_each (suc k) v w shown h has whole =
       let cursor = h.cursor in let last = h.last in let count = h.count in
       inl (
-        differ_not_taken (v.values 1) (v.values 2) (λ e. omega arith),
+        are_not_equal (v.values 1) (v.values 2) (λ e. omega arith),
         k,
         refl,
         λ s1. quiet_end c ok (alone c.sizes) start move_body 12 (worked c v)

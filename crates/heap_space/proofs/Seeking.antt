@@ -19,6 +19,7 @@ use Rattle.flat_routines.specs.Effects.{worked, effects}
 use Rattle.flat_routines.specs.Metadata.{ShowsNothing}
 use Rattle.flat_routines.proofs.Steps.{has_front}
 use Rattle.flat_routines.proofs.Regions.{IsLaidOut}
+use Rattle.flat_routines.proofs.Branches.{not_below, is_below, if_not_below, if_below}
 use Rattle.flat_objects.specs.StandsFor.{BlockRow}
 use Rattle.space_routines.proofs.Quiet.{in_spaces}
 use Rattle.space_routines.proofs.Rules.{ReachesQuietly, QuietTurn, quiet_line, quiet_end, quiet_branch, quiet_jump}
@@ -26,7 +27,7 @@ use Rattle.space_routines.proofs.Rules.{quiet_loop, quiet_weaken, quiet_arrived}
 use Rattle.heap_space.specs.Rows.{row_end, AreInOrder, with_row, first_gap}
 use Rattle.heap_space.specs.Table.{row_cell, block_total, row_at, rows_from, block_rows, IsTableGood}
 use Rattle.heap_space.specs.Routines.{seek_one, place_code}
-use Rattle.heap_space.proofs.Regions.{IsTableLaidOut, not_below, is_below, if_not_below, if_below}
+use Rattle.heap_space.proofs.Regions.{IsTableLaidOut}
 use Rattle.heap_space.proofs.Lists.{gap_here, gap_behind, gap_most, row_first, row_behind, rows_onward}
 
 -- the routine alone: 0 the size, 1 the key, 2 the result, 3 the last address of the heap, 4 the room, 5 the place, 6

@@ -10,6 +10,7 @@ use Rattle.flat_routines.specs.Routine.{Does, Outcome, Continues}
 use Rattle.flat_routines.specs.Effects.{effects, AreAllowed}
 use Rattle.flat_routines.specs.Metadata.{ShowsNothing}
 use Rattle.flat_routines.proofs.Straight.{run_straight}
+use Rattle.flat_routines.proofs.Showing.{shows_both}
 use Rattle.integer_operators.specs.Results.{HasResult, IsUnchanged, Anywhere}
 
 -- one register and the work so far are set, and all else is as before
@@ -18,15 +19,6 @@ with_set d v w s = record s { values = put s.values d v; work = w }
 
 shows_same : (d v w : ℕ) (s : State) → ShowsNothing s (with_set d v w s)
 shows_same d v w s = record { input = refl; output = refl; taken = refl; accesses = refl; turns = refl }
-
-both_show : (s s1 s2 : State) → ShowsNothing s s1 → ShowsNothing s1 s2 → ShowsNothing s s2
-both_show s s1 s2 a b = record {
-  input = b.input ∙ a.input;
-  output = b.output ∙ a.output;
-  taken = b.taken ∙ a.taken;
-  accesses = b.accesses ∙ a.accesses;
-  turns = b.turns ∙ a.turns;
-}
 
 module _ (n : ℕ) where
   pub one_set : (d v w : ℕ) (s : State) → HasResult d v n s (with_set d v w s)
@@ -49,7 +41,7 @@ module _ (n : ℕ) where
     result = b.result;
     others = λ x low ne. b.others x low ne ∙ a.others x low ne;
     memory = b.memory ∙ a.memory;
-    shows = both_show s s1 s2 a.shows b.shows;
+    shows = shows_both s s1 s2 a.shows b.shows;
   }
 
   pub set_behind : (d v : ℕ) (s s1 s2 : State) → IsUnchanged n s s1 → HasResult d v n s1 s2 → HasResult d v n s s2
@@ -57,7 +49,7 @@ module _ (n : ℕ) where
     result = b.result;
     others = λ x low ne. b.others x low ne ∙ a.registers x low;
     memory = b.memory ∙ a.memory;
-    shows = both_show s s1 s2 a.shows b.shows;
+    shows = shows_both s s1 s2 a.shows b.shows;
   }
 
   pub is_value : (d u v : ℕ) (s s' : State) → u ≡ v → HasResult d u n s s' → HasResult d v n s s'

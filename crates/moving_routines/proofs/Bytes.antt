@@ -1,17 +1,13 @@
 -- Bytes of object space moved.
-use Rattle.std.proofs.Common.{◌≡◌, ◌≢◌, ℕ, ◌+◌, ◌*◌, ◌%◌, ◌^◌, ◌<◌, ◌≤◌, List, [], ◌∷◌, true, refl, sym, ap}
+use Rattle.std.proofs.Common.{◌≡◌, ◌≢◌, ℕ, ◌+◌, ◌*◌, ◌%◌, ◌^◌, ◌<◌, List, [], ◌∷◌, true, refl, sym, ap}
 use Rattle.std.proofs.Common.{◌∙◌, subst, arith, ⊎_elim}
-use Rattle.std.specs.Prelude.{nat_le, ◌||◌}
-use Rattle.std.proofs.lemmas.Bool.{le-leb, and_from}
-use Rattle.addr_map.specs.declared.region.Region.TheVariants.{Heap}
-use Rattle.addr_map.specs.Places.{MapSizes, objects_begin, region_end}
+use Rattle.addr_map.specs.Places.{MapSizes}
 use Rattle.rv_isa.specs.declared.instruction.LoadOp.TheVariants.{Lbu}
 use Rattle.rv_isa.specs.declared.instruction.StoreOp.TheVariants.{Sb}
 use Rattle.rv_isa.specs.Results.{extended}
 use Rattle.flat_meaning.specs.declared.instruction.FlatInstruction.{FlatInstruction}
 use Rattle.flat_meaning.specs.declared.instruction.FlatInstruction.TheVariants.{Load, Store}
 use Rattle.flat_meaning.specs.Memory.{Bytes, put, load, store}
-use Rattle.flat_meaning.specs.Spaces.{is_of_runtime, is_allowed}
 use Rattle.flat_meaning.specs.State.{State}
 use Rattle.flat_meaning.specs.Words.{IsOfWords}
 use Rattle.flat_meaning.specs.Meaning.{Context}
@@ -20,8 +16,9 @@ use Rattle.flat_routines.specs.Registers.{AreBelow}
 use Rattle.flat_routines.specs.Routine.{Does, Either, Never}
 use Rattle.flat_routines.specs.Renaming.{through}
 use Rattle.flat_routines.specs.Effects.{AreAllowed}
-use Rattle.flat_routines.proofs.Regions.{IsLaidOut}
-use Rattle.space_routines.proofs.Quiet.{shows_both}
+use Rattle.flat_routines.proofs.Regions.{IsLaidOut, object_allowed}
+use Rattle.flat_routines.proofs.Showing.{shows_both}
+use Rattle.flat_routines.proofs.Words.{byte_loaded}
 use Rattle.flat_actions.specs.Ranges.{IsObjectRange, IsToMove, HasMovedBytes, IsByteMoveRoutine}
 use Rattle.flat_actions.proofs.Standing.{others_trans}
 use Rattle.moving_routines.specs.Copying.{OneByte, Cells, AreCells, HasCopied, IsToCopy, CopiesOne, move_cells}
@@ -34,17 +31,7 @@ use Rattle.moving_routines.proofs.Cells.{cells_move}
 abbrev pub in_runtime : MapSizes → (charge weight : ℕ) → Context
 in_runtime map charge weight = record { sizes = map; is_runtime = true; charge = charge; weight = weight }
 
--- ---- accesses of object space
-
-pub object_allowed : (map : MapSizes) (a b n : ℕ) → a ≡ b → objects_begin ≤ b → b + n ≤ region_end map Heap
-    → is_allowed map a n ≡ true
-object_allowed map a b n e lo hi =
-    ap (λ x. is_allowed map x n) e
-    ∙ ap (λ x. x || is_of_runtime map b n)
-    (and_from (nat_le objects_begin b) (nat_le (b + n) (region_end map Heap)) (le-leb objects_begin b lo)
-    (le-leb (b + n) (region_end map Heap) hi))
-
--- a byte stored and loaded
+-- a byte stored
 pub byte_stored : (m : Bytes) (a v : ℕ) → store 1 m a v a ≡ v % 256
 unfolding store
 byte_stored m a v = put_same m a (v % 256)
@@ -52,10 +39,6 @@ byte_stored m a v = put_same m a (v % 256)
 pub byte_beside : (m : Bytes) (a v b : ℕ) → b ≢ a → store 1 m a v b ≡ m b
 unfolding store
 byte_beside m a v b ne = put_other m a (v % 256) b ne
-
-pub byte_loaded : (m : Bytes) (a : ℕ) → load 1 m a ≡ m a
-unfolding load
-byte_loaded m a = omega arith
 
 -- ---- one byte
 

@@ -19,8 +19,8 @@ use Rattle.flat_routines.proofs.Steps.{has_self}
 use Rattle.flat_routines.proofs.Rules.{branch, line_on, arrived}
 use Rattle.flat_routines.proofs.Distinct.{registers_rename, others_stay}
 use Rattle.flat_routines.proofs.Wrapped.{routine}
+use Rattle.flat_routines.proofs.Branches.{if_not_below, if_below}
 use Rattle.shadow_space.proofs.Entries.{agrees_shows, agrees_memory}
-use Rattle.heap_space.proofs.Regions.{if_not_below, if_below}
 use Rattle.moving_routines.specs.Copying.{CellSize, OneByte, OneWord, unit_of, shift_of, Cells, AreCells, CopiesOne}
 use Rattle.moving_routines.specs.Copying.{turn_round, choose_order, copy_loop, move_cells, AreRanges, IsToMoveCells}
 use Rattle.moving_routines.specs.Copying.{HasMovedCells}

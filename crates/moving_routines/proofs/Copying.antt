@@ -15,8 +15,8 @@ use Rattle.flat_routines.specs.Registers.{OthersStay}
 use Rattle.flat_routines.specs.Routine.{Does, Either, Never}
 use Rattle.flat_routines.specs.Effects.{worked}
 use Rattle.flat_routines.specs.Metadata.{ShowsNothing}
-use Rattle.space_routines.proofs.Quiet.{shows_both}
-use Rattle.heap_space.proofs.Inserting.{equal_taken, differ_not_taken}
+use Rattle.flat_routines.proofs.Branches.{are_equal, are_not_equal}
+use Rattle.flat_routines.proofs.Showing.{shows_both}
 use Rattle.moving_routines.specs.Copying.{Cells, AreCells, HasCopied, IsToCopy, CopiesOne, bump, copy_loop}
 use Rattle.moving_routines.proofs.Steps.{both_quiet, quiet_weaken, until_does, IsGlued, glued}
 
@@ -148,8 +148,8 @@ module _ (c : Context) (q : Cells) (are : AreCells q) (t : ℕ) (body : List Fla
       let e : n * (b + 3 + 2) + 1 ≡ n * (b + 5) + 1 = omega arith in
       subst (λ x. Does c (copy_loop t body) (I n) (λ s. x) (λ s. Either (I 0) Never)) e
       (until_does c Beq t (Number 0) (body ++ bump t) (b + 3) I one_turn worked_on
-      (λ s w. equal_taken (s.values t) 0 w.left)
-      (λ k s words w. differ_not_taken (s.values t) 0 (λ e. let l = w.left in omega arith)) n)
+      (λ s w. are_equal (s.values t) 0 w.left)
+      (λ k s words w. are_not_equal (s.values t) 0 (λ e. let l = w.left in omega arith)) n)
     where
       worked_on : (k : ℕ) (s : State) → I k s → I k (worked c s)
       worked_on k s w = record {

@@ -14,13 +14,13 @@ use Rattle.flat_routines.specs.Routine.{Does, Either, Never, until_code}
 use Rattle.flat_routines.specs.Renaming.{through}
 use Rattle.flat_routines.specs.Effects.{worked, AreAllowed}
 use Rattle.flat_routines.specs.Metadata.{ShowsNothing}
-use Rattle.flat_routines.proofs.Regions.{IsLaidOut}
-use Rattle.space_routines.proofs.Quiet.{shows_both}
-use Rattle.heap_space.proofs.Inserting.{equal_taken, differ_not_taken}
+use Rattle.flat_routines.proofs.Regions.{IsLaidOut, object_allowed}
+use Rattle.flat_routines.proofs.Branches.{are_equal, are_not_equal}
+use Rattle.flat_routines.proofs.Showing.{shows_both}
 use Rattle.flat_actions.specs.Ranges.{IsObjectRange, IsToFill, HasFilled, IsFillRoutine}
 use Rattle.moving_routines.specs.Filling.{fill_places, fill_body, fill_code}
 use Rattle.moving_routines.proofs.Steps.{both_quiet, quiet_weaken, until_does, IsGlued, glued, named}
-use Rattle.moving_routines.proofs.Bytes.{in_runtime, object_allowed, byte_stored, byte_beside}
+use Rattle.moving_routines.proofs.Bytes.{in_runtime, byte_stored, byte_beside}
 
 -- k of n bytes from an address on are left to be filled with b, since a state
 record Filling (map : MapSizes) (byte a n b t : ℕ) (s : State) (k : ℕ) (y : State) : Type 0 where
@@ -105,9 +105,9 @@ module _ (map : MapSizes) (ok : IsLaidOut map) (to byte bytes t charge weight : 
         (λ y. Either (I 0) Never)
     all_filled =
         until_does c Beq (t + 1) (Register t) (fill_body byte (t + 1)) 2 I one_filled worked_on
-        (λ y w. equal_taken (y.values (t + 1)) (y.values t)
+        (λ y w. are_equal (y.values (t + 1)) (y.values t)
         (let count = w.count in let at = w.cursor_is in let end = w.end_is in omega arith))
-        (λ k y words w. differ_not_taken (y.values (t + 1)) (y.values t)
+        (λ k y words w. are_not_equal (y.values (t + 1)) (y.values t)
         (λ e. let count = w.count in let at = w.cursor_is in let end = w.end_is in omega arith)) n
       where
         worked_on : (k : ℕ) (y : State) → I k y → I k (worked c y)

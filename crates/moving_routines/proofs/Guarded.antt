@@ -1,9 +1,8 @@
 -- 'Unless empty: act, give': an act that is passed over where there are no bytes, after which a pointer is given.
 use Rattle.std.proofs.Common.{◌≡◌, ◌≢◌, ℕ, ◌+◌, ◌*◌, List, [], ◌∷◌, Bool, true, false, refl}
-use Rattle.std.proofs.Common.{sym, ap, ◌∙◌, subst, arith, suc, ◌==◌}
+use Rattle.std.proofs.Common.{sym, ap, ◌∙◌, subst, arith, suc, ◌==◌, ◌++◌}
 use Rattle.std.proofs.lemmas.Bool.{eqb-true, eqb-false}
 use Rattle.rv_isa.specs.declared.instruction.BranchOp.TheVariants.{Beq}
-use Rattle.rv_isa.specs.Results.{branch_taken}
 use Rattle.obj_memory.specs.declared.value.Value.{Value}
 use Rattle.obj_memory.specs.declared.value.Tag.{Tag}
 use Rattle.obj_memory.specs.declared.value.Tag.TheVariants.{Untagged, OfFunction, OfObject}
@@ -27,6 +26,7 @@ use Rattle.flat_routines.proofs.Rules.{Holds, taken, in_sequence}
 use Rattle.flat_routines.proofs.Distinct.{AreRegisters, register_of, registers_rename, others_stay}
 use Rattle.flat_routines.proofs.Words.{same_metadata}
 use Rattle.flat_routines.proofs.Wrapped.{straight_routine}
+use Rattle.flat_routines.proofs.Branches.{if_equal, if_unequal}
 use Rattle.flat_objects.specs.StandsFor.{Views, Keys, Spells, spell}
 use Rattle.flat_judging.specs.Judging.{IsSameBut}
 use Rattle.flat_actions.specs.Actions.{IsFor, KeepsHeld, Nowhere, Pointer, HasGiven, Leaves}
@@ -34,14 +34,6 @@ use Rattle.flat_actions.proofs.Standing.{for_still, given_still, spells_still, n
 use Rattle.flat_actions.specs.Lists.{give_code, guarded_code}
 use Rattle.moving_routines.proofs.Steps.{does_weaken, unless_does}
 use Rattle.moving_routines.proofs.Judged.{work_done, left_since}
-
-if_equal : (a b : ℕ) → branch_taken Beq a b ≡ true → a ≡ b
-unfolding branch_taken
-if_equal a b e = eqb-true a b e
-
-if_unequal : (a b : ℕ) → branch_taken Beq a b ≡ false → a ≢ b
-unfolding branch_taken
-if_unequal a b e = eqb-false a b e
 
 -- ---- a pointer is given
 
@@ -108,6 +100,60 @@ spell_kept g k k' objects (OfFunction f) h sound = refl
 spell_kept g k k' objects (OfObject n b) h sound =
     ap (λ z. record { base = b.base; bound = b.bound; key = z.key; lock = z.lock }) (h.held n sound.made)
 
+-- ---- an act that leaves the pointer where it is, after which it is given
+
+module _ (g : Views) (k : Keys) (IsGood : Bytes → Type 0) (t : ℕ) (x : Source) (c : Context) (a b : Held) (dv : Value)
+    (r : Completed Value) (act : List FlatInstruction) (P : Holds) (B : ℕ) (below_a : AreBelow t (held_registers a))
+    (below_b : AreBelow t (held_registers b)) (distinct : AreDistinct (held_registers b))
+    (none : AreNoneOf (held_registers a) (held_registers b))
+    (spelled : (f : State) → P f → Spells g k dv a f.values)
+    (sound : (f : State) → P f → IsSoundTag g.functions x.objects dv.tag)
+    (gives : (v : Value) (x' : Source) → r ≡ Gives v x' → v ≡ dv)
+    (acts : Does c act P (λ f. B) (λ f. Leaves g k IsGood Nowhere t x f r)) where
+  given_then : (f f1 f2 : State) (v : Value) (x' : Source) → P f → v ≡ dv
+      → HasGiven g k IsGood Nowhere t x f v x' f1 → HasHanded a b t f1 f2
+      → HasGiven g k IsGood (Pointer b) t x f v x' f2
+  given_then f f1 f2 v x' p is h give =
+      let was = spells_still g k dv a [] t f f1 h.others below_a (none_of_none (held_registers a)) (spelled f p) in
+      record {
+        keys = h.keys;
+        held = h.held;
+        stands = for_still g h.keys IsGood x' f1 f2 give.memory give.shows h.stands;
+        given = subst (λ z. Spells g h.keys z b f2.values) (sym is) (record {
+          word = give.word ∙ was.word;
+          tag = give.tag ∙ was.tag ∙ sym (spell_kept g k h.keys x.objects dv.tag h.held (sound f p));
+        });
+        turns = give.shows.turns ∙ h.turns;
+        elsewhere = record {
+          low = λ q l out. ap (λ m. m q) give.memory ∙ h.elsewhere.low q l out;
+          behind = λ q l. ap (λ m. m q) give.memory ∙ h.elsewhere.behind q l;
+        };
+        others = others_trans (held_registers b) t f f1 f2 h.others give.others;
+      }
+
+  then_given : (q : Completed Value) → ((v : Value) (x' : Source) → q ≡ Gives v x' → v ≡ dv) → (f f1 : State)
+      (o : Outcome) → P f → Leaves g k IsGood Nowhere t x f q (Continues f1) → Either (HasHanded a b t f1) Never o
+      → Leaves g k IsGood (Pointer b) t x f q o
+  then_given (Gives v x') is f f1 (Continues f2) p h give = given_then f f1 f2 v x' p (is v x' refl) h give
+  then_given (Gives v x') is f f1 (Halts status report f2) p h give = give
+  then_given (Ended e x') is f f1 o p h give = absurd h
+  then_given (Paused x') is f f1 o p h give = absurd h
+
+  over_then : (q : Completed Value) (f f1 : State) (status : ℕ) (report : List ℕ)
+      → Leaves g k IsGood Nowhere t x f q (Halts status report f1)
+      → Leaves g k IsGood (Pointer b) t x f q (Halts status report f1)
+  over_then (Gives v x') f f1 status report h = h
+  over_then (Ended e x') f f1 status report h = h
+  over_then (Paused x') f f1 status report h = h
+
+  pub act_then_gives : Does c (act ++ give_code a b) P (λ f. B + 5) (λ f. Leaves g k IsGood (Pointer b) t x f r)
+  act_then_gives =
+      in_sequence c act (give_code a b) B 5 P (λ f f1. Unit {0}) (λ f. Leaves g k IsGood Nowhere t x f r)
+      (λ f. Leaves g k IsGood (Pointer b) t x f r) (λ f f1. Either (HasHanded a b t f1) Never)
+      acts (λ f. hands c a b t below_a below_b distinct none) (λ f f1 p h. tt)
+      (λ f f1 o p h give. then_given r gives f f1 o p h give) (λ f f1 status report p h. over_then r f f1 status
+      report h)
+
 -- ---- the act
 
 -- what is needed of the state before
@@ -170,45 +216,6 @@ module _ (g : Views) (k : Keys) (IsGood : Bytes → Type 0) (t : ℕ) (x : Sourc
         some : nv.word ≢ 0
         some = eqb-false nv.word 0 e
 
-    -- after the act the pointer is given
-    given_after : (f f1 f2 : State) (v : Value) (x' : Source) → P f → v ≡ dv
-        → HasGiven g k IsGood Nowhere t x f v x' f1 → HasHanded a b t f1 f2
-        → HasGiven g k IsGood (Pointer b) t x f v x' f2
-    given_after f f1 f2 v x' p is h give =
-        let r = ready f p in
-        let was = spells_still g k dv a [] t f f1 h.others below_a (none_of_none (held_registers a)) r.spells in
-        record {
-          keys = h.keys;
-          held = h.held;
-          stands = for_still g h.keys IsGood x' f1 f2 give.memory give.shows h.stands;
-          given = subst (λ z. Spells g h.keys z b f2.values) (sym is) (record {
-            word = give.word ∙ was.word;
-            tag = give.tag ∙ was.tag ∙ sym (spell_kept g k h.keys x.objects dv.tag h.held r.sound);
-          });
-          turns = give.shows.turns ∙ h.turns;
-          elsewhere = record {
-            low = λ q l out. ap (λ m. m q) give.memory ∙ h.elsewhere.low q l out;
-            behind = λ q l. ap (λ m. m q) give.memory ∙ h.elsewhere.behind q l;
-          };
-          others = others_trans (held_registers b) t f f1 f2 h.others give.others;
-        }
-
-    after : (f f1 : State) (o : Completed Value) (o' : Outcome) → P f
-        → ((v : Value) (x' : Source) → o ≡ Gives v x' → v ≡ dv)
-        → Leaves g k IsGood Nowhere t x f o (Continues f1) → Either (HasHanded a b t f1) Never o'
-        → Leaves g k IsGood (Pointer b) t x f o o'
-    after f f1 (Gives v x') (Continues f2) p is h give = given_after f f1 f2 v x' p (is v x' refl) h give
-    after f f1 (Gives v x') (Halts status report f2) p is h give = give
-    after f f1 (Ended e x') o' p is h give = absurd h
-    after f f1 (Paused x') o' p is h give = absurd h
-
-    over : (f f1 : State) (o : Completed Value) (status : ℕ) (report : List ℕ)
-        → Leaves g k IsGood Nowhere t x f o (Halts status report f1)
-        → Leaves g k IsGood (Pointer b) t x f o (Halts status report f1)
-    over f f1 (Gives v x') status report h = h
-    over f f1 (Ended e x') status report h = h
-    over f f1 (Paused x') status report h = h
-
     by_size : (e : Bool) → (nv.word == 0) ≡ e
         → Does c (guarded_code n a b act) P (λ f. 6 + K + F * work_done (outcome e) x)
         (λ f. Leaves g k IsGood (Pointer b) t x f (outcome e))
@@ -217,11 +224,8 @@ module _ (g : Views) (k : Keys) (IsGood : Bytes → Type 0) (t : ℕ) (x : Sourc
         does_weaken c (guarded_code n a b act) (suc W + 5) (6 + K + F * work_done (outcome e) x) P P
         (λ f. Leaves g k IsGood (Pointer b) t x f (outcome e)) (λ f. Leaves g k IsGood (Pointer b) t x f (outcome e))
         (omega arith) (λ f p. p) (λ f o p h. h)
-        (in_sequence c (unless_code Beq n (Number 0) act) (give_code a b) (suc W) 5 P (λ f f1. Unit {0}) (Acted e)
-        (λ f. Leaves g k IsGood (Pointer b) t x f (outcome e)) (λ f f1. Either (HasHanded a b t f1) Never)
-        (acted e is) (λ f. hands c a b t below_a below_b distinct none) (λ f f1 p h. tt)
-        (λ f f1 o p h give. after f f1 (outcome e) o p (gives_it e) h give)
-        (λ f f1 status report p h. over f f1 (outcome e) status report h))
+        (act_then_gives g k IsGood t x c a b dv (outcome e) (unless_code Beq n (Number 0) act) P (suc W) below_a below_b
+        distinct none (λ f p. (ready f p).spells) (λ f p. (ready f p).sound) (gives_it e) (acted e is))
 
     pub guarded : Does c (guarded_code n a b act) P (λ f. 6 + K + F * work_done (unless_empty nv dv run x) x)
         (λ f. Leaves g k IsGood (Pointer b) t x f (unless_empty nv dv run x))

@@ -20,13 +20,14 @@ use Rattle.flat_meaning.specs.State.{State}
 use Rattle.flat_routines.specs.Registers.{OthersStay}
 use Rattle.flat_routines.specs.Metadata.{View, ShowsNothing}
 use Rattle.flat_routines.proofs.Regions.{laid_out}
+use Rattle.flat_routines.proofs.Words.{IsLocal}
 use Rattle.flat_objects.specs.StandsFor.{Views, Keys, StandsFor}
 use Rattle.flat_objects.specs.Changes.{IsPut, IsMoved}
 use Rattle.flat_objects.proofs.Moves.{move_stands, put_stands}
 use Rattle.flat_actions.specs.Actions.{views_of, IsFor, StaysElsewhere, Nowhere, HasGiven}
 use Rattle.flat_actions.specs.Ranges.{IsObjectRange, HasMovedBytes, HasMovedTagged, HasFilled}
 use Rattle.flat_actions.proofs.Standing.{shown_still, keeps_same}
-use Rattle.moving_routines.proofs.Tagged.{ChangesRange, tables_stay, spaces_stay, behind_stays, shadow_stays, IsLocal}
+use Rattle.moving_routines.proofs.Tagged.{ChangesRange, tables_stay, spaces_stay, behind_stays, shadow_stays}
 
 -- the bytes of an access that is allowed lie in object space
 pub allowed_range : (g : Views) (k : Keys) (objects : Objects) (m : Bytes) (v : Value) (n : ℕ) (p : Place)

@@ -25,6 +25,7 @@ use Rattle.flat_routines.specs.Registers.{AreBelow, AreNoneOf, AreDistinct}
 use Rattle.flat_routines.specs.Routine.{Outcome, Continues, Halts, Does, Either, Never}
 use Rattle.flat_routines.specs.Effects.{worked}
 use Rattle.flat_routines.specs.Metadata.{View, held_registers}
+use Rattle.flat_routines.proofs.Words.{IsLocal}
 use Rattle.flat_objects.specs.StandsFor.{Views, Keys}
 use Rattle.flat_judging.specs.Judging.{IsSameBut, IsToJudge, IsJudged, IsJudgeRoutine}
 use Rattle.flat_actions.specs.Actions.{views_of, IsFor, Nowhere, Pointer, Leaves, runtime_basis}
@@ -34,7 +35,6 @@ use Rattle.flat_actions.specs.Lists.{guarded_code}
 use Rattle.moving_routines.specs.Library.{SetsObjects}
 use Rattle.moving_routines.proofs.Steps.{does_weaken}
 use Rattle.moving_routines.proofs.Bytes.{in_runtime}
-use Rattle.moving_routines.proofs.Tagged.{IsLocal}
 use Rattle.moving_routines.proofs.Judged.{work_done, judged_acts}
 use Rattle.moving_routines.proofs.Guarded.{guarded}
 use Rattle.moving_routines.proofs.Moves.{allowed_range, with_filled, filled_is}

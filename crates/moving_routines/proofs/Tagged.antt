@@ -1,7 +1,7 @@
 -- A range moved with its tags: its bytes, and then the entries of its whole words.
 use Rattle.std.proofs.Common.{◌≡◌, ℕ, ◌+◌, ◌-◌, ◌*◌, ◌<◌, ◌≤◌, ◌⊎◌, inl, inr, List, []}
-use Rattle.std.proofs.Common.{◌∷◌, ◌++◌, refl, sym, ◌∙◌, subst, arith}
-use Rattle.addr_map.specs.declared.region.Region.TheVariants.{Heap, Shadow, Locks, Blocks, StructureValues}
+use Rattle.std.proofs.Common.{◌∷◌, ◌++◌, sym, ◌∙◌, subst, arith}
+use Rattle.addr_map.specs.declared.region.Region.TheVariants.{Heap, Shadow, StructureValues}
 use Rattle.addr_map.specs.Places.{MapSizes, AreMapped, spaces_begin, region_size, region_start, region_end}
 use Rattle.flat_meaning.specs.declared.instruction.FlatInstruction.{FlatInstruction}
 use Rattle.flat_meaning.specs.Memory.{Bytes, KeepsBut}
@@ -9,11 +9,12 @@ use Rattle.flat_meaning.specs.State.{State}
 use Rattle.flat_meaning.specs.Meaning.{Context}
 use Rattle.flat_routines.specs.Registers.{AreBelow}
 use Rattle.flat_routines.specs.Routine.{Does, Either, Never}
-use Rattle.flat_routines.specs.Metadata.{View, IsObjectWord, KeepsShadow}
-use Rattle.flat_routines.proofs.Regions.{IsLaidOut, laid_out}
+use Rattle.flat_routines.specs.Metadata.{View, KeepsShadow}
+use Rattle.flat_routines.proofs.Regions.{IsLaidOut, laid_out, spaces_follow}
+use Rattle.flat_routines.proofs.Showing.{shows_both}
+use Rattle.flat_routines.proofs.Words.{IsLocal}
 use Rattle.flat_objects.specs.Changes.{KeepsTables}
 use Rattle.flat_objects.proofs.Changing.{global_is_lock}
-use Rattle.space_routines.proofs.Quiet.{shows_both}
 use Rattle.lock_space.specs.Locks.{KeepsLocks}
 use Rattle.lock_space.proofs.Spaces.{locks_laid_out}
 use Rattle.lock_space.proofs.Local.{lock_kept, counter_kept, good_kept as locks_kept}
@@ -31,31 +32,22 @@ use Rattle.moving_routines.proofs.Words.{HasMovedWords, IsToMoveWords, words_mov
 
 -- ---- spaces behind the shadow space
 
-pub record AreBehind (map : MapSizes) : Type 0 where
-  pub locks : region_start map Locks ≡ spaces_begin + region_size map Shadow
-  pub blocks : region_start map Locks ≤ region_start map Blocks
-  pub values : region_start map Blocks + region_size map Blocks ≡ region_start map StructureValues
-
-pub are_behind : (map : MapSizes) → AreBehind map
-unfolding region_start
-are_behind map = record { locks = refl; blocks = omega arith; values = refl }
-
 -- memory changed in a range of object space and in the shadow space alone
 pub record ChangesRange (map : MapSizes) (d n : ℕ) (m m' : Bytes) : Type 0 where
   pub low : (a : ℕ) → a < spaces_begin → (a < d) ⊎ (d + n ≤ a) → m' a ≡ m a
   pub high : (a : ℕ) → spaces_begin + region_size map Shadow ≤ a → m' a ≡ m a
 
 pub locks_stay : (map : MapSizes) (d n : ℕ) (m m' : Bytes) → ChangesRange map d n m m' → KeepsLocks map m m'
-locks_stay map d n m m' h i l = let b = are_behind map in let x = b.locks in h.high _ (omega arith)
+locks_stay map d n m m' h i l = let b = spaces_follow map in let x = b.shadow in h.high _ (omega arith)
 
 pub table_stays : (map : MapSizes) (d n : ℕ) (m m' : Bytes) → ChangesRange map d n m m' → KeepsTable map m m'
 table_stays map d n m m' h i l =
-    let b = are_behind map in let x = b.locks in let y = b.blocks in h.high _ (omega arith)
+    let b = spaces_follow map in let x = b.shadow in let y = b.locks in h.high _ (omega arith)
 
 pub behind_stays : (map : MapSizes) (d n : ℕ) (m m' : Bytes) → ChangesRange map d n m m' → (a : ℕ)
     → region_start map StructureValues ≤ a → m' a ≡ m a
 behind_stays map d n m m' h a l =
-    let b = are_behind map in let x = b.locks in let y = b.blocks in let z = b.values in h.high a (omega arith)
+    let b = spaces_follow map in let x = b.shadow in let y = b.locks in let z = b.table in h.high a (omega arith)
 
 -- so the runtime's tables stay, and all spaces are good on
 pub tables_stay : (map : MapSizes) (functions : ℕ) (types : ℕ → ℕ) (entry : View) (IsGood : Bytes → Type 0) (d n : ℕ)
@@ -77,12 +69,6 @@ spaces_stay map IsGood d n m m' mapped good h shadow = record {
       good.locks;
   table = table_kept map m m' (table_laid_out map mapped) (table_stays map d n m m' h) good.table;
 }
-
--- what a form of the shadow space says of equal bytes
-abbrev pub IsLocal : MapSizes → View → (Bytes → Type 0) → Type 0
-IsLocal map entry IsGood =
-    (m m' : Bytes) → KeepsShadow map m m' → IsGood m
-    → IsGood m' × ((a : ℕ) → IsObjectWord map a → entry m' a ≡ entry m a)
 
 -- a change of a range of object space leaves the shadow space
 pub shadow_stays : (map : MapSizes) (d n : ℕ) (m m' : Bytes) → IsLaidOut map → d + n ≤ region_end map Heap

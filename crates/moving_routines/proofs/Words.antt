@@ -22,11 +22,11 @@ use Rattle.flat_routines.proofs.Rules.{branch, line_on, arrived}
 use Rattle.flat_routines.proofs.Distinct.{registers_rename, others_stay}
 use Rattle.flat_routines.proofs.Wrapped.{routine}
 use Rattle.flat_routines.proofs.Regions.{IsLaidOut}
+use Rattle.flat_routines.proofs.Branches.{if_not_below, if_below, if_differ, if_same}
+use Rattle.flat_routines.proofs.Showing.{shows_both}
 use Rattle.flat_objects.specs.Changes.{IsMovedWord, IsKeptWord}
 use Rattle.shadow_space.specs.Form.{HasRead, IsReadRoutine, HasWritten, IsWriteRoutine}
 use Rattle.shadow_space.proofs.Entries.{agrees_shows, agrees_memory}
-use Rattle.space_routines.proofs.Quiet.{shows_both}
-use Rattle.heap_space.proofs.Regions.{if_not_below, if_below, if_differ, if_same}
 use Rattle.flat_actions.specs.Ranges.{IsObjectRange, IsToMove}
 use Rattle.flat_actions.proofs.Standing.{others_trans}
 use Rattle.moving_routines.specs.Copying.{OneWord, AreCells, HasCopied, IsToCopy, move_cells, AreRanges}

@@ -1,10 +1,10 @@
 -- The loops that put the digits of a number out.
-use Rattle.std.proofs.Common.{◌≡◌, ◌≢◌, ℕ, zero, suc, ◌+◌, ◌-◌, ◌*◌, ◌/◌, ◌%◌, ◌^◌, ◌<◌, ◌≤◌, ◌⊎◌, inl, inr, ⊎_elim}
+use Rattle.std.proofs.Common.{◌≡◌, ℕ, zero, suc, ◌+◌, ◌-◌, ◌*◌, ◌/◌, ◌%◌, ◌^◌, ◌<◌, ◌≤◌, ◌⊎◌, inl, inr, ⊎_elim}
 use Rattle.std.proofs.Common.{List, [], ◌∷◌, ◌++◌, true, false, refl, sym, ap, ◌∙◌, subst, arith}
 use Rattle.std.proofs.Common.{append_assoc}
 use Rattle.std.specs.Prelude.{nat_lt}
 use Rattle.std.specs.Fmt.{digit_glyph}
-use Rattle.std.proofs.lemmas.Bool.{cases_lt, eq-eqb, ne_eqb, lt-ltb, le-ltb, cond-true, cond-false}
+use Rattle.std.proofs.lemmas.Bool.{cases_lt, ne_eqb, lt-ltb, le-ltb, cond-true, cond-false}
 use Rattle.std.proofs.Math.Nat.{pow-zero, pow-suc, le-div_iff_mul-le, mul-div_cancel, div-eq_of_lt, mod-lt}
 use Rattle.addr_map.specs.Places.{MapSizes}
 use Rattle.rv_isa.specs.declared.instruction.BranchOp.TheVariants.{Beq, Bltu}
@@ -20,6 +20,7 @@ use Rattle.flat_routines.specs.Routine.{Reaches, Either, Never, until_code}
 use Rattle.flat_routines.specs.Effects.{worked, effects}
 use Rattle.flat_routines.proofs.Steps.{has_front, has_back, has_self}
 use Rattle.flat_routines.proofs.Rules.{weaken, next, line, line_on, loop}
+use Rattle.flat_routines.proofs.Branches.{is_less, is_not_less, are_equal, are_not_equal}
 use Rattle.shadow_space.proofs.Entries.{context_of}
 use Rattle.space_routines.proofs.Quiet.{quiet_words}
 use Rattle.printing_routines.specs.Digits.{seek_power, put_digit, digits_code}
@@ -48,22 +49,6 @@ glyph_is d l = ⊎_elim
     ∙ omega arith
     ∙ sym (cond-false (nat_lt d 10) (48 + d) (87 + d) (le-ltb d 10 ge)))
     (cases_lt d 10)
-
-below_taken : (a b : ℕ) → a < b → branch_taken Bltu a b ≡ true
-unfolding branch_taken
-below_taken a b l = lt-ltb a b l
-
-not_below : (a b : ℕ) → b ≤ a → branch_taken Bltu a b ≡ false
-unfolding branch_taken
-not_below a b l = le-ltb a b l
-
-is_zero : (a : ℕ) → a ≡ 0 → branch_taken Beq a 0 ≡ true
-unfolding branch_taken
-is_zero a e = eq-eqb a 0 e
-
-not_zero : (a : ℕ) → a ≢ 0 → branch_taken Beq a 0 ≡ false
-unfolding branch_taken
-not_zero a ne = ne_eqb a 0 ne
 
 -- ---- powers up to the highest
 
@@ -295,13 +280,13 @@ module _ (base n J : ℕ) (b : 2 ≤ base) (few : base ≤ 16) (high : IsHighest
       (Either (λ s'. (i : ℕ) × (i ≤ j) × Seeking base n J start i (worked c s')) Never))
       ⊎ ((branch_taken Bltu (v.values 3) (base % 2 ^ 64) ≡ true) × Seeking base n J start 0 (worked c v))
   one_seek zero v fits w = inr (
-    below_taken (v.values 3) (base % 2 ^ 64) (let q = w.quotient_is in let e = w.count in
+    is_less (v.values 3) (base % 2 ^ 64) (let q = w.quotient_is in let e = w.count in
         let l = last_small base n J b high in let same : w.reached ≡ J = omega arith in
         let z = ap (λ j. n / base ^ j) same in omega arith),
     seek_worked 0 v w,
   )
   one_seek (suc k) v fits w = inl (
-    not_below (v.values 3) (base % 2 ^ 64) (let q = w.quotient_is in
+    is_not_less (v.values 3) (base % 2 ^ 64) (let q = w.quotient_is in
         let l = quotient_left base n J b high w.reached k w.count in omega arith),
     k,
     refl,
@@ -317,9 +302,9 @@ module _ (base n J : ℕ) (b : 2 ≤ base) (few : base ≤ 16) (high : IsHighest
       × Reaches c code 9 (Goes 7 (worked c v)) 16
       (Either (λ s'. (i : ℕ) × (i ≤ j) × Showing base n J start i (worked c s')) Never))
       ⊎ ((branch_taken Beq (v.values 2) 0 ≡ true) × Showing base n J start 0 (worked c v))
-  one_show zero v fits w = inr (is_zero (v.values 2) w.power, show_worked 0 v w)
+  one_show zero v fits w = inr (are_equal (v.values 2) 0 w.power, show_worked 0 v w)
   one_show (suc k) v fits w = inl (
-    not_zero (v.values 2) (λ e. (let p = w.power in let l = positive base k b in omega arith)),
+    are_not_equal (v.values 2) 0 (λ e. (let p = w.power in let l = positive base k b in omega arith)),
     k,
     refl,
     line c code (put_digit base 0 1 2 3 4) 7 (worked c v)

@@ -3,12 +3,12 @@ use Rattle.std.proofs.Common.{◌≡◌, ◌≢◌, ℕ, ◌+◌, ◌-◌, ◌*�
 use Rattle.std.proofs.Common.{◌++◌, true, false, length, length-append, refl, sym, ap, ◌∙◌, subst, arith}
 use Rattle.std.specs.Prelude.{nat_lt}
 use Rattle.std.specs.Fmt.{digits, decimal}
-use Rattle.std.proofs.lemmas.Bool.{lt-ltb, le-ltb, ltb-true, ltb-false, cond-true, cond-false}
+use Rattle.std.proofs.lemmas.Bool.{lt-ltb, le-ltb, cond-true, cond-false}
 use Rattle.addr_map.specs.Places.{MapSizes}
 use Rattle.rv_isa.specs.declared.instruction.BranchOp.TheVariants.{Bltu}
 use Rattle.rv_isa.specs.declared.instruction.RegOp.TheVariants.{Add, Sub}
 use Rattle.rv_isa.specs.declared.instruction.RegOp32.TheVariants.{Addw}
-use Rattle.rv_isa.specs.Results.{reg_result, reg32_result, low_word, branch_taken}
+use Rattle.rv_isa.specs.Results.{reg_result, reg32_result, low_word}
 use Rattle.obj_memory.specs.declared.int_type.IntType.TheVariants.{Int, UnsignedInt, UnsignedLong}
 use Rattle.obj_memory.specs.Integers.{fit}
 use Rattle.c_tree.specs.declared.format.Directive.{Directive}
@@ -25,6 +25,7 @@ use Rattle.flat_routines.specs.Routine.{HasAt, Outcome, Continues, Halts, Reache
 use Rattle.flat_routines.specs.Effects.{worked, effects}
 use Rattle.flat_routines.proofs.Steps.{has_front, has_back}
 use Rattle.flat_routines.proofs.Rules.{weaken, next, line, branch, arrived}
+use Rattle.flat_routines.proofs.Branches.{if_less, if_not_less}
 use Rattle.shadow_space.proofs.Entries.{context_of}
 use Rattle.space_routines.proofs.Quiet.{quiet_words, worked_words}
 use Rattle.integer_operators.proofs.Values.{int_by_word}
@@ -33,14 +34,6 @@ use Rattle.printing_routines.specs.Numbers.{number_bytes, IsNumberRoutine, sign_
 use Rattle.printing_routines.proofs.DigitRoutine.{IsBase, ten, sixteen, puts_digits}
 use Rattle.printing_routines.proofs.NumberBytes.{signed_bytes, long_bytes, int_bytes, printed_both, printed_as}
 use Rattle.printing_routines.proofs.NumberBytes.{printed_none}
-
-below : (a b : ℕ) → branch_taken Bltu a b ≡ true → a < b
-unfolding branch_taken
-below a b e = ltb-true a b e
-
-not_below : (a b : ℕ) → branch_taken Bltu a b ≡ false → b ≤ a
-unfolding branch_taken
-not_below a b e = ltb-false a b e
 
 module _ (map : MapSizes) (charge weight : ℕ) (count t : ℕ) (counts : count < t) where
   abbrev c : Context
@@ -120,13 +113,13 @@ module _ (map : MapSizes) (charge weight : ℕ) (count t : ℕ) (counts : count 
       let end : pc + 1 + 5 ≡ pc + 6 = omega arith in
       branch c code 5 pc f Bltu t (Number (2 ^ 63)) 5 (pc + 6) (Either (IsReady (signed_bytes x) 10 f) Never) has.0
       (λ e. arrived c code 5 (worked c f) (pc + 1 + 5) (pc + 6) (Either (IsReady (signed_bytes x) 10 f) Never) end
-      (ready_positive f x words is (let l = below (f.values t) (2 ^ 63) e in omega arith)))
+      (ready_positive f x words is (let l = if_less (f.values t) (2 ^ 63) e in omega arith)))
       (λ e.
       subst (λ p. Reaches c code 5 (Goes (pc + 1) (worked c f)) p (Either (IsReady (signed_bytes x) 10 f) Never)) end
       (line c code negative (pc + 1) (worked c f) (IsReady (signed_bytes x) 10 f) Never
       (tt, (tt, (tt, (tt, (tt, tt))))) has.1
       (again (ready_negative (worked c f) x (worked_words c f words) is
-      (let l = not_below (f.values t) (2 ^ 63) e in omega arith)))))
+      (let l = if_not_less (f.values t) (2 ^ 63) e in omega arith)))))
     where
       again : {f' : State} → IsReady (signed_bytes x) 10 (worked c f) f' → IsReady (signed_bytes x) 10 f f'
       again r = record {

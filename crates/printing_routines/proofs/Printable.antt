@@ -10,6 +10,7 @@ use Rattle.flat_meaning.specs.State.{State}
 use Rattle.flat_routines.specs.Registers.{AreBelow}
 use Rattle.flat_actions.specs.Actions.{Holder, Nowhere, Word, Pointer, registers_of}
 use Rattle.flat_actions.specs.Ranges.{IsObjectRange}
+use Rattle.flat_actions.proofs.Standing.{AreAllBelow}
 use Rattle.printing_routines.specs.Numbers.{number_bytes}
 use Rattle.printing_routines.specs.Formats.{cursor_of}
 
@@ -34,11 +35,6 @@ IsPrintable m t (piece.Directive d ∷ ps) (h ∷ hs) (v ∷ vs) i f bytes =
     (first rest : List ℕ) × (bytes ≡ first ++ rest) × IsPrintableBy m d h v (cursor_of t i) f first
     × IsPrintable m t ps hs vs (i + 1) f rest
 IsPrintable m t (piece.Directive d ∷ ps) _ _ i f bytes = ⊥
-
--- registers of arguments
-abbrev pub AreLow : (scratch : ℕ) → List Holder → Type 0
-AreLow t [] = Unit {0}
-AreLow t (h ∷ hs) = AreBelow t (registers_of h) × AreLow t hs
 
 -- how many directives there are
 abbrev pub directive_count : List Piece → ℕ
@@ -65,7 +61,7 @@ module _ (m : MapSizes) (t : ℕ) (f f' : State) (memory : f'.memory ≡ f.memor
   pub printable_kept : (ps : List Piece) (hs : List Holder) (vs : List Value) (i top : ℕ) (bytes : List ℕ)
       → ((r : ℕ) → r < t → f'.values r ≡ f.values r)
       → ((r : ℕ) → cursor_of t i ≤ r → r < top → f'.values r ≡ f.values r)
-      → cursor_of t i + directive_count ps ≤ top → AreLow t hs
+      → cursor_of t i + directive_count ps ≤ top → AreAllBelow t hs
       → IsPrintable m t ps hs vs i f bytes → IsPrintable m t ps hs vs i f' bytes
   printable_kept [] hs vs i top bytes same cursors room low p = p
   printable_kept (piece.Byte b ∷ ps) hs vs i top bytes same cursors room low p =

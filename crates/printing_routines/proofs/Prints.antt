@@ -32,10 +32,10 @@ use Rattle.integer_operators.proofs.Values.{int_by_word}
 use Rattle.flat_actions.specs.Actions.{Basis, Holder, Word, context_in, views_of, IsFor, AreHeldBy, HasGiven}
 use Rattle.flat_actions.specs.Actions.{HasEnded, Leaves, IsAction}
 use Rattle.flat_actions.specs.Scanning.{IsWorked}
-use Rattle.flat_actions.proofs.Standing.{ended_still, good_still, keeps_same, stays_same}
+use Rattle.flat_actions.proofs.Standing.{ended_still, good_still, keeps_same, stays_same, AreAllBelow}
 use Rattle.printing_routines.specs.Digits.{HasPrinted}
 use Rattle.printing_routines.specs.Formats.{cursor_of, counted_code, IsPrintCode}
-use Rattle.printing_routines.proofs.Printable.{IsPrintable, AreLow, directive_count, printable_kept}
+use Rattle.printing_routines.proofs.Printable.{IsPrintable, directive_count, printable_kept}
 use Rattle.printing_routines.proofs.Scans.{IsAfterScans, IsFormatted, runs_scans}
 use Rattle.printing_routines.proofs.Puts.{runs_puts}
 
@@ -47,7 +47,7 @@ int_of_count n =
     ap (sign_extended 32 64) e
 
 module _ (map : MapSizes) (mapped : AreMapped map) (entry : View) (IsGood : Bytes → Type 0) (line : ℕ) (ps : List Piece)
-    (hs : List Holder) (into t w : ℕ) (gives : into < t) (low : AreLow t hs)
+    (hs : List Holder) (into t w : ℕ) (gives : into < t) (low : AreAllBelow t hs)
     (room : cursor_of t 0 + directive_count ps ≤ w) (code_of_it : List FlatInstruction) where
   abbrev basis : Basis
   basis = record { map = map; entry = entry; IsGood = IsGood; is_runtime = true }

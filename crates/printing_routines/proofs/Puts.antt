@@ -19,16 +19,17 @@ use Rattle.flat_routines.specs.Routine.{HasAt, Outcome, Continues, Halts, Reache
 use Rattle.flat_routines.specs.Effects.{effects}
 use Rattle.flat_routines.proofs.Steps.{has_front, has_back}
 use Rattle.flat_routines.proofs.Rules.{weaken, next, line, arrived}
+use Rattle.flat_routines.proofs.Regions.{object_allowed}
 use Rattle.shadow_space.proofs.Entries.{context_of}
 use Rattle.flat_actions.specs.Actions.{Holder, Nowhere, Word, Pointer, registers_of}
+use Rattle.flat_actions.proofs.Standing.{AreAllBelow}
 use Rattle.string_routines.specs.Putting.{bytes_from, HasPut, IsPutRoutine}
 use Rattle.string_routines.proofs.PutLoop.{same_bytes}
-use Rattle.moving_routines.proofs.Bytes.{object_allowed}
 use Rattle.printing_routines.specs.Digits.{HasPrinted}
 use Rattle.printing_routines.specs.Numbers.{number_bytes}
 use Rattle.printing_routines.specs.Formats.{cursor_of, byte_code, count_string, IsPutPart, ArePuts}
 use Rattle.printing_routines.proofs.NumberBytes.{printed_both, printed_as, printed_none}
-use Rattle.printing_routines.proofs.Printable.{IsString, IsPrintableBy, IsPrintable, AreLow, directive_count}
+use Rattle.printing_routines.proofs.Printable.{IsString, IsPrintableBy, IsPrintable, directive_count}
 use Rattle.printing_routines.proofs.Printable.{printable_kept}
 
 module _ (map : MapSizes) (mapped : AreMapped map) (charge weight : ℕ) (t w : ℕ) (apart : t < w) where
@@ -156,7 +157,7 @@ module _ (map : MapSizes) (mapped : AreMapped map) (charge weight : ℕ) (t w : 
 
   -- one piece, and the rest
   one_more : (ps : List Piece) (hs : List Holder) (vs : List Value) (i : ℕ) (first rest : List FlatInstruction)
-      (bytes others : List ℕ) → cursor_of t i + directive_count ps ≤ w → AreLow t hs → Puts ps hs vs i rest
+      (bytes others : List ℕ) → cursor_of t i + directive_count ps ≤ w → AreAllBelow t hs → Puts ps hs vs i rest
       → (code : List FlatInstruction) (pc : ℕ) (f : State) → HasAt code pc (first ++ rest) → IsOfWords f
       → Reaches c code (16 + 15 * length bytes) (Goes pc f) (pc + length first) (Either (HasPrinted bytes t w f) Never)
       → IsPrintable map t ps hs vs i f others
@@ -192,7 +193,7 @@ module _ (map : MapSizes) (mapped : AreMapped map) (charge weight : ℕ) (t w : 
       by z h (Halts status report f') q = q
 
   pub runs_puts : (ps : List Piece) (hs : List Holder) (vs : List Value) (i : ℕ) (seg : List FlatInstruction)
-      → ArePuts map t w ps hs i seg → cursor_of t i + directive_count ps ≤ w → AreLow t hs → Puts ps hs vs i seg
+      → ArePuts map t w ps hs i seg → cursor_of t i + directive_count ps ≤ w → AreAllBelow t hs → Puts ps hs vs i seg
   runs_puts [] hs vs i seg puts room low bytes code pc f has words p =
       subst (λ z. Reaches c code (0 + 15 * length bytes) (Goes pc f) (pc + length z)
       (Either (HasPrinted bytes t w f) Never))

@@ -25,19 +25,21 @@ use Rattle.flat_routines.specs.Routine.{HasAt, Outcome, Continues, Halts, Reache
 use Rattle.flat_routines.specs.Metadata.{ShowsNothing, held_registers}
 use Rattle.flat_routines.proofs.Steps.{has_front, has_back}
 use Rattle.flat_routines.proofs.Rules.{weaken, next, arrived}
+use Rattle.flat_routines.proofs.Showing.{shows_both}
 use Rattle.flat_objects.specs.StandsFor.{Views, Keys}
-use Rattle.space_routines.proofs.Quiet.{shows_both, shows_itself}
+use Rattle.space_routines.proofs.Quiet.{shows_itself}
 use Rattle.flat_actions.specs.Actions.{Basis, context_in, views_of, IsFor, Holder, Nowhere, Word, Pointer}
 use Rattle.flat_actions.specs.Actions.{registers_of}
 use Rattle.flat_actions.specs.Actions.{IsHeldBy, AreHeldBy, work_of}
 use Rattle.flat_actions.specs.Scanning.{IsWorked, IsScanRoutine}
-use Rattle.flat_actions.proofs.Standing.{for_still, for_worked, held_still, none_of_none}
+use Rattle.flat_actions.proofs.Standing.{for_still, for_worked, held_still, none_of_none, AreAllBelow}
 use Rattle.string_routines.proofs.Between.{scan_between, range_of}
 use Rattle.string_routines.proofs.AfterScan.{after_scan}
 use Rattle.printing_routines.specs.Numbers.{number_bytes}
 use Rattle.printing_routines.specs.Formats.{cursor_of, AreScans}
-use Rattle.printing_routines.proofs.Printable.{IsPrintableBy, IsPrintable, AreLow, directive_count, by_kept}
+use Rattle.printing_routines.proofs.Printable.{IsPrintableBy, IsPrintable, directive_count, by_kept}
 use Rattle.string_routines.proofs.Looking.{scan_works}
+use Rattle.string_routines.proofs.ScanLoop.{no_work}
 
 -- an argument that is no string has its bytes at once
 pub number_done : (d : Directive) (v : Value) (line : ℕ) → d ≢ directive.String
@@ -116,7 +118,7 @@ formatted_later (piece.Directive d ∷ ps) vs line x =
 -- ---- arguments that are held on
 
 pub all_held_still : (g : Views) (k : Keys) (x x' : Source) (hs : List Holder) (vs : List Value) (t : ℕ) (f f' : State)
-    → x'.objects ≡ x.objects → ((r : ℕ) → r < t → f'.values r ≡ f.values r) → AreLow t hs
+    → x'.objects ≡ x.objects → ((r : ℕ) → r < t → f'.values r ≡ f.values r) → AreAllBelow t hs
     → AreHeldBy g k x.objects hs vs f.values → AreHeldBy g k x'.objects hs vs f'.values
 all_held_still g k x x' [] [] t f f' same stay low h = tt
 all_held_still g k x x' (h ∷ hs) (v ∷ vs) t f f' same stay low held = (
@@ -186,9 +188,6 @@ module _ (basis : Basis) (line t w : ℕ) (functions : ℕ) (types : ℕ → ℕ
   with_argument d h v first ps hs vs i x y f f1 (Ended e x') (Continues f') worked after low by q = q
   with_argument d h v first ps hs vs i x y f f1 (Paused x') o worked after low by q = q
 
-  self_worked : (x : Source) → IsWorked x x
-  self_worked x = record { work = omega arith; same = refl }
-
   self_after : (i : ℕ) (f : State) → IsAfterScans t i f f
   self_after i f = record { memory = refl; shows = shows_itself f; others = λ r l. refl }
 
@@ -196,7 +195,7 @@ module _ (basis : Basis) (line t w : ℕ) (functions : ℕ) (types : ℕ → ℕ
   runs_none : (hs : List Holder) (vs : List Value) (i : ℕ) → Runs [] hs vs i []
   runs_none hs vs i x code pc f has words p held =
       arrived c code (bound [] vs x) f pc (pc + 0)
-      (IsFormatted basis.map t [] hs vs i x f (Gives [] x)) (omega arith) (self_worked x, self_after i f, refl)
+      (IsFormatted basis.map t [] hs vs i x f (Gives [] x)) (omega arith) (no_work x, self_after i f, refl)
 
   runs_byte : (b : ℕ) (ps : List Piece) (hs : List Holder) (vs : List Value) (i : ℕ) (seg : List FlatInstruction)
       → Runs ps hs vs i seg → Runs (piece.Byte b ∷ ps) hs vs i seg
@@ -219,13 +218,13 @@ module _ (basis : Basis) (line t w : ℕ) (functions : ℕ) (types : ℕ → ℕ
       (omega arith)
       (λ o h.
       subst (λ q. IsFormatted basis.map t (piece.Directive d ∷ ps) (Word r ∷ hs) (v ∷ vs) i x f q o) (sym is)
-      (with_argument d (Word r) v (number_bytes d v.word) ps hs vs i x x f f (formatted ps vs line x) o (self_worked x)
+      (with_argument d (Word r) v (number_bytes d v.word) ps hs vs i x x f f (formatted ps vs line x) o (no_work x)
       (self_after i f) low (held.0, refl) h))
       (run x code pc f has words p held.1)
 
   -- a string
   runs_string : (h : Held) (v : Value) (ps : List Piece) (hs : List Holder) (vs : List Value) (i : ℕ)
-      (first rest : List FlatInstruction) → cursor_of t i < w → AreBelow t (held_registers h) → AreLow t hs
+      (first rest : List FlatInstruction) → cursor_of t i < w → AreBelow t (held_registers h) → AreAllBelow t hs
       → IsScanRoutine basis (λ v. scan v line) h (λ f. Unit {0}) (cursor_of t i) w first → Runs ps hs vs (i + 1) rest
       → Runs (piece.Directive directive.String ∷ ps) (Pointer h ∷ hs) (v ∷ vs) i (first ++ rest)
   runs_string h v ps hs vs i first rest room low lows scans run x code pc f has words p held =
@@ -282,8 +281,8 @@ module _ (basis : Basis) (line t w : ℕ) (functions : ℕ) (types : ℕ → ℕ
 
   -- all pieces
   pub runs_scans : (ps : List Piece) (hs : List Holder) (vs : List Value) (i : ℕ) (seg : List FlatInstruction)
-      → AreScans basis line t w ps hs i seg → cursor_of t i + directive_count ps ≤ w → AreLow t hs → Runs ps hs vs i
-      seg
+      → AreScans basis line t w ps hs i seg → cursor_of t i + directive_count ps ≤ w → AreAllBelow t hs
+      → Runs ps hs vs i seg
   runs_scans [] hs vs i seg scans room low = subst (Runs [] hs vs i) (sym scans) (runs_none hs vs i)
   runs_scans (piece.Byte b ∷ ps) hs vs i seg scans room low =
       runs_byte b ps hs vs i seg (runs_scans ps hs vs i seg scans room low)

@@ -14,6 +14,7 @@ use Rattle.flat_meaning.specs.declared.instruction.FlatInstruction.{FlatInstruct
 use Rattle.flat_routines.specs.declared.registers.Held.{Held}
 use Rattle.flat_actions.specs.Actions.{Basis, Word, IsAction}
 use Rattle.flat_actions.specs.Scanning.{IsScanRoutine}
+use Rattle.flat_actions.proofs.Standing.{AreAllBelow}
 use Rattle.string_routines.specs.Putting.{IsPutRoutine}
 use Rattle.printing_routines.specs.declared.formats.Printed.{Printed}
 use Rattle.printing_routines.specs.declared.formats.Printed.TheVariants.{Byte, Number, String}
@@ -21,7 +22,7 @@ use Rattle.printing_routines.specs.Numbers.{IsNumberRoutine}
 use Rattle.printing_routines.specs.Formats.{cursor_of, byte_code, count_string, counted_code, AreScans, ArePuts}
 use Rattle.printing_routines.specs.Printed.{ScanThese, PutThese, ScansSoFar, PutsSoFar, ScansNext, PutsNext}
 use Rattle.printing_routines.specs.Printed.{pieces_of, holders_of, argument_count, ArePrintable}
-use Rattle.printing_routines.proofs.Printable.{AreLow, directive_count}
+use Rattle.printing_routines.proofs.Printable.{directive_count}
 use Rattle.printing_routines.proofs.Prints.{prints}
 
 pub scans_byte : (g : Basis) (line t w b i : ℕ) (code : List FlatInstruction) → ScansNext g line t w (Byte b) i code
@@ -111,7 +112,7 @@ put_pieces m t w (Number d r ∷ ps) i code h = (h.0, h.1, h.2, h.3, put_pieces 
 put_pieces m t w (String k ∷ ps) i code h =
     (h.0 ++ count_string k (cursor_of t i) t w, h.1, h.2, (h.0, refl, h.3), put_pieces m t w ps (i + 1) h.1 h.4)
 
-pub low_holders : (t : ℕ) (ps : List Printed) → ArePrintable t ps → AreLow t (holders_of ps)
+pub low_holders : (t : ℕ) (ps : List Printed) → ArePrintable t ps → AreAllBelow t (holders_of ps)
 low_holders t [] p = tt
 low_holders t (Byte b ∷ ps) p = low_holders t ps p
 low_holders t (Number d r ∷ ps) p = ((p.1, tt), low_holders t ps p.2)

@@ -1,11 +1,11 @@
 -- The direct form: clearing the entries of a range.
-use Rattle.std.proofs.Common.{◌≡◌, ℕ, zero, suc, ◌+◌, ◌*◌, ◌%◌, ◌^◌, ◌<◌, ◌≤◌, List, [], ◌∷◌, true, false, not}
+use Rattle.std.proofs.Common.{◌≡◌, ℕ, zero, suc, ◌+◌, ◌*◌, ◌%◌, ◌^◌, ◌<◌, ◌≤◌, List, [], ◌∷◌, true}
 use Rattle.std.proofs.Common.{inl, inr, ⊎_elim, refl, sym, ap, ◌∙◌, subst, arith}
-use Rattle.std.proofs.lemmas.Bool.{cases_lt, lt-ltb, le-ltb}
+use Rattle.std.proofs.lemmas.Bool.{cases_lt}
 use Rattle.addr_map.specs.declared.region.Region.TheVariants.{Shadow}
 use Rattle.addr_map.specs.Places.{MapSizes, spaces_begin, region_size}
 use Rattle.rv_isa.specs.declared.instruction.BranchOp.TheVariants.{Bgeu}
-use Rattle.rv_isa.specs.Results.{reg_result, branch_taken}
+use Rattle.rv_isa.specs.Results.{reg_result}
 use Rattle.flat_meaning.specs.declared.instruction.RightOperand.TheVariants.{Register}
 use Rattle.flat_meaning.specs.declared.instruction.FlatInstruction.{FlatInstruction}
 use Rattle.flat_meaning.specs.declared.instruction.FlatInstruction.TheVariants.{JumpBack}
@@ -26,6 +26,7 @@ use Rattle.flat_routines.proofs.Distinct.{AreRegisters, register_of, registers_r
 use Rattle.flat_routines.proofs.Wrapped.{routine}
 use Rattle.flat_routines.proofs.Regions.{IsLaidOut, shadow_allowed, shadow_not_shown}
 use Rattle.flat_routines.proofs.Words.{store_four, four_read, four_beside, metadata_kept, stored_at}
+use Rattle.flat_routines.proofs.Branches.{not_below, is_below}
 use Rattle.shadow_space.specs.Form.{IsWordRange, HasCleared, IsClearRoutine}
 use Rattle.shadow_space.specs.Direct.{direct_entry, begin_clear, clear_one, direct_clear}
 use Rattle.shadow_space.proofs.Entries.{context_of, agrees_shows, agrees_memory}
@@ -93,15 +94,6 @@ more_cleared m m1 p n d l keep cleared =
           (record { base = omega arith; bound = omega arith; key = omega arith; lock = omega arith }))))
           (cases_lt i d),
     )
-
--- the branch of the loop
-taken_at : (a b : ℕ) → b ≤ a → branch_taken Bgeu a b ≡ true
-unfolding branch_taken
-taken_at a b l = ap not (le-ltb a b l)
-
-not_taken_at : (a b : ℕ) → a < b → branch_taken Bgeu a b ≡ false
-unfolding branch_taken
-not_taken_at a b l = ap not (lt-ltb a b l)
 
 -- all that the addresses need
 record IsArea (map : MapSizes) (p n : ℕ) : Type 0 where
@@ -184,13 +176,13 @@ module _ (c : Context) (ok : IsLaidOut c.sizes) (start : State) (p n : ℕ) (are
           (has_back alone 0 head turns_of (has_self alone)) k v
       turn zero v h =
           let e = h.cursor in let d = h.count in let f = h.end in
-          inr (taken_at (v.values 2) (v.values 3) (omega arith), worked_clearing c start p n 0 v h)
+          inr (not_below (v.values 2) (v.values 3) (omega arith), worked_clearing c start p n 0 v h)
       turn (suc k) v h =
           let e = h.cursor in let d = h.count in let f = h.end in
           let has = (has_back alone 0 head turns_of (has_self alone)).1 in
           let h' = worked_clearing c start p n (suc k) v h in
           inl (
-            not_taken_at (v.values 2) (v.values 3) (omega arith),
+            is_below (v.values 2) (v.values 3) (omega arith),
             k,
             refl,
             weaken c alone 5 5 (Goes 5 (worked c v)) 10 _ _ (omega arith) then

@@ -1,8 +1,9 @@
 -- Code in the spaces of the runtime may be done, and shows nothing.
-use Rattle.std.proofs.Common.{◌≡◌, ℕ, ◌+◌, ◌≤◌, List, [], ◌∷◌, Bool, true, false, ◌&&◌, ◌||◌, length, refl, ap, ◌∙◌}
+use Rattle.std.proofs.Common.{◌≡◌, ℕ, ◌+◌, ◌≤◌, List, [], ◌∷◌, true, ◌&&◌, ◌||◌, length, refl, ap, ◌∙◌}
 use Rattle.std.proofs.Common.{subst, arith}
 use Rattle.std.specs.Prelude.{nat_le}
 use Rattle.std.proofs.lemmas.Bool.{le-leb}
+use Rattle.std.proofs.Math.Bool.{or-true}
 use Rattle.addr_map.specs.declared.region.Region.TheVariants.{Cells}
 use Rattle.addr_map.specs.Places.{MapSizes, spaces_begin, region_end}
 use Rattle.rv_isa.specs.Results.{load_bytes, store_bytes}
@@ -22,6 +23,7 @@ use Rattle.flat_routines.specs.Metadata.{ShowsNothing}
 use Rattle.flat_routines.proofs.Steps.{has_self, run_fits}
 use Rattle.flat_routines.proofs.Straight.{run_straight}
 use Rattle.flat_routines.proofs.Regions.{IsLaidOut, shadow_not_shown}
+use Rattle.flat_routines.proofs.Showing.{shows_both}
 use Rattle.space_routines.specs.Quiet.{IsInSpaces, IsQuiet, AreQuiet}
 
 -- ---- allowed
@@ -32,11 +34,7 @@ pub space_allowed : (s : MapSizes) (a n : ℕ) → spaces_begin ≤ a → a + n 
 space_allowed s a n lo hi =
     ap (λ b. is_of_objects s a n || (b && nat_le (a + n) (region_end s Cells))) (le-leb spaces_begin a lo)
     ∙ ap (λ b. is_of_objects s a n || b) (le-leb (a + n) (region_end s Cells) hi)
-    ∙ or_true (is_of_objects s a n)
-  where
-    or_true : (b : Bool) → b || true ≡ true
-    or_true true = refl
-    or_true false = refl
+    ∙ or-true (is_of_objects s a n)
 
 one_allowed : (c : Context) (i : FlatInstruction) (s : State) → IsQuiet c i s → IsAllowed c i s
 one_allowed c (Constant x n) s q = tt
@@ -66,16 +64,7 @@ quiet_allowed c (i ∷ is) s q = (one_allowed c i s q.0, quiet_allowed c is (eff
 
 -- ---- nothing shown
 
--- nothing is shown twice over, and counting work shows nothing
-pub shows_both : (s s1 s2 : State) → ShowsNothing s s1 → ShowsNothing s1 s2 → ShowsNothing s s2
-shows_both s s1 s2 h k = record {
-  input = k.input ∙ h.input;
-  output = k.output ∙ h.output;
-  taken = k.taken ∙ h.taken;
-  accesses = k.accesses ∙ h.accesses;
-  turns = k.turns ∙ h.turns;
-}
-
+-- counting work shows nothing
 pub shows_worked : (c : Context) (s s1 : State) → ShowsNothing s s1 → ShowsNothing s (worked c s1)
 shows_worked c s s1 h = record {
   input = h.input;

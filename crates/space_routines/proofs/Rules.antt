@@ -16,8 +16,9 @@ use Rattle.flat_routines.specs.Effects.{worked, effects}
 use Rattle.flat_routines.specs.Metadata.{ShowsNothing}
 use Rattle.flat_routines.proofs.Rules.{taken, weaken, next, line_on, branch, jump_on, arrived, loop}
 use Rattle.flat_routines.proofs.Regions.{IsLaidOut}
+use Rattle.flat_routines.proofs.Showing.{shows_both}
 use Rattle.space_routines.specs.Quiet.{AreQuiet}
-use Rattle.space_routines.proofs.Quiet.{quiet_allowed, quiet_shows, shows_both, shows_worked}
+use Rattle.space_routines.proofs.Quiet.{quiet_allowed, quiet_shows, shows_worked}
 
 -- what holds of values and memory
 abbrev pub Fact : Type 1

@@ -1,5 +1,5 @@
 -- The bytes that a scan gives lie between the bounds of a pointer to a live object.
-use Rattle.std.proofs.Common.{◌≡◌, ℕ, zero, suc, ◌+◌, ◌-◌, ◌^◌, ◌<◌, ◌≤◌, ◌⊎◌, inl, inr, List, [], ◌∷◌}
+use Rattle.std.proofs.Common.{◌≡◌, ℕ, zero, suc, ◌+◌, ◌-◌, ◌≤◌, ◌⊎◌, inl, inr, List, [], ◌∷◌}
 use Rattle.std.proofs.Common.{Bool, true, false, ◌==◌, length, get_or, refl, sym, ap, ◌∙◌, subst, arith}
 use Rattle.std.proofs.lemmas.Bool.{cases_Bool, eqb-true}
 use Rattle.sb_base.specs.declared.ending.Ending.TheVariants.{Spatial}
@@ -23,7 +23,7 @@ use Rattle.flat_objects.specs.StandsFor.{Views, Keys, StandsFor}
 use Rattle.flat_actions.specs.Ranges.{IsObjectRange}
 use Rattle.flat_actions.proofs.Looking.{IsAround, around, lives, worked_on}
 use Rattle.string_routines.proofs.Looking.{scan_by, with_first}
-use Rattle.flat_actions.proofs.Looking.{looked}
+use Rattle.flat_actions.proofs.Looking.{looked, moved_tag, moved_word}
 
 -- A scan ends at a 0 byte before the bound, or what stands behind the count gives something.
 pub data HowEnded (behind : Run (List ℕ)) (objects : Objects) (v : Value) (number : ℕ) (bounds : Bounds) (n : ℕ)
@@ -53,14 +53,6 @@ abbrev count_of : Completed (List ℕ) → ℕ
 count_of (Gives bytes x) = length bytes
 count_of (Ended e x) = 0
 count_of (Paused x) = 0
-
-moved_tag : (v : Value) → (moved 1 v).tag ≡ v.tag
-unfolding moved
-moved_tag v = refl
-
-moved_word : (v : Value) → v.word + 1 < 2 ^ 64 → (moved 1 v).word ≡ v.word + 1
-unfolding moved
-moved_word v small = omega arith
 
 same_object : (n m : ℕ) (b c : Bounds) → OfObject n b ≡ OfObject m c → (n ≡ m) × (b ≡ c)
 same_object n m b c e = (cc, cc)

@@ -26,6 +26,8 @@ use Rattle.flat_routines.specs.Metadata.{held_registers}
 use Rattle.flat_routines.proofs.Steps.{has_front, has_back}
 use Rattle.flat_routines.proofs.Rules.{weaken}
 use Rattle.flat_routines.proofs.Regions.{laid_out}
+use Rattle.flat_routines.proofs.Words.{IsLocal}
+use Rattle.flat_routines.proofs.Distinct.{below_more}
 use Rattle.flat_objects.specs.StandsFor.{Views, Keys, Spells, StandsFor}
 use Rattle.flat_judging.specs.Judging.{IsToJudge, IsSameBut, IsJudged, IsJudgeRoutine}
 use Rattle.flat_actions.specs.Actions.{Basis, Pointer, Word, Nowhere, IsHeldBy, IsFor, Leaves, IsAction, context_in}
@@ -34,7 +36,6 @@ use Rattle.flat_actions.specs.Ranges.{IsObjectRange, IsByteMoveRoutine, IsFillRo
 use Rattle.flat_actions.specs.Scanning.{IsWorked, HasScanned, IsScanRoutine}
 use Rattle.flat_actions.proofs.Standing.{for_still, for_worked, spells_still, none_of_none}
 use Rattle.flat_actions.specs.Lists.{guarded_code}
-use Rattle.moving_routines.proofs.Tagged.{IsLocal}
 use Rattle.moving_routines.proofs.Steps.{does_weaken}
 use Rattle.moving_routines.proofs.Moves.{allowed_range}
 use Rattle.moving_routines.proofs.Judged.{work_done}
@@ -43,7 +44,6 @@ use Rattle.string_routines.specs.Copying.{HasWritten, count_code, tail_code, fil
 use Rattle.string_routines.proofs.AfterScan.{over, after_scan}
 use Rattle.string_routines.proofs.Between.{at_most_between, range_of, no_more}
 use Rattle.string_routines.proofs.FilledUp.{filled_length, filled_first, filled_rest, IsToFillUp, fills_up}
-use Rattle.string_routines.proofs.Fresh.{below_more}
 use Rattle.string_routines.proofs.Handing.{IsSince, left_from}
 use Rattle.string_routines.proofs.StringWritten.{are_small}
 use Rattle.string_routines.proofs.Written.{written_run, written_works, written_gives, judged_writes}

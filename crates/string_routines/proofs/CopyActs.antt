@@ -21,6 +21,8 @@ use Rattle.flat_routines.specs.Routine.{HasAt, Outcome, Halts, Reaches, Does}
 use Rattle.flat_routines.proofs.Steps.{has_front, has_back}
 use Rattle.flat_routines.specs.Metadata.{held_registers, entry_registers}
 use Rattle.flat_routines.proofs.Rules.{weaken}
+use Rattle.flat_routines.proofs.Words.{IsLocal}
+use Rattle.flat_routines.proofs.Distinct.{below_more}
 use Rattle.flat_objects.specs.StandsFor.{Views, Keys, Spells}
 use Rattle.flat_judging.specs.Judging.{IsJudgeRoutine}
 use Rattle.flat_actions.specs.Actions.{Basis, Pointer, Nowhere, IsHeldBy, IsFor, Leaves, IsAction, context_in}
@@ -29,11 +31,10 @@ use Rattle.flat_actions.specs.Ranges.{IsByteMoveRoutine}
 use Rattle.flat_actions.specs.Scanning.{IsWorked, HasScanned, IsScanRoutine}
 use Rattle.flat_actions.proofs.Standing.{for_still, for_worked, held_still, entry_stays, none_of_none}
 use Rattle.flat_actions.specs.Lists.{give_code}
-use Rattle.moving_routines.proofs.Tagged.{IsLocal}
+use Rattle.moving_routines.proofs.Guarded.{act_then_gives}
 use Rattle.string_routines.specs.Copying.{size_code}
-use Rattle.string_routines.proofs.Handing.{IsSince, left_from, act_then_gives}
+use Rattle.string_routines.proofs.Handing.{IsSince, left_from}
 use Rattle.string_routines.proofs.AfterScan.{over, after_scan}
-use Rattle.string_routines.proofs.Fresh.{below_more}
 use Rattle.string_routines.proofs.StringCopies.{copied, copied_gives, copied_works, copied_is, IsToCopy, copies}
 
 -- ---- `strcpy`

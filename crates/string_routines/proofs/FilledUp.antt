@@ -17,7 +17,8 @@ use Rattle.flat_routines.specs.Effects.{effects}
 use Rattle.flat_routines.specs.Metadata.{ShowsNothing}
 use Rattle.flat_routines.proofs.Steps.{has_front, has_back}
 use Rattle.flat_routines.proofs.Rules.{weaken, next, line_on}
-use Rattle.space_routines.proofs.Quiet.{shows_both, quiet_words}
+use Rattle.flat_routines.proofs.Showing.{shows_both}
+use Rattle.space_routines.proofs.Quiet.{quiet_words}
 use Rattle.flat_actions.specs.Actions.{Basis, context_in}
 use Rattle.flat_actions.specs.Ranges.{IsObjectRange, IsToMove, HasMovedBytes, IsByteMoveRoutine, IsToFill, HasFilled}
 use Rattle.flat_actions.specs.Ranges.{IsFillRoutine}

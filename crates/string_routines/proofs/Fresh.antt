@@ -6,7 +6,3 @@ pub apart_from : (t u : ℕ) (xs : List ℕ) → t ≤ u → AreBelow t xs → A
 apart_from t u [] le below = tt
 apart_from t u (x ∷ xs) le below =
     let l = below.0 in (((λ e. omega (arith, e)), tt), apart_from t u xs le below.1)
-
-pub below_more : (t u : ℕ) (xs : List ℕ) → t ≤ u → AreBelow t xs → AreBelow u xs
-below_more t u [] le below = tt
-below_more t u (x ∷ xs) le below = let l = below.0 in (omega arith, below_more t u xs le below.1)

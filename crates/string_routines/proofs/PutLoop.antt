@@ -1,7 +1,7 @@
 -- The loop that puts the bytes of a range out.
 use Rattle.std.proofs.Common.{◌≡◌, ◌≢◌, ℕ, zero, suc, ◌+◌, ◌*◌, ◌%◌, ◌^◌, ◌<◌, ◌≤◌, ◌⊎◌, inl, inr, List, []}
 use Rattle.std.proofs.Common.{◌∷◌, ◌++◌, true, false, length, get_or, refl, sym, ap, ◌∙◌, subst, arith, append_assoc}
-use Rattle.std.proofs.lemmas.Bool.{cases_eq, eq-eqb, ne_eqb}
+use Rattle.std.proofs.lemmas.Bool.{cases_eq}
 use Rattle.std.proofs.lemmas.List.{append-nil}
 use Rattle.addr_map.specs.Places.{MapSizes}
 use Rattle.rv_isa.specs.declared.instruction.BranchOp.TheVariants.{Beq}
@@ -22,9 +22,11 @@ use Rattle.flat_routines.proofs.Steps.{has_front, has_self}
 use Rattle.flat_routines.proofs.Rules.{weaken, line, line_on, loop}
 use Rattle.flat_routines.proofs.Distinct.{AreRegisters, register_of, registers_rename, others_stay}
 use Rattle.flat_routines.proofs.Wrapped.{routine}
+use Rattle.flat_routines.proofs.Branches.{are_equal, are_not_equal}
+use Rattle.flat_routines.proofs.Regions.{object_allowed}
+use Rattle.flat_routines.proofs.Words.{byte_loaded}
 use Rattle.shadow_space.proofs.Entries.{context_of, agrees_memory}
 use Rattle.flat_actions.specs.Ranges.{IsObjectRange}
-use Rattle.moving_routines.proofs.Bytes.{byte_loaded, object_allowed}
 use Rattle.string_routines.specs.Putting.{bytes_from, IsToPut, HasPut, IsPutRoutine, put_body, put_code}
 
 -- alone: 0 from, 1 to, 2 the cursor, 3 the byte; k bytes are left of n
@@ -40,14 +42,6 @@ record Putting (start : State) (n k : ℕ) (v : State) : Type 0 where
   taken : v.taken ≡ start.taken
   accesses : v.accesses ≡ start.accesses
   turns : v.turns ≡ start.turns
-
-at_end : (a b : ℕ) → a ≡ b → branch_taken Beq a b ≡ true
-unfolding branch_taken
-at_end a b e = eq-eqb a b e
-
-before_end : (a b : ℕ) → a ≢ b → branch_taken Beq a b ≡ false
-unfolding branch_taken
-before_end a b ne = ne_eqb a b ne
 
 module _ (map : MapSizes) (charge weight n : ℕ) (start : State) (words : IsOfWords start)
     (p : IsToPut map 0 1 n start) where
@@ -155,12 +149,12 @@ module _ (map : MapSizes) (charge weight n : ℕ) (start : State) (words : IsOfW
           ⊎ ((branch_taken Beq (v.values 2) (v.values 1) ≡ true) × I 0 (worked c v))
       one_turn zero v fits w =
           inr (
-            at_end (v.values 2) (v.values 1) (let a = w.cursor in let b = w.end in let n = w.count in omega arith),
+            are_equal (v.values 2) (v.values 1) (let a = w.cursor in let b = w.end in let n = w.count in omega arith),
             counted 0 v w,
           )
       one_turn (suc k) v fits w =
           inl (
-            before_end (v.values 2) (v.values 1)
+            are_not_equal (v.values 2) (v.values 1)
                 (λ e. let a = w.cursor in let b = w.end in let n = w.count in omega (arith, e)),
             k,
             refl,

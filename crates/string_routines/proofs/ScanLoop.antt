@@ -1,6 +1,6 @@
 -- The loop that scans a string finds what the source finds, whatever stands behind the count of bytes.
 use Rattle.std.proofs.Common.{◌≡◌, ◌≢◌, ℕ, zero, suc, ◌+◌, ◌-◌, ◌*◌, ◌%◌, ◌^◌, ◌<◌, ◌≤◌, ◌⊎◌, inl, inr, List, []}
-use Rattle.std.proofs.Common.{◌∷◌, true, false, ◌==◌, length, get_or, refl, sym, ap, ◌∙◌, subst, arith}
+use Rattle.std.proofs.Common.{◌∷◌, true, ◌==◌, length, get_or, refl, sym, ap, ◌∙◌, subst, arith}
 use Rattle.std.proofs.lemmas.Bool.{cases_eq, eq-eqb, ne_eqb, eqb-true, eqb-false}
 use Rattle.sb_base.specs.declared.ending.Ending.TheVariants.{Spatial}
 use Rattle.sb_base.specs.Endings.{code_of, report_of}
@@ -8,7 +8,7 @@ use Rattle.addr_map.specs.Places.{MapSizes}
 use Rattle.rv_isa.specs.declared.instruction.BranchOp.TheVariants.{Beq, Bne}
 use Rattle.rv_isa.specs.declared.instruction.RegOp.TheVariants.{Add}
 use Rattle.rv_isa.specs.declared.instruction.LoadOp.TheVariants.{Lbu}
-use Rattle.rv_isa.specs.Results.{reg_result, extended, branch_taken}
+use Rattle.rv_isa.specs.Results.{reg_result, extended}
 use Rattle.obj_memory.specs.declared.value.Bounds.{Bounds}
 use Rattle.obj_memory.specs.declared.value.Tag.TheVariants.{OfObject}
 use Rattle.obj_memory.specs.declared.value.Value.{Value}
@@ -31,10 +31,11 @@ use Rattle.flat_routines.specs.Routine.{HasAt, Outcome, Continues, Halts, Reache
 use Rattle.flat_routines.specs.Effects.{worked, effects}
 use Rattle.flat_routines.specs.Metadata.{ShowsNothing}
 use Rattle.flat_routines.proofs.Rules.{weaken, line_on, branch, arrived, ended, jump_back}
+use Rattle.flat_routines.proofs.Branches.{if_differ, if_same, if_equal, if_unequal}
+use Rattle.flat_routines.proofs.Showing.{shows_on}
+use Rattle.flat_routines.proofs.Words.{byte_loaded}
 use Rattle.behaviours.specs.Shown.{Read}
-use Rattle.heap_space.proofs.Regions.{if_differ, if_same}
 use Rattle.flat_actions.specs.Scanning.{IsWorked}
-use Rattle.moving_routines.proofs.Bytes.{byte_loaded}
 use Rattle.string_routines.specs.Scanning.{scan_loop}
 use Rattle.flat_actions.proofs.Looking.{worked_on, looked}
 use Rattle.string_routines.proofs.Runtime.{runtime_not_shown}
@@ -100,14 +101,6 @@ cursor_kept : (f : State) (v : ℕ) → put f.values 7 v 6 ≡ f.values 6
 unfolding put
 cursor_kept f v = refl
 
-pub if_equal : (a b : ℕ) → branch_taken Beq a b ≡ true → a ≡ b
-unfolding branch_taken
-if_equal a b e = eqb-true a b e
-
-pub if_unequal : (a b : ℕ) → branch_taken Beq a b ≡ false → a ≢ b
-unfolding branch_taken
-if_unequal a b e = eqb-false a b e
-
 -- The loop at a place of the code. How many bytes are left behind the cursor is told by cursor, bound and end.
 module _ (c : Context) (runtime : c.is_runtime ≡ true) (code : List FlatInstruction) (pc line : ℕ)
     (limited : List FlatInstruction) (behind : Run (List ℕ)) (IsLeft : (count cursor bound end : ℕ) → Type 0)
@@ -137,16 +130,6 @@ module _ (c : Context) (runtime : c.is_runtime ≡ true) (code : List FlatInstru
   abbrev pub Again : (k : ℕ) → Source → Value → Type 0
   Again k x v = v.word < b.bound → (f : State) → IsAt k x v f → Scans pc 0 k x v f
 
-  shows_on : (f f' : State) → ShowsNothing start f → f'.input ≡ f.input → f'.output ≡ f.output → f'.taken ≡ f.taken
-      → f'.accesses ≡ f.accesses → f'.turns ≡ f.turns → ShowsNothing start f'
-  shows_on f f' h i o t a u = record {
-    input = i ∙ h.input;
-    output = o ∙ h.output;
-    taken = t ∙ h.taken;
-    accesses = a ∙ h.accesses;
-    turns = u ∙ h.turns;
-  }
-
   pub at_worked : (k : ℕ) (x : Source) (v : Value) (f : State) → IsAt k x v f → IsAt k x v (worked c f)
   at_worked k x v f h = record {
     objects_are = h.objects_are;
@@ -157,7 +140,7 @@ module _ (c : Context) (runtime : c.is_runtime ≡ true) (code : List FlatInstru
     bound_is = h.bound_is;
     left = h.left;
     memory = h.memory;
-    shows = shows_on f (worked c f) h.shows refl refl refl refl refl;
+    shows = shows_on start f (worked c f) h.shows refl refl refl refl refl;
   }
 
   -- where the cursor has come to the bound the run ends, and else goes on with the next byte
@@ -179,7 +162,7 @@ module _ (c : Context) (runtime : c.is_runtime ≡ true) (code : List FlatInstru
                 (branch c code 1 q f Bne 6 (Register 2) 1 (pc + 6 + length limited) R at.0
                 (λ t. absurd (eqb-false _ _ (if_differ (f.values 6) (f.values 2) t) same))
                 (λ t. ended c code 0 (Spatial line) (worked c f) (q + 1) (pc + 6 + length limited) R at.1.0
-                (refl, refl, no_work x, shows_on f _ h.shows refl refl refl refl refl)));
+                (refl, refl, no_work x, shows_on start f _ h.shows refl refl refl refl refl)));
           }
       by (inr differ) =
           let w = h.within in let p = h.cursor_is in let u = h.bound_is in
@@ -220,7 +203,8 @@ module _ (c : Context) (runtime : c.is_runtime ≡ true) (code : List FlatInstru
         byte = ap (load 1 f.memory) a ∙ byte_loaded f.memory v.word ∙ ap (λ m. m v.word) h.memory ∙ there;
         there = there;
         allowed = ap (λ z. is_allowed c.sizes z 1) a ∙ string.allowed v.word h.from below;
-        shows = shows_on f (loaded f) h.shows refl refl refl (runtime_not_shown c runtime _ 1 Read f.accesses) refl;
+        shows = shows_on start f (loaded f) h.shows refl refl refl (runtime_not_shown c runtime _ 1 Read f.accesses)
+            refl;
       }
 
   moves_on : (k : ℕ) (x : Source) (v : Value) (f : State) → v.word < b.bound → IsAt (suc k) x v f
@@ -239,7 +223,7 @@ module _ (c : Context) (runtime : c.is_runtime ≡ true) (code : List FlatInstru
         bound_is = h.bound_is;
         left = subst (λ z. IsLeft k z (f.values 2) (f.values 8)) (sym next) (step_left k _ _ _ h.left);
         memory = h.memory;
-        shows = shows_on (loaded f) (stepped f) shows refl refl refl refl refl;
+        shows = shows_on start (loaded f) (stepped f) shows refl refl refl refl refl;
       }
 
   next_word : (v : Value) → v.word < b.bound → (moved 1 v).word ≡ v.word + 1
@@ -297,7 +281,7 @@ module _ (c : Context) (runtime : c.is_runtime ≡ true) (code : List FlatInstru
                     small = omega arith;
                     there = λ i less. absurd (omega arith);
                     memory = h.memory;
-                    shows = shows_on (loaded f) (worked c (loaded f)) l.shows refl refl refl refl refl;
+                    shows = shows_on start (loaded f) (worked c (loaded f)) l.shows refl refl refl refl refl;
                   },
                 ))
                 (λ t. absurd (if_unequal _ 0 t (l.byte ∙ none)))));

@@ -28,9 +28,9 @@ use Rattle.flat_routines.proofs.Steps.{has_front, has_back}
 use Rattle.flat_routines.proofs.Rules.{weaken, line_on}
 use Rattle.flat_routines.proofs.Distinct.{AreRegisters, register_of, registers_rename, others_stay}
 use Rattle.flat_routines.proofs.Wrapped.{routine_that_may_end}
+use Rattle.flat_routines.proofs.Showing.{shows_both}
 use Rattle.flat_objects.specs.StandsFor.{Views, Keys}
 use Rattle.shadow_space.proofs.Entries.{agrees_shows, agrees_memory}
-use Rattle.space_routines.proofs.Quiet.{shows_both}
 use Rattle.flat_judging.specs.Judging.{IsSameBut}
 use Rattle.flat_actions.specs.Actions.{Basis, Pointer, IsHeldBy, IsFor, context_in, views_of, work_of}
 use Rattle.flat_actions.specs.Scanning.{IsScanned, IsScanRoutine}

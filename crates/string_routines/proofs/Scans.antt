@@ -30,14 +30,14 @@ use Rattle.flat_routines.specs.Effects.{worked, effects, AreAllowed}
 use Rattle.flat_routines.specs.Metadata.{ShowsNothing}
 use Rattle.flat_routines.proofs.Steps.{has_front, has_back, has_self}
 use Rattle.flat_routines.proofs.Rules.{weaken, line_on, branch, arrived}
-use Rattle.flat_routines.proofs.Regions.{IsLaidOut, laid_out}
+use Rattle.flat_routines.proofs.Regions.{IsLaidOut, laid_out, object_allowed}
+use Rattle.flat_routines.proofs.Branches.{if_equal, if_unequal}
 use Rattle.flat_objects.specs.StandsFor.{Views, Keys, Spells, StandsFor, spell}
 use Rattle.flat_actions.specs.Actions.{Basis, context_in, views_of, work_of}
-use Rattle.moving_routines.proofs.Bytes.{object_allowed}
 use Rattle.string_routines.specs.Scanning.{scan_loop, at_limit}
 use Rattle.flat_actions.proofs.Looking.{IsAround, around, lives, reach_is}
 use Rattle.string_routines.proofs.Looking.{scan_by, beyond}
-use Rattle.string_routines.proofs.ScanLoop.{IsString, Found, no_work, if_equal, if_unequal, IsAt, Scans, Again}
+use Rattle.string_routines.proofs.ScanLoop.{IsString, Found, no_work, IsAt, Scans, Again}
 use Rattle.string_routines.proofs.ScanLoop.{at_worked, bound_tested, scanned}
 
 -- ---- with and without a limit

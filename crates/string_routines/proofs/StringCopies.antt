@@ -22,18 +22,19 @@ use Rattle.flat_routines.specs.Routine.{HasAt, Outcome, Halts, Reaches, Does}
 use Rattle.flat_routines.specs.Metadata.{held_registers}
 use Rattle.flat_routines.proofs.Steps.{has_front, has_back}
 use Rattle.flat_routines.proofs.Rules.{weaken}
+use Rattle.flat_routines.proofs.Words.{IsLocal}
+use Rattle.flat_routines.proofs.Distinct.{below_more}
 use Rattle.flat_objects.specs.StandsFor.{Views, Keys, Spells}
 use Rattle.flat_judging.specs.Judging.{IsJudgeRoutine}
 use Rattle.flat_actions.specs.Actions.{Basis, Pointer, Nowhere, IsHeldBy, IsFor, Leaves, context_in, views_of, work_of}
 use Rattle.flat_actions.specs.Ranges.{IsByteMoveRoutine}
 use Rattle.flat_actions.specs.Scanning.{IsWorked, HasScanned, IsScanRoutine}
 use Rattle.flat_actions.proofs.Standing.{for_still, for_worked, spells_still}
-use Rattle.moving_routines.proofs.Tagged.{IsLocal}
 use Rattle.moving_routines.proofs.Judged.{work_done}
 use Rattle.string_routines.specs.Copying.{size_code}
 use Rattle.string_routines.proofs.AfterScan.{over, after_scan}
 use Rattle.string_routines.proofs.Between.{scan_between, terminated}
-use Rattle.string_routines.proofs.Fresh.{apart_from, below_more}
+use Rattle.string_routines.proofs.Fresh.{apart_from}
 use Rattle.string_routines.proofs.Handing.{IsSince, left_from}
 use Rattle.string_routines.proofs.Looking.{scan_works}
 use Rattle.string_routines.proofs.StringWritten.{with_zero, are_small, IsFound, string_writes}

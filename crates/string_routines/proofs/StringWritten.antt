@@ -22,6 +22,8 @@ use Rattle.flat_routines.specs.Registers.{AreBelow}
 use Rattle.flat_routines.specs.Routine.{Outcome, Continues, Halts, Reaches, Does, Either, Never}
 use Rattle.flat_routines.proofs.Steps.{has_front, has_back}
 use Rattle.flat_routines.proofs.Rules.{weaken, line_on}
+use Rattle.flat_routines.proofs.Words.{IsLocal}
+use Rattle.flat_routines.proofs.Distinct.{below_more}
 use Rattle.space_routines.proofs.Quiet.{quiet_words}
 use Rattle.flat_routines.specs.Effects.{effects}
 use Rattle.flat_routines.specs.Metadata.{held_registers}
@@ -30,12 +32,10 @@ use Rattle.flat_judging.specs.Judging.{IsToJudge, IsSameBut, IsJudged, IsJudgeRo
 use Rattle.flat_actions.specs.Actions.{Basis, IsFor, Nowhere, Leaves, context_in, views_of}
 use Rattle.flat_actions.specs.Ranges.{IsObjectRange, IsToMove, HasMovedBytes, IsByteMoveRoutine}
 use Rattle.flat_actions.proofs.Standing.{for_still, spells_still, none_of_none}
-use Rattle.moving_routines.proofs.Tagged.{IsLocal}
 use Rattle.moving_routines.proofs.Steps.{does_weaken}
 use Rattle.moving_routines.proofs.Moves.{allowed_range}
 use Rattle.moving_routines.proofs.Judged.{work_done}
 use Rattle.string_routines.specs.Copying.{HasWritten, size_code}
-use Rattle.string_routines.proofs.Fresh.{below_more}
 use Rattle.string_routines.proofs.Handing.{IsSince, left_from}
 use Rattle.string_routines.proofs.Runtime.{does_in}
 use Rattle.string_routines.proofs.Written.{written_run, judged_writes}

@@ -20,11 +20,11 @@ use Rattle.flat_meaning.specs.Meaning.{Context}
 use Rattle.flat_routines.specs.Routine.{Outcome, Continues, Halts, Does, Either, Never}
 use Rattle.flat_routines.specs.Metadata.{View}
 use Rattle.flat_routines.proofs.Rules.{Holds, weaken}
+use Rattle.flat_routines.proofs.Words.{IsLocal}
 use Rattle.flat_objects.specs.StandsFor.{Views, Keys}
 use Rattle.flat_judging.specs.Judging.{IsSameBut, IsJudged}
 use Rattle.flat_actions.specs.Actions.{views_of, IsFor, Nowhere, HasGiven, Leaves}
 use Rattle.flat_actions.proofs.Judged.{judged_then, located_then}
-use Rattle.moving_routines.proofs.Tagged.{IsLocal}
 use Rattle.moving_routines.proofs.Moves.{with_put, put_is}
 use Rattle.moving_routines.proofs.Judged.{work_done, judged_acts}
 use Rattle.string_routines.specs.Copying.{HasWritten}

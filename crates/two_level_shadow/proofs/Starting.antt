@@ -4,10 +4,10 @@ use Rattle.std.proofs.Common.{[], ◌∷◌, drop, get_or, length, replicate, re
 use Rattle.std.proofs.lemmas.Bool.{cases_lt}
 use Rattle.std.proofs.lemmas.List.{length-replicate}
 use Rattle.addr_map.specs.Places.{MapSizes, AreMapped, spaces_begin, region_size, region_start}
-use Rattle.flat_meaning.specs.Memory.{Bytes, load, store}
+use Rattle.flat_meaning.specs.Memory.{Bytes, store}
 use Rattle.flat_meaning.proofs.Stored.{load_stored, load_beside, store_beside, load_kept}
 use Rattle.flat_routines.specs.Metadata.{no_metadata, IsObjectWord, KeepsShadow}
-use Rattle.flat_routines.proofs.Words.{store_four}
+use Rattle.flat_routines.proofs.Words.{store_four, zero_loaded}
 use Rattle.shadow_space.specs.declared.start.StartEntry.{StartEntry}
 use Rattle.shadow_space.specs.Start.{metadata_of, with_word, IsGlobalWord, IsStartEntry, AreStartEntries, StartsShadow}
 use Rattle.shadow_space.specs.Start.{begun}
@@ -48,10 +48,6 @@ pub place_of_next : (s : MapSizes) (es : List StartEntry) (i : ℕ) (d : StartEn
     → AreStartEntries s (drop i es)
     → 8 + 8 * pages s + 16384 * page_of (get_or es i d).at + entry_offset (get_or es i d).at + 32 ≤ start_size s
 place_of_next s es i d l h = place_of_entry s (get_or es i d).at (entry_at s es i d l h).word
-
-zero_load : (a : ℕ) → load 8 (λ b. 0) a ≡ 0
-unfolding load
-zero_load a = refl
 
 -- ---- a memory with these tables
 
@@ -111,7 +107,7 @@ module _ (s : MapSizes) (lie : AreLevelsLaidOut s) where
   no_page q h =
       no_other s lie (counted s) (global_pages s) q h
       ∙ load_beside 8 8 (λ a. 0) taken_cell (page_cell q) (16384 * global_pages s) (inr (omega arith))
-      ∙ zero_load (page_cell q)
+      ∙ zero_loaded (page_cell q)
 
   zero_behind : (a : ℕ) → first_table s ≤ a → empty s a ≡ 0
   zero_behind a l =

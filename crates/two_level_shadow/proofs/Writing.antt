@@ -1,8 +1,8 @@
 -- An entry is written in two levels.
 use Rattle.std.proofs.Common.{◌≡◌, ◌≢◌, ℕ, zero, suc, ◌+◌, ◌*◌, ◌%◌, ◌^◌, ◌≤◌, List}
-use Rattle.std.proofs.Common.{[], ◌∷◌, ◌++◌, Bool, true, false, not, refl, sym, ap, ◌∙◌, subst, arith}
+use Rattle.std.proofs.Common.{[], ◌∷◌, ◌++◌, true, false, not, refl, sym, ap, ◌∙◌, subst, arith}
 use Rattle.std.specs.Prelude.{◌==◌}
-use Rattle.std.proofs.lemmas.Bool.{eqb-true}
+use Rattle.std.proofs.lemmas.Bool.{eqb-true, not-false}
 use Rattle.addr_map.specs.declared.region.Region.TheVariants.{Shadow}
 use Rattle.addr_map.specs.Places.{MapSizes, AreMapped, spaces_begin, region_size}
 use Rattle.rv_isa.specs.declared.instruction.BranchOp.TheVariants.{Beq, Bne}
@@ -44,11 +44,7 @@ use Rattle.two_level_shadow.proofs.Reading.{own, Looked, look_up_quiet, looked_u
 
 -- a number that a test finds to be zero
 if_zero : (x : ℕ) → not (x == 0) ≡ false → x ≡ 0
-if_zero x e = eqb-true x 0 (turned (x == 0) e)
-  where
-    turned : (b : Bool) → not b ≡ false → b ≡ true
-    turned true e = refl
-    turned false e = absurd cc
+if_zero x e = eqb-true x 0 (not-false (x == 0) e)
 
 -- ---- what is written, whatever the code
 

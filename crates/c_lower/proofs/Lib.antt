@@ -8,3 +8,4 @@ pub mod Flow
 pub mod Statements
 pub mod Programs
 pub mod Homes
+pub mod Liveness

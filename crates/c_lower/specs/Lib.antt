@@ -5,3 +5,4 @@ pub mod Counted
 pub mod Statements
 pub mod Programs
 pub mod Homes
+pub mod Liveness

@@ -21,6 +21,8 @@ ghost use Rattle.c_lower.specs.Homes.{used};
 ghost use Rattle.c_lower.specs.Keys.{place_key};
 ghost use Rattle.c_lower.specs.Programs.{IsLowered};
 
+pub mod liveness;
+
 /// The code of a valid program shows what the program shows, at each moment, for each budget and input, with at most 8
 /// units of work for each of the program's.
 pub fn lowered_code_follows_its_program()

@@ -19,7 +19,7 @@ use Rattle.c_typer.specs.declared.state.LinkedInitializer as code_initializer
 use Rattle.c_typer.specs.declared.state.LocalStatic as code_static
 use Rattle.c_typer.specs.FileState.{linked_initializer_of, local_static_of}
 use Rattle.c_unit_typing.specs.Programs.{in_order, literal_object, parts_of, with_number}
-use Rattle.c_typed_programs.proofs.Common.{same_number}
+use Rattle.typing_laws.proofs.Programs.Common.{same_number}
 use Rattle.c_typer.specs.declared.programs.statics.Found.{Found}
 use Rattle.c_typer.specs.declared.programs.statics.Found.TheVariants.{Whole, Linked}
 use Rattle.c_typer.specs.Slots.{all_placed, kept, placed}

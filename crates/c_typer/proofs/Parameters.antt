@@ -14,7 +14,7 @@ use Rattle.c_typing.specs.Calls.{place_among}
 use Rattle.c_typing.specs.State.{State}
 use Rattle.c_unit_typing.specs.Files.{File}
 use Rattle.c_unit_typing.specs.Units.{entered, parameter_in, parameters_in}
-use Rattle.c_typed_programs.proofs.Scopes.Files.{inside}
+use Rattle.typing_laws.proofs.Programs.Scopes.Files.{inside}
 use Rattle.c_typer.specs.Entering.{begun, parameter_of}
 
 -- one after the other

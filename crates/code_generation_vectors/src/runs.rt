@@ -11,7 +11,7 @@ use anyhow::{Context, Result, bail};
 use flat_meaning::FlatProgram;
 use reg_plan::Plan;
 use reg_plan::planned::{registers, slots};
-use rv_image::{image_of, machine_of};
+use rv_codegen::images::{image_of, machine_of};
 use rv_sim::{Machine, Stop};
 use sb_base::Budgets;
 use sb_outside::{MemSink, MemSource};

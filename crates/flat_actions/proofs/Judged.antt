@@ -15,7 +15,7 @@ use Rattle.flat_meaning.specs.Words.{IsOfWords}
 use Rattle.flat_meaning.specs.Meaning.{Context, Goes}
 use Rattle.flat_routines.specs.Routine.{Outcome, Continues, Halts, Reaches, Either, Never}
 use Rattle.flat_routines.proofs.Rules.{weaken, ends_there, next}
-use Rattle.flat_judging.specs.Judging.{IsSameBut, IsJudged}
+use Rattle.flat_actions.specs.Judgement.Judging.{IsSameBut, IsJudged}
 
 -- ---- in the source
 

@@ -15,10 +15,10 @@ use Rattle.flat_routines.specs.Registers.{IsNoneOf, AreNoneOf, AreBelow, OthersS
 use Rattle.flat_routines.specs.Metadata.{ShowsNothing, held_registers, metadata_in}
 use Rattle.flat_routines.proofs.Words.{same_metadata}
 use Rattle.flat_routines.proofs.Showing.{shows_both}
-use Rattle.flat_objects.specs.StandsFor.{Views, Keys, Spells, StandsFor}
+use Rattle.flat_routines.specs.Objects.StandsFor.{Views, Keys, Spells, StandsFor}
 use Rattle.flat_actions.specs.Actions.{AreSpacesGood, IsShown, IsFor, Holder, Nowhere, Word, Pointer, registers_of}
 use Rattle.flat_actions.specs.Actions.{IsHeldBy, IsGivenIn, StaysElsewhere, KeepsHeld, HasGiven, HasEnded}
-use Rattle.flat_judging.specs.Judging.{IsSameBut}
+use Rattle.flat_actions.specs.Judgement.Judging.{IsSameBut}
 
 -- ---- states
 

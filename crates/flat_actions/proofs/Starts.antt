@@ -11,9 +11,9 @@ use Rattle.flat_meaning.specs.State.{State}
 use Rattle.flat_meaning.proofs.Stored.{load_kept}
 use Rattle.flat_routines.specs.Metadata.{View, IsObjectWord}
 use Rattle.flat_routines.proofs.Words.{zero_loaded}
-use Rattle.flat_objects.specs.StandsFor.{Views, IsLock, global_lock, spell, StandsFor}
-use Rattle.flat_objects.specs.Start.{start_keys, IsStart}
-use Rattle.flat_objects.proofs.Starts.{starts as start_stands}
+use Rattle.flat_routines.specs.Objects.StandsFor.{Views, IsLock, global_lock, spell, StandsFor}
+use Rattle.flat_routines.specs.Objects.Start.{start_keys, IsStart}
+use Rattle.flat_routines.proofs.Objects.Starts.{starts as start_stands}
 use Rattle.shadow_space.specs.declared.start.StartEntry.{StartEntry}
 use Rattle.shadow_space.specs.Start.{metadata_of, AreRead}
 use Rattle.lock_space.proofs.Spaces.{locks_laid_out, own_lock}

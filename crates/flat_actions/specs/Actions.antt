@@ -18,7 +18,7 @@ use Rattle.flat_routines.specs.declared.registers.Held.{Held}
 use Rattle.flat_routines.specs.Registers.{OthersStay}
 use Rattle.flat_routines.specs.Routine.{Does, Outcome, Continues, Halts}
 use Rattle.flat_routines.specs.Metadata.{View, held_registers}
-use Rattle.flat_objects.specs.StandsFor.{Views, Keys, Spells, StandsFor}
+use Rattle.flat_routines.specs.Objects.StandsFor.{Views, Keys, Spells, StandsFor}
 use Rattle.lock_space.specs.Locks.{key_counter, AreLocksGood}
 use Rattle.heap_space.specs.Table.{block_rows, IsTableGood}
 

@@ -3,3 +3,4 @@ pub mod Ranges
 pub mod Scanning
 pub mod Start
 pub mod Lists
+pub mod Judgement

@@ -8,7 +8,7 @@ use Rattle.flat_meaning.specs.State.{State}
 use Rattle.flat_routines.specs.Registers.{OthersStay}
 use Rattle.flat_routines.specs.Routine.{Does, Either, Never}
 use Rattle.flat_routines.specs.Metadata.{View, ShowsNothing}
-use Rattle.flat_objects.specs.Changes.{IsMoved}
+use Rattle.flat_routines.specs.Objects.Changes.{IsMoved}
 use Rattle.flat_actions.specs.Actions.{views_of, AreSpacesGood}
 
 -- what a list of instructions does in functions of the runtime, within so many steps

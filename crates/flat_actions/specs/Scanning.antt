@@ -9,7 +9,7 @@ use Rattle.flat_routines.specs.declared.registers.Held.{Held}
 use Rattle.flat_routines.specs.Registers.{OthersStay}
 use Rattle.flat_routines.specs.Routine.{Does, Outcome, Continues, Halts}
 use Rattle.flat_routines.specs.Metadata.{ShowsNothing}
-use Rattle.flat_objects.specs.StandsFor.{Keys}
+use Rattle.flat_routines.specs.Objects.StandsFor.{Keys}
 use Rattle.flat_actions.specs.Actions.{Basis, Pointer, IsHeldBy, IsFor, context_in, views_of, work_of}
 
 -- a state of the source with more work done

@@ -6,7 +6,7 @@ ghost use Rattle.obj_memory.specs.Objects.{Objects};
 ghost use Rattle.source_meaning.specs.State.{State as Source};
 ghost use Rattle.flat_meaning.specs.Memory.{Bytes};
 ghost use Rattle.flat_meaning.specs.State.{State};
-ghost use Rattle.flat_objects.specs.Start.{start_keys};
+ghost use Rattle.flat_routines.specs.Objects.Start.{start_keys};
 ghost use Rattle.shadow_space.specs.declared.start.StartEntry.{StartEntry};
 ghost use Rattle.flat_actions.specs.Actions.{views_of, IsShown, IsFor};
 ghost use Rattle.flat_actions.specs.Start.{AreStatics, AreEntriesOf, AreSpacesAtStart};

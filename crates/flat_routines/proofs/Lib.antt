@@ -10,3 +10,5 @@ pub mod Regions
 pub mod Words
 pub mod Branches
 pub mod Showing
+pub mod Objects
+pub mod Spaces

@@ -6,3 +6,5 @@ pub mod Renaming
 pub mod Lifted
 pub mod Laws
 pub mod Metadata
+pub mod Objects
+pub mod Spaces

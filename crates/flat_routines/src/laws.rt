@@ -16,6 +16,9 @@ ghost use Rattle.flat_routines.specs.Renaming.{rename, all_fit, IsRenaming, thro
 ghost use Rattle.flat_routines.specs.Lifted.{stage_of};
 ghost use Rattle.flat_routines.specs.Laws.{Arrives, work_of, report_length};
 
+pub mod objects;
+pub mod spaces;
+
 /// A routine does from any place of any function, and over any registers, what it does alone from place 0 and over its
 /// own, in no more steps; all registers but those that it is given to write keep their values.
 pub fn routines_do_the_same_anywhere()

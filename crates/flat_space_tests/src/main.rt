@@ -19,8 +19,8 @@ mod violations;
 
 use anyhow::{Result, bail};
 use shadow_space::Direct;
+use shadow_space::two_levels::TwoLevel;
 use std::io::{BufRead, BufReader};
-use two_level_shadow::TwoLevel;
 
 /// What a row asks.
 #[derive(Clone, Copy)]

@@ -27,7 +27,7 @@ pub fn put(rt: &HostRuntime, given: &str) -> Result<()> {
     let address = number(words.next())?;
     let size = number(words.next())?;
     let word = number(words.next())?;
-    let code = flat_judging::judge(rt.alloc(), POINTER, 5, Line::first(), 10)?;
+    let code = flat_actions::judge(rt.alloc(), POINTER, 5, Line::first(), 10)?;
     let (lock, _) = default_map()?.region(Region::Locks);
     let mut machine = Machine::new(rt.alloc());
     machine.store(lock, word)?;

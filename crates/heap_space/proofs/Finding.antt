@@ -27,12 +27,12 @@ use Rattle.flat_routines.proofs.Distinct.{AreRegisters, register_of, registers_r
 use Rattle.flat_routines.proofs.Regions.{IsLaidOut, laid_out}
 use Rattle.flat_routines.proofs.Wrapped.{routine}
 use Rattle.flat_routines.proofs.Branches.{not_below, is_below, if_differ, if_same}
-use Rattle.flat_objects.specs.StandsFor.{BlockRow}
+use Rattle.flat_routines.specs.Objects.StandsFor.{BlockRow}
 use Rattle.shadow_space.proofs.Entries.{context_of, agrees_shows, agrees_memory}
-use Rattle.space_routines.specs.Quiet.{AreQuiet}
-use Rattle.space_routines.proofs.Quiet.{in_spaces, shows_itself}
-use Rattle.space_routines.proofs.Rules.{Quietly, ReachesQuietly, QuietTurn, quiet_line, quiet_end, quiet_next}
-use Rattle.space_routines.proofs.Rules.{quiet_branch, quiet_loop, quiet_weaken}
+use Rattle.flat_routines.specs.Spaces.Quiet.{AreQuiet}
+use Rattle.flat_routines.proofs.Spaces.Quiet.{in_spaces, shows_itself}
+use Rattle.flat_routines.proofs.Spaces.Rules.{Quietly, ReachesQuietly, QuietTurn, quiet_line, quiet_end, quiet_next}
+use Rattle.flat_routines.proofs.Spaces.Rules.{quiet_branch, quiet_loop, quiet_weaken}
 use Rattle.heap_space.specs.Rows.{size_of}
 use Rattle.heap_space.specs.Table.{total_cell, row_cell, row_at, rows_from, block_rows}
 use Rattle.heap_space.specs.Routines.{IsFound, HasFound, HasBlocks, IsFindRoutine, begin_rows, look_at, find_code}

@@ -20,9 +20,9 @@ use Rattle.flat_routines.proofs.Steps.{has_front}
 use Rattle.flat_routines.proofs.Regions.{IsLaidOut}
 use Rattle.flat_routines.proofs.Words.{store_four, IsOfFourWords, four_read, four_beside, metadata_kept}
 use Rattle.flat_routines.proofs.Branches.{are_equal, are_not_equal}
-use Rattle.space_routines.specs.Quiet.{AreQuiet}
-use Rattle.space_routines.proofs.Quiet.{in_spaces}
-use Rattle.space_routines.proofs.Rules.{ReachesQuietly, QuietTurn, quiet_end, quiet_loop}
+use Rattle.flat_routines.specs.Spaces.Quiet.{AreQuiet}
+use Rattle.flat_routines.proofs.Spaces.Quiet.{in_spaces}
+use Rattle.flat_routines.proofs.Spaces.Rules.{ReachesQuietly, QuietTurn, quiet_end, quiet_loop}
 use Rattle.heap_space.specs.Table.{row_cell}
 use Rattle.heap_space.specs.Routines.{move_up}
 use Rattle.heap_space.proofs.Regions.{IsTableLaidOut}

@@ -8,7 +8,7 @@ use Rattle.std.proofs.Math.Bool.{and-false}
 use Rattle.obj_memory.specs.Heap.{block_room}
 use Rattle.flat_meaning.specs.Memory.{Bytes, load}
 use Rattle.flat_routines.specs.Metadata.{Metadata, metadata_at}
-use Rattle.flat_objects.specs.StandsFor.{BlockRow}
+use Rattle.flat_routines.specs.Objects.StandsFor.{BlockRow}
 use Rattle.heap_space.specs.Rows.{row_end, AreInOrder, with_row, first_gap, row_place}
 use Rattle.heap_space.specs.Table.{row_at, rows_from}
 

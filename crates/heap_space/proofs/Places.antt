@@ -28,10 +28,10 @@ use Rattle.flat_routines.proofs.Words.{store_four, IsOfFourWords, same_metadata,
 use Rattle.flat_routines.proofs.Wrapped.{routine}
 use Rattle.flat_routines.proofs.Branches.{if_not_below, if_below, if_less, if_not_less}
 use Rattle.shadow_space.proofs.Entries.{context_of, agrees_shows, agrees_memory}
-use Rattle.space_routines.specs.Quiet.{AreQuiet}
-use Rattle.space_routines.proofs.Quiet.{in_spaces, shows_itself, quiet_words, worked_words}
-use Rattle.space_routines.proofs.Rules.{Quietly, ReachesQuietly, quiet_line, quiet_end, quiet_next, quiet_branch}
-use Rattle.space_routines.proofs.Rules.{quiet_weaken, quiet_arrived}
+use Rattle.flat_routines.specs.Spaces.Quiet.{AreQuiet}
+use Rattle.flat_routines.proofs.Spaces.Quiet.{in_spaces, shows_itself, quiet_words, worked_words}
+use Rattle.flat_routines.proofs.Spaces.Rules.{Quietly, ReachesQuietly, quiet_line, quiet_end, quiet_next, quiet_branch}
+use Rattle.flat_routines.proofs.Spaces.Rules.{quiet_weaken, quiet_arrived}
 use Rattle.heap_space.specs.Rows.{AreInOrder, first_gap}
 use Rattle.heap_space.specs.Table.{total_cell, row_cell, block_total, block_rows, IsTableGood}
 use Rattle.heap_space.specs.Routines.{HasPlaced, HasBlocks, IsPlaceRoutine, round_size}

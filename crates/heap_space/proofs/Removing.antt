@@ -29,12 +29,12 @@ use Rattle.flat_routines.proofs.Regions.{IsLaidOut, laid_out}
 use Rattle.flat_routines.proofs.Words.{store_four, four_read, four_beside, metadata_kept}
 use Rattle.flat_routines.proofs.Wrapped.{routine}
 use Rattle.flat_routines.proofs.Branches.{are_equal, are_not_equal}
-use Rattle.flat_objects.specs.StandsFor.{BlockRow}
+use Rattle.flat_routines.specs.Objects.StandsFor.{BlockRow}
 use Rattle.shadow_space.proofs.Entries.{context_of, agrees_shows, agrees_memory}
-use Rattle.space_routines.specs.Quiet.{AreQuiet}
-use Rattle.space_routines.proofs.Quiet.{in_spaces, shows_itself}
-use Rattle.space_routines.proofs.Rules.{Quietly, ReachesQuietly, QuietTurn, quiet_end, quiet_next, quiet_loop}
-use Rattle.space_routines.proofs.Rules.{quiet_weaken}
+use Rattle.flat_routines.specs.Spaces.Quiet.{AreQuiet}
+use Rattle.flat_routines.proofs.Spaces.Quiet.{in_spaces, shows_itself}
+use Rattle.flat_routines.proofs.Spaces.Rules.{Quietly, ReachesQuietly, QuietTurn, quiet_end, quiet_next, quiet_loop}
+use Rattle.flat_routines.proofs.Spaces.Rules.{quiet_weaken}
 use Rattle.heap_space.specs.Rows.{row_end, AreInOrder, without_row, HasStart}
 use Rattle.heap_space.specs.Table.{total_cell, row_cell, block_total, row_at, rows_from, block_rows, IsTableGood}
 use Rattle.heap_space.specs.Table.{KeepsButTable}

@@ -15,7 +15,7 @@ use Rattle.flat_meaning.specs.State.{State}
 use Rattle.flat_routines.specs.Registers.{OthersStay}
 use Rattle.flat_routines.specs.Routine.{unless_code, until_code}
 use Rattle.flat_routines.specs.Metadata.{ShowsNothing}
-use Rattle.flat_objects.specs.StandsFor.{BlockRow}
+use Rattle.flat_routines.specs.Objects.StandsFor.{BlockRow}
 use Rattle.shadow_space.specs.Form.{DoesAnywhere}
 use Rattle.heap_space.specs.Rows.{with_row, without_row, HasStart, size_of, row_place}
 use Rattle.heap_space.specs.Table.{block_total, block_rows, IsTableGood, KeepsButTable}

@@ -16,7 +16,7 @@ use Rattle.flat_routines.specs.Metadata.{ShowsNothing}
 use Rattle.flat_routines.proofs.Distinct.{AreRegisters, register_of, registers_rename, others_stay}
 use Rattle.flat_routines.proofs.Wrapped.{straight_routine}
 use Rattle.flat_routines.proofs.Regions.{IsLaidOut, laid_out, shadow_not_shown}
-use Rattle.flat_objects.proofs.Changing.{global_is_lock}
+use Rattle.flat_routines.proofs.Objects.Changing.{global_is_lock}
 use Rattle.shadow_space.proofs.Entries.{context_of, agrees_shows, agrees_memory}
 use Rattle.lock_space.specs.Locks.{lock_total, keys_cell, used_cell, listed_cell, key_counter, used_locks, first_lock}
 use Rattle.lock_space.specs.Locks.{listed_lock, AreLocksGood, lock_space_size, KeepsButLocks}

@@ -12,7 +12,7 @@ use Rattle.flat_meaning.specs.Memory.{Bytes, load}
 use Rattle.flat_meaning.specs.State.{State}
 use Rattle.flat_routines.specs.Registers.{OthersStay}
 use Rattle.flat_routines.specs.Metadata.{ShowsNothing}
-use Rattle.flat_objects.specs.StandsFor.{IsLock, global_lock}
+use Rattle.flat_routines.specs.Objects.StandsFor.{IsLock, global_lock}
 use Rattle.shadow_space.specs.Form.{DoesAnywhere}
 use Rattle.lock_space.specs.Locks.{key_counter, IsFree, AreLocksGood, KeepsButLocks}
 

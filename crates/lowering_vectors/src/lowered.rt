@@ -12,7 +12,7 @@ use c_parser::{parse, release};
 use c_pre::expand;
 use c_tree::{Kind, Program, StaticObject};
 use c_typer::type_unit;
-use program_lowering::lower;
+use program_lowering::programs::lower;
 use program_validity::is_valid;
 use static_data::pointers::size_of;
 use std::alloc::Global;

@@ -13,7 +13,7 @@ use Rattle.flat_meaning.specs.declared.instruction.FlatInstruction.{FlatInstruct
 use Rattle.metadata_plan.specs.Blocks.{block}
 use Rattle.metadata_plan.specs.Laid.{begin_size, jumps, laid_from, place_of, size_at, size_from}
 use Rattle.metadata_expansion.specs.declared.layout.Places.{Places}
-use Rattle.integer_code.specs.Operators.{operators}
+use Rattle.metadata_plan.specs.OperatorLists.Operators.{operators}
 use Rattle.metadata_expansion.specs.Homes.{argument_count, most_arguments}
 use Rattle.metadata_expansion.specs.Numbers.{callee, greatest_callee, AreSmall}
 use Rattle.metadata_expansion.specs.Numbering.{IsAmong}

@@ -5,7 +5,7 @@ use Rattle.tac_ir.specs.declared.function.CodeFunction.{CodeFunction}
 use Rattle.tac_ir.specs.declared.function.Tac.{Tac}
 use Rattle.metadata_plan.specs.Laid.{place_of}
 use Rattle.metadata_expansion.specs.declared.layout.Places.{Places}
-use Rattle.integer_code.specs.Operators.{operators}
+use Rattle.metadata_plan.specs.OperatorLists.Operators.{operators}
 
 -- the last node's place comes first
 pub record ArePlaces (p : Places) (m : MapSizes) (t : Tac) (c : CodeFunction) : Type 0 where

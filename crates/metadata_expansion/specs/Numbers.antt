@@ -8,7 +8,7 @@ use Rattle.tac_ir.specs.declared.function.CodeFunction.{CodeFunction}
 use Rattle.tac_ir.specs.declared.function.Tac.{Tac}
 use Rattle.metadata_plan.specs.Registers.{first_free}
 use Rattle.metadata_plan.specs.Laid.{begin_size, size_from}
-use Rattle.integer_code.specs.Operators.{operators}
+use Rattle.metadata_plan.specs.OperatorLists.Operators.{operators}
 use Rattle.metadata_expansion.specs.Homes.{free_count}
 
 -- the number of the function that an instruction calls

@@ -4,7 +4,7 @@ ghost use Rattle.std.specs.Prelude.{◌≡◌, ℕ, ◌+◌, ◌<◌, ◌≤◌,
 ghost use Rattle.flat_meaning.specs.declared.instruction.FlatInstruction.TheVariants.{Branch as Choice};
 ghost use Rattle.metadata_plan.specs.Blocks.{block, conversion, library_code};
 ghost use Rattle.metadata_expansion.specs.Numbering.{AreRegisters, IsAmong};
-ghost use Rattle.integer_code.specs.Operators.{operators};
+ghost use Rattle.metadata_plan.specs.OperatorLists.Operators.{operators};
 
 use crate::calls::put_call;
 use crate::list::put;
@@ -13,11 +13,11 @@ use crate::updates::put_update;
 use addr_map::AddrMap;
 use c_tree::{Kind, Routine};
 use flat_meaning::{FlatInstruction, RightOperand};
-use integer_operators::binary;
-use integer_operators::binary::put_binary;
-use integer_operators::constant::put_constant;
-use integer_operators::conversion::put_conversion;
-use integer_operators::unary::put_unary;
+use flat_operators::binary;
+use flat_operators::binary::put_binary;
+use flat_operators::constant::put_constant;
+use flat_operators::conversion::put_conversion;
+use flat_operators::unary::put_unary;
 use obj_memory::{IntType, Scalar};
 use rv_isa::BranchOp;
 use sb_base::{Ending, Line};

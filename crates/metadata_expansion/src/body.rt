@@ -8,7 +8,7 @@ ghost use Rattle.metadata_plan.specs.Blocks.{block, prologue, zero_variables, ze
 ghost use Rattle.metadata_plan.specs.Laid.{begin_code, body_of, jumps, laid_from, place_of};
 ghost use Rattle.metadata_expansion.specs.Numbering.{AreRegisters, IsAmong};
 ghost use Rattle.metadata_expansion.specs.Numbers.{AreSmall};
-ghost use Rattle.integer_code.specs.Operators.{operators};
+ghost use Rattle.metadata_plan.specs.OperatorLists.Operators.{operators};
 ghost use Rattle.metadata_expansion.specs.Joins.{AreJoins};
 ghost use Rattle.metadata_expansion.specs.Layout.{ArePlaces};
 ghost use Rattle.metadata_expansion.specs.Ways.{nodes_of};

@@ -5,7 +5,7 @@ ghost use Rattle.metadata_plan.specs.Blocks.{block, prologue};
 ghost use Rattle.metadata_plan.specs.Laid.{begin_size, place_of, size_at, size_from};
 ghost use Rattle.metadata_expansion.specs.Numbering.{AreRegisters, IsAmong};
 ghost use Rattle.metadata_expansion.specs.Numbers.{AreSmall};
-ghost use Rattle.integer_code.specs.Operators.{operators};
+ghost use Rattle.metadata_plan.specs.OperatorLists.Operators.{operators};
 ghost use Rattle.metadata_expansion.specs.Joins.{AreJoins};
 ghost use Rattle.metadata_expansion.specs.Layout.{ArePlaces};
 

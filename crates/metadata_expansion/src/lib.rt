@@ -1,7 +1,7 @@
 //! From checked three-address code of integer programs to flat code: the expansion, in code.
 //!
 //! `metadata_plan` says what the expansion of a program is, and that it follows the program; here it is made, with the
-//! operators of `integer_code` and homes for the virtual registers (`specs/Homes`).
+//! operators of `metadata_plan` and homes for the virtual registers (`specs/Homes`).
 #![tactic(auto)]
 
 pub mod blocks;

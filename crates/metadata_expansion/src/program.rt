@@ -6,7 +6,7 @@ ghost use Rattle.metadata_plan.specs.Blocks.{entry_code};
 ghost use Rattle.metadata_plan.specs.Laid.{entry_of, function_of, functions_of, program_of};
 ghost use Rattle.metadata_expansion.specs.Homes.{homes};
 ghost use Rattle.metadata_expansion.specs.Numbers.{AreAllSmall, AreSmall};
-ghost use Rattle.integer_code.specs.Operators.{operators};
+ghost use Rattle.metadata_plan.specs.OperatorLists.Operators.{operators};
 
 use crate::body::put_body;
 use crate::calls::{put_tests, room_of};

@@ -28,7 +28,7 @@ use Rattle.flat_meaning.specs.Calls.{function_in, room_if, rooms, charged, argum
 use Rattle.flat_meaning.specs.Meaning.{body_of, step, parameters_of, results_of, has_room, enters, instruction_at}
 use Rattle.flat_routines.specs.Routine.{HasAt}
 use Rattle.flat_routines.proofs.Steps.{has_self}
-use Rattle.flat_objects.specs.StandsFor.{Views, Keys, StandsFor}
+use Rattle.flat_routines.specs.Objects.StandsFor.{Views, Keys, StandsFor}
 use Rattle.metadata_plan.specs.Operators.{OperatorCode, AreOperators}
 use Rattle.metadata_plan.specs.Blocks.{prologue, call_tests, entry_code}
 use Rattle.metadata_plan.specs.Expanded.{IsExpanded, EntersAt}

@@ -24,9 +24,9 @@ use Rattle.flat_meaning.specs.Memory.{Bytes, AreBytes}
 use Rattle.flat_meaning.specs.State as flat
 use Rattle.flat_meaning.specs.Meaning.{step as flat_step, started, flat_meaning}
 use Rattle.flat_meaning.specs.Words.{HasWords}
-use Rattle.flat_objects.specs.StandsFor.{Views}
-use Rattle.flat_objects.specs.Start.{start_keys, IsStart}
-use Rattle.flat_objects.proofs.Starts.{starts}
+use Rattle.flat_routines.specs.Objects.StandsFor.{Views}
+use Rattle.flat_routines.specs.Objects.Start.{start_keys, IsStart}
+use Rattle.flat_routines.proofs.Objects.Starts.{starts}
 use Rattle.metadata_plan.specs.Operators.{OperatorCode, AreOperators}
 use Rattle.metadata_plan.specs.Expanded.{IsExpanded}
 use Rattle.metadata_plan.specs.Part.{IsIntegerCode}

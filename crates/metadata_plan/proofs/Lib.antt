@@ -12,3 +12,4 @@ pub mod Stepping
 pub mod Following
 pub mod Laying
 mod Example
+pub mod OperatorLists

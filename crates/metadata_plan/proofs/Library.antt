@@ -30,7 +30,7 @@ use Rattle.flat_meaning.specs.State as flat
 use Rattle.flat_meaning.specs.Calls.{function_in}
 use Rattle.flat_meaning.specs.Meaning.{body_of, weight_of, received}
 use Rattle.flat_meaning.specs.Words.{IsOfWords}
-use Rattle.flat_objects.specs.StandsFor.{Views}
+use Rattle.flat_routines.specs.Objects.StandsFor.{Views}
 use Rattle.metadata_plan.specs.Registers.{most_temporaries, temporary_register, first_free}
 use Rattle.metadata_plan.specs.Operators.{OperatorCode, AreOperators, Position}
 use Rattle.metadata_plan.specs.Expanded.{Leads, IsExpanded}

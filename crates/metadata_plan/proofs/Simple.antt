@@ -37,7 +37,7 @@ use Rattle.flat_meaning.specs.declared.instruction.FlatInstruction.{FlatInstruct
 use Rattle.flat_meaning.specs.declared.instruction.FlatInstruction.TheVariants.{Branch}
 use Rattle.flat_meaning.specs.Meaning.{body_of, instruction_at}
 use Rattle.flat_meaning.specs.Words.{IsOfWords}
-use Rattle.flat_objects.specs.StandsFor.{Views}
+use Rattle.flat_routines.specs.Objects.StandsFor.{Views}
 use Rattle.metadata_plan.specs.Registers.{all_variables, most_temporaries, variable_register, temporary_register}
 use Rattle.metadata_plan.specs.Registers.{first_free}
 use Rattle.flat_routines.proofs.Steps.{has_front, has_back}

@@ -19,7 +19,7 @@ use Rattle.flat_meaning.specs.declared.function.FlatProgram.{FlatProgram}
 use Rattle.flat_meaning.specs.State as flat
 use Rattle.flat_meaning.specs.Calls.{function_in, room_if}
 use Rattle.flat_meaning.specs.Meaning.{body_of, parameters_of, results_of, step}
-use Rattle.flat_objects.specs.StandsFor.{Views, StandsFor}
+use Rattle.flat_routines.specs.Objects.StandsFor.{Views, StandsFor}
 use Rattle.metadata_plan.specs.Registers.{words_in, all_variables, most_temporaries}
 use Rattle.metadata_plan.specs.Operators.{OperatorCode, AreOperators, Position, Computes}
 use Rattle.flat_routines.specs.Routine.{HasAt}

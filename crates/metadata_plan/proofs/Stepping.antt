@@ -29,7 +29,7 @@ use Rattle.flat_meaning.specs.Meaning.{body_of, step, weight_of, started}
 use Rattle.flat_meaning.proofs.Stored.{put_other}
 use Rattle.flat_routines.specs.Routine.{HasAt}
 use Rattle.flat_routines.proofs.Steps.{has_front, has_back}
-use Rattle.flat_objects.specs.StandsFor.{Views, StandsFor}
+use Rattle.flat_routines.specs.Objects.StandsFor.{Views, StandsFor}
 use Rattle.metadata_plan.specs.Registers.{most_temporaries, temporary_register, first_free}
 use Rattle.metadata_plan.specs.Operators.{OperatorCode, AreOperators}
 use Rattle.metadata_plan.specs.Blocks.{call_tests, argument_moves, call_code, room_in}

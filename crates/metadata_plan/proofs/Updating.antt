@@ -46,7 +46,7 @@ use Rattle.flat_meaning.specs.Meaning.{body_of, step}
 use Rattle.flat_meaning.specs.Words.{HasWords}
 use Rattle.flat_meaning.proofs.Stored.{put_same, put_other}
 use Rattle.flat_routines.specs.Routine.{HasAt}
-use Rattle.flat_objects.specs.StandsFor.{Views}
+use Rattle.flat_routines.specs.Objects.StandsFor.{Views}
 use Rattle.metadata_plan.specs.Registers.{all_variables, most_temporaries, variable_register, temporary_register}
 use Rattle.metadata_plan.specs.Registers.{first_free}
 use Rattle.metadata_plan.specs.Operators.{OperatorCode, AreOperators, Position, Computes, IsHere, binary_most}

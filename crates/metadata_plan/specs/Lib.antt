@@ -5,3 +5,4 @@ pub mod Expanded
 pub mod Part
 pub mod Laid
 pub mod Matching
+pub mod OperatorLists

@@ -17,7 +17,7 @@ use Rattle.flat_meaning.specs.State as flat
 use Rattle.flat_meaning.specs.Calls.{function_in, charged}
 use Rattle.flat_meaning.specs.Meaning.{body_of, started}
 use Rattle.flat_meaning.specs.Words.{HasWords}
-use Rattle.flat_objects.specs.StandsFor.{Views, Keys, StandsFor}
+use Rattle.flat_routines.specs.Objects.StandsFor.{Views, Keys, StandsFor}
 use Rattle.metadata_plan.specs.Registers.{all_variables, most_temporaries, variable_register, temporary_register}
 use Rattle.metadata_plan.specs.Part.{IsSafeFrom}
 use Rattle.metadata_plan.specs.Expanded.{Leads}

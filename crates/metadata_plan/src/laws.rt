@@ -13,12 +13,14 @@ ghost use Rattle.flat_meaning.specs.declared.function.FlatProgram.{FlatProgram};
 ghost use Rattle.flat_meaning.specs.Memory.{Bytes, AreBytes};
 ghost use Rattle.flat_meaning.specs.State.{Stuck as flat_stuck};
 ghost use Rattle.flat_meaning.specs.Meaning.{step as flat_step, started, flat_meaning};
-ghost use Rattle.flat_objects.specs.StandsFor.{Views};
-ghost use Rattle.flat_objects.specs.Start.{IsStart};
+ghost use Rattle.flat_routines.specs.Objects.StandsFor.{Views};
+ghost use Rattle.flat_routines.specs.Objects.Start.{IsStart};
 ghost use Rattle.metadata_plan.specs.Operators.{OperatorCode, AreOperators};
 ghost use Rattle.metadata_plan.specs.Expanded.{IsExpanded};
 ghost use Rattle.metadata_plan.specs.Part.{IsIntegerCode};
 ghost use Rattle.metadata_plan.specs.Laid.{address_of, program_of};
+
+pub mod operator_lists;
 
 /// The expansion of an integer program follows it: it shows what the program in three-address code shows, at each
 /// moment, for each budget and input, with at most 21 units of work for each of the program's. The code of the

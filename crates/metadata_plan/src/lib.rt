@@ -6,6 +6,8 @@
 //! other, and `specs/Matching` says when a run of flat code is where a run of three-address code is. The operators on
 //! integers are given by their code, of which `specs/Operators` says what is asked. `specs/Part` says which programs
 //! have integers alone.
+//!
+//! `laws::operator_lists`: the lists of `flat_operators` compute what is asked of such operators.
 #![tactic(auto)]
 
 pub mod laws;

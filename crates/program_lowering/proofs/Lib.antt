@@ -1,3 +1,5 @@
-pub mod Bodies
-pub mod Ready
-pub mod InTurn
+pub mod AccessKeys
+pub mod ExpressionCode
+pub mod StatementParts
+pub mod StatementCode
+pub mod ProgramCode

@@ -1,3 +1,5 @@
-pub mod Weights
-pub mod Code
-pub mod Whole
+pub mod AccessKeys
+pub mod ExpressionCode
+pub mod StatementParts
+pub mod StatementCode
+pub mod ProgramCode

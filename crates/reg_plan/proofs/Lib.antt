@@ -4,3 +4,4 @@ pub mod Ranges
 pub mod GivingOut
 pub mod Plans
 pub mod Exact
+pub mod Saves

@@ -5,3 +5,4 @@ pub mod Accepted
 pub mod Colours
 pub mod Planned
 pub mod Tests
+pub mod Saves

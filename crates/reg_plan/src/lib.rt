@@ -4,10 +4,13 @@
 //! between that makes it (`specs/Needs`): its live range. A plan says of each virtual register where it is live and
 //! where its value is kept; it is accepted where no two that are live at one instruction are kept in one place
 //! (`specs/Accepted`).
+//!
+//! `call_saves` has what the calls of a function save under its plan.
 #![tactic(auto)]
 
 pub mod accepts;
 pub mod apart;
+pub mod call_saves;
 pub mod closed;
 pub mod colouring;
 pub mod effects;

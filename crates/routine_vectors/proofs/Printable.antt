@@ -1,8 +1,8 @@
 -- Pieces of a format, one before others.
 use Rattle.std.proofs.Common.{ℕ, List, [], ◌∷◌}
-use Rattle.printing_routines.specs.declared.formats.Printed.{Printed}
-use Rattle.printing_routines.specs.declared.formats.Printed.TheVariants.{Byte, Number, String}
-use Rattle.printing_routines.specs.Printed.{ArePrintable}
+use Rattle.lib_wrappers.specs.declared.printing.formats.Printed.{Printed}
+use Rattle.lib_wrappers.specs.declared.printing.formats.Printed.TheVariants.{Byte, Number, String}
+use Rattle.lib_wrappers.specs.PrintingRoutines.Printed.{ArePrintable}
 
 pub one_more : (t : ℕ) (p : Printed) (ps : List Printed) → ArePrintable t (p ∷ []) → ArePrintable t ps
     → ArePrintable t (p ∷ ps)

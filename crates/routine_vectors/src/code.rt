@@ -2,26 +2,28 @@
 
 ghost use Rattle.std.specs.Prelude.{◌≤◌, ◌+◌, IfOk, [], ◌∷◌};
 ghost use Rattle.addr_map.specs.Places.{AreMapped};
-ghost use Rattle.printing_routines.specs.Printed.{ArePrintable};
+ghost use Rattle.lib_wrappers.specs.PrintingRoutines.Printed.{ArePrintable};
 
 use crate::routine::{
     Accessing, Allocating, Moving, Piece, Putting, Routine, RoutineCall, Strings, Testing,
 };
-use access_routines::{
-    HeldScalar, checked_load, checked_store, load, spatial_check, store, temporal_check,
-};
 use addr_map::AddrMap;
-use allocating_routines::{EntryRegisters, calloc, enter, free, leave, malloc, realloc, zero};
 use c_tree::Directive;
-use comparing_routines::{memcmp, strchr, strcmp};
 use flat_meaning::{FlatInstruction, RightOperand};
 use flat_routines::{Entry, Held};
-use moving_routines::{copy_structure, fill, memmove, memset, move_bytes, move_tagged};
-use printing_routines::{Printed, digits, numbers, printf};
+use lib_wrappers::comparing::{memcmp, strchr, strcmp};
+use lib_wrappers::moving::{copy_structure, fill, memmove, memset, move_bytes, move_tagged};
+use lib_wrappers::printing::{Printed, digits, numbers, printf};
+use lib_wrappers::strings::{put_bytes, puts, scan, scan_at_most, strcat, strcpy, strlen, strncpy};
+use object_routines::accesses::{
+    HeldScalar, checked_load, checked_store, load, spatial_check, store, temporal_check,
+};
+use object_routines::allocating::{
+    EntryRegisters, calloc, enter, free, leave, malloc, realloc, zero,
+};
 use sb_base::Line;
 use shadow_space::ShadowForm;
 use std::alloc::{AllocError, Global};
-use string_routines::{put_bytes, puts, scan, scan_at_most, strcat, strcpy, strlen, strncpy};
 
 const FIRST: Held = Held {
     value: 0,

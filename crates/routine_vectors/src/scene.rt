@@ -8,8 +8,8 @@ use addr_map::AddrMap;
 use anyhow::{Context, Result, bail};
 use sb_base::Budgets;
 use shadow_space::Direct;
+use shadow_space::two_levels::TwoLevel;
 use std::alloc::Global;
-use two_level_shadow::TwoLevel;
 
 /// A map, and the runtime under each form.
 #[derive(Drop)]

@@ -1,2 +1,4 @@
 mod Below
 mod TooLong
+pub mod EmittedCode
+pub mod MachineImages

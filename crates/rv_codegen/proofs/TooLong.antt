@@ -7,7 +7,7 @@ use Rattle.rv_asm.specs.declared.item.Item.{Item}
 use Rattle.rv_asm.specs.Forms.{IsAssemblable, longest_size}
 use Rattle.flat_meaning.specs.declared.function.FlatProgram.{FlatProgram}
 use Rattle.reg_plan.specs.declared.plan.FunctionPlan.{FunctionPlan}
-use Rattle.rv_layout.specs.Lists.{items_of}
+use Rattle.machine_laws.specs.Layout.Lists.{items_of}
 
 -- a list that cannot be assembled is too long, where each that is not too long can be
 pub too_long : (m : MapSizes) (p : FlatProgram) (plans : List FunctionPlan) (f : ℕ) (items : List Item) (able : Bool)

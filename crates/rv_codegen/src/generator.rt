@@ -6,21 +6,21 @@ ghost use Rattle.flat_meaning.specs.Calls.{function_in};
 ghost use Rattle.flat_meaning.specs.Meaning.{body_of};
 ghost use Rattle.rv_isa.specs.Table.{word_of};
 ghost use Rattle.rv_asm.specs.Forms.{IsAssemblable};
-ghost use Rattle.rv_calls.specs.Calls.{row};
-ghost use Rattle.rv_follows.specs.Start.{start_block};
-ghost use Rattle.rv_layout.specs.Lists.{items_of};
-ghost use Rattle.rv_segments.specs.Segments.{function_words};
+ghost use Rattle.machine_laws.specs.Calls.Calls.{row};
+ghost use Rattle.machine_laws.specs.Following.Start.{start_block};
+ghost use Rattle.machine_laws.specs.Layout.Lists.{items_of};
+ghost use Rattle.machine_laws.specs.Segments.Segments.{function_words};
 ghost use Rattle.rv_codegen.specs.Generated.{IsReady, AreBelow, IsGenerated, IsCause};
 
 use crate::code::{Code, GenerateError};
+use crate::emission::{put_row, put_start};
 use crate::listing::function_items;
 use addr_map::AddrMap;
 use flat_meaning::{FlatFunction, FlatProgram};
+use machine_laws::laws::segments::lists_can_be_assembled;
 use reg_plan::FunctionPlan;
 use rv_asm::{assemble, is_assemblable};
-use rv_emission::{put_row, put_start};
 use rv_isa::{Instr, encode};
-use rv_segments::laws::lists_can_be_assembled;
 use std::alloc::{AllocError, Global};
 
 // The words of a function.

@@ -2,10 +2,15 @@
 //! the functions one behind the other in the two segments of code, and the jump table.
 //!
 //! `specs/Generated` says which words these are.
+//!
+//! `emission` puts the instructions of each instruction of flat code behind a list, exactly those of `block` in
+//! `machine_laws`; `images` makes an executable file of code and data.
 #![tactic(auto)]
 
 pub mod code;
+pub mod emission;
 pub mod generator;
+pub mod images;
 mod listing;
 
 pub use crate::code::{Code, GenerateError};

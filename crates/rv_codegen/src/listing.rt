@@ -4,16 +4,16 @@ ghost use Rattle.std.specs.Prelude.{◌≡◌, ◌+◌, ◌-◌, ◌<◌, ◌^�
 ghost use Rattle.rv_asm.specs.declared.item.Item.TheVariants as item;
 ghost use Rattle.flat_meaning.specs.Calls.{function_in};
 ghost use Rattle.flat_meaning.specs.Meaning.{body_of};
-ghost use Rattle.call_saves.specs.Saves.{is_call, saved_at};
-ghost use Rattle.rv_follows.specs.Code.{keeping};
-ghost use Rattle.rv_layout.specs.Lists.{plain, label_for, tail_of, items_at, items_of};
+ghost use Rattle.reg_plan.specs.Saves.Saves.{is_call, saved_at};
+ghost use Rattle.machine_laws.specs.Following.Code.{keeping};
+ghost use Rattle.machine_laws.specs.Layout.Lists.{plain, label_for, tail_of, items_at, items_of};
 
+use crate::emission::{left_register, put_block, put_entry, right_register};
 use addr_map::AddrMap;
-use call_saves::call_saves;
 use flat_meaning::{FlatInstruction, FlatProgram};
 use reg_plan::FunctionPlan;
+use reg_plan::call_saves::call_saves;
 use rv_asm::{Item, Label};
-use rv_emission::{left_register, put_block, put_entry, right_register};
 use rv_isa::Instr;
 use std::alloc::{AllocError, Global};
 use std::marker::Model;

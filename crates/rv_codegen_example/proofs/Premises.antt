@@ -26,23 +26,23 @@ use Rattle.reg_plan.specs.Accepted.{IsAccepted}
 use Rattle.reg_plan.specs.Tests.{AreAccepted}
 use Rattle.rv_asm.specs.Forms.{forms_of, longest_size, IsAssemblable}
 use Rattle.rv_asm.specs.Words.{words_of}
-use Rattle.rv_blocks.specs.Immediates.{immediate}
-use Rattle.rv_blocks.specs.Blocks.{RightIsShort, digits, constant, load_at, store_at}
-use Rattle.rv_blocks.specs.Places.{home, location}
-use Rattle.rv_calls.specs.Calls.{give, take, save, restore}
-use Rattle.rv_follows.specs.Code.{keeping, block, IsEncodable}
-use Rattle.rv_follows.specs.Matching.{object_bytes, space_bytes}
-use Rattle.rv_follows.specs.Start.{IsStartable, begins}
-use Rattle.rv_layout.specs.Lists.{items_of, bytes_of}
+use Rattle.machine_laws.specs.Blocks.Immediates.{immediate}
+use Rattle.machine_laws.specs.Blocks.Blocks.{RightIsShort, digits, constant, load_at, store_at}
+use Rattle.machine_laws.specs.Blocks.Places.{home, location}
+use Rattle.machine_laws.specs.Calls.Calls.{give, take, save, restore}
+use Rattle.machine_laws.specs.Following.Code.{keeping, block, IsEncodable}
+use Rattle.machine_laws.specs.Following.Matching.{object_bytes, space_bytes}
+use Rattle.machine_laws.specs.Following.Start.{IsStartable, begins}
+use Rattle.machine_laws.specs.Layout.Lists.{items_of, bytes_of}
 use Rattle.elf_image.specs.Layout.{content_of}
 use Rattle.elf_image.specs.Writing.{image_bytes}
 use Rattle.rv_sim.specs.Behaviour.{behaviour}
 use Rattle.rv_sim.specs.Start.{start_of}
-use Rattle.rv_image.specs.Image.{written, filled, IsImage, ImageFollows}
-use Rattle.rv_view.specs.Segments.{Hold}
-use Rattle.rv_segments.specs.Segments.{words_below, rows_below, start_address, code_words, table_words}
-use Rattle.rv_segments.specs.Segments.{code_bytes, table_bytes, FitsSegments}
-use Rattle.rv_segments.proofs.Labels.{labels_meet}
+use Rattle.rv_codegen.specs.MachineImages.Image.{written, filled, IsImage, ImageFollows}
+use Rattle.machine_laws.specs.View.Segments.{Hold}
+use Rattle.machine_laws.specs.Segments.Segments.{words_below, rows_below, start_address, code_words, table_words}
+use Rattle.machine_laws.specs.Segments.Segments.{code_bytes, table_bytes, FitsSegments}
+use Rattle.machine_laws.proofs.Segments.Labels.{labels_meet}
 use Rattle.rv_codegen_example.specs.Program.{sizes, doublings, main, next, same, program, MeetsPremises, HasNearForms}
 use Rattle.rv_codegen_example.proofs.Tested.{all_below}
 use Rattle.rv_codegen_example.proofs.Tested as tested

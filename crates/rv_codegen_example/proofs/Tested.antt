@@ -16,7 +16,7 @@ use Rattle.reg_plan.specs.declared.plan.Place.TheVariants.{Home, Register}
 use Rattle.reg_plan.specs.declared.plan.FunctionPlan.{FunctionPlan}
 use Rattle.reg_plan.specs.Effects.{read_by, is_read, made_by, is_among, next_of, taken_of, Leads}
 use Rattle.reg_plan.specs.Accepted.{intervals_of, covers, is_live, IsLive, AreClosed, HasHome, IsAccepted}
-use Rattle.rv_follows.proofs.Sound.{get_below}
+use Rattle.machine_laws.proofs.Following.Sound.{get_below}
 
 -- ---- tests of all numbers below one
 

@@ -24,10 +24,10 @@ use Rattle.flat_meaning.specs.State.{State, Frame, Stage, Stands, Over, Stuck}
 use Rattle.flat_meaning.specs.Meaning.{step, started}
 use Rattle.reg_plan.specs.declared.plan.FunctionPlan.{FunctionPlan}
 use Rattle.reg_plan.specs.Tests.{AreAccepted}
-use Rattle.rv_follows.specs.Code.{IsEncodable}
-use Rattle.rv_follows.specs.Start.{IsStartable}
-use Rattle.rv_layout.specs.Lists.{items_of, index_of}
-use Rattle.rv_segments.specs.Segments.{FitsSegments}
+use Rattle.machine_laws.specs.Following.Code.{IsEncodable}
+use Rattle.machine_laws.specs.Following.Start.{IsStartable}
+use Rattle.machine_laws.specs.Layout.Lists.{items_of, index_of}
+use Rattle.machine_laws.specs.Segments.Segments.{FitsSegments}
 
 -- a map with the budgets that are taken where none are asked for
 abbrev pub sizes : MapSizes

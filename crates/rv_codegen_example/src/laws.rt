@@ -10,17 +10,17 @@ ghost use Rattle.reg_plan.specs.declared.plan.FunctionPlan.{FunctionPlan};
 ghost use Rattle.elf_image.specs.Layout.{content_of};
 ghost use Rattle.rv_sim.specs.Behaviour.{behaviour};
 ghost use Rattle.rv_sim.specs.Start.{start_of};
-ghost use Rattle.rv_view.specs.Segments.{Hold};
-ghost use Rattle.rv_follows.specs.Matching.{object_bytes, space_bytes};
-ghost use Rattle.rv_follows.specs.Start.{begins};
-ghost use Rattle.rv_layout.specs.Lists.{bytes_of};
-ghost use Rattle.rv_segments.specs.Segments.{start_address, code_words, table_words};
-ghost use Rattle.rv_image.specs.Image.{filled, IsImage};
+ghost use Rattle.machine_laws.specs.View.Segments.{Hold};
+ghost use Rattle.machine_laws.specs.Following.Matching.{object_bytes, space_bytes};
+ghost use Rattle.machine_laws.specs.Following.Start.{begins};
+ghost use Rattle.machine_laws.specs.Layout.Lists.{bytes_of};
+ghost use Rattle.machine_laws.specs.Segments.Segments.{start_address, code_words, table_words};
+ghost use Rattle.rv_codegen.specs.MachineImages.Image.{filled, IsImage};
 ghost use Rattle.rv_codegen_example.specs.Program.{sizes, doublings, program, MeetsPremises, HasNearForms};
 ghost use Rattle.rv_codegen_example.specs.Program.{StandsBefore, Ends};
 
-use rv_image::laws::{images_follow, programs_have_images};
-use rv_segments::laws::generated_code_follows;
+use machine_laws::laws::segments::generated_code_follows;
+use rv_codegen::images::laws::{images_follow, programs_have_images};
 
 /// The program meets every premise under plans that keep all its values but one in registers, wherever these lie in
 /// memory; so the machine with its code follows it, whatever the data and the input are. Under these plans a branch and

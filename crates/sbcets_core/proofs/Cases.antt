@@ -11,7 +11,7 @@ use Rattle.sbcets_core.specs.declared.outcome.Outcome.TheVariants.{Exited, Built
 use Rattle.sbcets_core.specs.declared.outcome.Outcome.TheVariants.{Limit, Refused, ImageRefused, Trap}
 use Rattle.sbcets_core.specs.declared.outcome.Outcome.TheVariants as outcomes
 use Rattle.sb_base.specs.Budgets.{BudgetSizes}
-use Rattle.integer_compiler.specs.declared.compiler.Built.{Built as BuiltImage}
+use Rattle.image_compiler.specs.declared.compiler.Built.{Built as BuiltImage}
 use Rattle.sbcets_core.specs.Outcomes.{max_source, max_image_file}
 use Rattle.sbcets_core.specs.Counting.{Counts, CommandCounts, StopCounts}
 use Rattle.sb_outside.specs.Faults.{next_count}

@@ -13,8 +13,8 @@ use Rattle.sbcets_core.specs.declared.refusal.SourceRefusal.{SourceRefusal}
 use Rattle.elf_image.specs.declared.fault.ImageFault.{ImageFault}
 use Rattle.sbcets_core.specs.Commands.{Outside, IsRead, IsTooLong, RefusesSource, RefusesImage, Goes, Runs, Builds}
 use Rattle.sb_base.specs.Budgets.{BudgetSizes}
-use Rattle.integer_compiler.specs.declared.error.CompileError.{CompileError}
-use Rattle.integer_compiler.specs.declared.error.CompileError.TheVariants as compile
+use Rattle.image_compiler.specs.declared.error.CompileError.{CompileError}
+use Rattle.image_compiler.specs.declared.error.CompileError.TheVariants as compile
 use Rattle.sbcets_core.specs.Accepted.{Judges, IsOfSize}
 use Rattle.sbcets_core.specs.Top.{Does, IsAcceptedFile, IsReadableFile, IsOfRun, IsOfGo, IsOfBuild, IsComplete}
 use Rattle.sbcets_core.specs.Top.{IsRefusalBySize}

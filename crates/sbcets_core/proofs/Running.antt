@@ -20,8 +20,8 @@ use Rattle.sb_base.specs.Budgets.{BudgetSizes}
 use Rattle.c_tree.specs.Programs.{Program}
 use Rattle.source_meaning.specs.State.{Rvalue, Outcome, Gives, Ended, Paused}
 use Rattle.source_meaning.specs.Meaning.{outcome, moment_of}
-use Rattle.integer_images.specs.Images.{DoesWhatIsMeant}
-use Rattle.integer_compiler.specs.declared.compiler.Built.{Built}
+use Rattle.image_laws.specs.Images.Images.{DoesWhatIsMeant}
+use Rattle.image_compiler.specs.declared.compiler.Built.{Built}
 use Rattle.sbcets_core.specs.Accepted.{IsBuiltFrom}
 use Rattle.sbcets_core.specs.Commands.{Streams, RunsImage}
 

@@ -19,7 +19,7 @@ use Rattle.sbcets_core.specs.Outcomes.{max_source}
 use Rattle.c_tree.specs.Programs.{Program}
 use Rattle.c_typer.specs.Rooms.{first_without_room}
 use Rattle.c_unit_typing.specs.Typed.{TypedUnit, a_program, a_fault, too_large, typed_unit}
-use Rattle.integer_programs.specs.Programs.{is_integer_program}
+use Rattle.compiled_programs.specs.Programs.{is_integer_program}
 use Rattle.sbcets_core.specs.Programs.{Judged, constant_fault, judged_program, judged_unit, unless_fault, unless_large}
 use Rattle.sbcets_core.specs.Accepted.{Readable, RefusesTokens, IsTyped, expanded_tokens, supported_tokens}
 use Rattle.sbcets_core.specs.Accepted.{with_support}

@@ -22,11 +22,11 @@ use Rattle.c_unit_typing.specs.Typed.{has_constants}
 use Rattle.c_unit_typing.specs.Typed.{are_constant, most_functions, typed_as, typed_unit}
 use Rattle.c_unit_typing.proofs.Within.{constant_within}
 use Rattle.c_typer.specs.Rooms.{first_without_room}
-use Rattle.c_typed_limits.proofs.Files.{unit_bounded}
-use Rattle.c_typed_programs.proofs.Programs.Units.{unit_valid}
+use Rattle.typing_laws.proofs.Limits.Files.{unit_bounded}
+use Rattle.typing_laws.proofs.Programs.Programs.Units.{unit_valid}
 use Rattle.source_meaning.specs.Calls.{function_at}
-use Rattle.integer_images.specs.Images.{HaveFewParameters, most_parameters}
-use Rattle.integer_programs.specs.Programs.{is_integer_program}
+use Rattle.image_laws.specs.Images.Images.{HaveFewParameters, most_parameters}
+use Rattle.compiled_programs.specs.Programs.{is_integer_program}
 use Rattle.sbcets_core.specs.declared.refusal.SourceRefusal.TheVariants.{Uncompiled}
 use Rattle.sbcets_core.specs.Programs.{Judged, line_unless, content_fault, or_later, parts_fault, statics_fault}
 use Rattle.sbcets_core.specs.Programs.{constant_fault, unless_large, unless_fault}

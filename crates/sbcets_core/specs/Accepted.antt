@@ -13,11 +13,11 @@ use Rattle.c_parser.specs.Parsed.{IsTreeOf, IsRefusedAt}
 use Rattle.sb_base.specs.Budgets.{BudgetSizes}
 use Rattle.c_tree.specs.Programs.{Program}
 use Rattle.c_unit_typing.specs.Typed.{a_program, typed_unit}
-use Rattle.integer_images.specs.Images.{sizes_of, IsChecked, DoesWhatIsMeant}
-use Rattle.integer_compiler.specs.declared.compiler.Built.{Built}
-use Rattle.integer_compiler.specs.declared.error.CompileError.{CompileError}
-use Rattle.integer_compiler.specs.declared.error.CompileError.TheVariants as compile
-use Rattle.integer_compiler.specs.Built.{IsBuilt, IsRefused, NeedsNodes}
+use Rattle.image_laws.specs.Images.Images.{sizes_of, IsChecked, DoesWhatIsMeant}
+use Rattle.image_compiler.specs.declared.compiler.Built.{Built}
+use Rattle.image_compiler.specs.declared.error.CompileError.{CompileError}
+use Rattle.image_compiler.specs.declared.error.CompileError.TheVariants as compile
+use Rattle.image_compiler.specs.Built.{IsBuilt, IsRefused, NeedsNodes}
 use Rattle.sbcets_core.specs.declared.refusal.Counted.TheVariants.{Source, Code}
 use Rattle.sbcets_core.specs.declared.refusal.SourceRefusal.{SourceRefusal}
 use Rattle.sbcets_core.specs.declared.refusal.SourceRefusal.TheVariants.{Lex, Pre, Unsupported, Syntax, Nesting}

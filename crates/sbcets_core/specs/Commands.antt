@@ -15,7 +15,7 @@ use Rattle.rv_sim.specs.State.{MachineState}
 use Rattle.rv_sim.specs.Seen.{IsRun}
 use Rattle.rv_sim.specs.Start.{start_of}
 use Rattle.rv_sim.specs.Behaviour.{begun}
-use Rattle.integer_compiler.specs.declared.compiler.Built.{Built as BuiltImage}
+use Rattle.image_compiler.specs.declared.compiler.Built.{Built as BuiltImage}
 use Rattle.sbcets_core.specs.declared.refusal.SourceRefusal.{SourceRefusal}
 use Rattle.sbcets_core.specs.declared.outcome.ReadFault.TheVariants.{TooLong}
 use Rattle.sbcets_core.specs.declared.outcome.ReadFault.TheVariants as reads

@@ -9,7 +9,7 @@ use Rattle.c_unit_typing.specs.declared.limits.Limited.{Limited}
 use Rattle.c_unit_typing.specs.declared.limits.Limited.TheVariants as limited
 use Rattle.c_unit_typing.specs.Typed.{TypedUnit, a_program, a_fault, too_large, any_pointers, is_constant}
 use Rattle.c_typer.specs.Rooms.{first_without_room}
-use Rattle.integer_programs.specs.Programs.{is_integer_program}
+use Rattle.compiled_programs.specs.Programs.{is_integer_program}
 use Rattle.sbcets_core.specs.declared.refusal.Counted.{Counted}
 use Rattle.sbcets_core.specs.declared.refusal.Counted.TheVariants as counted
 use Rattle.sbcets_core.specs.declared.refusal.SourceRefusal.{SourceRefusal}

@@ -14,7 +14,7 @@ use crate::outcome::{Outcome, ReadFault};
 use crate::refusal::SourceRefusal;
 use crate::report::put_pieces;
 use elf_image::{Image, ReadError};
-use integer_compiler::Built;
+use image_compiler::Built;
 use itoa::Buffer;
 use rv_sim::{Machine, Stop};
 use sb_base::Budgets;

@@ -20,7 +20,7 @@ use c_syntax::Unit;
 use c_tree::Program;
 use c_typer::{UnitRefusal, type_unit};
 use c_unit_typing::limits::Limited;
-use integer_compiler::{Built, CompileError};
+use image_compiler::{Built, CompileError};
 use sb_base::{Budgets, Line};
 use std::alloc::Global;
 
@@ -37,7 +37,7 @@ pub fn compile(alloc: Global, source: &[u8], budgets: &Budgets) -> Result<Built,
         Ok(program) => program,
         Err(refusal) => return Err(refusal),
     };
-    match integer_compiler::compile(alloc, budgets, &program) {
+    match image_compiler::compile(alloc, budgets, &program) {
         Ok(built) => Ok(built),
         Err(error) => Err(size_refusal(error)),
     }

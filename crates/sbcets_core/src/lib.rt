@@ -1,6 +1,6 @@
 //! The compiler, and the call that does all that the program does.
 //!
-//! So far it compiles the programs of integers alone (`integer_programs`). What an accepted source means is what
+//! So far it compiles the programs of integers alone (`compiled_programs`). What an accepted source means is what
 //! `source_meaning` says of its typed program (`specs/Accepted.antt`).
 #![tactic(auto)]
 
@@ -14,7 +14,7 @@ mod top;
 mod typed_program;
 
 pub use compiler::{MAX_SOURCE, compile};
-pub use integer_compiler::Built;
+pub use image_compiler::Built;
 pub use outcome::{Outcome, ReadFault};
 pub use refusal::{Counted, RefusedWord, SourceRefusal};
 pub use top::{finish, sbcets};

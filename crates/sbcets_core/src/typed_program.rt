@@ -12,7 +12,7 @@ ghost use Rattle.sbcets_core.specs.Programs.{statics_fault};
 use crate::refusal::SourceRefusal;
 use c_const::{Pointers, address_constant, constant_word};
 use c_tree::{Content, Expression, Function, Kind, Part, Program, StaticObject};
-use integer_programs::program::is_integer_program;
+use compiled_programs::program::is_integer_program;
 use obj_memory::{Scalar, Tag, Value};
 use sb_base::Line;
 use std::alloc::{AllocError, Global};

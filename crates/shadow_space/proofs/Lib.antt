@@ -2,3 +2,4 @@ pub mod Entries
 pub mod Clearing
 pub mod Starting
 pub mod DirectStart
+pub mod TwoLevel

@@ -32,3 +32,4 @@ pub mod LiveAccesses
 pub mod Living
 pub mod JudgingTests
 pub mod StaysFlow
+pub mod Constants

@@ -20,3 +20,4 @@ pub mod Keeping
 pub mod Good
 pub mod Judging
 pub mod Staying
+pub mod Constants

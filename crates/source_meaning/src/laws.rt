@@ -1,5 +1,8 @@
 //! Laws of the definitions, each as the contract of a function that does nothing: layers above rest on
 //! them.
+
+pub mod constants;
+
 ghost use Rattle.std.specs.Prelude.{◌≡◌, ◌≢◌, ◌<◌, ℕ, IfSome, List, Bool, true, false, length, map, Some};
 ghost use Rattle.behaviours.specs.Behaviour.{IsSource};
 ghost use Rattle.sb_base.specs.Budgets.{BudgetSizes};

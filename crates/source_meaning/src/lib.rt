@@ -2,6 +2,8 @@
 //!
 //! The definitions stand in `specs/`: the state of a run and the actions on it, which three-address code shares, then
 //! expressions, initializers, statements, the library, calls, and the meaning of a program as a behaviour.
+//!
+//! `laws::constants`: constant expressions mean what `c_const` says of them.
 #![tactic(auto)]
 
 pub mod laws;

@@ -21,8 +21,8 @@ use Rattle.c_tree.specs.ValidProgram.{content_size, are_functions}
 use Rattle.c_tree.specs.View.{static_of}
 use Rattle.c_const.specs.Addresses.{Pointers}
 use Rattle.c_const.specs.Contents.{is_laid_out, is_inside, are_inside, initial_contents}
-use Rattle.constant_meaning.specs.Leaving.{AreBytes}
-use Rattle.constant_meaning.proofs.Statics.{ends}
+use Rattle.source_meaning.specs.Constants.Leaving.{AreBytes}
+use Rattle.source_meaning.proofs.Constants.Statics.{ends}
 use Rattle.source_meaning.specs.Expressions.{function_pointer}
 use Rattle.source_meaning.specs.Meaning.{statics_end}
 use Rattle.tac_ir.specs.declared.function.StaticData.{StaticData}

@@ -19,9 +19,9 @@ use Rattle.c_tree.specs.declared.program.Function.{Function as CodeFunction}
 use Rattle.c_tree.specs.declared.program.Program.{Program as CodeProgram}
 use Rattle.c_const.specs.Addresses.{Pointers}
 use Rattle.c_const.specs.Contents.{Contents}
-use Rattle.constant_meaning.specs.Finding.{PointTo}
-use Rattle.constant_meaning.specs.Leaving.{AreConstant, filled, filled_all}
-use Rattle.constant_meaning.proofs.Statics.{initial_objects_are}
+use Rattle.source_meaning.specs.Constants.Finding.{PointTo}
+use Rattle.source_meaning.specs.Constants.Leaving.{AreConstant, filled, filled_all}
+use Rattle.source_meaning.proofs.Constants.Statics.{initial_objects_are}
 use Rattle.source_meaning.specs.Expressions.{function_pointer}
 use Rattle.source_meaning.specs.Places.{statics_first}
 use Rattle.source_meaning.specs.Meaning.{placed_statics, statics_end, setting_of}

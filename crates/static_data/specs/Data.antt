@@ -11,7 +11,7 @@ use Rattle.c_const.specs.Addresses.{Pointers}
 use Rattle.c_const.specs.Contents.{Contents, initial_contents}
 use Rattle.c_const.specs.declared.contents.InitialFault.{InitialFault}
 use Rattle.c_const.specs.declared.contents.InitialFault.TheVariants.{Memory, NotConstant}
-use Rattle.constant_meaning.specs.Leaving.{IsConstant}
+use Rattle.source_meaning.specs.Constants.Leaving.{IsConstant}
 use Rattle.source_meaning.specs.Expressions.{function_pointer}
 use Rattle.source_meaning.specs.Places.{statics_first}
 use Rattle.source_meaning.specs.Meaning.{setting_of, initial_objects}

@@ -5,7 +5,7 @@ ghost use Rattle.std.specs.List.{list_all};
 ghost use Rattle.c_tree.specs.View.{content_of, part_of, static_of, program_of};
 ghost use Rattle.c_const.specs.Contents.{is_laid_out, initial_contents};
 ghost use Rattle.c_const.specs.View.{pointers_of};
-ghost use Rattle.constant_meaning.specs.Leaving.{AreBytes, HasBytes, HaveBytes};
+ghost use Rattle.source_meaning.specs.Constants.Leaving.{AreBytes, HasBytes, HaveBytes};
 ghost use Rattle.c_tree.specs.ValidProgram.{is_valid_program};
 ghost use Rattle.source_meaning.specs.Meaning.{statics_end};
 ghost use Rattle.static_data.specs.Data.{IsData, AreData, AreInitial, OnNotConstant};

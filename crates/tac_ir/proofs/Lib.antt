@@ -3,3 +3,4 @@ pub mod KeyWork
 pub mod Along
 pub mod KeyedChecks
 pub mod Living
+pub mod PlainVariables

@@ -6,3 +6,4 @@ pub mod Meaning
 pub mod Edges
 pub mod Temporaries
 pub mod Changes
+pub mod PlainVariables

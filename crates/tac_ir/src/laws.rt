@@ -16,6 +16,8 @@ ghost use Rattle.tac_ir.specs.declared.function.Tac.{Tac};
 ghost use Rattle.tac_ir.specs.Stage.{Temps, Frame, Stage, Stuck, seen};
 ghost use Rattle.tac_ir.specs.Meaning.{act, function_in, keys_of, setting_of_code, step, first_stage, tac_meaning};
 
+pub mod plain_variables;
+
 /// A step begins at most one turn, and what has ended, or is stuck, stays so.
 pub fn steps_begin_at_most_one_turn()
     ensures { (g : Setting) (t : Tac) → IsStepping (step g t) seen (λ (x : Stage). x ≡ Stuck) }

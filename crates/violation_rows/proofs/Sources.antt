@@ -2,7 +2,7 @@
 use Rattle.std.proofs.Common.{ℕ, List, map}
 use Rattle.c_syntax.specs.Statements.{External}
 use Rattle.c_rules.specs.declared.fault.Rule.{Rule}
-use Rattle.c_violations.specs.Files.{violations}
+use Rattle.typing_laws.specs.Violations.Files.{violations}
 
 -- all violations in a source, each with its rule and line
 abbrev pub source : List External → (end : ℕ) → List (Rule × ℕ)

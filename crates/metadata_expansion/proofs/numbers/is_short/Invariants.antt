@@ -1,7 +1,7 @@
 use Rattle.std.proofs.Common.{◌≡◌, ◌+◌, drop}
 use Rattle.metadata_plan.specs.Laid.{size_from}
 use Rattle.metadata_expansion.specs.Numbers.{body_size}
-use Rattle.integer_code.specs.Operators.{operators}
+use Rattle.metadata_plan.specs.OperatorLists.Operators.{operators}
 use Rattle.metadata_expansion.proofs.numbers.is_short.Given as goal
 
 abbrev pub invariant-loop-node : goal.invariant-loop-node

@@ -1,7 +1,7 @@
 use Rattle.std.proofs.Common.{◌≡◌, ◌++◌, drop}
 use Rattle.metadata_plan.specs.Laid.{functions_of}
 use Rattle.metadata_expansion.specs.Homes.{homes}
-use Rattle.integer_code.specs.Operators.{operators}
+use Rattle.metadata_plan.specs.OperatorLists.Operators.{operators}
 use Rattle.metadata_expansion.proofs.program.put_functions.Given as goal
 
 abbrev pub invariant-loop-function : goal.invariant-loop-function

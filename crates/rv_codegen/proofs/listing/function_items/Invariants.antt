@@ -1,5 +1,5 @@
 use Rattle.std.proofs.Common.{◌≡◌, ◌++◌, drop}
-use Rattle.rv_layout.specs.Lists.{items_from, items_of}
+use Rattle.machine_laws.specs.Layout.Lists.{items_from, items_of}
 use Rattle.rv_codegen.proofs.listing.function_items.Given as goal
 
 abbrev pub invariant-loop-place : goal.invariant-loop-place

@@ -1,6 +1,6 @@
 use Rattle.std.proofs.Common.{map, drop}
 use Rattle.c_tree.specs.View.{part_of}
-use Rattle.constant_meaning.specs.Leaving.{HaveBytes}
+use Rattle.source_meaning.specs.Constants.Leaving.{HaveBytes}
 use Rattle.static_data.proofs.contents.have_bytes.Given as goal
 
 abbrev pub invariant-loop-part : goal.invariant-loop-part

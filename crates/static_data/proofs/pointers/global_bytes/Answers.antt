@@ -1,6 +1,6 @@
 use Rattle.std.proofs.Common.{arith, map, drop}
 use Rattle.c_tree.specs.View.{static_of}
-use Rattle.constant_meaning.proofs.Statics.{ends}
+use Rattle.source_meaning.proofs.Constants.Statics.{ends}
 use Rattle.static_data.proofs.Laying.{next_below, next_end}
 use Rattle.static_data.proofs.pointers.global_bytes.Goals as goal
 

@@ -1,5 +1,5 @@
 use Rattle.std.proofs.Common.{◌≡◌, ◌++◌, drop}
-use Rattle.rv_layout.specs.Lists.{plain}
+use Rattle.machine_laws.specs.Layout.Lists.{plain}
 use Rattle.rv_codegen.proofs.listing.Listing.put_plain.Given as goal
 
 abbrev pub invariant-loop-instr : goal.invariant-loop-instr

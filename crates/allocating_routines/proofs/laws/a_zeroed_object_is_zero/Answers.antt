@@ -1,6 +1,0 @@
-use Rattle.allocating_routines.proofs.ZeroedObjects.{zeroed_stands}
-use Rattle.allocating_routines.proofs.laws.a_zeroed_object_is_zero.Goals as goal
-
-pub returns : goal.returns
-returns c = λ map functions types entry k objects n m m' mapped st table live zeroed.
-    zeroed_stands map mapped functions types entry k objects n m m' st table live zeroed

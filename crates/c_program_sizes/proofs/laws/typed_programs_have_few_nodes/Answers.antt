@@ -1,5 +1,0 @@
-use Rattle.c_program_sizes.proofs.Programs.{file_program, unit_program, unit_words_program}
-use Rattle.c_program_sizes.proofs.laws.typed_programs_have_few_nodes.Goals as goal
-
-pub returns : goal.returns
-returns c = record { counted = unit_program; words = unit_words_program; file = file_program }

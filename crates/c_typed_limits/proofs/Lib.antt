@@ -1,8 +1,0 @@
-mod Chained
-mod Counted
-pub mod Files
-mod Kept
-mod Recursion
-mod Scopes
-mod Shapes
-mod Steps

@@ -1,5 +1,0 @@
-use Rattle.c_typed_programs.proofs.Names.Files.{file_in_turn}
-use Rattle.c_typed_programs.proofs.laws.bodies.definitions_stand_in_turn.Goals as goal
-
-pub returns : goal.returns
-returns c = file_in_turn

@@ -1,6 +1,0 @@
-use Rattle.c_typed_programs.proofs.Declarations.Completed.{completed_by}
-use Rattle.c_typed_programs.proofs.Declarations.Judged.{declared_as_declares}
-use Rattle.c_typed_programs.proofs.laws.declarations.declarators_bind_their_names.Goals as goal
-
-pub returns : goal.returns
-returns c = record { declared = declared_as_declares; completed = completed_by }

@@ -1,7 +1,0 @@
-use Rattle.c_typed_programs.proofs.Files.Ends.{owns_all}
-use Rattle.c_typed_programs.proofs.Files.Statics.{in_order_by}
-use Rattle.c_typed_programs.proofs.laws.files.static_objects_are_in_order.Goals as goal
-
--- src/laws.rt:12:1
-pub returns : goal.returns
-returns c = λ objects end es f regular is. in_order_by f (owns_all objects end es f regular is)

@@ -1,5 +1,0 @@
-use Rattle.c_typed_programs.proofs.Functions.Main.{types_are_those}
-use Rattle.c_typed_programs.proofs.laws.functions.function_types_have_signatures.Goals as goal
-
-pub returns : goal.returns
-returns c = types_are_those

@@ -1,5 +1,0 @@
-use Rattle.c_typed_programs.proofs.Functions.Main.{functions_have_rooms}
-use Rattle.c_typed_programs.proofs.laws.functions.functions_have_types_and_rooms.Goals as goal
-
-pub returns : goal.returns
-returns c = functions_have_rooms

@@ -1,8 +1,0 @@
-use Rattle.c_typed_programs.proofs.Functions.Continuing.{bound_fills, bound_words}
-use Rattle.c_typed_programs.proofs.laws.functions.linked_names_have_types.Goals as goal
-
-pub returns-clause-words : goal.returns-clause-words
-returns-clause-words c = bound_words
-
-pub returns-clause-sizes : goal.returns-clause-sizes
-returns-clause-sizes c = bound_fills

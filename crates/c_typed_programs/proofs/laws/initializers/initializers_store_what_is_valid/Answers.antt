@@ -1,5 +1,0 @@
-use Rattle.c_typed_programs.proofs.Initializers.Valid.{initialized_valid}
-use Rattle.c_typed_programs.proofs.laws.initializers.initializers_store_what_is_valid.Goals as goal
-
-pub returns : goal.returns
-returns c = initialized_valid

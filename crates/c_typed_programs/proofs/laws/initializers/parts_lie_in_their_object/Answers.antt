@@ -1,5 +1,0 @@
-use Rattle.c_typed_programs.proofs.Initializers.Initialized.{initialized_if_is, placing_given}
-use Rattle.c_typed_programs.proofs.laws.initializers.parts_lie_in_their_object.Goals as goal
-
-pub returns : goal.returns
-returns c = record { placed = placing_given; initialized = initialized_if_is }

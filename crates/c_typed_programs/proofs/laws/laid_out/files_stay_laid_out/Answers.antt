@@ -1,5 +1,0 @@
-use Rattle.c_typed_programs.proofs.LaidOut.Files.{entered_laid, externals_laid}
-use Rattle.c_typed_programs.proofs.laws.laid_out.files_stay_laid_out.Goals as goal
-
-pub returns : goal.returns
-returns c = record { externals = externals_laid; entered = entered_laid }

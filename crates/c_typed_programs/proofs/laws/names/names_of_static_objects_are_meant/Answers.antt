@@ -1,5 +1,0 @@
-use Rattle.c_typed_programs.proofs.Names.Meant.{static_meant}
-use Rattle.c_typed_programs.proofs.laws.names.names_of_static_objects_are_meant.Goals as goal
-
-pub returns : goal.returns
-returns c = static_meant

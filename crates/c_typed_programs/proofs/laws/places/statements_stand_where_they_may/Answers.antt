@@ -1,5 +1,0 @@
-use Rattle.c_typed_programs.proofs.Places.Placed.{block_items_placed, statement_placed}
-use Rattle.c_typed_programs.proofs.laws.places.statements_stand_where_they_may.Goals as goal
-
-pub returns : goal.returns
-returns c = record { statement = statement_placed; items = block_items_placed }

@@ -1,5 +1,0 @@
-use Rattle.c_typed_programs.proofs.Sizes.Files.{file_sizes}
-use Rattle.c_typed_programs.proofs.laws.sizes.objects_with_linkage_are_complete.Goals as goal
-
-pub returns : goal.returns
-returns c = file_sizes

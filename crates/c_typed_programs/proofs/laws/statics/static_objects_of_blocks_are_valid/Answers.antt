@@ -1,5 +1,0 @@
-use Rattle.c_typed_programs.proofs.Statics.Program.{block_objects}
-use Rattle.c_typed_programs.proofs.laws.statics.static_objects_of_blocks_are_valid.Goals as goal
-
-pub returns : goal.returns
-returns c = block_objects

@@ -1,5 +1,0 @@
-use Rattle.c_typed_programs.proofs.Statics.Files.{file_objects}
-use Rattle.c_typed_programs.proofs.laws.statics.static_objects_of_files_are_valid.Goals as goal
-
-pub returns : goal.returns
-returns c = file_objects

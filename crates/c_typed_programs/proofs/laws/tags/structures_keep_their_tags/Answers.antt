@@ -1,5 +1,0 @@
-use Rattle.c_typed_programs.proofs.Tags.Files.{declaration_stays, externals_stay}
-use Rattle.c_typed_programs.proofs.laws.tags.structures_keep_their_tags.Goals as goal
-
-pub returns : goal.returns
-returns c = record { declarations = declaration_stays; externals = externals_stay }

@@ -1,6 +1,0 @@
-pub mod Bounded
-mod Calls
-pub mod Operators
-pub mod Recursion
-pub mod Steps
-pub mod Words

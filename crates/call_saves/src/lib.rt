@@ -1,8 +1,0 @@
-//! What the calls of a function save under its plan: the values that are kept in registers of the machine and are live
-//! behind the call.
-#![tactic(auto)]
-
-mod rows;
-pub mod saves;
-
-pub use crate::saves::{CallSaves, call_saves};

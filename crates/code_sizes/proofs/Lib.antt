@@ -1,3 +1,0 @@
-mod Blocks
-mod Lists
-pub mod Programs

@@ -1,5 +1,0 @@
-use Rattle.expression_lowering.proofs.Growing.{three_ways}
-use Rattle.expression_lowering.proofs.emitter.Emitter.ways.Goals as goal
-
-pub returns : goal.returns
-returns c = three_ways c.in_ok-zero.ensures c.in_ok-one.ensures c.in_ok-test.ensures

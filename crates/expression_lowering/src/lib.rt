@@ -1,9 +1,0 @@
-//! Expressions to three-address code. The code of a function is made from its end to its start: what comes next stands
-//! already when an expression is lowered.
-#![tactic(auto)]
-
-pub mod emitter;
-pub mod expression;
-pub mod last;
-
-pub use crate::emitter::Emitter;

@@ -1,0 +1,77 @@
+-- The judgement of an access in flat code.
+use Rattle.std.specs.Prelude.{◌≡◌, ℕ, ◌≤◌, Bool, List, [], ◌∷◌}
+use Rattle.sb_base.specs.declared.ending.Ending.{Ending}
+use Rattle.sb_base.specs.declared.ending.Ending.TheVariants.{Spatial, Temporal}
+use Rattle.sb_base.specs.Endings.{code_of, report_of}
+use Rattle.addr_map.specs.Places.{AreMapped}
+use Rattle.rv_isa.specs.declared.instruction.BranchOp.TheVariants.{Beq, Bgeu}
+use Rattle.rv_isa.specs.declared.instruction.RegOp.TheVariants.{Sub}
+use Rattle.rv_isa.specs.declared.instruction.LoadOp.TheVariants.{Ld}
+use Rattle.obj_memory.specs.declared.value.Value.{Value}
+use Rattle.obj_memory.specs.declared.judgement.Verdict.{Verdict}
+use Rattle.obj_memory.specs.declared.judgement.Verdict.TheVariants.{Outside, Dead, Inside}
+use Rattle.obj_memory.specs.Objects.{Objects}
+use Rattle.obj_memory.specs.Judgement.{judge}
+use Rattle.obj_memory.specs.Sound.{IsSoundTag}
+use Rattle.flat_meaning.specs.declared.instruction.RightOperand.TheVariants.{Register}
+use Rattle.flat_meaning.specs.declared.instruction.FlatInstruction.{FlatInstruction}
+use Rattle.flat_meaning.specs.declared.instruction.FlatInstruction.TheVariants.{Operate, Load, Branch, End}
+use Rattle.flat_meaning.specs.State.{State}
+use Rattle.flat_routines.specs.declared.registers.Held.{Held}
+use Rattle.flat_routines.specs.Registers.{OthersStay}
+use Rattle.flat_routines.specs.Routine.{Does, Outcome, Continues, Halts}
+use Rattle.flat_routines.specs.Metadata.{ShowsNothing}
+use Rattle.flat_routines.specs.Objects.StandsFor.{Views, Keys, Spells, StandsFor}
+
+-- the memory stands for the objects, and registers hold a pointer and a size
+pub record IsToJudge (g : Views) (k : Keys) (objects : Objects) (v : Value) (size : ℕ) (h : Held) (n : ℕ) (s : State)
+    : Type 0 where
+  pub stands : StandsFor g k objects s.memory
+  pub sound : IsSoundTag g.functions objects v.tag
+  pub spells : Spells g k v h s.values
+  pub size_is : s.values n ≡ size
+  pub some : 1 ≤ size
+
+-- nothing but registers from scratch on changed
+pub record IsSameBut (scratch : ℕ) (s s' : State) : Type 0 where
+  pub memory : s'.memory ≡ s.memory
+  pub shows : ShowsNothing s s'
+  pub others : OthersStay [] scratch s s'
+
+-- the run is over with an ending
+abbrev pub EndsWith : Ending → (scratch status : ℕ) → (report : List ℕ) → (s s' : State) → Type 0
+EndsWith e t status report s s' = (status ≡ code_of e) × (report ≡ report_of e) × IsSameBut t s s'
+
+-- it ends just where the judgement is a violation, with that one
+abbrev pub IsJudged : Verdict → (line scratch : ℕ) → State → Outcome → Type 0
+IsJudged Outside line t s (Halts status report s') = EndsWith (Spatial line) t status report s s'
+IsJudged Dead line t s (Halts status report s') = EndsWith (Temporal line) t status report s s'
+IsJudged (Inside p) line t s (Halts status report s') = ⊥
+IsJudged Outside line t s (Continues s') = ⊥
+IsJudged Dead line t s (Continues s') = ⊥
+IsJudged (Inside p) line t s (Continues s') = IsSameBut t s s'
+
+-- the bounds are tested first, then the key of the lock word
+abbrev pub judge_code : Held → (size line scratch : ℕ) → List FlatInstruction
+judge_code h n line t =
+    Branch Bgeu h.value (Register h.tag.base) 1
+    ∷ End (Spatial line)
+    ∷ Branch Bgeu h.tag.bound (Register h.value) 1
+    ∷ End (Spatial line)
+    ∷ Operate Sub t h.tag.bound (Register h.value)
+    ∷ Branch Bgeu t (Register n) 1
+    ∷ End (Spatial line)
+    ∷ Load Ld t h.tag.lock 0
+    ∷ Branch Beq t (Register h.tag.key) 1
+    ∷ End (Temporal line)
+    ∷ []
+
+-- Of whatever objects, under whatever map and form of the shadow space, in functions of the program and of the runtime:
+-- within 10 steps the access is judged.
+abbrev pub IsJudgeRoutine : Held → (size line scratch : ℕ) → List FlatInstruction → Type 0
+IsJudgeRoutine h n line t r =
+    (g : Views) (k : Keys) (objects : Objects) (v : Value) (size : ℕ) (runtime : Bool) (charge weight : ℕ)
+    → AreMapped g.sizes
+    → Does (record { sizes = g.sizes; is_runtime = runtime; charge = charge; weight = weight }) r
+    (IsToJudge g k objects v size h n)
+    (λ s. 10) (λ s. IsJudged (judge size v objects) line t s)

@@ -1,0 +1,66 @@
+//! Constants of 64 bits.
+
+ghost use Rattle.std.specs.Prelude.{◌≡◌, ◌++◌, OnOk};
+ghost use Rattle.flat_operators.specs.Operators.{appended, constant_code, is_short, wide_code};
+
+use crate::list::put;
+use flat_meaning::{FlatInstruction, RightOperand};
+use rv_isa::RegOp;
+use std::alloc::AllocError;
+
+// Whether an instruction can have a number.
+fn is_short(word: u64) -> bool
+    ensures { result ≡ is_short word }
+{
+    word < (1 << 31) - (1 << 11) || word >= u64::MAX - ((1 << 31) - 1)
+}
+
+// Puts 20 more bits behind those of a register.
+fn put_appended(code: &mut Vec<FlatInstruction>, into: u32, bits: u64) -> Result<(), AllocError>
+    ensures { OnOk result (code.new.items ≡ code.old.items ++ appended into bits) }
+{
+    put(
+        code,
+        FlatInstruction::Operate {
+            op: RegOp::Sll,
+            into,
+            left: into,
+            right: RightOperand::Number(20),
+        },
+    )?;
+    put(
+        code,
+        FlatInstruction::Operate {
+            op: RegOp::Add,
+            into,
+            left: into,
+            right: RightOperand::Number(bits),
+        },
+    )
+}
+
+// Puts a word in three parts behind a list.
+fn put_wide(code: &mut Vec<FlatInstruction>, into: u32, word: u64) -> Result<(), AllocError>
+    ensures { OnOk result (code.new.items ≡ code.old.items ++ wide_code into word) }
+{
+    put(
+        code,
+        FlatInstruction::Constant {
+            into,
+            value: word / (1 << 40),
+        },
+    )?;
+    put_appended(code, into, word / (1 << 20) % (1 << 20))?;
+    put_appended(code, into, word % (1 << 20))
+}
+
+/// Puts what gets a word into a register behind a list. It fails only for want of memory.
+#[tactic(auto, unfolding(crate::specs::Operators::constant_code))]
+pub fn put_constant(code: &mut Vec<FlatInstruction>, into: u32, word: u64) -> Result<(), AllocError>
+    ensures { OnOk result (code.new.items ≡ code.old.items ++ constant_code into word) }
+{
+    if is_short(word) {
+        return put(code, FlatInstruction::Constant { into, value: word });
+    }
+    put_wide(code, into, word)
+}

@@ -1,0 +1,38 @@
+//! Laws of the lists, each as the contract of a function that does nothing.
+
+ghost use Rattle.std.specs.Prelude.{ℕ, ◌^◌, ◌<◌, Some};
+ghost use Rattle.obj_memory.specs.declared.int_type.IntType.{IntType};
+ghost use Rattle.obj_memory.specs.declared.operator.UnaryOperator.{UnaryOperator};
+ghost use Rattle.obj_memory.specs.declared.operator.BinaryOperator.{BinaryOperator};
+ghost use Rattle.obj_memory.specs.Integers.{fit};
+ghost use Rattle.obj_memory.specs.Operators.{unary_value, binary_value};
+ghost use Rattle.flat_meaning.specs.Meaning.{Context};
+ghost use Rattle.flat_routines.specs.Routine.{Does};
+ghost use Rattle.flat_operators.specs.Operators.{constant_code, conversion_code, unary_code, binary_code};
+ghost use Rattle.flat_operators.specs.Results.{AreOperands, Anywhere, IsResult};
+
+/// A word gets into a register within five steps.
+pub fn constants_get_there()
+    ensures { (c : Context) (line d n w : ℕ) → d < n → w < 2 ^ 64
+        → Does c (constant_code d w) Anywhere (λ s. 5) (λ s. IsResult (Some w) line d n s) }
+{}
+
+/// A conversion gives the value that fits the type (C99 6.3.1.3), within two steps.
+pub fn conversions_fit()
+    ensures { (c : Context) (t : IntType) (line d x n : ℕ) → AreOperands d x x n
+        → Does c (conversion_code t d x) Anywhere (λ s. 2) (λ s. IsResult (Some (fit t (s.values x))) line d n s) }
+{}
+
+/// A unary operator gives its value (6.5.3.3), within four steps.
+pub fn unary_operators_give_their_values()
+    ensures { (c : Context) (op : UnaryOperator) (t : IntType) (line d x n : ℕ) → AreOperands d x x n
+        → Does c (unary_code op t d x n) Anywhere (λ s. 4)
+        (λ s. IsResult (Some (unary_value op t (s.values x))) line d n s) }
+{}
+
+/// A binary operator gives its value (6.5.5 to 6.5.12), or the run ends where it has none, within four steps.
+pub fn binary_operators_give_their_values()
+    ensures { (c : Context) (op : BinaryOperator) (t : IntType) (line d a b n : ℕ) → AreOperands d a b n
+        → Does c (binary_code op t line d a b n) Anywhere (λ s. 4)
+        (λ s. IsResult (binary_value op t (s.values a) (s.values b)) line d n s) }
+{}

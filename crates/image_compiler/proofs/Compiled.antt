@@ -1,0 +1,151 @@
+-- What is built of lowered code is built of the program.
+use Rattle.std.proofs.Common.{◌≡◌, ℕ, ◌<◌, List, [], length, true, Some, refl, sym, ap, ◌∙◌, subst}
+use Rattle.std.specs.Prelude.{Result, Ok, Err, IfOk, IfErr}
+use Rattle.std.proofs.lemmas.Option.{none-some}
+use Rattle.std.proofs.lemmas.List.{length-map}
+use Rattle.sb_base.specs.Budgets.{BudgetSizes}
+use Rattle.addr_map.specs.Places.{MapSizes}
+use Rattle.c_tree.specs.Programs.{Program}
+use Rattle.source_meaning.specs.Calls.{header_of}
+use Rattle.tac_ir.specs.declared.function.Tac.{Tac}
+use Rattle.tac_ir.specs.Meaning.{header_of_code}
+use Rattle.c_lower.specs.Programs.{IsLowered}
+use Rattle.check_insert.specs.Inserted.{Inserted}
+use Rattle.compiled_programs.specs.Programs.{is_integer_program}
+use Rattle.static_data.specs.Data.{first_fault, program_pointers}
+use Rattle.flat_meaning.specs.declared.function.FlatProgram.{FlatProgram}
+use Rattle.reg_plan.specs.declared.plan.FunctionPlan.{FunctionPlan}
+use Rattle.metadata_expansion.specs.Numbers.{AreAllSmall}
+use Rattle.reg_plan.specs.Planned.{ArePlannable}
+use Rattle.reg_plan.specs.Tests.{AreAccepted}
+use Rattle.machine_laws.specs.Following.Code.{IsEncodable}
+use Rattle.rv_codegen.specs.MachineImages.Image.{IsImage}
+use Rattle.image_laws.specs.Images.Images.{sizes_of, IsChecked, IsFlat, DoesWhatIsMeant}
+use Rattle.image_laws.proofs.Images.Images.{no_statics, no_bytes}
+use Rattle.rv_codegen.specs.declared.code.GenerateError.TheVariants as generate
+use Rattle.rv_codegen.specs.Generated.{IsCause}
+use Rattle.image_laws.specs.Sizes.Nodes.{program_nodes}
+use Rattle.image_compiler.specs.declared.error.CompileError.{CompileError}
+use Rattle.image_compiler.specs.declared.error.CompileError.TheVariants.{NumbersTooLarge, TooLarge, FunctionTooLong}
+use Rattle.image_compiler.specs.declared.error.CompileError.TheVariants.{Memory}
+use Rattle.image_compiler.specs.declared.compiler.Built.{Built}
+use Rattle.image_compiler.specs.Built.{flat_code, IsExpandable, IsBuilt, IsRefused, NeedsNodes, UnlessMemory}
+use Rattle.image_compiler.proofs.Images.{accepted}
+
+-- as many functions as the text has, with checks or without
+pub lowered_count : (p : Program) (t : Tac) → IsLowered p t → length t.functions ≡ length p.functions
+lowered_count p t low =
+    sym (length-map t.functions header_of_code) ∙ ap length low.headers ∙ length-map p.functions header_of
+
+pub checked_count : (t r : Tac) → Inserted t r → length r.functions ≡ length t.functions
+checked_count t r ins =
+    sym (length-map r.functions header_of_code) ∙ ap length ins.headers ∙ length-map t.functions header_of_code
+
+-- the map of a program without static objects
+pub sizes_are : (p : Program) (budgets : BudgetSizes) (m : MapSizes) → is_integer_program p ≡ true
+    → m ≡ record { budgets = budgets; global_bytes = 0 } → m ≡ sizes_of p budgets
+sizes_are p budgets m ints e =
+    e ∙ ap {B = MapSizes} (λ n. record { budgets = budgets; global_bytes = n }) (sym (no_bytes p ints))
+
+checked_of : (p : Program) (t r : Tac) → IsLowered p t → Inserted t r → IsChecked p r
+checked_of p t r low ins = record { lowered = t; is_lowered = low; inserted = ins }
+
+pub built_for : (p : Program) (t : Tac) (m n : MapSizes) (b : Built) → IsLowered p t → m ≡ n
+    → IsBuilt (Inserted t) m b → IsBuilt (IsChecked p) n b
+built_for p t m n b low same h =
+    subst (λ k. IsBuilt (IsChecked p) k b) same
+    (record { checked = h.checked; is = checked_of p t h.checked low h.is; image = h.image; checks_are = h.checks_are })
+
+refused_one : (p : Program) (t : Tac) (m n : MapSizes) (e : CompileError) → IsLowered p t → m ≡ n
+    → IsRefused (Inserted t) m e → IsRefused (IsChecked p) n e
+refused_one p t m n e low same h =
+    subst (λ k. IsRefused (IsChecked p) k e) same
+    (record { checked = h.checked; is = checked_of p t h.checked low h.is; refuses = h.refuses })
+
+pub refused_for : (p : Program) (t : Tac) (m n : MapSizes) (e : CompileError) → IsLowered p t → m ≡ n
+    → UnlessMemory e (IsRefused (Inserted t) m e) → UnlessMemory e (IsRefused (IsChecked p) n e)
+refused_for p t m n NumbersTooLarge low same h = refused_one p t m n NumbersTooLarge low same h
+refused_for p t m n (TooLarge bytes) low same h = refused_one p t m n (TooLarge bytes) low same h
+refused_for p t m n (FunctionTooLong number) low same h = refused_one p t m n (FunctionTooLong number) low same h
+refused_for p t m n Memory low same h = tt
+
+-- the flat code of what is built
+pub flat_of : (p : Program) (m : MapSizes) (b : Built) (h : IsBuilt (IsChecked p) m b)
+    → IsFlat p m (flat_code m h.checked)
+flat_of p m b h = record {
+  checked = h.checked;
+  is_checked = h.is;
+  small = h.image.small;
+  expanded = refl;
+}
+
+-- what is asked of code with its checks put in
+pub expandable : (p : Program) (budgets : BudgetSizes) (t : Tac) (m : MapSizes) → m ≡ sizes_of p budgets → IsLowered p t
+    → ((r : Tac) → Inserted t r → AreAllSmall m r → ArePlannable (flat_code m r))
+    → ((code : FlatProgram) → IsFlat p (sizes_of p budgets) code → IsEncodable code) → (r : Tac) → Inserted t r
+    → IsExpandable m r
+expandable p budgets t m same low plannable encodable r ins = record {
+  plannable = plannable r ins;
+  encodable = λ small.
+      subst (λ k. IsEncodable (flat_code k r)) (sym same)
+      (encodable (flat_code (sizes_of p budgets) r) (record {
+        checked = r;
+        is_checked = checked_of p t r low ins;
+        small = subst (λ k. AreAllSmall k r) same small;
+        expanded = refl;
+      }));
+}
+
+-- ---- what `built_of` answers
+
+pub built_result : (p : Program) (t : Tac) (m n : MapSizes) (r : Result Built CompileError) → IsLowered p t → m ≡ n
+    → IfOk r (λ b. IsBuilt (Inserted t) m b) → IfOk r (λ b. IsBuilt (IsChecked p) n b)
+built_result p t m n (Ok b) low same h = built_for p t m n b low same h
+built_result p t m n (Err e) low same h = tt
+
+pub refused_result : (p : Program) (t : Tac) (m n : MapSizes) (r : Result Built CompileError) → IsLowered p t → m ≡ n
+    → IfErr r (λ e. UnlessMemory e (IsRefused (Inserted t) m e))
+    → IfErr r (λ e. UnlessMemory e (IsRefused (IsChecked p) n e))
+refused_result p t m n (Ok b) low same h = tt
+refused_result p t m n (Err e) low same h = refused_for p t m n e low same h
+
+pub does_result : (p : Program) (budgets : BudgetSizes) (r : Result Built CompileError)
+    → ((code : FlatProgram) → IsFlat p (sizes_of p budgets) code → (plans : List FunctionPlan) → AreAccepted code plans
+    → (file : List ℕ) → IsImage (sizes_of p budgets) code plans [] [] file → DoesWhatIsMeant p budgets file)
+    → IfOk r (λ b. IsBuilt (IsChecked p) (sizes_of p budgets) b)
+    → IfOk r (λ b. DoesWhatIsMeant p budgets b.image.items)
+does_result p budgets (Ok b) law h =
+    let m = sizes_of p budgets in
+    let code = flat_code m h.checked in
+    let image = h.image.image in
+    law code (flat_of p m b h) image.plans (accepted code image.plans image.planned) b.image.items image.image
+does_result p budgets (Err e) law h = tt
+
+-- ---- code is too large only of many nodes
+
+large_code : (p : Program) (t : Tac) (m : MapSizes) (bytes : ℕ)
+    → ((k : Tac) (plans : List FunctionPlan) → Inserted t k → AreAllSmall m k → AreAccepted (flat_code m k) plans
+    → IsCause m (flat_code m k) plans (generate.TooLarge bytes) → 8192 < program_nodes p)
+    → IsRefused (Inserted t) m (TooLarge bytes) → 8192 < program_nodes p
+large_code p t m bytes law h =
+    let none = h.refuses in
+    law h.checked none.cause.plans h.is none.small
+    (accepted (flat_code m h.checked) none.cause.plans none.cause.planned) none.cause.cause
+
+pub nodes_result : (p : Program) (t : Tac) (m : MapSizes) (r : Result Built CompileError)
+    → ((k : Tac) (plans : List FunctionPlan) (bytes : ℕ) → Inserted t k → AreAllSmall m k
+    → AreAccepted (flat_code m k) plans → IsCause m (flat_code m k) plans (generate.TooLarge bytes)
+    → 8192 < program_nodes p)
+    → IfErr r (λ e. UnlessMemory e (IsRefused (Inserted t) m e)) → IfErr r (λ e. NeedsNodes e p)
+nodes_result p t m (Ok b) law h = tt
+nodes_result p t m (Err NumbersTooLarge) law h = tt
+nodes_result p t m (Err (TooLarge bytes)) law h = large_code p t m bytes (λ k plans. law k plans bytes) h
+nodes_result p t m (Err (FunctionTooLong number)) law h = tt
+nodes_result p t m (Err Memory) law h = tt
+
+-- ---- without static objects no initializer is at fault
+
+pub never_faulty : (p : Program) (line : ℕ) → is_integer_program p ≡ true
+    → first_fault (program_pointers p) p.statics ≡ Some line → ⊥
+never_faulty p line ints e =
+    none-some line (sym (ap (first_fault (program_pointers p)) (no_statics p ints)) ∙ e)

@@ -1,0 +1,104 @@
+-- What is built of a program, and when nothing is.
+use Rattle.std.specs.Prelude.{◌≡◌, ℕ, ◌-◌, ◌^◌, ◌<◌, min, List, [], length, Result, Ok, Err}
+use Rattle.addr_map.specs.Places.{MapSizes}
+use Rattle.c_tree.specs.Programs.{Program}
+use Rattle.tac_ir.specs.declared.function.Tac.{Tac}
+use Rattle.check_insert.specs.Counting.{checks}
+use Rattle.metadata_plan.specs.Laid.{program_of}
+use Rattle.metadata_plan.specs.OperatorLists.Operators.{operators}
+use Rattle.metadata_expansion.specs.Homes.{homes}
+use Rattle.metadata_expansion.specs.Numbers.{AreAllSmall}
+use Rattle.flat_meaning.specs.declared.function.FlatProgram.{FlatProgram}
+use Rattle.reg_plan.specs.declared.plan.FunctionPlan.{FunctionPlan}
+use Rattle.reg_plan.specs.Planned.{ArePlannable, ArePlanned, IsPlanOfRegisters}
+use Rattle.machine_laws.specs.Following.Code.{IsEncodable}
+use Rattle.rv_codegen.specs.declared.code.GenerateError.{GenerateError}
+use Rattle.rv_codegen.specs.declared.code.GenerateError.TheVariants as generate
+use Rattle.rv_codegen.specs.Generated.{IsCause}
+use Rattle.rv_codegen.specs.MachineImages.Image.{IsImage}
+use Rattle.image_laws.specs.Sizes.Nodes.{program_nodes}
+use Rattle.image_compiler.specs.declared.error.CompileError.{CompileError}
+use Rattle.image_compiler.specs.declared.error.CompileError.TheVariants.{NumbersTooLarge, TooLarge, FunctionTooLong}
+use Rattle.image_compiler.specs.declared.error.CompileError.TheVariants.{Memory}
+use Rattle.image_compiler.specs.declared.compiler.Built.{Built}
+
+-- the flat code that checked code expands to
+abbrev pub flat_code : MapSizes → Tac → FlatProgram
+flat_code m r = program_of operators m r homes
+
+-- what is asked of checked code: its flat code can be planned, and is of instructions that the machine has
+pub record IsExpandable (m : MapSizes) (r : Tac) : Type 0 where
+  pub plannable : AreAllSmall m r → ArePlannable (flat_code m r)
+  pub encodable : AreAllSmall m r → IsEncodable (flat_code m r)
+
+-- the plans that give out registers, for all functions of a program
+abbrev pub ArePlans : FlatProgram → List FunctionPlan → Type 0
+ArePlans code plans = ArePlanned code plans (length code.functions) (IsPlanOfRegisters code)
+
+-- the image of flat code under such plans, with no data at the start
+pub record IsPlannedImage (m : MapSizes) (code : FlatProgram) (file : List ℕ) : Type 0 where
+  pub plans : List FunctionPlan
+  pub planned : ArePlans code plans
+  pub image : IsImage m code plans [] [] file
+
+-- that of checked code
+pub record IsImageOf (m : MapSizes) (r : Tac) (file : List ℕ) : Type 0 where
+  pub small : AreAllSmall m r
+  pub image : IsPlannedImage m (flat_code m r) file
+
+-- no machine code is generated for flat code under such plans, for a cause
+pub record HasCause (m : MapSizes) (code : FlatProgram) (e : GenerateError) : Type 0 where
+  pub plans : List FunctionPlan
+  pub planned : ArePlans code plans
+  pub cause : IsCause m code plans e
+
+-- memory may be wanting before there are plans
+abbrev pub IsNotGenerated : MapSizes → FlatProgram → GenerateError → Type 0
+IsNotGenerated m code generate.Memory = Unit {0}
+IsNotGenerated m code e = HasCause m code e
+
+-- none is generated for checked code
+pub record HasNoCode (m : MapSizes) (r : Tac) (e : GenerateError) : Type 0 where
+  pub small : AreAllSmall m r
+  pub cause : HasCause m (flat_code m r) e
+
+-- when each error comes of checked code
+abbrev pub Refuses : MapSizes → Tac → CompileError → Type 0
+Refuses m r NumbersTooLarge = AreAllSmall m r → ⊥
+Refuses m r (TooLarge bytes) = HasNoCode m r (generate.TooLarge bytes)
+Refuses m r (FunctionTooLong number) = HasNoCode m r (generate.FunctionTooLong number)
+Refuses m r Memory = Unit {0}
+
+-- what was generated, with an error of its own; want of room before compiled code is none
+abbrev pub IsErrorOf : GenerateError → CompileError → Type 0
+IsErrorOf (generate.TooLarge bytes) e = e ≡ TooLarge bytes
+IsErrorOf (generate.RuntimeTooLarge bytes) e = ⊥
+IsErrorOf (generate.FunctionTooLong number) e = e ≡ FunctionTooLong number
+IsErrorOf generate.Memory e = e ≡ Memory
+
+abbrev pub IsCompiled : {A : Type 0} → Result A GenerateError → Result A CompileError → Type 0
+IsCompiled (Ok file) (Ok same) = same ≡ file
+IsCompiled (Err g) (Err e) = IsErrorOf g e
+IsCompiled _ _ = ⊥
+
+-- what is built of some checked code
+pub record IsBuilt (Is : Tac → Type 0) (m : MapSizes) (built : Built) : Type 0 where
+  pub checked : Tac
+  pub is : Is checked
+  pub image : IsImageOf m checked built.image.items
+  pub checks_are : built.checks ≡ min (2 ^ 64 - 1) (checks checked)
+
+-- or why nothing is
+pub record IsRefused (Is : Tac → Type 0) (m : MapSizes) (e : CompileError) : Type 0 where
+  pub checked : Tac
+  pub is : Is checked
+  pub refuses : Refuses m checked e
+
+-- code is too large only of a text with so many nodes
+abbrev pub NeedsNodes : CompileError → Program → Type 0
+NeedsNodes (TooLarge bytes) p = 8192 < program_nodes p
+NeedsNodes _ p = Unit {0}
+
+abbrev pub UnlessMemory : CompileError → Type 0 → Type 0
+UnlessMemory Memory P = Unit {0}
+UnlessMemory _ P = P

@@ -1,0 +1,113 @@
+//! From a typed program to its image.
+
+ghost use Rattle.std.specs.Prelude.{◌≡◌, ◌≤◌, ◌-◌, ◌^◌, true, length, min, Ok, Err, IfOk, IfErr};
+ghost use Rattle.c_tree.specs.View.{program_of};
+ghost use Rattle.c_tree.specs.ValidProgram.{is_valid_program};
+ghost use Rattle.tac_ir.specs.declared.function.Tac.{Tac};
+ghost use Rattle.c_lower.specs.Programs.{IsLowered};
+ghost use Rattle.program_lowering.specs.ProgramCode.Weights.{IsWeighed};
+ghost use Rattle.check_insert.specs.Inserted.{Inserted};
+ghost use Rattle.compiled_programs.specs.Programs.{is_integer_program};
+ghost use Rattle.image_laws.specs.Images.Images.{HaveFewParameters, sizes_of, IsChecked, DoesWhatIsMeant};
+ghost use Rattle.image_compiler.specs.declared.error.CompileError.{CompileError};
+ghost use Rattle.image_compiler.specs.Built.{IsExpandable, IsBuilt, IsRefused, NeedsNodes, UnlessMemory};
+
+use crate::error::CompileError;
+use crate::image::image_of_checked;
+use addr_map::AddrMap;
+use addr_map::laws::sizes_are_in_range;
+use c_const::contents::InitialFault;
+use c_tree::Program;
+use check_insert::{checks, insert};
+use image_laws::laws::images::{expansions_are_encodable, images_do_what_is_meant};
+use image_laws::laws::plans::expansions_are_plannable;
+use image_laws::laws::sizes::code_of_few_nodes_is_not_too_large;
+use program_lowering::programs::lower;
+use sb_base::Budgets;
+use std::alloc::{AllocError, Global};
+use tac_ir::Tac;
+
+/// What is built of a program.
+#[derive(Drop)]
+pub struct Built {
+    /// The file.
+    pub image: Vec<u8>,
+    /// The checks of its code, spatial and temporal each, whether a run reaches them or not; of more than 2^64 - 1 so
+    /// many.
+    pub checks: u64,
+}
+
+// An image with its number of checks, if there is one.
+fn with_checks(image: Result<Vec<u8>, CompileError>, checks: u64) -> Result<Built, CompileError>
+    ensures ok { IfOk result (λ built. (image ≡ Ok built.image) × (built.checks ≡ checks)) }
+    ensures err { (e : CompileError) → result ≡ Err e → image ≡ Err e }
+{
+    match image {
+        Ok(image) => Ok(Built { image, checks }),
+        Err(error) => Err(error),
+    }
+}
+
+// What is built of lowered code, in which the checks are put in; or why nothing is.
+fn built_of(alloc: Global, sizes: &AddrMap, lowered: &Tac) -> Result<Built, CompileError>
+    requires count { length lowered.now.functions ≤ 4096 }
+    requires expandable { (r : Tac) → Inserted lowered.now r → IsExpandable sizes.now r }
+    ensures built { IfOk result (λ built. IsBuilt (Inserted lowered.now) sizes.now built) }
+    ensures refused { IfErr result (λ e. UnlessMemory e (IsRefused (Inserted lowered.now) sizes.now e)) }
+{
+    let checked = insert(alloc, lowered)?;
+    let count = checks(&checked);
+    with_checks(image_of_checked(alloc, sizes, &checked), count)
+}
+
+// The code of a program without static objects, lowered.
+fn lowered_code(alloc: Global, program: &Program) -> Result<Tac, AllocError>
+    requires valid { is_valid_program (program_of program.now) ≡ true }
+    requires integers { is_integer_program (program_of program.now) ≡ true }
+    requires few { length (program_of program.now).functions ≤ 4096 }
+    ensures code { IfOk result (λ code. IsLowered (program_of program.now) code) }
+    ensures weighed { IfOk result (λ code. IsWeighed (program_of program.now) code) }
+{
+    match lower(alloc, program) {
+        Ok(code) => Ok(code),
+        Err(InitialFault::Memory) => Err(AllocError),
+        Err(InitialFault::NotConstant(_)) => unreachable!(),
+    }
+}
+
+// The map of a program without static objects.
+#[tactic(auto, unfolding(addr_map::specs::Places::mapped))]
+fn map_of(budgets: &Budgets) -> AddrMap
+    ensures { result ≡ record { budgets = budgets.now; global_bytes = 0 } }
+{
+    match AddrMap::new(budgets, 0) {
+        Ok(sizes) => sizes,
+        Err(_) => unreachable!(),
+    }
+}
+
+/// What is built of a valid program of integers, which has at most 4096 functions of at most 127 parameters each, with
+/// some budgets; or why nothing is. The image does what the program means, with at most 1008 instructions for each unit
+/// of its work. Want of memory is the one answer that may come without a cause; the code is too large only of a text
+/// with more than 8192 nodes.
+pub fn compile(alloc: Global, budgets: &Budgets, program: &Program) -> Result<Built, CompileError>
+    requires valid { is_valid_program (program_of program.now) ≡ true }
+    requires integers { is_integer_program (program_of program.now) ≡ true }
+    requires few { length (program_of program.now).functions ≤ 4096 }
+    requires parameters { HaveFewParameters (program_of program.now) }
+    ensures built { IfOk result (λ built. IsBuilt (IsChecked (program_of program.now))
+        (sizes_of (program_of program.now) budgets.now) built) }
+    ensures does { IfOk result (λ built. DoesWhatIsMeant (program_of program.now) budgets.now built.image.items) }
+    ensures refused { IfErr result (λ e. UnlessMemory e (IsRefused (IsChecked (program_of program.now))
+        (sizes_of (program_of program.now) budgets.now) e)) }
+    ensures nodes { IfErr result (λ e. NeedsNodes e (program_of program.now)) }
+{
+    code_of_few_nodes_is_not_too_large();
+    expansions_are_plannable();
+    expansions_are_encodable();
+    images_do_what_is_meant();
+    let sizes = map_of(budgets);
+    sizes_are_in_range(&sizes);
+    let lowered = lowered_code(alloc, program)?;
+    built_of(alloc, &sizes, &lowered)
+}

@@ -1,0 +1,73 @@
+//! Images of flat code and of checked code.
+
+ghost use Rattle.std.specs.Prelude.{◌≡◌, ℕ, ◌<◌, ◌≤◌, ◌^◌, length, Err, MatchResult};
+ghost use Rattle.reg_plan.specs.Planned.{ArePlannable};
+ghost use Rattle.rv_codegen.specs.declared.code.GenerateError.TheVariants.{RuntimeTooLarge};
+ghost use Rattle.image_compiler.specs.Built.{IsExpandable, IsPlannedImage, IsNotGenerated, IsImageOf, Refuses};
+ghost use Rattle.image_compiler.specs.Built.{IsCompiled};
+
+use crate::error::CompileError;
+use addr_map::AddrMap;
+use flat_meaning::FlatProgram;
+use image_laws::laws::images::runtimes_have_room;
+use metadata_expansion::{expand, fits};
+use reg_plan::planned::registers;
+use rv_codegen::GenerateError;
+use rv_codegen::images::image_of;
+use std::alloc::Global;
+use tac_ir::Tac;
+
+/// The image of flat code under the plans that give out registers, with no data at the start; or why there is none.
+pub fn image_of_flat(
+    alloc: Global,
+    sizes: &AddrMap,
+    code: &FlatProgram,
+) -> Result<Vec<u8>, GenerateError>
+    requires count { length code.now.functions < 2 ^ 32 }
+    requires plannable { ArePlannable code.now }
+    ensures { MatchResult result (λ file. IsPlannedImage sizes.now code.now file.items)
+        (IsNotGenerated sizes.now code.now) }
+{
+    let plan = registers(alloc, code)?;
+    image_of(
+        alloc,
+        sizes,
+        code,
+        &plan.functions,
+        Vec::new(alloc),
+        Vec::new(alloc),
+    )
+}
+
+// A file that was generated, or the error that its cause is here.
+fn compiled(generated: Result<Vec<u8>, GenerateError>) -> Result<Vec<u8>, CompileError>
+    requires { (bytes : ℕ) → generated ≡ Err (RuntimeTooLarge bytes) → ⊥ }
+    ensures { IsCompiled generated result }
+{
+    match generated {
+        Ok(file) => Ok(file),
+        Err(GenerateError::TooLarge(bytes)) => Err(CompileError::TooLarge(bytes)),
+        Err(GenerateError::RuntimeTooLarge(_)) => unreachable!(),
+        Err(GenerateError::FunctionTooLong(number)) => Err(CompileError::FunctionTooLong(number)),
+        Err(GenerateError::Memory) => Err(CompileError::Memory),
+    }
+}
+
+/// The image of checked code, whose expansion can be planned and encoded; or why there is none.
+pub fn image_of_checked(
+    alloc: Global,
+    sizes: &AddrMap,
+    checked: &Tac,
+) -> Result<Vec<u8>, CompileError>
+    requires count { length checked.now.functions ≤ 4096 }
+    requires expandable { IsExpandable sizes.now checked.now }
+    ensures { MatchResult result (λ file. IsImageOf sizes.now checked.now file.items)
+        (Refuses sizes.now checked.now) }
+{
+    runtimes_have_room();
+    if !fits(alloc, sizes, checked)? {
+        return Err(CompileError::NumbersTooLarge);
+    }
+    let code = expand(alloc, sizes, checked)?;
+    compiled(image_of_flat(alloc, sizes, &code))
+}

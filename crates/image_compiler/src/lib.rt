@@ -1,0 +1,13 @@
+//! From typed programs of integers to images: lowering, insertion of checks, expansion to flat code, plans of registers
+//! and code generation, one behind the other.
+//!
+//! `specs/Built` says what is built and why nothing is; that an image does what its program means is a law of
+//! `image_laws`.
+#![tactic(auto)]
+
+pub mod compiler;
+pub mod error;
+pub mod image;
+
+pub use crate::compiler::{Built, compile};
+pub use crate::error::CompileError;

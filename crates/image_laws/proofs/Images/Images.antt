@@ -1,0 +1,160 @@
+-- An image does what its program means.
+use Rattle.std.proofs.Common.{◌≡◌, ℕ, ◌<◌, ◌≤◌, List, [], ◌∷◌, length, Some, true, refl, sym, ap, ◌∙◌, subst, arith}
+use Rattle.std.proofs.lemmas.Bool.{false≢true}
+use Rattle.std.specs.List.{All, list_all}
+use Rattle.behaviours.specs.Behaviour.{Behaviour, Follows, IsSource, IsMachine, Faithful}
+use Rattle.behaviours.specs.Steps.{run, IsStepping}
+use Rattle.behaviours.proofs.Following.{follows_trans}
+use Rattle.sb_base.specs.Budgets.{BudgetSizes, AreInRange}
+use Rattle.addr_map.specs.Places.{MapSizes, AreMapped}
+use Rattle.c_tree.specs.Programs.{StaticObject, Program}
+use Rattle.c_tree.specs.ValidProgram.{is_valid_program}
+use Rattle.source_meaning.specs.Meaning.{meaning, statics_end}
+use Rattle.source_meaning.proofs.ValidNames.{three}
+use Rattle.tac_ir.specs.declared.function.Tac.{Tac}
+use Rattle.tac_ir.specs.Meaning.{setting_of_code, tac_meaning}
+use Rattle.compiled_programs.specs.Programs.{has_no_statics, gives_no_pointer, is_integer_function, is_integer_program}
+use Rattle.metadata_plan.specs.Operators.{AreOperators}
+use Rattle.metadata_plan.specs.Part.{IsIntegerCode}
+use Rattle.metadata_plan.specs.Laid.{program_of}
+use Rattle.metadata_plan.specs.OperatorLists.Operators.{operators}
+use Rattle.metadata_expansion.specs.Homes.{homes}
+use Rattle.metadata_expansion.specs.Numbers.{AreAllSmall}
+use Rattle.flat_meaning.specs.declared.instruction.FlatInstruction.{FlatInstruction}
+use Rattle.flat_meaning.specs.declared.function.FlatProgram.{FlatProgram}
+use Rattle.flat_meaning.specs.Memory.{Bytes, AreBytes}
+use Rattle.flat_meaning.specs.State.{Stage, Stuck, seen}
+use Rattle.flat_meaning.specs.Meaning.{step, started, flat_meaning, instruction_at}
+use Rattle.reg_plan.specs.declared.plan.FunctionPlan.{FunctionPlan}
+use Rattle.reg_plan.specs.Tests.{AreAccepted}
+use Rattle.rv_sim.specs.State.{MachineState}
+use Rattle.rv_sim.specs.Behaviour.{behaviour}
+use Rattle.rv_sim.specs.Start.{start_of}
+use Rattle.machine_laws.specs.View.Segments.{Hold}
+use Rattle.machine_laws.specs.Following.Matching.{object_bytes, space_bytes}
+use Rattle.elf_image.specs.Layout.{content_of}
+use Rattle.elf_image.proofs.Pages.{length-image_bytes}
+use Rattle.machine_laws.specs.Segments.Segments.{table_words, code_words}
+use Rattle.machine_laws.proofs.Layout.Bytes.{bytes_length}
+use Rattle.rv_codegen.specs.MachineImages.Image.{written, IsImage, ImageFollows, filled, data_memory}
+use Rattle.image_laws.specs.Images.Images.{HaveFewParameters, sizes_of, IsChecked, DoesWhatIsMeant}
+use Rattle.image_laws.proofs.Images.Instructions.{IsFit}
+use Rattle.image_laws.proofs.Images.Programs.{instruction_fit, encodable, startable}
+use Rattle.image_laws.proofs.Images.Following.{sizes_same, from_any, runs_from_any}
+
+-- ---- a program of integers has a map
+
+pub no_statics : (p : Program) → is_integer_program p ≡ true → p.statics ≡ []
+unfolding is_integer_program
+no_statics p ints =
+    none p.statics (three (has_no_statics p.statics) (list_all gives_no_pointer p.function_types)
+    (list_all is_integer_function p.functions) ints).0
+  where
+    none : (os : List StaticObject) → has_no_statics os ≡ true → os ≡ []
+    none [] e = refl
+    none (o ∷ os) e = absurd (false≢true e)
+
+pub no_bytes : (p : Program) → is_integer_program p ≡ true → statics_end p.statics 0 ≡ 0
+no_bytes p ints = ap (λ os. statics_end os 0) (no_statics p ints)
+
+pub integers_mapped : (p : Program) (budgets : BudgetSizes) → is_integer_program p ≡ true → AreInRange budgets
+    → AreMapped (sizes_of p budgets)
+integers_mapped p budgets ints range =
+    let none = no_bytes p ints in record { budgets = range; globals = omega (arith, none) }
+
+pub no_data : All (λ b. b < 256) []
+no_data k d below = absurd (omega arith)
+
+-- ---- the file
+
+file_small : (m : MapSizes) (code : FlatProgram) (plans : List FunctionPlan) (file : List ℕ)
+    → IsImage m code plans [] [] file → length file ≤ 67108864
+unfolding written
+file_small m code plans file image =
+    let size = ap length image.file_is ∙ length-image_bytes (written m code plans [] []) in
+    let table = bytes_length (table_words m code plans) in
+    let compiled = bytes_length (code_words m code plans) in
+    let table_fits = image.fits.table in
+    let code_fits = image.fits.code in
+    omega (arith, size, table, compiled, table_fits, code_fits)
+
+-- ---- costs
+
+-- what is within the cost is within the one that is promised
+within_promised : (x y : Behaviour) → Follows 1008 x y → Follows 1024 x y
+within_promised x y f = record {
+  at = λ n.
+      let h = f.at n in
+      (h.0, record { shown = h.1.shown; turns = h.1.turns; work = let few = h.1.work in omega (arith, few) });
+}
+
+-- ---- the image
+
+module _ (p : Program) (budgets : BudgetSizes) (mapped : AreMapped (sizes_of p budgets))
+    (valid : is_valid_program p ≡ true) (ints : is_integer_program p ≡ true) (few : HaveFewParameters p) (r : Tac)
+    (checked : IsChecked p r) (small : AreAllSmall (sizes_of p budgets) r) (ops : AreOperators operators)
+    (part : IsIntegerCode r)
+    (source : (input : List ℕ) → IsSource (meaning p budgets input))
+    (lowered : (input : List ℕ) → Follows 8 (meaning p budgets input) (tac_meaning r budgets input))
+    (steps : (m : MapSizes) (q : FlatProgram) → IsStepping (step m q) seen (λ (x : Stage). x ≡ Stuck)) where
+  abbrev m : MapSizes
+  m = sizes_of p budgets
+
+  abbrev code : FlatProgram
+  code = program_of operators m r homes
+
+  -- the map of the code is that of the program
+  same : (setting_of_code r budgets).sizes ≡ sizes_of p budgets
+  same = sizes_same p r checked budgets
+
+  mapped_code : AreMapped (setting_of_code r budgets).sizes
+  mapped_code = subst AreMapped (sym same) mapped
+
+  fit : (u pc : ℕ) (i : FlatInstruction)
+      → instruction_at (program_of operators (setting_of_code r budgets).sizes r homes) u pc ≡ Some i → IsFit i
+  fit =
+      instruction_fit (setting_of_code r budgets).sizes r mapped_code.budgets.calls.greatest
+      (subst (λ n. AreAllSmall n r) (sym same) small)
+
+  code_follows : (b : Bytes) (input : List ℕ) → Follows 168 (meaning p budgets input) (flat_meaning m code b input)
+  code_follows b input =
+      subst (λ n. Follows 168 (meaning p budgets input) (flat_meaning n (program_of operators n r homes) b input)) same
+      (from_any r budgets mapped_code ops part (meaning p budgets input) (source input) 8 input (lowered input) steps
+      fit b)
+
+  code_runs : (b : Bytes) (input : List ℕ) (k : ℕ) → run (step m code) k (started code b input) ≡ Stuck → ⊥
+  code_runs b input =
+      subst (λ n. (k : ℕ) → run (step n (program_of operators n r homes)) k
+      (started (program_of operators n r homes) b input) ≡ Stuck → ⊥) same
+      (runs_from_any r budgets mapped_code ops part (meaning p budgets input) (source input) 8 input (lowered input)
+      steps fit b)
+
+  module _ (plans : List FunctionPlan) (file : List ℕ) (accepted : AreAccepted code plans)
+      (image : IsImage m code plans [] [] file) (follows : ImageFollows m code plans [] [] file)
+      (held : Hold (object_bytes m) (space_bytes m)
+      (data_memory (filled (object_bytes m) []) (filled (space_bytes m) []))
+      (filled (object_bytes m) []) (filled (space_bytes m) []))
+      (bytes : AreBytes (data_memory (filled (object_bytes m) []) (filled (space_bytes m) []))) where
+    abbrev memory : Bytes
+    memory = data_memory (filled (object_bytes m) []) (filled (space_bytes m) [])
+
+    pub image_follows : (input : List ℕ)
+        → Follows 1008 (meaning p budgets input) (behaviour (start_of (content_of file)) input)
+    image_follows input =
+        follows_trans 168 6 (meaning p budgets input) (flat_meaning m code memory input)
+        (behaviour (start_of (content_of file)) input) (code_follows memory input)
+        (follows.follows memory input accepted (encodable p m r mapped valid ints few checked small) (startable m r)
+        held bytes (code_runs memory input))
+
+    pub does_what_is_meant : ((s : MachineState) (input : List ℕ) → IsMachine (behaviour s input))
+        → ((c : ℕ) (x y : Behaviour) → Follows c x y → IsSource x → IsMachine y → Faithful c x y)
+        → DoesWhatIsMeant p budgets file
+    does_what_is_meant machine faithful = record {
+      size = file_small m code plans file image;
+      readable = image.passes;
+      follows = image_follows;
+      faithful = λ input.
+          faithful 1024 (meaning p budgets input) (behaviour (start_of (content_of file)) input)
+          (within_promised (meaning p budgets input) (behaviour (start_of (content_of file)) input)
+          (image_follows input)) (source input) (machine (start_of (content_of file)) input);
+    }

@@ -1,0 +1,5 @@
+pub mod Lowering
+pub mod Plans
+pub mod Images
+pub mod Sizes
+pub mod CodeSizes

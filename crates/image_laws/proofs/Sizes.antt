@@ -1,0 +1,10 @@
+pub mod Words
+pub mod Expressions
+pub mod Statements
+pub mod Checked
+pub mod Numbers
+pub mod Reports
+pub mod Operators
+pub mod Blocks
+pub mod Functions
+pub mod Programs

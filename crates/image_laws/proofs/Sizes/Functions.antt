@@ -1,0 +1,182 @@
+-- How many words functions and programs have at most.
+use Rattle.std.proofs.Common.{◌≡◌, ℕ, zero, suc, ◌+◌, ◌*◌, ◌≤◌, ◌==◌, Bool, true, false, List, [], ◌∷◌, ◌++◌, length}
+use Rattle.std.proofs.Common.{Option, Some, None, refl, ap, arith}
+use Rattle.std.specs.Prelude.{slice_get, if◌then◌else◌}
+use Rattle.std.proofs.lemmas.Bool.{and_parts, eqb-true}
+use Rattle.std.proofs.lemmas.Option.{slice_get_within, same_Some}
+use Rattle.addr_map.specs.Places.{MapSizes, function_address}
+use Rattle.c_tree.specs.declared.program.Variable.{Variable}
+use Rattle.tac_ir.specs.declared.function.CodeFunction.{CodeFunction}
+use Rattle.tac_ir.specs.declared.function.Tac.{Tac}
+use Rattle.tac_ir.specs.Meaning as code
+use Rattle.flat_meaning.specs.declared.function.FlatFunction.{FlatFunction}
+use Rattle.flat_meaning.specs.declared.function.FlatProgram.{FlatProgram}
+use Rattle.flat_meaning.specs.declared.instruction.FlatInstruction.{FlatInstruction}
+use Rattle.flat_meaning.specs.Calls.{function_in}
+use Rattle.flat_meaning.specs.Meaning.{parameters_of, results_of}
+use Rattle.metadata_plan.specs.Registers.{words_of, words_in}
+use Rattle.metadata_plan.specs.Part.{takes, is_integer_kind, are_integers, IsIntegerCode}
+use Rattle.metadata_plan.specs.Blocks.{zeros, zero_variables, prologue}
+use Rattle.metadata_plan.specs.Laid.{jump, place_of, begin_code, laid_from, function_of, functions_of, entry_of}
+use Rattle.metadata_plan.specs.Laid.{program_of}
+use Rattle.metadata_plan.proofs.Numbers.{one_word, words_most, most_words_of}
+use Rattle.metadata_expansion.specs.Homes.{homes}
+use Rattle.metadata_expansion.specs.Numbers.{AreSmall, AreAllSmall}
+use Rattle.metadata_plan.specs.OperatorLists.Operators.{operators}
+use Rattle.program_lowering.specs.ProgramCode.Weights.{codes_weight}
+use Rattle.image_laws.specs.CodeSizes.Sizes.{constant_words, instruction_words, body_words, most_words, most_if, most_below}
+use Rattle.image_laws.proofs.Sizes.Words.{words, frame_words}
+use Rattle.image_laws.proofs.Sizes.Numbers.{few_constant, short_constant}
+use Rattle.image_laws.proofs.Sizes.Operators.{words_append}
+use Rattle.image_laws.proofs.Sizes.Blocks.{Calls, jump_words, code_words}
+
+-- ---- the functions of an expansion by number
+
+function_at : (m : MapSizes) (t : Tac) (cs : List CodeFunction) (gs : List FlatFunction) (u : ℕ) (c : CodeFunction)
+    → slice_get cs u ≡ Some c
+    → slice_get (functions_of operators m t homes cs ++ gs) u ≡ Some (function_of operators m t c (homes c))
+function_at m t [] gs u c at = cc
+function_at m t (x ∷ cs) gs zero c at = ap (λ y. Some (function_of operators m t y (homes y))) (same_Some x c at)
+function_at m t (x ∷ cs) gs (suc u) c at = function_at m t cs gs u c at
+
+-- ---- parameters
+
+words_many : (vs ws : List Variable) → are_integers (vs ++ ws) ≡ true → words_in vs ≡ length vs
+words_many [] ws e = refl
+words_many (v ∷ vs) ws e =
+    let parts = and_parts _ (are_integers (vs ++ ws)) e in
+    let kind = and_parts _ (is_integer_kind v.kind) parts.0 in
+    omega (arith, one_word v.kind kind.1, words_many vs ws parts.1)
+
+-- ---- what stands before the code
+
+module _ (p : FlatProgram) (room : ℕ) where
+  zeros_words : (r n : ℕ) → body_words p room 1 (zeros r n) ≤ 5 * n
+  zeros_words r zero = omega arith
+  zeros_words r (suc n) =
+      let z = few_constant 0 (omega arith) in let h = zeros_words (r + 1) n in omega (arith, z, h)
+
+  zero_words : (r : ℕ) (vs : List Variable) → body_words p room 1 (zero_variables r vs) ≤ 25 * length vs
+  zero_words r [] = omega arith
+  zero_words r (v ∷ vs) =
+      let own = if v.is_object then [] else zeros r (words_of v.kind) in
+      let a = words_append p room 1 own (zero_variables (r + words_of v.kind) vs) in
+      let h = zero_words (r + words_of v.kind) vs in
+      omega (arith, a, h, by v.is_object)
+    where
+      by : (b : Bool) → body_words p room 1 (if b then [] else zeros r (words_of v.kind)) ≤ 25
+      by true = omega arith
+      by false = let z = zeros_words r (words_of v.kind) in omega (arith, z, most_words_of v.kind)
+
+  begin_words : (m : MapSizes) (t : Tac) (c : CodeFunction)
+      → body_words p room 1 (begin_code operators m t c) ≤ 2 + 25 * length c.variables
+  begin_words m t c =
+      let to = jump (length (prologue c)) (place_of operators m t c c.entry) in
+      let last = if c.entry + 1 == length c.code then [] else to ∷ [] in
+      let a = words_append p room 1 (prologue c) last in
+      let h = zero_words (words_in c.parameters) c.variables in
+      omega (
+        arith,
+        a,
+        h,
+        by (c.entry + 1 == length c.code) to
+            (jump_words p room (length (prologue c)) (place_of operators m t c c.entry)),
+      )
+    where
+      by : (b : Bool) (j : FlatInstruction) → instruction_words p room 1 j ≤ 2
+          → body_words p room 1 (if b then [] else j ∷ []) ≤ 2
+      by true j h = omega arith
+      by false j h = omega (arith, h)
+
+-- ---- functions
+
+module _ (m : MapSizes) (t : Tac) (few : m.budgets.calls ≤ 16777216) (count : length t.functions ≤ 4096)
+    (integers : IsIntegerCode t) (small : AreAllSmall m t) where
+  abbrev pub p : FlatProgram
+  p = program_of operators m t homes
+
+  parameters_at : (f n : ℕ) (x : Option CodeFunction) → code.function_in t f ≡ x → takes x n ≡ true
+      → parameters_of (function_in p f) ≤ n
+  parameters_at f n None at e = cc
+  parameters_at f n (Some c) at e =
+      let there = ap parameters_of (function_at m t t.functions (entry_of m t ∷ []) f c at) in
+      let same = eqb-true (length c.parameters) n e in
+      let own = words_many c.parameters c.variables (integers.functions f c at).variables in
+      omega (arith, there, same, own)
+
+  results_at : (f n : ℕ) (x : Option CodeFunction) → code.function_in t f ≡ x → takes x n ≡ true
+      → results_of (function_in p f) ≡ 1
+  results_at f n None at e = cc
+  results_at f n (Some c) at e = ap results_of (function_at m t t.functions (entry_of m t ∷ []) f c at)
+
+  address_at : (f n : ℕ) (x : Option CodeFunction) → code.function_in t f ≡ x → takes x n ≡ true
+      → constant_words (function_address f) ≤ 2
+  unfolding function_address
+  address_at f n None at e = cc
+  address_at f n (Some c) at e =
+      let below = slice_get_within t.functions f c at in
+      short_constant (function_address f) (omega (arith, below, count))
+
+  calls : Calls p m t
+  calls = record {
+    budget = few;
+    address = λ f n e. address_at f n (code.function_in t f) refl e;
+    parameters = λ f n e. parameters_at f n (code.function_in t f) refl e;
+    gives = λ f n e. results_at f n (code.function_in t f) refl e;
+  }
+
+  function_words : (c : CodeFunction) → AreSmall m t c
+      → most_words p (function_of operators m t c (homes c))
+      ≤ frame_words c.parameters c.variables + codes_weight (c ∷ []) (words 60)
+  function_words c s =
+      let begin = begin_words p c.room m t c in
+      let rest = code_words p c.room m t calls c c.code 0 s.words s.lines in
+      let a = words_append p c.room 1 (begin_code operators m t c) (laid_from operators m t c 0 c.code) in
+      omega (arith, begin, rest, a, words_most c.parameters)
+
+  -- ---- all functions
+
+  total : List FlatFunction → ℕ
+  total [] = 0
+  total (g ∷ gs) = most_if p (Some g) + total gs
+
+  unfoldable pub frames : List CodeFunction → ℕ
+  frames [] = 0
+  frames (c ∷ cs) = frame_words c.parameters c.variables + frames cs
+
+  total_words : (cs : List CodeFunction)
+      → ((u : ℕ) (c : CodeFunction) → slice_get cs u ≡ Some c → AreSmall m t c)
+      → total (functions_of operators m t homes cs ++ (entry_of m t ∷ [])) ≤ frames cs + codes_weight cs (words 60)
+  unfolding total frames
+  total_words [] h = omega arith
+  total_words (c ∷ cs) h =
+      let own = function_words c (h 0 c refl) in
+      let rest = total_words cs (λ u d at. h (suc u) d at) in
+      omega (arith, own, rest)
+
+  below : List FlatFunction → ℕ → ℕ
+  below gs zero = 0
+  below gs (suc k) = below gs k + most_if p (slice_get gs k)
+
+  below_next : (g : FlatFunction) (gs : List FlatFunction) (k : ℕ)
+      → below (g ∷ gs) (suc k) ≡ most_if p (Some g) + below gs k
+  unfolding below
+  below_next g gs zero = omega arith
+  below_next g gs (suc k) = let h = below_next g gs k in omega (arith, h)
+
+  below_all : (gs : List FlatFunction) → below gs (length gs) ≡ total gs
+  unfolding below total
+  below_all [] = refl
+  below_all (g ∷ gs) = let h = below_all gs in let n = below_next g gs (length gs) in omega (arith, h, n)
+
+  below_is : (k : ℕ) → most_below p k ≡ below p.functions k
+  unfolding below
+  below_is zero = refl
+  below_is (suc k) = let h = below_is k in omega (arith, h)
+
+  pub program_words : most_below p (length p.functions) ≤ frames t.functions + codes_weight t.functions (words 60)
+  program_words =
+      let a = below_is (length p.functions) in
+      let b = below_all p.functions in
+      let h = total_words t.functions small.functions in
+      omega (arith, a, b, h)

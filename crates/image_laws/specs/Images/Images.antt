@@ -1,0 +1,66 @@
+-- What stands between a program of integers and its image, and when the image does what the program means.
+use Rattle.std.specs.Prelude.{◌≡◌, ℕ, ◌≤◌, List, length, None, Some}
+use Rattle.behaviours.specs.Behaviour.{Follows, Faithful}
+use Rattle.sb_base.specs.Budgets.{BudgetSizes}
+use Rattle.addr_map.specs.Places.{MapSizes}
+use Rattle.c_tree.specs.Programs.{Function, Program}
+use Rattle.source_meaning.specs.Calls.{function_at}
+use Rattle.source_meaning.specs.Meaning.{meaning, setting_of}
+use Rattle.tac_ir.specs.declared.function.Tac.{Tac}
+use Rattle.c_lower.specs.Programs.{IsLowered}
+use Rattle.check_insert.specs.Inserted.{Inserted}
+use Rattle.metadata_plan.specs.Laid.{program_of}
+use Rattle.metadata_plan.specs.OperatorLists.Operators.{operators}
+use Rattle.metadata_expansion.specs.Homes.{homes}
+use Rattle.metadata_expansion.specs.Numbers.{AreAllSmall}
+use Rattle.flat_meaning.specs.declared.function.FlatProgram.{FlatProgram}
+use Rattle.elf_image.specs.Layout.{content_of}
+use Rattle.elf_image.specs.Tests.{image_fault}
+use Rattle.rv_sim.specs.Behaviour.{behaviour}
+use Rattle.rv_sim.specs.Start.{start_of}
+
+-- the parameters that a function may have (C99 5.2.4.1)
+abbrev pub most_parameters : ℕ
+most_parameters = 127
+
+pub record HaveFewParameters (p : Program) : Type 0 where
+  pub each : (u : ℕ) (f : Function) → function_at p.functions u ≡ Some f → length f.parameters ≤ most_parameters
+
+-- the sizes of the map of a program: budgets, and the bytes of its static objects
+abbrev pub sizes_of : Program → BudgetSizes → MapSizes
+sizes_of p budgets = (setting_of p budgets).sizes
+
+-- the code of a program, lowered and with its checks put in
+pub record IsChecked (p : Program) (r : Tac) : Type 0 where
+  pub lowered : Tac
+  pub is_lowered : IsLowered p lowered
+  pub inserted : Inserted lowered r
+
+-- its flat code, which checked code with numbers that fit expands to
+pub record IsFlat (p : Program) (m : MapSizes) (code : FlatProgram) : Type 0 where
+  pub checked : Tac
+  pub is_checked : IsChecked p checked
+  pub small : AreAllSmall m checked
+  pub expanded : code ≡ program_of operators m checked homes
+
+-- how many instructions the image takes at most for one unit of the program's work: 8 of three-address code, none more
+-- for checks, 21 times as many of flat code, and 6 for each of these
+abbrev pub cost : ℕ
+cost = 1008
+
+-- and how many are promised of every image
+abbrev pub promised_cost : ℕ
+promised_cost = 1024
+
+-- the largest image that is read, in bytes
+abbrev pub most_bytes : ℕ
+most_bytes = 67108864
+
+-- The image can be read, and its machine shows what the program means, on each input.
+pub record DoesWhatIsMeant (p : Program) (budgets : BudgetSizes) (file : List ℕ) : Type 0 where
+  pub size : length file ≤ most_bytes
+  pub readable : image_fault file ≡ None
+  pub follows : (input : List ℕ)
+      → Follows cost (meaning p budgets input) (behaviour (start_of (content_of file)) input)
+  pub faithful : (input : List ℕ)
+      → Faithful promised_cost (meaning p budgets input) (behaviour (start_of (content_of file)) input)

@@ -1,0 +1,7 @@
+//! Laws, a module a subject.
+
+pub mod code_sizes;
+pub mod images;
+pub mod lowering;
+pub mod plans;
+pub mod sizes;

@@ -1,0 +1,85 @@
+//! Laws of images of programs of integers, each as the contract of a function that does nothing.
+
+ghost use Rattle.std.specs.Prelude.{◌≡◌, ℕ, ◌+◌, ◌≤◌, List, [], length, true};
+ghost use Rattle.addr_map.specs.Places.{MapSizes, AreMapped, functions_begin, code_begin};
+ghost use Rattle.sb_base.specs.Budgets.{BudgetSizes, AreInRange};
+ghost use Rattle.c_tree.specs.Programs.{Program};
+ghost use Rattle.c_tree.specs.ValidProgram.{is_valid_program};
+ghost use Rattle.tac_ir.specs.declared.function.Tac.{Tac};
+ghost use Rattle.tac_ir.specs.Meaning.{setting_of_code};
+ghost use Rattle.compiled_programs.specs.Programs.{is_integer_program};
+ghost use Rattle.metadata_plan.specs.Laid.{program_of};
+ghost use Rattle.metadata_plan.specs.OperatorLists.Operators.{operators};
+ghost use Rattle.metadata_expansion.specs.Homes.{homes};
+ghost use Rattle.metadata_expansion.specs.Numbers.{AreAllSmall};
+ghost use Rattle.flat_meaning.specs.declared.function.FlatProgram.{FlatProgram};
+ghost use Rattle.reg_plan.specs.declared.plan.FunctionPlan.{FunctionPlan};
+ghost use Rattle.reg_plan.specs.Planned.{ArePlannable, ArePlanned, IsPlanOfRegisters};
+ghost use Rattle.reg_plan.specs.Tests.{AreAccepted};
+ghost use Rattle.machine_laws.specs.Following.Code.{IsEncodable};
+ghost use Rattle.machine_laws.specs.Following.Start.{IsStartable};
+ghost use Rattle.machine_laws.specs.Segments.Segments.{table_bytes};
+ghost use Rattle.rv_codegen.specs.MachineImages.Image.{IsImage};
+ghost use Rattle.image_laws.specs.Images.Images.{HaveFewParameters, sizes_of, IsChecked, IsFlat, DoesWhatIsMeant};
+
+use crate::laws::lowering::lowered_integers_are_integer_code;
+use behaviours::following_is_faithful;
+use c_lower::laws::lowered_code_follows_its_program;
+use check_insert::laws::checked_code_is_never_stuck;
+use flat_meaning::laws::steps_begin_at_most_one_turn;
+use metadata_plan::laws::operator_lists::operators_compute;
+use rv_codegen::images::laws::{data_is_held, images_follow};
+use rv_sim::laws::machine_is_machine;
+use source_meaning::laws::running_has_begun_all_turns;
+
+/// The code of a program with its checks put in has the sizes of the program.
+pub fn code_has_the_sizes_of_its_program()
+    ensures { (p : Program) (r : Tac) → IsChecked p r → (budgets : BudgetSizes)
+        → (setting_of_code r budgets).sizes ≡ sizes_of p budgets }
+{}
+
+/// The expansion of checked code has instructions of the machine: its numbers are short, its reports are bytes, and it
+/// makes no access of memory.
+pub fn expansions_are_encodable()
+    ensures { (p : Program) (budgets : BudgetSizes) → is_valid_program p ≡ true → is_integer_program p ≡ true
+        → HaveFewParameters p → AreMapped (sizes_of p budgets) → (code : FlatProgram)
+        → IsFlat p (sizes_of p budgets) code → IsEncodable code }
+{}
+
+/// And the machine can begin it.
+pub fn expansions_are_startable()
+    ensures { (p : Program) (budgets : BudgetSizes) (code : FlatProgram)
+        → IsFlat p (sizes_of p budgets) code → IsStartable (sizes_of p budgets) code }
+{}
+
+/// What stands before compiled code has room there: the jump table of at most 4096 functions, the start, and the
+/// function with which a run begins, under plans that give out registers.
+pub fn runtimes_have_room()
+    ensures { (m : MapSizes) (r : Tac) → AreAllSmall m r → length r.functions ≤ 4096
+        → ArePlannable (program_of operators m r homes) → IsEncodable (program_of operators m r homes)
+        → (plans : List FunctionPlan)
+        → ArePlanned (program_of operators m r homes) plans (length (program_of operators m r homes).functions)
+        (IsPlanOfRegisters (program_of operators m r homes))
+        → functions_begin + table_bytes m (program_of operators m r homes) plans ≤ code_begin }
+{}
+
+/// An image of a valid program of integers, made of its flat code under accepted plans, with no data at the start, does
+/// what the program means: it shows just what the program does, with at most 1008 instructions for each unit of the
+/// program's work.
+pub fn images_do_what_is_meant()
+    ensures { (p : Program) (budgets : BudgetSizes) → is_valid_program p ≡ true → is_integer_program p ≡ true
+        → HaveFewParameters p → AreInRange budgets → (code : FlatProgram) → IsFlat p (sizes_of p budgets) code
+        → (plans : List FunctionPlan) → AreAccepted code plans → (file : List ℕ)
+        → IsImage (sizes_of p budgets) code plans [] [] file → DoesWhatIsMeant p budgets file }
+{
+    running_has_begun_all_turns();
+    lowered_code_follows_its_program();
+    checked_code_is_never_stuck();
+    lowered_integers_are_integer_code();
+    operators_compute();
+    steps_begin_at_most_one_turn();
+    images_follow();
+    data_is_held();
+    machine_is_machine();
+    following_is_faithful();
+}

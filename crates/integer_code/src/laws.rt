@@ -1,9 +1,0 @@
-//! Laws of operators in programs, each as the contract of a function that does nothing.
-
-ghost use Rattle.metadata_plan.specs.Operators.{AreOperators};
-ghost use Rattle.integer_code.specs.Operators.{operators};
-
-/// The lists of `integer_operators` compute what `metadata_plan` asks of the operators of a program.
-pub fn operators_compute()
-    ensures { AreOperators operators }
-{}

@@ -1,6 +1,0 @@
-use Rattle.integer_images.proofs.Runtime.{runtime_has_room}
-use Rattle.integer_images.proofs.laws.runtimes_have_room.Goals as goal
-
-pub returns : goal.returns
-returns c = λ m r small count plannable encodable plans planned.
-    runtime_has_room m r small.main count plannable encodable.parameters plans planned

@@ -1,4 +1,0 @@
-//! Programs of integers, lowered: laws alone.
-#![tactic(auto)]
-
-pub mod laws;

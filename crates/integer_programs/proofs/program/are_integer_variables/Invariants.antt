@@ -1,8 +1,0 @@
-use Rattle.std.proofs.Common.{◌≡◌, map, drop}
-use Rattle.std.specs.List.{list_all}
-use Rattle.integer_programs.specs.Programs.{is_integer_variable}
-use Rattle.integer_programs.proofs.program.are_integer_variables.Given as goal
-
-abbrev pub invariant-loop-variable : goal.invariant-loop-variable
-invariant-loop-variable l =
-    list_all is_integer_variable (drop l.variable-index l.variables) ≡ list_all is_integer_variable l.fn.variables

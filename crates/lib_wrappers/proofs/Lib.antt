@@ -1,0 +1,4 @@
+pub mod MovingRoutines
+pub mod StringRoutines
+pub mod PrintingRoutines
+pub mod ComparingRoutines

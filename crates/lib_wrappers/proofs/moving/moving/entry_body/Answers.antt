@@ -1,0 +1,15 @@
+use Rattle.std.proofs.Common.{sym, subst}
+use Rattle.lib_wrappers.specs.MovingRoutines.Tagged.{CopiesEntry}
+use Rattle.flat_actions.proofs.ByParts.{joined_are}
+use Rattle.lib_wrappers.proofs.MovingRoutines.Words.{entry_copies}
+use Rattle.lib_wrappers.proofs.moving.moving.entry_body.Goals as goal
+
+pub returns-clause-does : goal.returns-clause-does
+returns-clause-does g c =
+    let a = c.args in
+    let entry = g.S.ShadowForm.entry in
+    let IsGood = g.S.ShadowForm.IsGood a.map.now in
+    let items = joined_are _ _ _ _ _ c.in_ok-code.ensures c.as_slice.ensures.value c.as_slice-2.ensures.value in
+    subst (CopiesEntry a.map.now entry IsGood a.scratch) (sym items)
+    (entry_copies a.map.now entry IsGood a.scratch c.in_ok-read.read.items c.in_ok-write.write.items
+    c.in_ok-read.ensures.does c.in_ok-write.ensures.does)

@@ -1,0 +1,24 @@
+use Rattle.std.proofs.Common.{sym, subst, ◌∙◌}
+use Rattle.flat_actions.specs.Ranges.{IsTaggedMoveRoutine}
+use Rattle.lib_wrappers.specs.MovingRoutines.Tagged.{move_words}
+use Rattle.flat_actions.proofs.ByParts.{joined_are, by_body}
+use Rattle.lib_wrappers.proofs.MovingRoutines.Tagged.{moves_tagged}
+use Rattle.lib_wrappers.proofs.moving.moving.move_tagged.Goals as goal
+
+pub returns : goal.returns
+returns g c =
+    let a = c.args in
+    let second = by_body (move_words a.to a.from a.bytes a.scratch) _ _ c.in_ok-body.body.items c.in_ok-second.ensures
+    c.as_slice.ensures.value in
+    let items = joined_are _ _ _ _ _ c.in_ok-code.ensures c.as_slice-2.ensures.value
+    (c.as_slice-3.ensures.value ∙ second) in
+    record {
+      does = subst
+          (IsTaggedMoveRoutine a.map.now g.S.ShadowForm.entry (g.S.ShadowForm.IsGood a.map.now) a.to a.from a.bytes
+          a.scratch)
+          (sym items)
+          (moves_tagged a.map.now c.requires.map g.S.ShadowForm.entry (g.S.ShadowForm.IsGood a.map.now)
+          (λ m m' keep good. c.entries_are_local.ensures a.map.now m m' c.requires.map keep good) a.to a.from a.bytes
+          a.scratch c.requires.below c.in_ok-first.first.items c.in_ok-body.body.items c.in_ok-first.ensures
+          c.in_ok-body.ensures.does);
+    }

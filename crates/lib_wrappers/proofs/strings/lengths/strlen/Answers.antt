@@ -1,0 +1,20 @@
+use Rattle.std.proofs.Common.{[], ◌∷◌, ◌++◌, sym, ap, ◌∙◌, subst}
+use Rattle.std.proofs.lemmas.Result.{IfOk-weaker}
+use Rattle.source_meaning.specs.Strings.{strlen as strlen_of}
+use Rattle.source_meaning.specs.Library.{argument}
+use Rattle.flat_actions.specs.Actions.{IsAction, Pointer, Word, runtime_basis}
+use Rattle.lib_wrappers.specs.StringRoutines.Scanning.{length_given}
+use Rattle.lib_wrappers.proofs.StringRoutines.LengthActs.{strlen_acts}
+use Rattle.lib_wrappers.proofs.strings.lengths.strlen.Goals as goal
+
+pub returns : goal.returns
+returns g c =
+    let a = c.args in
+    let basis = runtime_basis a.map.now g.S.ShadowForm.entry (g.S.ShadowForm.IsGood a.map.now) in
+    let scanned = c.in_ok-scanned.scanned.items in
+    IfOk-weaker _ _ _
+    (λ r e. subst (IsAction basis (λ vs. strlen_of (argument 0 vs) a.line) (Pointer a.string ∷ []) (Word a.into)
+    a.scratch 17 8)
+    (sym (e ∙ ap (λ l. l ++ length_given a.string a.scratch a.into) c.deref.ensures.value))
+    (strlen_acts basis a.string a.into a.line a.scratch c.requires.below scanned c.in_ok-scanned.ensures))
+    c.joined.ensures

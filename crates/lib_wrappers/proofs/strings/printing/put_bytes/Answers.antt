@@ -1,0 +1,13 @@
+use Rattle.std.proofs.Common.{sym, subst}
+use Rattle.std.proofs.lemmas.Result.{IfOk-weaker}
+use Rattle.lib_wrappers.specs.StringRoutines.Putting.{IsPutRoutine}
+use Rattle.lib_wrappers.proofs.StringRoutines.PutLoop.{puts_out}
+use Rattle.lib_wrappers.proofs.strings.printing.put_bytes.Goals as goal
+
+pub returns : goal.returns
+returns c =
+    let a = c.args in
+    IfOk-weaker _ _ _
+    (λ r e. subst (IsPutRoutine a.map.now a.from a.to a.scratch) (sym e)
+    (puts_out a.map.now a.from a.to a.scratch c.requires.below))
+    c.put_instructions.ensures

@@ -1,0 +1,33 @@
+-- What functions of the runtime leave that look at objects, change none, and show nothing.
+use Rattle.std.specs.Prelude.{◌≡◌, ℕ}
+use Rattle.sb_base.specs.Endings.{code_of, report_of}
+use Rattle.obj_memory.specs.declared.value.Value.{Value}
+use Rattle.source_meaning.specs.State.{State as Source, Outcome as Completed, Gives, Ended, Paused}
+use Rattle.source_meaning.specs.Acting.{at_work}
+use Rattle.flat_meaning.specs.State.{State}
+use Rattle.flat_routines.specs.Routine.{Outcome, Continues, Halts}
+use Rattle.flat_routines.specs.Metadata.{ShowsNothing}
+use Rattle.flat_routines.specs.Objects.StandsFor.{Views, Keys}
+use Rattle.flat_actions.specs.Actions.{Holder, IsGivenIn}
+
+-- only work was done in the source
+pub record IsWorking (x x' : Source) : Type 0 where
+  pub work : ℕ
+  pub same : x' ≡ at_work work x
+
+-- it went on: a value is held, and nothing but registers changed
+pub record HasAnswered (g : Views) (k : Keys) (result : Holder) (x : Source) (f : State) (v : Value) (x' : Source)
+    (f' : State) : Type 0 where
+  pub source : IsWorking x x'
+  pub memory : f'.memory ≡ f.memory
+  pub shows : ShowsNothing f f'
+  pub given : IsGivenIn g k result v f'.values
+
+-- just as the run of the source does
+abbrev pub IsAnswered : Views → Keys → (result : Holder) → Source → State → Completed Value → Outcome → Type 0
+IsAnswered g k result x f (Gives v x') (Continues f') = HasAnswered g k result x f v x' f'
+IsAnswered g k result x f (Ended e x') (Halts status report f') =
+    (status ≡ code_of e) × (report ≡ report_of e) × IsWorking x x' × ShowsNothing f f'
+IsAnswered g k result x f (Gives v x') (Halts status report f') = ⊥
+IsAnswered g k result x f (Ended e x') (Continues f') = ⊥
+IsAnswered g k result x f (Paused x') o = ⊥

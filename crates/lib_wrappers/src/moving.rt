@@ -1,0 +1,12 @@
+//! Ranges of object space that functions of the runtime move and fill, and the library's `memcpy`, `memmove`, `memset`
+//! and the assignment of structures, as whole actions, for any form of the shadow space.
+
+pub mod filling;
+pub mod library;
+pub mod moving;
+pub mod structures;
+
+pub use crate::moving::filling::fill;
+pub use crate::moving::library::{memmove, memset};
+pub use crate::moving::moving::{move_bytes, move_tagged};
+pub use crate::moving::structures::copy_structure;

@@ -1,0 +1,104 @@
+//! `strncpy`.
+
+ghost use Rattle.std.specs.Prelude.{◌+◌, ◌<◌, ◌≤◌, ◌^◌, IfOk, [], ◌∷◌};
+ghost use Rattle.addr_map.specs.Places.{AreMapped};
+ghost use Rattle.source_meaning.specs.Strings.{strncpy as strncpy_of};
+ghost use Rattle.source_meaning.specs.Library.{argument};
+ghost use Rattle.flat_routines.specs.Registers.{AreBelow, AreDistinct, AreNoneOf};
+ghost use Rattle.flat_routines.specs.Metadata.{held_registers};
+ghost use Rattle.flat_actions.specs.Actions.{IsAction, Pointer, Word, runtime_basis};
+ghost use Rattle.lib_wrappers.specs.StringRoutines.Copying.{IsFilledUp};
+
+use crate::moving::{fill, move_bytes};
+use crate::strings::scanning::scan_at_most;
+use addr_map::AddrMap;
+use flat_actions::{guarded, joined, judge};
+use flat_meaning::{FlatInstruction, RightOperand};
+use flat_routines::Held;
+use rv_isa::RegOp;
+use sb_base::Line;
+use shadow_space::ShadowForm;
+use std::alloc::{AllocError, Global};
+
+/// `strncpy` to the pointer in `to` from the one in `from`, of as many bytes as `size` holds, at a line, in a function
+/// of the runtime: the string is scanned up to so many bytes, the destination judged as one access, and the bytes are
+/// moved, with zeros behind them; nothing is judged where there are none. What it gives, the pointer in `to`, is put
+/// into the registers of `into`. It may write the registers from `scratch` on. The only refusal is that memory fails.
+pub fn strncpy<S: ShadowForm>(
+    alloc: Global,
+    map: &AddrMap,
+    to: Held,
+    from: Held,
+    size: u32,
+    into: Held,
+    line: Line,
+    scratch: u32,
+) -> Result<Vec<FlatInstruction>, AllocError>
+    requires map { AreMapped map.now }
+    requires to { AreBelow scratch (held_registers to) }
+    requires from { AreBelow scratch (held_registers from) }
+    requires size { size < scratch }
+    requires into { AreBelow scratch (held_registers into) }
+    requires distinct { AreDistinct (held_registers into) }
+    requires others { AreNoneOf (held_registers to) (held_registers into) }
+    requires room { scratch + 16 ≤ 2 ^ 31 }
+    ensures { IfOk result (λ r. IsAction (runtime_basis map.now S.entry (S.IsGood map.now))
+        (λ vs. strncpy_of (argument 0 vs) (argument 1 vs) (argument 2 vs) line)
+        (Pointer to ∷ Pointer from ∷ Word size ∷ []) (Pointer into) scratch 60 8 r.items) }
+{
+    S::entries_are_local();
+    let scanned = scan_at_most::<S>(alloc, map, from, scratch, line, size, scratch + 1)?;
+    let judging = judge(alloc, to, size, line, scratch + 1)?;
+    let writing = filled_up(alloc, map, to.value, from.value, size, scratch)?;
+    let rest = joined(alloc, &judging, &writing)?;
+    let act = joined(alloc, &scanned, &rest)?;
+    guarded(alloc, size, to, into, &act)
+}
+
+// The bytes from the address in `from` up to the cursor in `scratch` are moved, and zeros follow up to so many bytes.
+fn filled_up(
+    alloc: Global,
+    map: &AddrMap,
+    to: u32,
+    from: u32,
+    size: u32,
+    scratch: u32,
+) -> Result<Vec<FlatInstruction>, AllocError>
+    requires map { AreMapped map.now }
+    requires below { AreBelow scratch (to ∷ from ∷ size ∷ []) }
+    requires room { scratch + 16 ≤ 2 ^ 31 }
+    ensures { IfOk result (λ r. IsFilledUp map.now to from size scratch r.items) }
+{
+    let count = scratch + 1;
+    let address = scratch + 2;
+    let zero = scratch + 3;
+    let counting = [FlatInstruction::Operate {
+        op: RegOp::Sub,
+        into: count,
+        left: scratch,
+        right: RightOperand::Register(from),
+    }];
+    let tailing = [
+        FlatInstruction::Operate {
+            op: RegOp::Add,
+            into: address,
+            left: to,
+            right: RightOperand::Register(count),
+        },
+        FlatInstruction::Operate {
+            op: RegOp::Sub,
+            into: count,
+            left: size,
+            right: RightOperand::Register(count),
+        },
+        FlatInstruction::Constant {
+            into: zero,
+            value: 0,
+        },
+    ];
+    let moving = move_bytes(alloc, map, to, from, count, scratch + 4)?;
+    let filling = fill(alloc, map, address, zero, count, scratch + 4)?;
+    let end = joined(alloc, &tailing, &filling)?;
+    let rest = joined(alloc, &moving, &end)?;
+    joined(alloc, &counting, &rest)
+}

@@ -1,0 +1,106 @@
+-- When a machine is where a run of flat code is.
+use Rattle.std.specs.Prelude.{◌≡◌, ℕ, ◌+◌, ◌-◌, ◌*◌, ◌<◌, ◌≤◌, ◌⊎◌, Bool, true, false, List, [], ◌∷◌, length}
+use Rattle.std.specs.Prelude.{Some}
+use Rattle.addr_map.specs.Places.{MapSizes, region_start, region_end, region_size, objects_begin, spaces_begin}
+use Rattle.addr_map.specs.declared.region.Region.TheVariants.{Heap, Cells, Arguments, Calls, RuntimeCalls}
+use Rattle.rv_sim.specs.declared.stop.Stop.TheVariants.{Exited}
+use Rattle.rv_sim.specs.Run.{Configuration, Turn}
+use Rattle.machine_laws.specs.View.Views.{View, Layout, Shows}
+use Rattle.flat_meaning.specs.declared.instruction.FlatInstruction.{FlatInstruction}
+use Rattle.flat_meaning.specs.declared.function.FlatProgram.{FlatProgram}
+use Rattle.flat_meaning.specs.Memory.{Bytes, load}
+use Rattle.flat_meaning.specs.State.{State, Frame}
+use Rattle.flat_meaning.specs.Calls.{function_in, room_if, rooms}
+use Rattle.flat_meaning.specs.Meaning.{instruction_at, is_runtime_function, results_of}
+use Rattle.reg_plan.specs.declared.plan.FunctionPlan.{FunctionPlan}
+use Rattle.reg_plan.specs.Effects.{is_among, many}
+use Rattle.machine_laws.specs.Blocks.Effects.{kept}
+use Rattle.machine_laws.specs.Following.Code.{keeping, CallShape, shape_of, call_part}
+
+-- the bytes of the two data segments: object space, and the runtime's spaces with the words of arguments and the
+-- activation records
+abbrev pub object_bytes : MapSizes → ℕ
+object_bytes m = region_end m Heap - objects_begin
+
+abbrev pub space_bytes : MapSizes → ℕ
+space_bytes m = region_end m RuntimeCalls - spaces_begin
+
+-- a byte that flat code may use
+abbrev pub IsOfFlat : MapSizes → (address : ℕ) → Type 0
+IsOfFlat m a = ((objects_begin ≤ a) × (a < region_end m Heap)) ⊎ ((spaces_begin ≤ a) × (a < region_end m Cells))
+
+-- Where the activation record of a function begins: behind those that wait, of functions of the program and of the
+-- runtime apart.
+abbrev pub top_of : MapSizes → FlatProgram → (runtime : Bool) → List Frame → ℕ
+top_of m p false frames = region_start m Calls + rooms false p frames
+top_of m p true frames = region_start m RuntimeCalls + rooms true p frames
+
+abbrev pub record_of : MapSizes → FlatProgram → (function : ℕ) → List Frame → ℕ
+record_of m p f frames = top_of m p (is_runtime_function (function_in p f)) frames
+
+-- The record x waits under a function f: its next instruction is behind a call that gives as many results as f
+-- does, the
+-- first word of the record of f has the address where f comes back to, and what is live there and no result stands in
+-- its home.
+pub record Waits (m : MapSizes) (p : FlatProgram) (plans : List FunctionPlan) (address : (function pc : ℕ) → ℕ)
+    (f : ℕ) (x : Frame) (xs : List Frame) (memory : Bytes) : Type 0 where
+  pub place : ℕ
+  pub next_is : x.next ≡ place + 1
+  pub call : FlatInstruction
+  pub at : instruction_at p x.function place ≡ Some call
+  pub shape : CallShape
+  pub shape_is : shape_of p (keeping p plans x.function) call ≡ Some shape
+  pub into_is : shape.into ≡ x.into
+  pub results_are : shape.results ≡ results_of (function_in p f)
+  pub returns : load 8 memory (record_of m p f (x ∷ xs))
+      ≡ address x.function place + 4 * length (call_part (keeping p plans x.function) place shape)
+  pub held : (y : ℕ) → (keeping p plans x.function).live x.next y ≡ true
+      → is_among (many shape.into shape.results) y ≡ false
+      → load 8 memory (record_of m p x.function xs + (keeping p plans x.function).home y) ≡ x.values y
+
+abbrev pub Wait : MapSizes → FlatProgram → List FunctionPlan → (address : (function pc : ℕ) → ℕ) → (f : ℕ)
+    → List Frame → (memory : Bytes) → Type 0
+Wait m p plans address f [] memory = Unit {0}
+Wait m p plans address f (x ∷ xs) memory =
+    Waits m p plans address f x xs memory × Wait m p plans address x.function xs memory
+
+-- Registers and memory are those of a run at an instruction of a function: the back end's registers have their
+-- addresses, the records fit their regions, what is live is kept in its place, and memory that flat code may use is its
+-- memory.
+pub record IsAt (m : MapSizes) (p : FlatProgram) (plans : List FunctionPlan) (address : (function pc : ℕ) → ℕ)
+    (f pc : ℕ) (s : State) (frames : List Frame) (v : View) : Type 0 where
+  pub zero_is : v.registers 0 ≡ 0
+  pub program_top : v.registers 2 ≡ region_start m Calls + rooms false p frames
+  pub arguments : v.registers 3 ≡ region_start m Arguments
+  pub runtime_top : v.registers 4 ≡ region_start m RuntimeCalls + rooms true p frames
+  pub program_fits : room_if false (function_in p f) + rooms false p frames ≤ m.budgets.calls
+  pub runtime_fits : room_if true (function_in p f) + rooms true p frames ≤ region_size m RuntimeCalls
+  pub held : (y : ℕ) → (keeping p plans f).live pc y ≡ true
+      → kept (record_of m p f frames) v ((keeping p plans f).place y) ≡ s.values y
+  pub same : (a : ℕ) → IsOfFlat m a → v.memory a ≡ s.memory a
+  pub wait : Wait m p plans address f frames v.memory
+
+-- what was shown and what is left of the input are the same
+pub record ShowsSame (c : Configuration) (s : State) : Type 0 where
+  pub input : c.input ≡ s.input
+  pub output : c.output ≡ s.output
+  pub errors : c.errors ≡ []
+  pub taken : c.taken ≡ s.taken
+
+-- a configuration of the machine is where the run stands
+pub record Meets (m : MapSizes) (p : FlatProgram) (plans : List FunctionPlan) (l : Layout)
+    (address : (function pc : ℕ) → ℕ) (f pc : ℕ) (s : State) (frames : List Frame) (c : Configuration) : Type 0 where
+  pub view : View
+  pub shows : Shows l c view
+  pub pc_is : view.pc ≡ address f pc
+  pub is_at : IsAt m p plans address f pc s frames view
+  pub accesses : view.accesses ≡ s.accesses
+  pub outside : ShowsSame c s
+
+-- it has ended as the run has
+pub record HasEnded (status : ℕ) (report : List ℕ) (s : State) (t : Turn) : Type 0 where
+  pub ending : t.1 ≡ Some (Exited status)
+  pub output : t.0.output ≡ s.output
+  pub errors : t.0.errors ≡ report
+  pub taken : t.0.taken ≡ s.taken
+  pub accesses : t.0.accesses ≡ s.accesses

@@ -1,0 +1,6 @@
+pub mod View
+pub mod Blocks
+pub mod Calls
+pub mod Following
+pub mod Layout
+pub mod Segments

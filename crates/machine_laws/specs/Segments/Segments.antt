@@ -1,0 +1,76 @@
+-- The words of the two segments of code that are generated for a program: the functions of the program one behind the
+-- other in compiled code; the jump table, the start and the functions of the runtime before it.
+use Rattle.std.specs.Prelude.{ℕ, zero, suc, ◌+◌, ◌*◌, ◌<◌, ◌≤◌, Bool, true, false, not, if◌then◌else◌}
+use Rattle.std.specs.Prelude.{List, [], ◌++◌, map, length, Option, Some, None}
+use Rattle.addr_map.specs.Places.{MapSizes, functions_begin, code_begin, code_size}
+use Rattle.rv_isa.specs.declared.instruction.Instr.{Instr}
+use Rattle.rv_isa.specs.Table.{word_of}
+use Rattle.rv_asm.specs.Forms.{IsAssemblable}
+use Rattle.rv_asm.specs.Words.{words_of}
+use Rattle.flat_meaning.specs.declared.function.FlatFunction.{FlatFunction}
+use Rattle.flat_meaning.specs.declared.function.FlatProgram.{FlatProgram}
+use Rattle.flat_meaning.specs.Calls.{function_in}
+use Rattle.flat_meaning.specs.Meaning.{is_runtime_function}
+use Rattle.reg_plan.specs.declared.plan.FunctionPlan.{FunctionPlan}
+use Rattle.machine_laws.specs.Calls.Calls.{row}
+use Rattle.machine_laws.specs.Following.Start.{start_block}
+use Rattle.machine_laws.specs.Layout.Lists.{items_of}
+
+-- whether a function is one of the runtime, or one of the program
+abbrev pub is_of : (runtime : Bool) → Option FlatFunction → Bool
+is_of r None = false
+is_of true (Some f) = f.is_runtime
+is_of false (Some f) = not f.is_runtime
+
+abbrev pub function_words : MapSizes → FlatProgram → List FunctionPlan → (function : ℕ) → List ℕ
+function_words m p plans f = words_of (items_of m p plans f)
+
+-- the words of a function, if it is one of those that are asked for
+abbrev pub words_if : MapSizes → FlatProgram → List FunctionPlan → (runtime : Bool) → (function : ℕ) → List ℕ
+words_if m p plans r f = if is_of r (function_in p f) then function_words m p plans f else []
+
+-- those of the functions below a number
+unfoldable pub words_below : MapSizes → FlatProgram → List FunctionPlan → (runtime : Bool) → (number : ℕ) → List ℕ
+words_below m p plans r zero = []
+words_below m p plans r (suc k) = words_below m p plans r k ++ words_if m p plans r k
+
+-- where the jump table ends and the start begins
+abbrev pub start_address : FlatProgram → ℕ
+start_address p = functions_begin + 16 * length p.functions
+
+-- where a function begins: the start has nine words
+abbrev pub begin_if : MapSizes → FlatProgram → List FunctionPlan → (runtime : Bool) → (function : ℕ) → ℕ
+begin_if m p plans true f = start_address p + 36 + 4 * length (words_below m p plans true f)
+begin_if m p plans false f = code_begin + 4 * length (words_below m p plans false f)
+
+unfoldable pub begin : MapSizes → FlatProgram → List FunctionPlan → (function : ℕ) → ℕ
+begin m p plans f = begin_if m p plans (is_runtime_function (function_in p f)) f
+
+-- the entries of the jump table of the functions below a number
+unfoldable pub rows_below : MapSizes → FlatProgram → List FunctionPlan → (number : ℕ) → List Instr
+rows_below m p plans zero = []
+rows_below m p plans (suc k) = rows_below m p plans k ++ row (begin m p plans k)
+
+abbrev pub code_words : MapSizes → FlatProgram → List FunctionPlan → List ℕ
+code_words m p plans = words_below m p plans false (length p.functions)
+
+abbrev pub table_words : MapSizes → FlatProgram → List FunctionPlan → List ℕ
+table_words m p plans =
+    map word_of (rows_below m p plans (length p.functions) ++ start_block m p)
+    ++ words_below m p plans true (length p.functions)
+
+-- every function can be assembled
+abbrev pub AreAssemblable : MapSizes → FlatProgram → List FunctionPlan → Type 0
+AreAssemblable m p plans = (f : ℕ) → f < length p.functions → IsAssemblable (items_of m p plans f)
+
+abbrev pub code_bytes : MapSizes → FlatProgram → List FunctionPlan → ℕ
+code_bytes m p plans = 4 * length (code_words m p plans)
+
+abbrev pub table_bytes : MapSizes → FlatProgram → List FunctionPlan → ℕ
+table_bytes m p plans = 4 * length (table_words m p plans)
+
+-- both segments have room for what is generated
+pub record FitsSegments (m : MapSizes) (p : FlatProgram) (plans : List FunctionPlan) : Type 0 where
+  pub assemblable : AreAssemblable m p plans
+  pub code : code_bytes m p plans ≤ code_size
+  pub table : functions_begin + table_bytes m p plans ≤ code_begin

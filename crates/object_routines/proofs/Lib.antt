@@ -1,0 +1,2 @@
+pub mod AccessRoutines
+pub mod AllocatingRoutines

@@ -1,0 +1,20 @@
+use Rattle.std.proofs.Common.{sym, subst}
+use Rattle.std.proofs.lemmas.Result.{IfOk-weaker}
+use Rattle.object_routines.specs.AccessRoutines.Accessing.{IsLoadRoutine, load_integer_code}
+use Rattle.object_routines.proofs.AccessRoutines.Integers.{load_integer_does}
+use Rattle.object_routines.proofs.accesses.loading.load.Goals as goal
+use Rattle.flat_actions.specs.Actions.{program_basis}
+
+pub returns-in-Integer : goal.returns-in-Integer
+returns-in-Integer g c =
+    let a = c.args in
+    let entry = g.S.ShadowForm.entry in
+    let good = g.S.ShadowForm.IsGood a.map.now in
+    let of = c.in-Integer.of in
+    let r = c.in-Integer.register in
+    let basis = program_basis a.map.now entry good in
+    IfOk-weaker _ _ _
+    (λ v e. subst (IsLoadRoutine basis a.address a.into a.scratch) (sym e)
+    (subst (λ h. IsLoadRoutine basis a.address h a.scratch (load_integer_code a.address of r)) (sym c.in-Integer.is)
+    (load_integer_does a.map.now entry good a.address of r a.scratch c.requires.map)))
+    c.load_integer.ensures

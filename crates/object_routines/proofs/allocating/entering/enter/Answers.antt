@@ -1,0 +1,19 @@
+use Rattle.std.proofs.Common.{sym, subst, ◌+◌}
+use Rattle.object_routines.specs.AllocatingRoutines.Entering.{IsEnterRoutine, enter_code}
+use Rattle.flat_actions.proofs.ByParts.{by_two}
+use Rattle.object_routines.proofs.AllocatingRoutines.Enters.{enter_does}
+use Rattle.object_routines.proofs.allocating.entering.enter.Goals as goal
+
+pub returns : goal.returns
+returns g c =
+    let a = c.args in
+    let items = by_two
+    (λ fresh zero. enter_code a.map.now fresh zero a.top a.bytes a.to a.line a.scratch (a.scratch + 1)) _ _ _
+    c.in_ok-fresh.fresh.items c.in_ok-zeros.zeros.items c.in_ok-r.ensures c.as_slice.ensures.value
+    c.as_slice-2.ensures.value in
+    subst (IsEnterRoutine a.map.now g.S.ShadowForm.entry (g.S.ShadowForm.IsGood a.map.now) a.top a.bytes a.to a.line
+    a.scratch) (sym items)
+    (enter_does a.map.now c.requires.map g.S.ShadowForm.entry (g.S.ShadowForm.IsGood a.map.now)
+    (λ m m' k h. c.entries_are_local.ensures a.map.now m m' c.requires.map k h) a.top a.bytes a.to a.line a.scratch
+    c.requires.below c.requires.results c.requires.apart c.requires.distinct c.in_ok-fresh.fresh.items
+    c.in_ok-zeros.zeros.items c.in_ok-fresh.ensures c.in_ok-zeros.ensures)

@@ -1,0 +1,14 @@
+//! Checks, loads and stores in flat code, put inline into the functions of the program: the run ends, and objects and
+//! accesses change, just as in the source.
+
+pub mod checked;
+pub mod held;
+pub mod loading;
+pub mod storing;
+pub mod testing;
+
+pub use crate::accesses::checked::{checked_load, checked_store};
+pub use crate::accesses::held::HeldScalar;
+pub use crate::accesses::loading::load;
+pub use crate::accesses::storing::store;
+pub use crate::accesses::testing::{spatial_check, temporal_check};

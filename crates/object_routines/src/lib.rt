@@ -1,0 +1,6 @@
+//! Objects in flat code: `accesses` has loads and stores of scalars with their two tests, `allocating` births and deaths
+//! of objects, on the heap and in blocks.
+#![tactic(auto)]
+
+pub mod accesses;
+pub mod allocating;

@@ -1,9 +1,0 @@
-use Rattle.printing_routines.proofs.Steps.{puts_done}
-use Rattle.printing_routines.proofs.formats.puts.Goals as goal
-
-pub returns : goal.returns
-returns c =
-    let a = c.args in
-    puts_done a.map.now a.scratch a.own a.printed.now c.loop-piece.piece-index c.loop-piece.index
-    c.loop-piece.code.items
-    c.loop-piece-test.false c.loop-piece.invariant.2

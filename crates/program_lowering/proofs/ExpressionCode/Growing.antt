@@ -1,0 +1,205 @@
+-- Code and tables that grow.
+use Rattle.std.proofs.Common.{◌≡◌, ℕ, zero, suc, ◌+◌, ◌*◌, ◌≤◌, List, [], ◌∷◌, ◌++◌, length, Some, None, refl, sym, ap}
+use Rattle.std.proofs.Common.{subst, arith}
+use Rattle.std.proofs.lemmas.Option.{same_Some}
+use Rattle.c_tree.specs.declared.expression.Kind.TheVariants.{Void, Scalar as OfScalar, Structure, Array}
+use Rattle.tac_ir.specs.declared.instruction.Instruction.{Instruction}
+use Rattle.tac_ir.specs.declared.instruction.Instruction.TheVariants as tac
+use Rattle.tac_ir.specs.declared.key.Key.{Key}
+use Rattle.tac_ir.specs.Temporaries.{temporaries}
+use Rattle.c_lower.specs.Placed.{Placed, Holds, HasAt}
+use Rattle.program_lowering.specs.declared.expressions.emitter.Emitter.{Emitter}
+use Rattle.program_lowering.specs.ExpressionCode.Weights.{Weights, weight_of, code_weight, no_weight}
+use Rattle.program_lowering.specs.ExpressionCode.Emitted.{Has, Added, Stays, Keeps, IsReal, Fills, Emits}
+use Rattle.program_lowering.specs.ExpressionCode.Last.{KeyAdded, TextAdded, TakingCode, Outcomes}
+
+-- lists
+
+pub stays_all : {A : Type 0} (xs : List A) → Stays xs xs
+stays_all xs n x h = h
+
+pub stays_by : {A : Type 0} (xs ys : List A) → ys ≡ xs → Stays xs ys
+stays_by xs ys e n x h = subst (λ l. HasAt l n x) (sym e) h
+
+more_stays : {A : Type 0} (xs : List A) (y : A) → Stays xs (xs ++ y ∷ [])
+more_stays [] y n x h = cc
+more_stays (z ∷ xs) y zero x h = h
+more_stays (z ∷ xs) y (suc n) x h = more_stays xs y n x h
+
+pub one_more : {A : Type 0} (xs ys : List A) (y : A) → ys ≡ xs ++ y ∷ [] → Stays xs ys
+one_more xs ys y e n x h = subst (λ l. HasAt l n x) (sym e) (more_stays xs y n x h)
+
+last_has : {A : Type 0} (xs : List A) (y : A) → HasAt (xs ++ y ∷ []) (length xs) y
+last_has [] y = refl
+last_has (x ∷ xs) y = last_has xs y
+
+pub has_last : {A : Type 0} (xs ys : List A) (y : A) (n : ℕ) → ys ≡ xs ++ y ∷ [] → n ≡ length xs → HasAt ys n y
+has_last xs ys y n e at = subst (λ l. HasAt l n y) (sym e)
+    (subst (λ m. HasAt (xs ++ y ∷ []) m y) (sym at) (last_has xs y))
+
+from_more : {A : Type 0} (P : A → Type 0) (xs : List A) (y : A) → ((n : ℕ) (x : A) → HasAt xs n x → P x) → P y
+    → (n : ℕ) (x : A) → HasAt (xs ++ y ∷ []) n x → P x
+from_more P [] y h p zero x e = subst P (same_Some y x e) p
+from_more P [] y h p (suc n) x e = cc
+from_more P (z ∷ xs) y h p zero x e = h 0 x e
+from_more P (z ∷ xs) y h p (suc n) x e = from_more P xs y (λ m w. h (suc m) w) p n x e
+
+weight_more : (is : List Instruction) (i : Instruction) (w : Weights)
+    → code_weight (is ++ i ∷ []) w ≡ code_weight is w + weight_of i w
+weight_more [] i w = omega arith
+weight_more (j ∷ is) i w = omega (arith, weight_more is i w)
+
+-- emitters
+
+pub fills_after : {a b : Emitter} {c : Placed} → Keeps a b → Fills b c → Fills a c
+fills_after k f = record {
+  code = λ n i r h. f.code n i r (k.code n i h);
+  keys = λ n x h. f.keys n x (k.keys n x h);
+  blocks = λ n x h. f.blocks n x (k.blocks n x h);
+  loops = λ n x h. f.loops n x (k.loops n x h);
+  texts = λ n x h. f.texts n x (k.texts n x h);
+}
+
+pub fills_before : {a b : Emitter} {c : Placed} {m : ℕ} {k : Weights → ℕ} → Emits a b m k → Fills b c → Fills a c
+fills_before e f = fills_after e.kept f
+
+pub keeps_all : {a : Emitter} → Keeps a a
+keeps_all = record {
+  code = λ n x h. h;
+  keys = λ n x h. h;
+  blocks = λ n x h. h;
+  loops = λ n x h. h;
+  texts = λ n x h. h;
+}
+
+pub keeps_on : {a b c : Emitter} → Keeps a b → Keeps b c → Keeps a c
+keeps_on k l = record {
+  code = λ n x h. l.code n x (k.code n x h);
+  keys = λ n x h. l.keys n x (k.keys n x h);
+  blocks = λ n x h. l.blocks n x (k.blocks n x h);
+  loops = λ n x h. l.loops n x (k.loops n x h);
+  texts = λ n x h. l.texts n x (k.texts n x h);
+}
+
+pub emits_none : {a : Emitter} {k : Weights → ℕ} (m : ℕ) → Emits a a m k
+emits_none m = record { kept = keeps_all; fits = λ limit le f. f; grown = λ w. omega arith }
+
+pub emits_then : {a b c : Emitter} {m n : ℕ} {k j : Weights → ℕ} (most : ℕ) (weight : Weights → ℕ) → Emits a b m k
+    → Emits b c n j → m ≤ most → n ≤ most → ((w : Weights) → k w + j w ≤ weight w) → Emits a c most weight
+emits_then most weight e f lm ln lk = record {
+  kept = keeps_on e.kept f.kept;
+  fits = λ limit le h. f.fits limit (omega (arith, le, ln)) (e.fits limit (omega (arith, le, lm)) h);
+  grown = λ w. omega (arith, e.grown w, f.grown w, lk w);
+}
+
+pub emits_within : {a b : Emitter} {m : ℕ} {k : Weights → ℕ} (most : ℕ) (weight : Weights → ℕ) → Emits a b m k
+    → m ≤ most → ((w : Weights) → k w ≤ weight w) → Emits a b most weight
+emits_within most weight e lm lk = record {
+  kept = e.kept;
+  fits = λ limit le h. e.fits limit (omega (arith, le, lm)) h;
+  grown = λ w. omega (arith, e.grown w, lk w);
+}
+
+pub added_emits : {a b : Emitter} {n : ℕ} {i : Instruction} (m : ℕ) → Added a b n i → temporaries i ≤ m
+    → Emits a b m (weight_of i)
+added_emits {a} {b} {n} {i} m h le = record {
+  kept = record {
+    code = one_more a.code.items b.code.items i h.code;
+    keys = stays_by a.keys.items b.keys.items h.keys;
+    blocks = stays_by a.blocks.items b.blocks.items h.blocks;
+    loops = stays_by a.loops.items b.loops.items h.loops;
+    texts = stays_by a.texts.items b.texts.items h.texts;
+  };
+  fits = λ limit most f. record {
+    by = λ k x g. from_more (λ y. temporaries y ≤ limit) a.code.items i f.by (omega (arith, le, most)) k x
+        (subst (λ l. HasAt l k x) h.code g);
+  };
+  grown = λ w. omega (arith, ap (λ is. code_weight is w) h.code, weight_more a.code.items i w);
+}
+
+pub added_has : {a b : Emitter} {n : ℕ} {i : Instruction} → Added a b n i → Has b n i
+added_has {a} {b} {n} {i} h = has_last a.code.items b.code.items i n h.code h.place
+
+pub added_holds : {a b : Emitter} {n : ℕ} {i : Instruction} {c : Placed} → Added a b n i → IsReal i → Fills b c
+    → Holds c n i
+added_holds {n = n} {i = i} h r f = f.code n i r (added_has h)
+
+-- tables
+
+-- where the code stays as it is
+pub same_emits : (a b : Emitter) → b.code.items ≡ a.code.items → Stays a.keys.items b.keys.items
+    → Stays a.blocks.items b.blocks.items
+    → Stays a.loops.items b.loops.items → Stays a.texts.items b.texts.items → Emits a b 0 no_weight
+same_emits a b code keys blocks loops texts = record {
+  kept = record {
+    code = stays_by a.code.items b.code.items code;
+    keys = keys;
+    blocks = blocks;
+    loops = loops;
+    texts = texts;
+  };
+  fits = λ limit le f. record { by = λ n i h. f.by n i (subst (λ l. HasAt l n i) code h) };
+  grown = λ w. omega (arith, ap (λ is. code_weight is w) code);
+}
+
+pub no_key : (a : Emitter) → KeyAdded a a None None
+no_key a = record { emits = emits_none 0; is = λ c f. tt }
+
+pub some_key : (a b : Emitter) (key : Key) (n : ℕ) → b.code.items ≡ a.code.items → b.keys.items ≡ a.keys.items
+    ++ key ∷ []
+    → b.blocks.items ≡ a.blocks.items → b.loops.items ≡ a.loops.items → b.texts.items ≡ a.texts.items
+    → n ≡ length a.keys.items → KeyAdded a b (Some key) (Some n)
+some_key a b key n code keys blocks loops texts at = record {
+  emits = same_emits a b code (one_more a.keys.items b.keys.items key keys)
+      (stays_by a.blocks.items b.blocks.items blocks)
+      (stays_by a.loops.items b.loops.items loops) (stays_by a.texts.items b.texts.items texts);
+  is = λ c f. f.keys n key (has_last a.keys.items b.keys.items key n keys at);
+}
+
+pub text_added : (a b : Emitter) (text : List ℕ) (n : ℕ) → b.code.items ≡ a.code.items → b.keys.items ≡ a.keys.items
+    → b.blocks.items ≡ a.blocks.items → b.loops.items ≡ a.loops.items → b.texts.items ≡ a.texts.items ++ text ∷ []
+    → n ≡ length a.texts.items → TextAdded a b text n
+text_added a b text n code keys blocks loops texts at = record {
+  emits = same_emits a b code (stays_by a.keys.items b.keys.items keys) (stays_by a.blocks.items b.blocks.items blocks)
+      (stays_by a.loops.items b.loops.items loops)
+      (one_more a.texts.items b.texts.items text texts);
+  is = λ c f. f.texts n text (has_last a.texts.items b.texts.items text n texts at);
+}
+
+-- contents taken, and the ways of `&&` and `||`
+
+pub take_structure : {a b : Emitter} {size line d n next : ℕ}
+    → Added a b n (tac.Take (Structure size) line d d next)
+    → TakingCode a b (Structure size) line d n next
+take_structure {d = d} h = record { emits = added_emits (d + 1) h (omega arith); stands = λ c f. added_holds h tt f }
+
+pub take_void : {a : Emitter} {line d next : ℕ} → TakingCode a a Void line d next next
+take_void {d = d} = record { emits = emits_none (d + 1); stands = λ c f. refl }
+
+pub take_scalar : {a : Emitter} {k : _} {line d next : ℕ} → TakingCode a a (OfScalar k) line d next next
+take_scalar {d = d} = record { emits = emits_none (d + 1); stands = λ c f. refl }
+
+pub take_array : {a : Emitter} {size line d next : ℕ} → TakingCode a a (Array size) line d next next
+take_array {d = d} = record { emits = emits_none (d + 1); stands = λ c f. refl }
+
+pub three_ways : {a b c e : Emitter} {d zero one test next : ℕ} → Added a b zero (tac.Constant d 0 next)
+    → Added b c one (tac.Constant d 1 next)
+    → Added c e test (tac.Branch d one zero)
+    → Outcomes a e d zero one test next
+three_ways {d = d} hz ho ht =
+    let ez = added_emits (d + 1) hz (omega arith) in
+    let eo = added_emits (d + 1) ho (omega arith) in
+    let et = added_emits (d + 1) ht (omega arith) in
+    let two = emits_then (d + 1) (λ w. 2 * w.constant) ez eo (omega arith) (omega arith) (λ w. omega arith) in
+    record {
+      emits = emits_then (d + 1) (λ w. w.branch + 2 * w.constant) two et (omega arith) (omega arith) (λ w. omega arith);
+      gives_zero = λ p f. added_holds hz tt (fills_before eo (fills_before et f));
+      gives_one = λ p f. added_holds ho tt (fills_before et f);
+      tests = λ p f. added_holds ht tt f;
+    }
+
+pub ruleset keys_added = (no_key, some_key)
+
+pub ruleset texts_added = (text_added)
+
+pub ruleset takings = (take_structure, take_void, take_scalar, take_array)

@@ -1,0 +1,99 @@
+-- Bodies of functions, and functions with their tables.
+use Rattle.std.proofs.Common.{◌≡◌, ℕ, ◌+◌, ◌≤◌, ◌<◌, ◌^◌, List, [], ◌∷◌, refl, sym, ap, ◌∙◌, subst, arith}
+use Rattle.c_tree.specs.declared.expression.Kind.{Kind}
+use Rattle.c_tree.specs.declared.program.Variable.{Variable}
+use Rattle.c_tree.specs.Blocks.{all_of, body_variables}
+use Rattle.c_tree.specs.Programs.{Function}
+use Rattle.c_tree.specs.Statements.{Statements}
+use Rattle.source_meaning.specs.Calls.{header_of}
+use Rattle.tac_ir.specs.declared.instruction.Instruction.TheVariants as tac
+use Rattle.tac_ir.specs.declared.function.CodeFunction.{CodeFunction}
+use Rattle.tac_ir.specs.Meaning.{header_of_code}
+use Rattle.c_lower.specs.Placed.{HasAt}
+use Rattle.c_lower.specs.Statements.{LowersStatements}
+use Rattle.c_lower.specs.Programs.{LowersBody, placed_in, function_exits}
+use Rattle.program_lowering.specs.declared.expressions.emitter.Emitter.{Emitter}
+use Rattle.program_lowering.specs.ExpressionCode.Weights.{code_weight}
+use Rattle.program_lowering.specs.ExpressionCode.Emitted.{Added, Fills}
+use Rattle.program_lowering.proofs.ExpressionCode.Growing.{added_emits, added_holds, emits_then, fills_before}
+use Rattle.program_lowering.specs.declared.parts.exits.Exits.{Exits}
+use Rattle.program_lowering.specs.StatementParts.Leaving.{exits_of}
+use Rattle.program_lowering.specs.StatementCode.Code.{StatementsCode}
+use Rattle.program_lowering.specs.StatementCode.Sizes.{each_height}
+use Rattle.program_lowering.proofs.StatementCode.Heights.{each_needs_one}
+use Rattle.program_lowering.specs.declared.programs.body.Body.{Body}
+use Rattle.program_lowering.specs.declared.programs.function.Lowered.{Lowered}
+use Rattle.program_lowering.specs.ProgramCode.Code.{BodyCode, Completes, FunctionCode}
+use Rattle.program_lowering.specs.ProgramCode.Weights.{body_weight}
+
+none_has : {A : Type 0} (xs : List A) (n : ℕ) (x : A) → xs ≡ [] → HasAt xs n x → ⊥
+none_has [] n x e h = cc
+none_has (y ∷ xs) n x e h = cc
+
+pub body_code : {vs : List Variable} {ss : Statements} {result : Kind} {texts : List (List ℕ)} {a b c d : Emitter}
+    {returns end entry : ℕ} {x : Exits} → a.code.items ≡ [] → a.texts.items ≡ texts → Added a b returns (tac.Return 0)
+    → Added b c end (tac.ZeroOf result 0 returns) → exits_of x ≡ function_exits end returns
+    → StatementsCode vs c d ss entry x → BodyCode vs ss result texts d entry
+body_code {vs = vs} {ss = ss} {texts = texts} {a = a} {returns = returns} {end = end} {entry = entry} {x = x} none same
+    r z q h =
+    let most = each_height ss in
+    let one = each_needs_one ss in
+    let er = added_emits most r (omega (arith, one)) in
+    let ez = added_emits most z (omega (arith, one)) in
+    let two = emits_then most (λ w. w.return + w.zero_of) er ez (omega arith) (omega arith) (λ w. omega arith) in
+    let whole = emits_then most (body_weight vs ss) two h.emits (omega arith) (omega arith) (λ w. omega arith) in
+    record {
+      texts_stay = λ n t k. whole.kept.texts n t (subst (λ l. HasAt l n t) (sym same) k);
+      homes = whole.fits most (omega arith)
+          (record { by = λ n i k. absurd (none_has a.code.items n i none k) });
+      weight = λ w. omega (arith, whole.grown w, ap (λ is. code_weight is w) none);
+      stands = λ p v f.
+          let fz = fills_before h.emits f in (
+            end,
+            returns,
+            subst (λ y. LowersStatements p ss entry y) q (h.stands p v f),
+            added_holds z tt fz,
+            added_holds r tt (fills_before ez fz),
+          );
+    }
+
+-- a function is that of its body
+
+pub function_code : {texts : List
+    (List ℕ)} {result : Kind} {b : Body} {l : Lowered} {vs : List Variable} {ss : Statements}
+    {parameters variables entered : List Variable} (f : Function) → vs ≡ all_of f → ss ≡ f.body
+    → parameters ≡ f.parameters
+    → variables ≡ f.variables → entered ≡ body_variables f → BodyCode vs ss result texts b.code b.entry
+    → Completes f.line f.type_number f.room parameters variables entered b l → FunctionCode f result texts l
+function_code {texts = texts} {result = result} {b = b} {l = l} {vs = vs} {ss = ss} f all same ep ev ee of w =
+    let h = subst (λ us. BodyCode us f.body result texts b.code b.entry) all
+    (subst (λ us. BodyCode vs us result texts b.code b.entry) same of) in
+    record {
+      texts_stay = λ n t k. subst (λ ts. HasAt ts n t) (sym w.texts_are) (h.texts_stay n t k);
+      is = λ ts later.
+          let fills : Fills b.code (placed_in ts f l.function) = record {
+            code = λ n i r k. subst (λ is. HasAt is n i) (sym w.code_is) k;
+            keys = λ n k g. subst (λ ks. HasAt ks n k) (sym w.keys_are) g;
+            blocks = λ n k g. subst (λ ks. HasAt ks n k) (sym w.blocks_are) g;
+            loops = λ n k g. subst (λ ks. HasAt ks n k) (sym w.loops_are) g;
+            texts = λ n t k. later n t (subst (λ us. HasAt us n t) (sym w.texts_are) k);
+          } in
+          record {
+            header = headers f l.function w.line_is w.type_is (w.parameters_are ∙ ep) (w.variables_are ∙ ev)
+                (w.entered_are ∙ ee) w.room_is;
+            homes = λ n i k. h.homes.by n i (subst (λ is. HasAt is n i) w.code_is k);
+            weight = λ v. omega (arith, h.weight v, ap (λ is. code_weight is v) w.code_is);
+            body = subst (λ n. LowersBody (placed_in ts f l.function) result n f.body) (sym w.entry_is)
+                (h.stands (placed_in ts f l.function) refl fills);
+          };
+    }
+  where
+    headers : (f : Function) (c : CodeFunction) → c.line ≡ f.line → c.type_number ≡ f.type_number
+        → c.parameters ≡ f.parameters → c.variables ≡ f.variables → c.entered ≡ body_variables f → c.room ≡ f.room
+        → header_of_code c ≡ header_of f
+    headers f c a b d e g h = cc
+
+pub height_room : (f : Function) (room : ℕ) → each_height f.body ≤ room → room < 2 ^ 64 → each_height f.body < 2 ^ 64
+height_room f room h lt = omega (arith, h, lt)
+
+pub ruleset rooms = (height_room)

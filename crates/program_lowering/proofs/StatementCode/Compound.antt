@@ -1,0 +1,103 @@
+-- Blocks and branches from their parts.
+use Rattle.std.proofs.Common.{◌≡◌, ℕ, ◌+◌, ◌-◌, ◌*◌, ◌≤◌, List, length, map, drop, Some, refl, ap, subst, arith}
+use Rattle.std.specs.Prelude.{get_or, max}
+use Rattle.c_tree.specs.declared.program.Variable.{Variable}
+use Rattle.c_tree.specs.declared.statement.Statement.{Statement as CodeStatement}
+use Rattle.c_tree.specs.Blocks.{block_variables}
+use Rattle.c_tree.specs.Room.{height}
+use Rattle.c_tree.specs.Tree.{Expression}
+use Rattle.c_tree.specs.Statements.{Statement, Statements, no_statements, statements, statements_in, block, if_then}
+use Rattle.c_tree.specs.Statements.{if_else}
+use Rattle.c_tree.specs.View.{statement_of}
+use Rattle.c_lower.specs.Statements.{LowersStatement, LowersEntry, LowersLeaving, has_objects_of}
+use Rattle.program_lowering.specs.declared.expressions.emitter.Emitter.{Emitter}
+use Rattle.program_lowering.proofs.ExpressionCode.Growing.{emits_none, emits_then, fills_before}
+use Rattle.program_lowering.specs.declared.parts.exits.Exits.{Exits}
+use Rattle.program_lowering.specs.StatementParts.Leaving.{exits_of, before}
+use Rattle.program_lowering.specs.StatementParts.Weights.{objects_weight}
+use Rattle.program_lowering.specs.StatementParts.Code.{ConditionCode, EntryCode, LeavingCode}
+use Rattle.program_lowering.proofs.StatementParts.InitializerParts.{drop_before}
+use Rattle.program_lowering.specs.StatementCode.Code.{StatementCode, StatementsCode}
+use Rattle.program_lowering.specs.StatementCode.Sizes.{statement_height, each_height}
+use Rattle.program_lowering.specs.StatementCode.Weights.{statement_weight, each_weight}
+use Rattle.program_lowering.proofs.StatementCode.Heights.{needs_one}
+
+-- statements in order
+
+pub no_statements_code : {vs : List Variable} {a : Emitter} {x : Exits} → StatementsCode vs a a no_statements x.next x
+no_statements_code = record { emits = emits_none 1; stands = λ c v f. refl }
+
+more_statements : {vs : List Variable} {a b c : Emitter} {n k : ℕ} {x y : Exits} (s : Statement) (ss : Statements)
+    → exits_of y ≡ before (exits_of x) k → StatementsCode vs a b ss k x → StatementCode vs b c s n y
+    → StatementsCode vs a c (statements s ss) n x
+more_statements {vs = vs} {n = n} {k = k} s ss e hs h = record {
+  emits = emits_then (max (statement_height s) (each_height ss))
+      (each_weight vs (statements s ss)) hs.emits h.emits
+      (omega arith) (omega arith) (λ w. omega arith);
+  stands = λ p v f.
+      (k, subst (LowersStatement p s n) e (h.stands p v f), hs.stands p v (fills_before h.emits f));
+}
+
+pub next_statement : {vs : List Variable} {a b c : Emitter} {n k : ℕ} {x y : Exits} (xs : List CodeStatement) (i : ℕ)
+    (s : CodeStatement) → 1 ≤ i → i ≤ length xs → s ≡ get_or xs (i - 1) s → exits_of y ≡ before (exits_of x) k
+    → StatementsCode vs a b (statements_in (map statement_of (drop i xs))) k x
+    → StatementCode vs b c (statement_of s) n y
+    → StatementsCode vs a c (statements_in (map statement_of (drop (i - 1) xs))) n x
+next_statement {vs = vs} {a = a} {c = c} {n = n} {x = x} xs i s ge le is e hs h =
+    subst (λ l. StatementsCode vs a c l n x) (ap statements_in (drop_before statement_of xs i s ge le is))
+    (more_statements (statement_of s) _ e hs h)
+
+-- blocks
+
+pub block_code : {vs : List Variable} {a b c d : Emitter} {numbers : List ℕ} {line k n : ℕ} {y x : Exits} {ss :
+    Statements}
+    → numbers ≡ block_variables ss → LeavingCode vs a b numbers y x → StatementsCode vs b c ss k y
+    → EntryCode vs c d numbers line n k → StatementCode vs a d (block line ss) n x
+block_code {vs = vs} {numbers = numbers} {line = line} {k = k} {n = n} {y = y} {x = x} {ss = ss} same l h y' =
+    let top = each_height ss in
+    let inner = emits_then (max 0 top) (λ w. 4 * objects_weight vs numbers w + each_weight vs ss w) l.emits h.emits
+    (omega arith) (omega arith) (λ w. omega arith) in
+    record {
+      emits = emits_then top (statement_weight vs (block line ss)) inner y'.emits (omega arith) (omega arith)
+          (λ w. omega (arith, ap (λ ns. objects_weight vs ns w) same));
+      stands = λ p v f.
+          let fh = fills_before y'.emits f in
+          let fl = fills_before h.emits fh in (
+            k,
+            exits_of y,
+            (
+              subst (λ ns. LowersEntry p (has_objects_of p ns) ns line n k) same (y'.stands p v f),
+              subst (λ ns. LowersLeaving p (has_objects_of p ns) (exits_of y) (exits_of x)) same (l.stands p v fl),
+            ),
+            h.stands p v fh,
+          );
+    }
+
+-- branches
+
+pub if_code : {vs : List Variable} {a b c : Emitter} {e : Expression} {s : Statement} {k n : ℕ} {x : Exits}
+    → StatementCode vs a b s k x → ConditionCode b c (Some e) n k x.next → StatementCode vs a c (if_then e s) n x
+if_code {vs = vs} {e = e} {s = s} {k = k} h t = record {
+  emits = emits_then (max (height e) (statement_height s)) (statement_weight vs (if_then e s)) h.emits t.emits
+      (omega arith) (omega (arith, needs_one s)) (λ w. omega arith);
+  stands = λ p v f. (k, t.stands p f, h.stands p v (fills_before t.emits f));
+}
+
+pub if_else_code : {vs : List Variable} {a b c d : Emitter} {e : Expression} {s other : Statement} {k j n : ℕ} {x :
+    Exits}
+    → StatementCode vs a b other j x → StatementCode vs b c s k x → ConditionCode c d (Some e) n k j
+    → StatementCode vs a d (if_else e s other) n x
+if_else_code {vs = vs} {e = e} {s = s} {other = other} {k = k} {j = j} ho h t =
+    let top = max (height e) (max (statement_height s) (statement_height other)) in
+    let both = emits_then top (λ w. statement_weight vs s w + statement_weight vs other w) ho.emits h.emits
+    (omega arith)
+    (omega arith) (λ w. omega arith) in
+    record {
+      emits = emits_then top (statement_weight vs (if_else e s other)) both t.emits (omega arith)
+          (omega (arith, needs_one s)) (λ w. omega arith);
+      stands = λ p v f.
+          let ft = fills_before t.emits f in
+          (k, j, t.stands p f, h.stands p v ft, ho.stands p v (fills_before h.emits ft));
+    }
+
+pub ruleset no_statements_yet = (no_statements_code)

@@ -1,0 +1,134 @@
+-- Loops from their parts.
+use Rattle.std.proofs.Common.{◌≡◌, ℕ, ◌+◌, ◌≤◌, List, length, Option, None, refl, ap, subst, arith}
+use Rattle.std.specs.Prelude.{max}
+use Rattle.c_tree.specs.declared.program.Variable.{Variable}
+use Rattle.c_tree.specs.Blocks.{first_variables}
+use Rattle.c_tree.specs.Room.{height}
+use Rattle.c_tree.specs.Tree.{Expression}
+use Rattle.c_tree.specs.Statements.{First, Statement, while_do, do_while, for}
+use Rattle.tac_ir.specs.declared.instruction.Instruction.{Instruction}
+use Rattle.tac_ir.specs.declared.instruction.Instruction.TheVariants as tac
+use Rattle.tac_ir.specs.Temporaries.{temporaries}
+use Rattle.c_lower.specs.Counted.{CountedParts, counted_parts}
+use Rattle.c_lower.specs.Statements.{in_loop, LowersStatement, LowersEntry, LowersLeaving, has_objects_of, CountedIs}
+use Rattle.program_lowering.specs.declared.expressions.emitter.Emitter.{Emitter}
+use Rattle.program_lowering.specs.ExpressionCode.Weights.{Weights, weight_of}
+use Rattle.program_lowering.specs.ExpressionCode.Emitted.{Has, Emits}
+use Rattle.program_lowering.proofs.ExpressionCode.Growing.{fills_before, keeps_on}
+use Rattle.program_lowering.specs.declared.parts.exits.Exits.{Exits}
+use Rattle.program_lowering.specs.declared.parts.loops.ForHead.{ForHead}
+use Rattle.program_lowering.specs.StatementParts.Leaving.{exits_of}
+use Rattle.program_lowering.specs.StatementParts.Code.{most}
+use Rattle.program_lowering.specs.StatementParts.Weights.{objects_weight}
+use Rattle.program_lowering.specs.StatementParts.Loops.{Waits, Filled, HeadCode, ForHeadCode, ForTailCode}
+use Rattle.program_lowering.proofs.StatementParts.LoopParts.{filled_fills, filled_keeps, filled_fits, filled_weight, filled_holds}
+use Rattle.program_lowering.specs.StatementCode.Code.{StatementCode}
+use Rattle.program_lowering.specs.StatementCode.Sizes.{statement_height}
+use Rattle.program_lowering.specs.StatementCode.Weights.{statement_weight}
+use Rattle.program_lowering.proofs.StatementCode.Heights.{needs_one}
+
+-- a reserved node still waits behind a statement
+pub waits_on : {vs : List Variable} {a b : Emitter} {s : Statement} {x : Exits} {t n : ℕ} → Waits a t
+    → StatementCode vs a b s n x → Waits b t
+waits_on w h = record { by = h.emits.kept.code _ _ w.by }
+
+-- code that grew, of which a node is filled that was reserved since
+filled_emits : {a b c d : Emitter} {m n turn : ℕ} {k j : Weights → ℕ} {i : Instruction} (most : ℕ)
+    (weight : Weights → ℕ) → Emits a b m k
+    → length a.code.items ≤ turn → Emits b c n j → Filled c d turn i → Has c turn tac.Reserved → temporaries i ≤ most
+    → ((w : Weights) → weight_of i w ≡ w.turn) → m ≤ most → n ≤ most → ((w : Weights) → k w + j w ≤ weight w)
+    → Emits a d most weight
+filled_emits most weight e fresh g f still li turning lm ln lk = record {
+  kept = filled_keeps f (keeps_on e.kept g.kept) fresh;
+  fits = λ limit le h.
+      filled_fits limit f still (omega (arith, li, le))
+      (g.fits limit (omega (arith, ln, le)) (e.fits limit (omega (arith, lm, le)) h));
+  grown = λ w. omega (arith, filled_weight f still w (turning w), e.grown w, g.grown w, lk w);
+}
+
+pub while_code : {vs : List Variable} {a b c d : Emitter} {e : Expression} {s : Statement} {turn start n : ℕ} {x y :
+    Exits}
+    → HeadCode a b e turn start x.next → exits_of y ≡ in_loop (exits_of x) start → StatementCode vs b c s n y
+    → Filled c d turn (tac.Turn None n) → StatementCode vs a d (while_do e s) start x
+while_code {vs = vs} {e = e} {s = s} {turn = turn} {n = n} h q g f =
+    let still = g.emits.kept.code turn tac.Reserved h.waits.by in
+    record {
+      emits = filled_emits (max (height e) (statement_height s))
+          (statement_weight vs (while_do e s)) h.emits h.fresh g.emits f
+          still (omega arith) (λ w. refl) (omega (arith, needs_one s)) (omega arith) (λ w. omega arith);
+      stands = λ p v k.
+          let fg = filled_fills f still k in (
+            turn,
+            n,
+            h.stands p (fills_before g.emits fg),
+            filled_holds f still tt k,
+            subst (LowersStatement p s n) q (g.stands p v fg),
+          );
+    }
+
+pub do_code : {vs : List Variable} {a b c d : Emitter} {e : Expression} {s : Statement} {turn start n : ℕ} {x y : Exits}
+    → HeadCode a b e turn start x.next → exits_of y ≡ in_loop (exits_of x) start → StatementCode vs b c s n y
+    → Filled c d turn (tac.Turn None n) → StatementCode vs a d (do_while s e) turn x
+do_code {vs = vs} {e = e} {s = s} {turn = turn} {start = start} {n = n} h q g f =
+    let still = g.emits.kept.code turn tac.Reserved h.waits.by in
+    record {
+      emits = filled_emits (max (height e) (statement_height s))
+          (statement_weight vs (do_while s e)) h.emits h.fresh g.emits f
+          still (omega arith) (λ w. refl) (omega (arith, needs_one s)) (omega arith) (λ w. omega arith);
+      stands = λ p v k.
+          let fg = filled_fills f still k in (
+            n,
+            start,
+            filled_holds f still tt k,
+            subst (LowersStatement p s n) q (g.stands p v fg),
+            h.stands p (fills_before g.emits fg),
+          );
+    }
+
+pub for_code : {vs : List Variable} {a b c d : Emitter} {numbers : List ℕ} {line : ℕ} {first : First}
+    {test step : Option Expression} {s : Statement} {h : ForHead} {parts : Option CountedParts} {n body : ℕ} {x y :
+    Exits}
+    → numbers ≡ first_variables first → ForHeadCode vs a b numbers test step h x
+    → exits_of y ≡ in_loop (exits_of h.inside) h.step → StatementCode vs b c s body y
+    → parts ≡ counted_parts first test step s → ForTailCode vs c d numbers line first parts h body n
+    → StatementCode vs a d (for line first test step s) n x
+for_code {vs = vs} {line = line} {first = first} {test = test} {step = step} {s = s} {h = h} {n = n} {body = body}
+    {x = x} same
+    k q g
+    ranged t = record {
+      emits = record {
+        kept = t.grows.keeps _ (keeps_on k.emits.kept g.emits.kept) k.fresh;
+        fits = λ limit le f.
+            t.grows.fits limit (omega (arith, le))
+            (g.emits.fits limit (omega (arith, le)) (k.emits.fits limit (omega (arith, le)) f));
+        grown = λ w. omega (
+          arith,
+          t.grows.grown w,
+          g.emits.grown w,
+          k.emits.grown w,
+          ap (λ ns. objects_weight vs ns w) same,
+        );
+      };
+      stands = λ p v f.
+          let fg = t.grows.fills p f in
+          let fk = fills_before g.emits fg in (
+            t.setting,
+            h.condition,
+            h.turn,
+            body,
+            h.step,
+            exits_of h.inside,
+            t.counted,
+            (
+              subst (λ ns. LowersEntry p (has_objects_of p ns) ns line n t.setting) same (t.enters p v f),
+              subst (λ ns. LowersLeaving p (has_objects_of p ns) (exits_of h.inside) (exits_of x)) same
+                  (k.leaves p v fk),
+            ),
+            t.sets p f,
+            k.tests p fk,
+            t.turns p f,
+            subst (λ r. CountedIs p.loops t.counted r t.setting h.condition h.turn h.step) ranged (t.counts p f),
+            k.goes_on p fk,
+            subst (LowersStatement p s body) q (g.stands p v fg),
+          );
+    }

@@ -1,0 +1,173 @@
+-- Switches from their parts.
+use Rattle.std.proofs.Common.{◌≡◌, ℕ, ◌+◌, ◌-◌, ◌*◌, ◌≤◌, Bool, true, false, List, [], ◌∷◌, length, map, drop, refl}
+use Rattle.std.proofs.Common.{sym, ap, ◌∙◌, subst, arith}
+use Rattle.std.specs.Prelude.{get_or, set, max, not, ◌&&◌, ◌||◌, if◌then◌else◌}
+use Rattle.c_tree.specs.declared.program.Variable.{Variable}
+use Rattle.c_tree.specs.declared.statement.SwitchItem.{SwitchItem as CodeItem}
+use Rattle.c_tree.specs.Blocks.{switch_variables}
+use Rattle.c_tree.specs.Room.{height}
+use Rattle.c_tree.specs.Tree.{Expression}
+use Rattle.c_tree.specs.Statements.{SwitchItems, no_items, items, items_in, switch}
+use Rattle.c_tree.specs.View.{statement_of}
+use Rattle.c_lower.specs.Placed.{Placed}
+use Rattle.c_lower.specs.Statements.{Exits as Left, LowersStatement, LowersItems, LowersEntry, LowersLeaving}
+use Rattle.c_lower.specs.Statements.{has_objects_of, LowersLabels, in_switch, any_default, has_default}
+use Rattle.program_lowering.specs.declared.expressions.emitter.Emitter.{Emitter}
+use Rattle.program_lowering.specs.ExpressionCode.Weights.{Weights}
+use Rattle.program_lowering.specs.ExpressionCode.Emitted.{ExpressionCode}
+use Rattle.program_lowering.proofs.ExpressionCode.Growing.{emits_none, emits_then, fills_before}
+use Rattle.program_lowering.specs.declared.parts.exits.Exits.{Exits}
+use Rattle.program_lowering.specs.StatementParts.Items.{item_of}
+use Rattle.program_lowering.specs.StatementParts.Leaving.{exits_of, before}
+use Rattle.program_lowering.specs.StatementParts.Weights.{objects_weight}
+use Rattle.program_lowering.specs.StatementParts.Code.{EntryCode, LeavingCode}
+use Rattle.program_lowering.proofs.StatementParts.InitializerParts.{drop_before, evaluated_emits}
+use Rattle.program_lowering.specs.StatementCode.Weights.{statement_weight, items_weight}
+use Rattle.program_lowering.specs.StatementCode.Code.{StatementCode, ItemsFrom, ItemsCode, TestsCode, bodies_weight, tests_weight}
+use Rattle.program_lowering.specs.StatementCode.Sizes.{statement_height, items_height}
+use Rattle.program_lowering.specs.StatementCode.Switches.{has_one_default, default_start, LowersBodies, LowersTests, DefaultsBegin}
+use Rattle.program_lowering.proofs.StatementCode.Elements.{of_item, drop_set}
+use Rattle.program_lowering.proofs.StatementCode.Heights.{items_need_one}
+
+-- items
+
+pub no_items_code : {vs : List Variable} {a : Emitter} {x : Exits} (starts : List ℕ)
+    → ItemsFrom vs a a no_items starts x.next x
+no_items_code starts = record { emits = emits_none 1; stands = λ c v f. refl }
+
+more_items : {vs : List Variable} {a b c : Emitter} {n k : ℕ} {x y : Exits} (i : CodeItem) (is : SwitchItems)
+    (starts : List ℕ) → exits_of y ≡ before (exits_of x) k → ItemsFrom vs a b is starts k x
+    → StatementCode vs b c (statement_of i.statement) n y
+    → ItemsFrom vs a c (items (item_of i).0 (item_of i).1 is) (n ∷ starts) n x
+more_items {vs = vs} {a = a} {c = c} {n = n} {k = k} {x = x} i is starts e hs h =
+    let s = statement_of i.statement in
+    let code : ItemsFrom vs a c (items (item_of i).0 s is) (n ∷ starts) n x = record {
+      emits = emits_then (max (statement_height s) (items_height is))
+          (λ w. statement_weight vs s w + bodies_weight vs is w) hs.emits h.emits
+          (omega arith) (omega arith) (λ w. omega arith);
+      stands = λ p v f.
+          (refl, k, subst (LowersStatement p s n) e (h.stands p v f), hs.stands p v (fills_before h.emits f));
+    } in
+    subst (λ t. ItemsFrom vs a c (items (item_of i).0 t is) (n ∷ starts) n x) (sym (ap (λ j. j.1) (of_item i))) code
+
+pub next_item : {vs : List Variable} {a b c : Emitter} {n k : ℕ} {x y : Exits} (xs : List CodeItem)
+    (starts : List ℕ) (i : ℕ)
+    (s : CodeItem) → 1 ≤ i → i ≤ length xs → s ≡ get_or xs (i - 1) s → length starts ≡ length xs
+    → exits_of y ≡ before (exits_of x) k
+    → ItemsFrom vs a b (items_in (map item_of (drop i xs))) (drop i starts) k x
+    → StatementCode vs b c (statement_of s.statement) n y
+    → ItemsFrom vs a c (items_in (map item_of (drop (i - 1) xs))) (drop (i - 1) (set starts (i - 1) n)) n x
+next_item {vs = vs} {a = a} {c = c} {n = n} {x = x} xs starts i s ge le is same e hs h =
+    let le' : i ≤ length starts = omega (arith, same, le) in
+    subst (λ l. ItemsFrom vs a c l (drop (i - 1) (set starts (i - 1) n)) n x)
+    (ap items_in (drop_before item_of xs i s ge le is))
+    (subst (λ r. ItemsFrom vs a c (items_in (item_of s ∷ map item_of (drop i xs))) r n x) (drop_set starts i n ge le')
+    (more_items s _ _ e hs h))
+
+pub items_whole : {vs : List Variable} {a b : Emitter} {is : SwitchItems} {starts : List ℕ} {n : ℕ} {x : Exits}
+    → ItemsFrom vs a b is starts n x → ItemsCode vs a b is starts x
+items_whole {n = n} h = record { first = n; from = h }
+
+-- where a switch goes on without a label
+
+no_default : (is : SwitchItems) (starts : List ℕ) (end : ℕ) → has_default is ≡ false → default_start is starts end ≡ end
+no_default no_items starts end e = refl
+no_default (items labels s is) [] end e = refl
+no_default (items labels s is) (b ∷ bs) end e = by (any_default labels) e (no_default is bs end)
+  where
+    by : (d : Bool) → d || has_default is ≡ false → (has_default is ≡ false → default_start is bs end ≡ end)
+        → (if d then b else default_start is bs end) ≡ end
+    by true e rest = cc
+    by false e rest = rest e
+
+-- where there is none, each begins wherever
+none_begin : (is : SwitchItems) (starts : List ℕ) (other : ℕ) → has_default is ≡ false → DefaultsBegin is starts other
+none_begin no_items starts other e = tt
+none_begin (items labels s is) [] other e = tt
+none_begin (items labels s is) (b ∷ bs) other e = by (any_default labels) e (none_begin is bs other)
+  where
+    by : (d : Bool) → d || has_default is ≡ false → (has_default is ≡ false → DefaultsBegin is bs other)
+        → (d ≡ true → b ≡ other) × DefaultsBegin is bs other
+    by true e rest = cc
+    by false e rest = (λ q. cc, rest e)
+
+defaults_begin : (is : SwitchItems) (starts : List ℕ) (end : ℕ) → has_one_default is ≡ true
+    → DefaultsBegin is starts (default_start is starts end)
+defaults_begin no_items starts end e = tt
+defaults_begin (items labels s is) [] end e = tt
+defaults_begin (items labels s is) (b ∷ bs) end e = by (any_default labels) (has_default is) refl e
+    (defaults_begin is bs end)
+  where
+    by : (d h : Bool) → has_default is ≡ h → (not d || not h) && has_one_default is ≡ true
+        → (has_one_default is ≡ true → DefaultsBegin is bs (default_start is bs end))
+        → (d ≡ true → b ≡ (if d then b else default_start is bs end))
+        × DefaultsBegin is bs (if d then b else default_start is bs end)
+    by true true q e rest = cc
+    by true false q e rest = (λ r. refl, none_begin is bs b q)
+    by false h q e rest = (λ r. cc, rest e)
+
+-- items with the tests of their labels
+
+both_stand : (c : Placed) (is : SwitchItems) (starts : List ℕ) (t0 n0 other : ℕ) (x : Left)
+    → LowersBodies c is starts n0 x → LowersTests c is starts other t0 → LowersItems c is t0 n0 other x
+both_stand c no_items starts t0 n0 other x h t = (t, h)
+both_stand c (items labels s is) [] t0 n0 other x h t = absurd h
+both_stand c (items labels s is) (b ∷ bs) t0 n0 other x h t = (
+  t.0,
+  h.1,
+  subst (λ n. LowersLabels c labels n other t0 t.0) h.0 t.1,
+  h.2,
+  both_stand c is bs t.0 h.1 other x h.3 t.2,
+)
+
+weight_of_both : (vs : List Variable) (is : SwitchItems) (w : Weights)
+    → bodies_weight vs is w + tests_weight is w ≡ items_weight vs is w
+weight_of_both vs no_items w = refl
+weight_of_both vs (items labels s is) w = omega (arith, weight_of_both vs is w)
+
+pub switch_code : {vs : List Variable} {a b c d e' g : Emitter} {numbers starts made : List ℕ} {line t k n other : ℕ}
+    {y z x : Exits} {is : SwitchItems} {e : Expression} → numbers ≡ switch_variables is → has_one_default is ≡ true
+    → LeavingCode vs a b numbers y x → exits_of z ≡ in_switch (exits_of y) → ItemsCode vs b c is made z
+    → starts ≡ made → other ≡ default_start is starts y.next → TestsCode c d is starts t other
+    → EntryCode vs d e' numbers line k t
+    → ExpressionCode e' g e 0 n k → StatementCode vs a g (switch e line is) n x
+switch_code {vs = vs} {b = b} {c = c} {numbers = numbers} {starts = starts} {line = line} {t = t} {k = k} {other =
+    other} {y = y} {z = z} {x = x} {is = is}
+    {e = e} same once l q made_items taken goes r entry value =
+    let h = subst (λ ns. ItemsCode vs b c is ns z) (sym taken) made_items in
+    let top = max (height e) (items_height is) in
+    let inner = emits_then top (λ w. 4 * objects_weight vs numbers w + bodies_weight vs is w) l.emits h.from.emits
+    (omega arith) (omega arith) (λ w. omega arith) in
+    let tested = emits_then top
+    (λ w. 4 * objects_weight vs numbers w + (bodies_weight vs is w + tests_weight is w)) inner r.emits (omega arith)
+    (omega (arith, items_need_one is)) (λ w. omega arith) in
+    let entered = emits_then top
+    (λ w. 5 * objects_weight vs numbers w + (bodies_weight vs is w + tests_weight is w)) tested entry.emits
+    (omega arith) (omega arith) (λ w. omega arith) in
+    let evaluated = evaluated_emits e top value (omega arith) in
+    record {
+      emits = emits_then top (statement_weight vs (switch e line is)) entered evaluated (omega arith) (omega arith)
+          (λ w. omega (arith, weight_of_both vs is w, ap (λ ns. objects_weight vs ns w) same));
+      stands = λ p v f.
+          let fe = fills_before value.emits f in
+          let fr = fills_before entry.emits fe in
+          let fh = fills_before r.emits fr in
+          let fl = fills_before h.from.emits fh in
+          let begin = subst (DefaultsBegin is starts) (sym goes) (defaults_begin is starts y.next once) in (
+            k,
+            t,
+            h.first,
+            other,
+            exits_of y,
+            value.stands p f,
+            (
+              subst (λ ns. LowersEntry p (has_objects_of p ns) ns line k t) same (entry.stands p v fe),
+              subst (λ ns. LowersLeaving p (has_objects_of p ns) (exits_of y) (exits_of x)) same (l.stands p v fl),
+            ),
+            λ none. goes ∙ no_default is starts y.next none,
+            subst (LowersItems p is t h.first other) q
+                (both_stand p is starts t h.first other (exits_of z) (h.from.stands p v fh) (r.stands p fr begin)),
+          );
+    }
+
+pub ruleset no_items_yet = (no_items_code)

@@ -1,0 +1,91 @@
+-- Blocks that are entered and left.
+use Rattle.std.proofs.Common.{◌≡◌, ℕ, ◌*◌, Bool, true, false, List, [], ◌∷◌, ◌++◌, length, refl, sym, ap, ◌∙◌, subst}
+use Rattle.std.proofs.Common.{arith}
+use Rattle.c_tree.specs.declared.program.Variable.{Variable}
+use Rattle.c_tree.specs.Blocks.{block_objects}
+use Rattle.source_meaning.specs.Blocks.{has_objects}
+use Rattle.tac_ir.specs.declared.instruction.Instruction.TheVariants as tac
+use Rattle.c_lower.specs.Placed.{Placed}
+use Rattle.c_lower.specs.Statements.{LowersEntry, LowersLeaving, has_objects_of}
+use Rattle.program_lowering.specs.declared.expressions.emitter.Emitter.{Emitter}
+use Rattle.program_lowering.specs.ExpressionCode.Weights.{Weights}
+use Rattle.program_lowering.specs.ExpressionCode.Emitted.{Added}
+use Rattle.program_lowering.proofs.ExpressionCode.Growing.{emits_none, emits_then, added_emits, added_holds, fills_before}
+use Rattle.program_lowering.proofs.ExpressionCode.Growing.{same_emits, stays_by, one_more, has_last}
+use Rattle.program_lowering.specs.declared.parts.exits.Exits.{Exits}
+use Rattle.program_lowering.specs.StatementParts.Code.{BlockAdded, EntryCode, LeavingCode}
+use Rattle.program_lowering.specs.StatementParts.Leaving.{exits_of}
+use Rattle.program_lowering.specs.StatementParts.Weights.{weight_where, objects_weight}
+
+pub block_added : (a b : Emitter) (numbers : List ℕ) (n : ℕ) → b.code.items ≡ a.code.items → b.keys.items ≡ a.keys.items
+    → b.blocks.items ≡ a.blocks.items ++ numbers ∷ [] → b.loops.items ≡ a.loops.items → b.texts.items ≡ a.texts.items
+    → n ≡ length a.blocks.items → BlockAdded a b numbers n
+block_added a b numbers n code keys blocks loops texts at = record {
+  emits = same_emits a b code (stays_by a.keys.items b.keys.items keys)
+      (one_more a.blocks.items b.blocks.items numbers blocks)
+      (stays_by a.loops.items b.loops.items loops) (stays_by a.texts.items b.texts.items texts);
+  is = λ c f. f.blocks n numbers (has_last a.blocks.items b.blocks.items numbers n blocks at);
+}
+
+-- by whether there are objects
+same_objects : (vs : List Variable) (numbers : List ℕ) (h : Bool) (c : Placed) → h
+    ≡ has_objects (block_objects vs numbers)
+    → c.variables ≡ vs → h ≡ has_objects_of c numbers
+same_objects vs numbers h c e v = e ∙ ap (λ w. has_objects (block_objects w numbers)) (sym v)
+
+there_weight : (vs : List Variable) (numbers : List ℕ) (h : Bool) (w : Weights)
+    → h ≡ has_objects (block_objects vs numbers) → h ≡ true → objects_weight vs numbers w ≡ w.other
+there_weight vs numbers h w e t = ap (λ o. weight_where o w) (sym e ∙ t)
+
+pub entry_there : {vs : List Variable} {numbers : List ℕ} {h : Bool} {a b c : Emitter} {block line n next : ℕ}
+    → h ≡ has_objects (block_objects vs numbers) → h ≡ true → BlockAdded a b numbers block
+    → Added b c n (tac.EnterBlock block line next) → EntryCode vs a c numbers line n next
+entry_there {vs = vs} {numbers = numbers} {h = h} {block = block} {line = line} {n = n} {next = next} e t k i = record {
+  emits = emits_then 0 (objects_weight vs numbers) k.emits (added_emits 0 i (omega arith)) (omega arith) (omega arith)
+      (λ w. omega (arith, there_weight vs numbers h w e t));
+  stands = λ p v f. subst (λ o. LowersEntry p o numbers line n next) (sym t ∙ same_objects vs numbers h p e v)
+      (block, k.is p (fills_before (added_emits 0 i (omega arith)) f), added_holds i tt f);
+}
+
+pub entry_none : {vs : List Variable} {numbers : List ℕ} {h : Bool} {a : Emitter} {line next : ℕ}
+    → h ≡ has_objects (block_objects vs numbers) → h ≡ false → EntryCode vs a a numbers line next next
+entry_none {vs = vs} {numbers = numbers} {h = h} {line = line} {next = next} e t = record {
+  emits = emits_none 0;
+  stands = λ p v f. subst (λ o. LowersEntry p o numbers line next next) (sym t ∙ same_objects vs numbers h p e v) refl;
+}
+
+pub leave_there : {vs : List Variable} {numbers : List ℕ} {h : Bool} {a b c d e : Emitter} {y x : Exits}
+    → h ≡ has_objects (block_objects vs numbers) → h ≡ true → Added a b y.next (tac.LeaveBlock x.next)
+    → Added b c y.breaks (tac.LeaveBlock x.breaks) → Added c d y.continues (tac.LeaveBlock x.continues)
+    → Added d e y.returns (tac.LeaveBlock x.returns) → LeavingCode vs a e numbers y x
+leave_there {vs = vs} {numbers = numbers} {h = h} {y = y} {x = x} q t i j k l =
+    let ej = added_emits 0 j (omega arith) in
+    let ek = added_emits 0 k (omega arith) in
+    let el = added_emits 0 l (omega arith) in
+    let two = emits_then 0 (λ w. 2 * w.other) (added_emits 0 i (omega arith)) ej (omega arith) (omega arith)
+    (λ w. omega arith) in
+    let three = emits_then 0 (λ w. 3 * w.other) two ek (omega arith) (omega arith) (λ w. omega arith) in
+    record {
+      emits = emits_then 0 (λ w. 4 * objects_weight vs numbers w) three el (omega arith) (omega arith)
+          (λ w. omega (arith, there_weight vs numbers h w q t));
+      stands = λ p v f.
+          let fl = fills_before el f in
+          let fk = fills_before ek fl in
+          let fj = fills_before ej fk in
+          subst (λ o. LowersLeaving p o (exits_of y) (exits_of x)) (sym t ∙ same_objects vs numbers h p q v)
+          (added_holds i tt fj, added_holds j tt fk, added_holds k tt fl, added_holds l tt f);
+    }
+
+pub leave_none : {vs : List Variable} {numbers : List ℕ} {h : Bool} {a : Emitter} {x : Exits}
+    → h ≡ has_objects (block_objects vs numbers) → h ≡ false → LeavingCode vs a a numbers x x
+leave_none {vs = vs} {numbers = numbers} {h = h} {x = x} q t = record {
+  emits = emits_none 0;
+  stands = λ p v f. subst (λ o. LowersLeaving p o (exits_of x) (exits_of x))
+      (sym t ∙ same_objects vs numbers h p q v) refl;
+}
+
+pub ruleset tables = (block_added)
+
+pub ruleset entering = (entry_there, entry_none)
+
+pub ruleset leaving = (leave_there, leave_none)

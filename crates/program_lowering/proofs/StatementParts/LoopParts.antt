@@ -1,0 +1,235 @@
+-- Loops from their parts.
+use Rattle.std.proofs.Common.{◌≡◌, ◌≢◌, ℕ, zero, suc, ◌+◌, ◌*◌, ◌≤◌, ◌<◌, Bool, true, false, List, [], ◌∷◌, ◌++◌}
+use Rattle.std.proofs.Common.{length, Option, Some, None, refl, sym, ap, ◌∙◌, subst, arith}
+use Rattle.std.proofs.lemmas.Bool.{eqb-true, eqb-false}
+use Rattle.std.proofs.lemmas.Option.{same_Some, slice_get_within}
+use Rattle.std.specs.Prelude.{slice_get, slice_set, max, ◌==◌}
+use Rattle.c_tree.specs.declared.program.Variable.{Variable}
+use Rattle.c_tree.specs.Tree.{Expression}
+use Rattle.c_tree.specs.Statements.{First}
+use Rattle.c_tree.specs.Room.{height}
+use Rattle.c_tree.specs.Blocks.{if_any, first_contents}
+use Rattle.tac_ir.specs.declared.instruction.Instruction.{Instruction}
+use Rattle.tac_ir.specs.declared.instruction.Instruction.TheVariants as tac
+use Rattle.tac_ir.specs.Temporaries.{temporaries}
+use Rattle.c_lower.specs.Counted.{CountedParts}
+use Rattle.c_lower.specs.Placed.{Placed, Holds, HasAt}
+use Rattle.program_lowering.specs.declared.expressions.emitter.Emitter.{Emitter}
+use Rattle.program_lowering.specs.ExpressionCode.Weights.{Weights, weight_of, code_weight, expression_weight}
+use Rattle.program_lowering.specs.ExpressionCode.Emitted.{Has, Added, Stays, Keeps, IsReal, Fills, Fits, ExpressionCode}
+use Rattle.program_lowering.proofs.ExpressionCode.Growing.{emits_none, emits_then, added_emits, added_has, added_holds}
+use Rattle.program_lowering.proofs.ExpressionCode.Growing.{fills_before, keeps_on, same_emits, stays_by, one_more, has_last}
+use Rattle.program_lowering.specs.declared.parts.exits.Exits.{Exits}
+use Rattle.program_lowering.specs.declared.parts.counted.Range.{Range}
+use Rattle.program_lowering.specs.declared.parts.loops.ForHead.{ForHead}
+use Rattle.program_lowering.specs.StatementParts.Weights.{first_weight, condition_weight, part_weight, objects_weight}
+use Rattle.program_lowering.specs.StatementParts.Code.{most, ConditionCode, PartCode, FirstCode, EntryCode, LeavingCode}
+use Rattle.program_lowering.specs.StatementParts.Counting.{parts_with}
+use Rattle.program_lowering.specs.StatementParts.Loops.{Waits, Filled, HeadCode, ForHeadCode, LoopAdded, ForTailCode}
+use Rattle.program_lowering.proofs.StatementParts.InitializerParts.{evaluated_emits, room_for}
+
+-- lists of which one element is set
+
+set_same : {A : Type 0} (xs : List A) (n : ℕ) (x y : A) → HasAt xs n x → HasAt (slice_set xs n y) n y
+set_same [] n x y h = cc
+set_same (z ∷ xs) zero x y h = refl
+set_same (z ∷ xs) (suc n) x y h = set_same xs n x y h
+
+set_other : {A : Type 0} (xs : List A) (n m : ℕ) (y : A) → m ≢ n → slice_get (slice_set xs n y) m ≡ slice_get xs m
+set_other [] n m y ne = refl
+set_other (z ∷ xs) zero zero y ne = absurd (ne refl)
+set_other (z ∷ xs) zero (suc m) y ne = refl
+set_other (z ∷ xs) (suc n) zero y ne = refl
+set_other (z ∷ xs) (suc n) (suc m) y ne = set_other xs n m y (λ e. ne (ap suc e))
+
+-- a node that is filled
+
+filled_other : {a b : Emitter} {n : ℕ} {i : Instruction} → Filled a b n i → (m : ℕ) → m ≢ n
+    → slice_get b.code.items m ≡ slice_get a.code.items m
+filled_other {a = a} {n = n} {i = i} f m ne = ap (λ l. slice_get l m) f.code ∙ set_other a.code.items n m i ne
+
+filled_here : {a b : Emitter} {n : ℕ} {i : Instruction} → Filled a b n i → Has a n tac.Reserved → Has b n i
+filled_here {a = a} {n = n} {i = i} f h = ap (λ l. slice_get l n) f.code ∙ set_same a.code.items n tac.Reserved i h
+
+pub filled_fills : {a b : Emitter} {n : ℕ} {i : Instruction} {c : Placed} → Filled a b n i → Has a n tac.Reserved
+    → Fills b c
+    → Fills a c
+filled_fills {a = a} {b = b} {n = n} f h g = record {
+  code = λ m j r k.
+      let ne : m ≢ n = λ e. subst IsReal (same_Some _ _ (sym k ∙ ap (slice_get a.code.items) e ∙ h)) r in
+      g.code m j r (filled_other f m ne ∙ k);
+  keys = λ m x k. g.keys m x (subst (λ l. HasAt l m x) (sym f.keys) k);
+  blocks = λ m x k. g.blocks m x (subst (λ l. HasAt l m x) (sym f.blocks) k);
+  loops = λ m x k. g.loops m x (subst (λ l. HasAt l m x) (sym f.loops) k);
+  texts = λ m x k. g.texts m x (subst (λ l. HasAt l m x) (sym f.texts) k);
+}
+
+pub filled_keeps : {a b e : Emitter} {n : ℕ} {i : Instruction} → Filled a b n i → Keeps e a → length e.code.items ≤ n
+    → Keeps e b
+filled_keeps {a = a} {b = b} {e = e} {n = n} f k le = record {
+  code = λ m j h.
+      let lt = slice_get_within e.code.items m j h in
+      filled_other f m (omega (arith, lt, le)) ∙ k.code m j h;
+  keys = λ m x h. subst (λ l. HasAt l m x) (sym f.keys) (k.keys m x h);
+  blocks = λ m x h. subst (λ l. HasAt l m x) (sym f.blocks) (k.blocks m x h);
+  loops = λ m x h. subst (λ l. HasAt l m x) (sym f.loops) (k.loops m x h);
+  texts = λ m x h. subst (λ l. HasAt l m x) (sym f.texts) (k.texts m x h);
+}
+
+fits_by : {a b : Emitter} {n : ℕ} {i : Instruction} (limit : ℕ) → Filled a b n i → Has a n tac.Reserved
+    → temporaries i ≤ limit → Fits limit a → (m : ℕ) (j : Instruction) → Has b m j → (t : Bool) → (m == n) ≡ t
+    → temporaries j ≤ limit
+fits_by {b = b} {n = n} {i = i} limit f h le g m j k true e =
+    let here : Some j ≡ Some i = sym k ∙ ap (slice_get b.code.items) (eqb-true m n e) ∙ filled_here f h in
+    subst (λ x. temporaries x ≤ limit) (sym (same_Some _ _ here)) le
+fits_by {n = n} limit f h le g m j k false e = g.by m j (sym (filled_other f m (eqb-false m n e)) ∙ k)
+
+pub filled_fits : {a b : Emitter} {n : ℕ} {i : Instruction} (limit : ℕ) → Filled a b n i → Has a n tac.Reserved
+    → temporaries i ≤ limit → Fits limit a → Fits limit b
+filled_fits {n = n} limit f h le g = record { by = λ m j k. fits_by limit f h le g m j k (m == n) refl }
+
+-- a turn weighs what was reserved for it
+
+set_weight : (is : List Instruction) (n : ℕ) (i : Instruction) (w : Weights) → HasAt is n tac.Reserved
+    → weight_of i w ≡ w.turn → code_weight (slice_set is n i) w ≡ code_weight is w
+set_weight [] n i w h e = refl
+set_weight (j ∷ is) zero i w h e =
+    let here : weight_of j w ≡ w.turn = ap (λ k. weight_of k w) (same_Some _ _ h) in omega (arith, here, e)
+set_weight (j ∷ is) (suc n) i w h e = omega (arith, set_weight is n i w h e)
+
+pub filled_weight : {a b : Emitter} {n : ℕ} {i : Instruction} → Filled a b n i → Has a n tac.Reserved
+    → (w : Weights) → weight_of i w ≡ w.turn → code_weight b.code.items w ≡ code_weight a.code.items w
+filled_weight {a = a} {n = n} {i = i} f h w e =
+    ap (λ is. code_weight is w) f.code ∙ set_weight a.code.items n i w h e
+
+pub filled_holds : {a b : Emitter} {n : ℕ} {i : Instruction} {c : Placed} → Filled a b n i → Has a n tac.Reserved
+    → IsReal i
+    → Fills b c → Holds c n i
+filled_holds {n = n} {i = i} f h r g = g.code n i r (filled_here f h)
+
+-- what is kept makes no list shorter
+
+there : (xs : List Instruction) (n : ℕ) → n < length xs → (i : Instruction) × HasAt xs n i
+there [] n lt = absurd (omega (arith, lt))
+there (x ∷ xs) zero lt = (x, refl)
+there (x ∷ xs) (suc n) lt = there xs n (omega (arith, lt))
+
+long_by : (n : ℕ) (xs ys : List Instruction) → Stays xs ys → n ≤ length xs → n ≤ length ys
+long_by zero xs ys s le = omega arith
+long_by (suc n) xs ys s le =
+    let h = there xs n (omega (arith, le)) in
+    omega (arith, slice_get_within ys n h.0 (s n h.0 h.1))
+
+pub longer : {a b : Emitter} → Keeps a b → length a.code.items ≤ length b.code.items
+longer {a = a} {b = b} k = long_by (length a.code.items) a.code.items b.code.items k.code (omega arith)
+
+-- conditions
+
+pub head_code : {a b c e : Emitter} {x : Expression} {turn k start fails : ℕ} → Added a b turn tac.Reserved
+    → Added b c k (tac.Branch 0 turn fails) → ExpressionCode c e x 0 start k → HeadCode a e x turn start fails
+head_code {a = a} {e = e} {x = x} {turn = turn} {k = k} h t v =
+    let top = max 1 (height x) in
+    let first = added_emits top h (omega arith) in
+    let second = added_emits top t (omega arith) in
+    let value = evaluated_emits x top v (omega arith) in
+    let both = emits_then top (λ w. w.branch + w.turn) first second (omega arith) (omega arith) (λ w. omega arith) in
+    record {
+      emits = emits_then top (λ w. expression_weight x w + (w.branch + w.turn)) both value (omega arith) (omega arith)
+          (λ w. omega arith);
+      fresh = omega (arith, h.place);
+      waits = record { by = v.emits.kept.code turn tac.Reserved (second.kept.code turn tac.Reserved (added_has h)) };
+      stands = λ p f. (k, v.stands p f, added_holds t tt (fills_before v.emits f));
+    }
+
+pub for_head_code : {vs : List Variable} {a b c d e : Emitter} {numbers : List ℕ} {test step : Option Expression}
+    {y x : Exits} {turn h s : ℕ} → LeavingCode vs a b numbers y x → Added b c turn tac.Reserved
+    → ConditionCode c d test h turn y.next → PartCode d e step s h
+    → ForHeadCode vs a e numbers test step (record { inside = y; turn = turn; condition = h; step = s }) x
+for_head_code {vs = vs} {a = a} {b = b} {numbers = numbers} {test = test} {step = step} {turn = turn} l r t p =
+    let top = max (most (if_any test)) (most (if_any step)) in
+    let reserved = added_emits top r (omega arith) in
+    let one = emits_then top (λ w. 4 * objects_weight vs numbers w + w.turn) l.emits reserved (omega arith)
+    (omega arith)
+    (λ w. omega arith) in
+    let two = emits_then top (λ w. 4 * objects_weight vs numbers w + (w.turn + condition_weight test w)) one t.emits
+    (omega arith) (omega arith) (λ w. omega arith) in
+    record {
+      emits = emits_then top
+          (λ w. 4 * objects_weight vs numbers w + (w.turn + (condition_weight test w + part_weight step w)))
+          two p.emits (omega arith) (omega arith) (λ w. omega arith);
+      fresh = omega (arith, r.place, longer l.emits.kept);
+      waits = record { by = p.emits.kept.code turn tac.Reserved (t.emits.kept.code turn tac.Reserved (added_has r)) };
+      leaves = λ q v f. l.stands q v (fills_before reserved (fills_before t.emits (fills_before p.emits f)));
+      tests = λ q f. t.stands q (fills_before p.emits f);
+      goes_on = λ q f. p.stands q f;
+    }
+
+-- counted loops
+
+pub no_loop : {a : Emitter} {n : ℕ} {h : ForHead} → LoopAdded a a None n h None
+no_loop = record { emits = emits_none 0; is = λ p f. tt }
+
+pub some_loop : (a b : Emitter) (r : Range) (n setting : ℕ) (h : ForHead) → b.code.items ≡ a.code.items
+    → b.keys.items ≡ a.keys.items → b.blocks.items ≡ a.blocks.items
+    → b.loops.items ≡ a.loops.items ++ record {
+      variable = r.variable;
+      start = r.start;
+      bound = r.bound;
+      setting = setting;
+      condition = h.condition;
+      turn = h.turn;
+      step = h.step;
+    } ∷ [] → b.texts.items ≡ a.texts.items → n ≡ length a.loops.items
+    → LoopAdded a b (parts_with (Some r)) setting h (Some n)
+some_loop a b r n setting h code keys blocks loops texts at = record {
+  emits = same_emits a b code (stays_by a.keys.items b.keys.items keys) (stays_by a.blocks.items b.blocks.items blocks)
+      (one_more a.loops.items b.loops.items _ loops)
+      (stays_by a.texts.items b.texts.items texts);
+  is = λ c f. f.loops n _ (has_last a.loops.items b.loops.items _ n loops at);
+}
+
+pub for_tail_code : {vs : List Variable} {a b c d e : Emitter} {numbers : List ℕ} {line setting body n : ℕ}
+    {first : First}
+    {parts : Option CountedParts} {h : ForHead} {counted : Option ℕ} → Waits a h.turn
+    → FirstCode a b first setting h.condition → LoopAdded b c parts setting h counted
+    → Filled c d h.turn (tac.Turn counted body) → EntryCode vs d e numbers line n setting
+    → ForTailCode vs a e numbers line first parts h body n
+for_tail_code {a = a} {setting = setting} {first = first} {h = h} {counted = counted} waits s l f y =
+    let top = most (first_contents first) in
+    let grown = emits_then top (first_weight first) s.emits l.emits (omega arith) (omega arith) (λ w. omega arith) in
+    let still = grown.kept.code h.turn tac.Reserved waits.by in
+    record {
+      grows = record {
+        fills = λ p g. fills_before grown (filled_fills f still (fills_before y.emits g));
+        keeps = λ o k le. keeps_on (filled_keeps f (keeps_on k grown.kept) le) y.emits.kept;
+        fits = λ limit le g. y.emits.fits limit (omega arith)
+            (filled_fits limit f still (omega arith) (grown.fits limit le g));
+        grown = λ w. omega (arith, y.emits.grown w, filled_weight f still w refl, grown.grown w);
+      };
+      setting = setting;
+      counted = counted;
+      enters = λ p v g. y.stands p v g;
+      sets = λ p g. s.stands p (fills_before l.emits (filled_fills f still (fills_before y.emits g)));
+      turns = λ p g. filled_holds f still tt (fills_before y.emits g);
+      counts = λ p g. l.is p (filled_fills f still (fills_before y.emits g));
+    }
+
+-- a reserved node still waits
+
+pub waits_first : {a b : Emitter} {first : First} {n s h : ℕ} → Waits a n → FirstCode a b first s h → Waits b n
+waits_first w e = record { by = e.emits.kept.code _ _ w.by }
+
+pub waits_loop : {a b : Emitter} {parts : Option CountedParts} {n s : ℕ} {h : ForHead} {c : Option ℕ} → Waits a n
+    → LoopAdded a b parts s h c → Waits b n
+waits_loop w e = record { by = e.emits.kept.code _ _ w.by }
+
+pub waits_has : {a : Emitter} (n : ℕ) → Waits a n → slice_get a.code.items n ≡ Some tac.Reserved
+waits_has n w = w.by
+
+pub ruleset filling = (waits_has)
+
+pub ruleset heads = (room_for)
+
+pub ruleset loops_added = (no_loop, some_loop)
+
+pub ruleset for_tails = (waits_first, waits_loop)

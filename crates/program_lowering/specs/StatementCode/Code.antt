@@ -1,0 +1,66 @@
+-- The code of statements and of the parts of a switch, before what comes next.
+use Rattle.std.specs.Prelude.{◌≡◌, ℕ, ◌+◌, max, true, List}
+use Rattle.c_tree.specs.declared.program.Variable.{Variable}
+use Rattle.c_tree.specs.declared.statement.CaseLabel.{CaseLabel}
+use Rattle.c_tree.specs.Room.{height}
+use Rattle.c_tree.specs.Tree.{Expression}
+use Rattle.c_tree.specs.Statements.{Statement, Statements, SwitchItems, no_items, items}
+use Rattle.c_lower.specs.Placed.{Placed}
+use Rattle.c_lower.specs.Values.{LowersArgument}
+use Rattle.c_lower.specs.Statements.{LowersStatement, LowersStatements, LowersLabels, any_default}
+use Rattle.program_lowering.specs.declared.expressions.emitter.Emitter.{Emitter}
+use Rattle.program_lowering.specs.ExpressionCode.Weights.{Weights}
+use Rattle.program_lowering.specs.ExpressionCode.Emitted.{Fills, Emits}
+use Rattle.program_lowering.specs.declared.parts.exits.Exits.{Exits}
+use Rattle.program_lowering.specs.StatementParts.Leaving.{exits_of}
+use Rattle.program_lowering.specs.StatementCode.Sizes.{statement_height, each_height, items_height}
+use Rattle.program_lowering.specs.StatementCode.Weights.{labels_weight, result_weight, statement_weight, each_weight}
+use Rattle.program_lowering.specs.StatementCode.Switches.{LowersBodies, LowersTests, DefaultsBegin}
+
+-- of a statement of a function with these variables
+pub record StatementCode (vs : List Variable) (a b : Emitter) (s : Statement) (n0 : ℕ) (x : Exits) : Type 0 where
+  pub emits : Emits a b (statement_height s) (statement_weight vs s)
+  pub stands : (c : Placed) → c.variables ≡ vs → Fills b c → LowersStatement c s n0 (exits_of x)
+
+pub record StatementsCode (vs : List Variable) (a b : Emitter) (ss : Statements) (n0 : ℕ) (x : Exits) : Type 0 where
+  pub emits : Emits a b (each_height ss) (each_weight vs ss)
+  pub stands : (c : Placed) → c.variables ≡ vs → Fills b c → LowersStatements c ss n0 (exits_of x)
+
+-- of a value that a function returns
+pub record ResultCode (a b : Emitter) (e : Expression) (n0 n1 : ℕ) : Type 0 where
+  pub emits : Emits a b (max 1 (height e)) (result_weight e)
+  pub stands : (c : Placed) → Fills b c → LowersArgument c e 0 n0 n1
+
+-- what the bodies of items weigh alone
+abbrev pub bodies_weight : List Variable → SwitchItems → Weights → ℕ
+bodies_weight vs no_items w = 0
+bodies_weight vs (items labels s is) w = statement_weight vs s w + bodies_weight vs is w
+
+-- and their tests
+abbrev pub tests_weight : SwitchItems → Weights → ℕ
+tests_weight no_items w = 0
+tests_weight (items labels s is) w = labels_weight labels w + tests_weight is w
+
+-- of the items of a switch, which begin at these nodes, the first at one of them
+pub record ItemsFrom (vs : List Variable) (a b : Emitter) (is : SwitchItems) (starts : List ℕ) (n0 : ℕ)
+    (x : Exits) : Type 0
+  where
+    pub emits : Emits a b (items_height is) (bodies_weight vs is)
+    pub stands : (c : Placed) → c.variables ≡ vs → Fills b c → LowersBodies c is starts n0 (exits_of x)
+
+-- the first at some node
+pub record ItemsCode (vs : List Variable) (a b : Emitter) (is : SwitchItems) (starts : List ℕ)
+    (x : Exits) : Type 0 where
+  pub first : ℕ
+  pub from : ItemsFrom vs a b is starts first x
+
+-- of the tests of an item's labels
+pub record LabelsCode (a b : Emitter) (labels : List CaseLabel) (item n0 n1 : ℕ) : Type 0 where
+  pub emits : Emits a b 1 (labels_weight labels)
+  pub stands : (c : Placed) → Fills b c → (other : ℕ) → (any_default labels ≡ true → item ≡ other)
+      → LowersLabels c labels item other n0 n1
+
+-- of those of all items
+pub record TestsCode (a b : Emitter) (is : SwitchItems) (starts : List ℕ) (n0 other : ℕ) : Type 0 where
+  pub emits : Emits a b 1 (tests_weight is)
+  pub stands : (c : Placed) → Fills b c → DefaultsBegin is starts other → LowersTests c is starts other n0

@@ -1,0 +1,139 @@
+//! Whole programs.
+
+ghost use Rattle.std.specs.Prelude.{◌≡◌, ◌≤◌, true, IfOk, map, length, get_or, Some};
+ghost use Rattle.std.specs.List.{list_all};
+ghost use Rattle.c_tree.specs.declared.expression.Kind.TheVariants.{Void};
+ghost use Rattle.c_tree.specs.View.{function_of, function_type_of, program_of};
+ghost use Rattle.c_tree.specs.ValidProgram.{is_valid_program};
+ghost use Rattle.c_lower.specs.Programs.{IsLowered};
+ghost use Rattle.source_meaning.specs.Meaning.{statics_end};
+ghost use Rattle.static_data.specs.Data.{first_fault, program_pointers, OnNotConstant};
+ghost use Rattle.program_lowering.specs.ProgramCode.Whole.{is_ready, AreFunctions, Holding, results_of, Assembles};
+ghost use Rattle.program_lowering.specs.ProgramCode.Weights.{IsWeighed};
+
+use crate::programs::function::lower_function;
+use c_const::contents::InitialFault;
+use c_tree::{Function, FunctionType, Kind, Program};
+use static_data::pointers::global_bytes;
+use static_data::static_data;
+use std::alloc::{AllocError, Global};
+use tac_ir::{CodeFunction, StaticData, Tac};
+use tree_containers::Items;
+
+/// The functions of a program so far, and its texts.
+#[derive(Drop)]
+pub struct Lowering {
+    pub functions: Vec<CodeFunction>,
+    pub texts: Vec<Items<u8>>,
+}
+
+// What the functions of each type give.
+fn results(alloc: Global, types: &[FunctionType]) -> Result<Vec<Kind>, AllocError>
+    ensures { IfOk result (λ ks. ks.items ≡ results_of (map function_type_of types.now)) }
+{
+    let mut results = Vec::new(alloc);
+    for function_type in types {
+        results.push(function_type.result)?;
+    }
+    Ok(results)
+}
+
+fn result_of(results: &[Kind], type_number: usize) -> Kind
+    ensures { result ≡ get_or results.now type_number Void }
+{
+    match results.get(type_number) {
+        Some(kind) => *kind,
+        None => Kind::Void,
+    }
+}
+
+// With one function more.
+#[tactic(auto, using(crate::proofs::ProgramCode::Ready::is_ready_for))]
+fn with_function(
+    alloc: Global,
+    done: Lowering,
+    f: &Function,
+    results: &[Kind],
+) -> Result<Lowering, AllocError>
+    requires { is_ready (function_of f.now) ≡ true }
+    ensures { IfOk result (λ l. Holding done l results.now (function_of f.now)) }
+{
+    let Lowering {
+        mut functions,
+        texts,
+    } = done;
+    let lowered = lower_function(alloc, f, result_of(results, f.type_number), texts)?;
+    functions.push(lowered.function)?;
+    Ok(Lowering {
+        functions,
+        texts: lowered.texts,
+    })
+}
+
+// All functions.
+fn lower_functions(
+    alloc: Global,
+    functions: &[Function],
+    results: &[Kind],
+) -> Result<Lowering, AllocError>
+    requires { list_all is_ready (map function_of functions.now) ≡ true }
+    ensures { IfOk result
+        (λ l. AreFunctions l.texts.items results.now (map function_of functions.now) l.functions.items) }
+{
+    let mut done = Lowering {
+        functions: Vec::new(alloc),
+        texts: Vec::new(alloc),
+    };
+    for i in 0..functions.len() {
+        done = with_function(alloc, done, &functions[i], results)?;
+    }
+    Ok(done)
+}
+
+// The program of its parts.
+fn assembled(
+    main: usize,
+    global_bytes: u64,
+    statics: Items<StaticData>,
+    results: Vec<Kind>,
+    lowered: Lowering,
+) -> Tac
+    ensures { Assembles main global_bytes statics results.items lowered result }
+{
+    let Lowering { functions, texts } = lowered;
+    Tac {
+        functions: Items::from_vec(functions),
+        results: Items::from_vec(results),
+        main,
+        statics,
+        global_bytes,
+        texts: Items::from_vec(texts),
+    }
+}
+
+/// Lowers a valid program that has at most 4096 functions, where its static objects take at most 4 MiB. An error comes
+/// where there is no memory for its code, or with the line of the first expression in an initializer of a static object
+/// that is not constant.
+pub fn lower(alloc: Global, program: &Program) -> Result<Tac, InitialFault>
+    requires valid { is_valid_program (program_of program.now) ≡ true }
+    requires small { statics_end (program_of program.now).statics 0 ≤ 0x400000 }
+    requires few { length (program_of program.now).functions ≤ 4096 }
+    ensures code { IfOk result (λ t. IsLowered (program_of program.now) t) }
+    ensures weighed { IfOk result (λ t. IsWeighed (program_of program.now) t) }
+    ensures fault { OnNotConstant result
+        (λ line. first_fault (program_pointers (program_of program.now)) (program_of program.now).statics ≡ Some line) }
+{
+    let objects = program.statics.as_slice();
+    let types = program.function_types.as_slice();
+    let functions = program.functions.as_slice();
+    let statics = static_data(alloc, program)?;
+    let Ok(results) = results(alloc, types) else {
+        return Err(InitialFault::Memory);
+    };
+    let kinds = results.as_slice();
+    let Ok(lowered) = lower_functions(alloc, functions, kinds) else {
+        return Err(InitialFault::Memory);
+    };
+    let bytes = global_bytes(objects);
+    Ok(assembled(program.main, bytes, statics, results, lowered))
+}

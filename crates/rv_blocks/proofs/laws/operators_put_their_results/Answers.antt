@@ -1,8 +1,0 @@
-use Rattle.rv_blocks.proofs.Local.{operate_puts, single_operator}
-use Rattle.rv_blocks.proofs.laws.operators_put_their_results.Goals as goal
-
-pub returns-clause-puts : goal.returns-clause-puts
-returns-clause-puts c = operate_puts
-
-pub returns-clause-single : goal.returns-clause-single
-returns-clause-single c = single_operator

@@ -1,0 +1,13 @@
+use Rattle.std.proofs.Common.{◌≡◌, ◌++◌, drop}
+use Rattle.std.specs.List.{flat_map}
+use Rattle.rv_codegen.specs.EmittedCode.Kept.{kept_by}
+use Rattle.rv_codegen.specs.EmittedCode.Saving.{restore_unless}
+use Rattle.rv_codegen.proofs.emission.calls.put_restores.Given as goal
+
+abbrev pub invariant-loop-register : goal.invariant-loop-register
+invariant-loop-register l =
+    l.code.items
+    ++ flat_map (restore_unless (kept_by l.function l.plan) l.results.into l.results.count)
+    (drop l.register-index l.saved)
+    ≡ l.initial.code.items
+    ++ flat_map (restore_unless (kept_by l.function l.plan) l.results.into l.results.count) l.saved

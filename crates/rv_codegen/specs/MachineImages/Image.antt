@@ -1,0 +1,77 @@
+-- The image of a program: four segments, and the machine that begins it.
+use Rattle.std.specs.Prelude.{◌≡◌, ℕ, ◌-◌, List, ◌++◌, length, replicate, None, nat_lt, if◌then◌else◌}
+use Rattle.std.specs.Prelude.{slice_index}
+use Rattle.addr_map.specs.Places.{MapSizes, functions_begin, code_begin, objects_begin, spaces_begin}
+use Rattle.behaviours.specs.Behaviour.{Follows}
+use Rattle.behaviours.specs.Steps.{run}
+use Rattle.elf_image.specs.Layout.{content_of}
+use Rattle.elf_image.specs.Tests.{image_fault}
+use Rattle.elf_image.specs.Writing.{WrittenSegment, WrittenImage, image_bytes, content}
+use Rattle.rv_sim.specs.Behaviour.{behaviour}
+use Rattle.rv_sim.specs.Start.{start_of}
+use Rattle.machine_laws.specs.View.Segments.{Hold}
+use Rattle.flat_meaning.specs.declared.function.FlatProgram.{FlatProgram}
+use Rattle.flat_meaning.specs.Memory.{Bytes, AreBytes}
+use Rattle.flat_meaning.specs.State.{Stuck}
+use Rattle.flat_meaning.specs.Meaning.{step, started, flat_meaning}
+use Rattle.reg_plan.specs.declared.plan.FunctionPlan.{FunctionPlan}
+use Rattle.reg_plan.specs.Tests.{AreAccepted}
+use Rattle.machine_laws.specs.Following.Code.{IsEncodable}
+use Rattle.machine_laws.specs.Following.Matching.{object_bytes, space_bytes}
+use Rattle.machine_laws.specs.Following.Start.{IsStartable, begins}
+use Rattle.machine_laws.specs.Layout.Lists.{bytes_of}
+use Rattle.machine_laws.specs.Segments.Segments.{start_address, code_words, table_words, FitsSegments}
+
+-- a segment of code: the file has all its bytes
+abbrev pub code_part : (address : ℕ) → (words : List ℕ) → WrittenSegment
+code_part a words = record { address = a; bytes = bytes_of words; size = length (bytes_of words) }
+
+-- The four segments: the jump table, the start and the functions of the runtime; the functions of the program; the
+-- objects, of which the file has the first bytes; and the runtime's spaces, as well.
+abbrev pub image_with : MapSizes → (start : ℕ) → (table compiled : List ℕ) → (objects spaces : List ℕ) → WrittenImage
+image_with m start table compiled objects spaces = record {
+  entry = start;
+  jump_table = code_part functions_begin table;
+  code = code_part code_begin compiled;
+  objects = record { address = objects_begin; bytes = objects; size = object_bytes m };
+  runtime = record { address = spaces_begin; bytes = spaces; size = space_bytes m };
+}
+
+-- those of a program with its generated code
+unfoldable pub written : MapSizes → FlatProgram → List FunctionPlan → (objects spaces : List ℕ) → WrittenImage
+written m p plans objects spaces =
+    image_with m (start_address p) (table_words m p plans) (code_words m p plans) objects spaces
+
+-- so many bytes of memory, of which the file has the first (ELF-64, "Program header table": those behind p_filesz are
+-- zero)
+abbrev pub filled : (size : ℕ) → List ℕ → List ℕ
+filled n bytes = bytes ++ replicate (n - length bytes) 0
+
+-- The file is an image with these four segments and this entry, and the machine that begins it has the code in memory,
+-- and the data.
+pub record IsImage (m : MapSizes) (p : FlatProgram) (plans : List FunctionPlan) (objects spaces : List ℕ)
+    (file : List ℕ) : Type 0 where
+  pub fits : FitsSegments m p plans
+  pub file_is : file ≡ image_bytes (written m p plans objects spaces)
+  pub passes : image_fault file ≡ None
+  pub content_is : content_of file ≡ content (written m p plans objects spaces)
+  pub starts : start_of (content_of file)
+      ≡ begins (start_address p) (bytes_of (table_words m p plans)) (bytes_of (code_words m p plans))
+      (filled (object_bytes m) objects) (filled (space_bytes m) spaces)
+
+-- The machine that begins the image follows the program, for every input: where its plans are accepted and its run is
+-- never stuck, from any memory that has the data.
+pub record ImageFollows (m : MapSizes) (p : FlatProgram) (plans : List FunctionPlan) (objects spaces : List ℕ)
+    (file : List ℕ) : Type 0 where
+  pub follows : (memory : Bytes) (input : List ℕ) → AreAccepted p plans → IsEncodable p → IsStartable m p
+      → Hold (object_bytes m) (space_bytes m) memory (filled (object_bytes m) objects) (filled (space_bytes m) spaces)
+      → AreBytes memory
+      → ((k : ℕ) → run (step m p) k (started p memory input) ≡ Stuck → ⊥)
+      → Follows 6 (flat_meaning m p memory input) (behaviour (start_of (content_of file)) input)
+
+-- a memory that has them
+abbrev pub data_memory : (objects spaces : List ℕ) → Bytes
+data_memory objects spaces =
+    λ a.
+    if nat_lt a spaces_begin then slice_index objects (a - objects_begin)
+    else slice_index spaces (a - spaces_begin)

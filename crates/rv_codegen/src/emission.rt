@@ -1,0 +1,13 @@
+//! Emission of machine code: the instructions that stand for each instruction of flat code under a plan are put behind
+//! a list, exactly those of `block` in `machine_laws`.
+
+pub mod block;
+mod calls;
+mod constants;
+mod immediates;
+mod local;
+pub mod table;
+mod values;
+
+pub use crate::emission::block::{left_register, put_block, put_entry, right_register};
+pub use crate::emission::table::{put_row, put_start};

@@ -1,0 +1,259 @@
+//! The instructions that stand for an instruction of flat code.
+
+ghost use Rattle.std.specs.Prelude.{◌≡◌, ◌+◌, ◌-◌, ◌<◌, ◌^◌, ◌++◌, true, false, length, Some, OnOk};
+ghost use Rattle.reg_plan.specs.Saves.Saves.{is_call, saved_below, saved_at};
+ghost use Rattle.addr_map.specs.Places.{region_start};
+ghost use Rattle.addr_map.specs.declared.region.Region.TheVariants.{Calls};
+ghost use Rattle.flat_meaning.specs.Calls.{function_in, room_if};
+ghost use Rattle.flat_meaning.specs.Meaning.{parameters_of, results_of};
+ghost use Rattle.machine_laws.specs.Blocks.Blocks.{local_block, used, used_right};
+ghost use Rattle.machine_laws.specs.Blocks.Places.{location, frame_register, left_scratch};
+ghost use Rattle.machine_laws.specs.Following.Code.{block, keeping};
+ghost use Rattle.machine_laws.specs.Calls.Calls.{entry_block};
+ghost use Rattle.rv_codegen.specs.EmittedCode.Kept.{block_of};
+
+use crate::emission::calls::{
+    Arguments, Results, put_call, put_call_address, put_entry_of, put_return,
+};
+use crate::emission::local::{
+    put_charged, put_end, put_exit, put_get, put_load, put_move, put_nothing, put_number,
+    put_operate, put_operate32, put_put, put_store,
+};
+use crate::emission::values::{self, put_operands};
+use addr_map::{AddrMap, Region};
+use flat_meaning::{FlatFunction, FlatInstruction, FlatProgram, RightOperand};
+use reg_plan::FunctionPlan;
+use rv_isa::{Instr, Reg};
+use std::alloc::AllocError;
+
+// How many arguments a function takes; 0 where there is no such function.
+fn parameters(program: &FlatProgram, function: u32) -> u32
+    ensures { result ≡ parameters_of (function_in program.now function) }
+{
+    match program.functions.as_slice().get(function as usize) {
+        Some(callee) => callee.parameters,
+        None => 0,
+    }
+}
+
+// How many results it gives.
+fn results(program: &FlatProgram, function: u32) -> u32
+    ensures { result ≡ results_of (function_in program.now function) }
+{
+    match program.functions.as_slice().get(function as usize) {
+        Some(callee) => callee.results,
+        None => 0,
+    }
+}
+
+// Where the first activation record of the program begins, less what a function is charged.
+fn charged_from(sizes: &AddrMap, function: &FlatFunction) -> u64
+    ensures { result ≡ region_start sizes.now Calls - room_if false (Some function.now) }
+{
+    let begin = sizes.region(Region::Calls).0;
+    if function.is_runtime {
+        begin
+    } else {
+        begin.saturating_sub(u64::from(function.room))
+    }
+}
+
+// Puts the instructions that stand for one that stays in its function.
+#[tactic(auto, using(crate::proofs::EmittedCode::Lists::nothing_behind))]
+fn put_local(
+    code: &mut Vec<Instr>,
+    function: &FlatFunction,
+    plan: &FunctionPlan,
+    begin: u64,
+    instruction: &FlatInstruction,
+) -> Result<(), AllocError>
+    ensures { OnOk result
+        (code.new.items ≡ code.old.items
+        ++ local_block (location function.now plan.now) (frame_register function.now) begin instruction.now) }
+{
+    match *instruction {
+        FlatInstruction::Constant { into, value } => put_number(code, function, plan, into, value),
+        FlatInstruction::Move { into, from } => put_move(code, function, plan, into, from),
+        FlatInstruction::Operate {
+            op,
+            into,
+            left,
+            right,
+        } => put_operate(code, function, plan, op, into, left, right),
+        FlatInstruction::Operate32 {
+            op,
+            into,
+            left,
+            right,
+        } => put_operate32(code, function, plan, op, into, left, right),
+        FlatInstruction::Load {
+            op,
+            into,
+            at,
+            offset,
+        } => put_load(code, function, plan, op, into, at, offset),
+        FlatInstruction::Store {
+            op,
+            at,
+            offset,
+            from,
+        } => put_store(code, function, plan, op, at, offset, from),
+        FlatInstruction::Branch { left, right, .. } => {
+            put_operands(code, function, plan, left, right)
+        }
+        FlatInstruction::Turn => put_nothing(code),
+        FlatInstruction::Get { into } => put_get(code, function, plan, into),
+        FlatInstruction::Put { from } => put_put(code, function, plan, from),
+        FlatInstruction::Exit { status } => put_exit(code, function, plan, status),
+        FlatInstruction::End(ending) => put_end(code, &ending),
+        FlatInstruction::Charged { into } => put_charged(code, function, plan, into, begin),
+        _ => Ok(()),
+    }
+}
+
+// Puts the instructions that stand for one of a function under its plan.
+fn put_block_in(
+    code: &mut Vec<Instr>,
+    program: &FlatProgram,
+    function: &FlatFunction,
+    plan: &FunctionPlan,
+    begin: u64,
+    place: u64,
+    instruction: &FlatInstruction,
+    saved: &[u64],
+) -> Result<(), AllocError>
+    requires place { place < 2 ^ 63 }
+    requires saved { is_call instruction.now ≡ true
+        → saved.now ≡ saved_below function.now plan.now place (length plan.now.live.items) }
+    ensures { OnOk result
+        (code.new.items ≡ code.old.items
+        ++ block_of program.now function.now plan.now begin place instruction.now) }
+{
+    match *instruction {
+        FlatInstruction::Call {
+            function: callee,
+            first,
+            into,
+        } => {
+            let arguments = Arguments {
+                first,
+                count: parameters(program, callee),
+            };
+            let results = Results {
+                into,
+                count: results(program, callee),
+            };
+            put_call(
+                code, function, plan, place, callee, arguments, results, saved,
+            )
+        }
+        FlatInstruction::CallAddress {
+            at,
+            first,
+            count,
+            into,
+            results,
+        } => {
+            let arguments = Arguments { first, count };
+            let results = Results {
+                into,
+                count: results,
+            };
+            put_call_address(code, function, plan, place, at, arguments, results, saved)
+        }
+        FlatInstruction::Return { from } => put_return(code, function, plan, from),
+        _ => put_local(code, function, plan, begin, instruction),
+    }
+}
+
+/// Puts the instructions that stand for an instruction of a function, but for its jump or branch, behind a list. For a
+/// call the virtual registers are given that it saves.
+#[tactic(auto, unfolding(machine_laws::specs::Following::Code::block, machine_laws::specs::Following::Code::keeping, reg_plan::specs::Saves::Saves::saved_at))]
+pub fn put_block(
+    code: &mut Vec<Instr>,
+    sizes: &AddrMap,
+    program: &FlatProgram,
+    plans: &[FunctionPlan],
+    number: u32,
+    place: u64,
+    instruction: &FlatInstruction,
+    saved: &[u64],
+) -> Result<(), AllocError>
+    requires function { number < length program.now.functions }
+    requires plan { number < length plans.now }
+    requires place { place < 2 ^ 63 }
+    requires saved { is_call instruction.now ≡ true → saved.now ≡ saved_at program.now plans.now number place }
+    ensures { OnOk result
+        (code.new.items ≡ code.old.items
+        ++ block sizes.now program.now plans.now number place instruction.now) }
+{
+    let function = &program.functions.as_slice()[number as usize];
+    let plan = &plans[number as usize];
+    let begin = charged_from(sizes, function);
+    put_block_in(
+        code,
+        program,
+        function,
+        plan,
+        begin,
+        place,
+        instruction,
+        saved,
+    )
+}
+
+/// Puts the first instructions of a function, before those of its body: its return address and its arguments are
+/// kept.
+#[tactic(auto, unfolding(machine_laws::specs::Following::Code::keeping))]
+pub fn put_entry(
+    code: &mut Vec<Instr>,
+    program: &FlatProgram,
+    plans: &[FunctionPlan],
+    number: u32,
+) -> Result<(), AllocError>
+    requires function { number < length program.now.functions }
+    requires plan { number < length plans.now }
+    ensures { OnOk result
+        (code.new.items ≡ code.old.items
+        ++ entry_block (keeping program.now plans.now number) (parameters_of (function_in program.now number))) }
+{
+    let function = &program.functions.as_slice()[number as usize];
+    put_entry_of(code, function, &plans[number as usize])
+}
+
+/// The register in which the left operand of a branch is found, behind its instructions.
+#[tactic(auto, unfolding(machine_laws::specs::Following::Code::keeping))]
+pub fn left_register(
+    program: &FlatProgram,
+    plans: &[FunctionPlan],
+    number: u32,
+    operand: u32,
+) -> Reg
+    requires function { number < length program.now.functions }
+    requires plan { number < length plans.now }
+    ensures { result ≡ used ((keeping program.now plans.now number).place operand) left_scratch }
+{
+    let function = &program.functions.as_slice()[number as usize];
+    values::used(
+        function,
+        &plans[number as usize],
+        u64::from(operand),
+        values::left_scratch(),
+    )
+}
+
+/// The register in which its right operand is found.
+#[tactic(auto, unfolding(machine_laws::specs::Following::Code::keeping))]
+pub fn right_register(
+    program: &FlatProgram,
+    plans: &[FunctionPlan],
+    number: u32,
+    operand: RightOperand,
+) -> Reg
+    requires function { number < length program.now.functions }
+    requires plan { number < length plans.now }
+    ensures { result ≡ used_right (keeping program.now plans.now number).place operand }
+{
+    let function = &program.functions.as_slice()[number as usize];
+    values::used_right(function, &plans[number as usize], operand)
+}

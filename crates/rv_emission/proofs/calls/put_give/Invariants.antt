@@ -1,8 +1,0 @@
-use Rattle.std.proofs.Common.{◌≡◌, ◌++◌}
-use Rattle.rv_calls.specs.Calls.{give}
-use Rattle.rv_emission.specs.Kept.{kept_by}
-use Rattle.rv_emission.proofs.calls.put_give.Given as goal
-
-abbrev pub invariant-loop-word : goal.invariant-loop-word
-invariant-loop-word l =
-    l.code.items ≡ l.initial.code.items ++ give (kept_by l.function l.plan) l.first l.word

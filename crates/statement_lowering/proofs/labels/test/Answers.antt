@@ -1,9 +1,0 @@
-use Rattle.std.proofs.Common.{◌∷◌, [], sym, subst}
-use Rattle.statement_lowering.specs.Code.{LabelsCode}
-use Rattle.statement_lowering.proofs.LabelTests.{case_code}
-use Rattle.statement_lowering.proofs.labels.test.Goals as goal
-
-pub returns-in_ok-first-in-Case : goal.returns-in_ok-first-in-Case
-returns-in_ok-first-in-Case c =
-    subst (λ l. LabelsCode c.args.code.now c.add.new.self (l ∷ []) c.args.item c.in_ok-first-in-Case.first c.args.next)
-    (sym c.in-Case.is) (case_code c.in_ok-first-in-Case.ensures)

@@ -1,5 +1,0 @@
-use Rattle.statement_lowering.proofs.SingleStatements.{result_code}
-use Rattle.statement_lowering.proofs.simple.result.Goals as goal
-
-pub returns : goal.returns
-returns c = result_code c.args.e.now c.in_ok-taken.ensures c.in_ok-first.ensures

@@ -1,5 +1,0 @@
-use Rattle.tac_laws.proofs.PlainVariables.{act_keeps}
-use Rattle.tac_laws.proofs.laws.plain_variables_change_at_named_instructions.Goals as goal
-
-pub returns : goal.returns
-returns c = λ g t i u temps frames s y e. act_keeps g t i u temps frames s y e

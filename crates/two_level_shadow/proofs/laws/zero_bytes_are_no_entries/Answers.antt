@@ -1,9 +1,0 @@
-use Rattle.two_level_shadow.proofs.Levels.{levels_laid_out}
-use Rattle.two_level_shadow.proofs.Zeros.{zeros_good, zeros_none}
-use Rattle.two_level_shadow.proofs.laws.zero_bytes_are_no_entries.Goals as goal
-
-pub returns-clause-good : goal.returns-clause-good
-returns-clause-good c = λ s m mapped zeros. zeros_good s m (levels_laid_out s mapped) zeros
-
-pub returns-clause-none : goal.returns-clause-none
-returns-clause-none c = λ s m mapped zeros. zeros_none s m (levels_laid_out s mapped) zeros

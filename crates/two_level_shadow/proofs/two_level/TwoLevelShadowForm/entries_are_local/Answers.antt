@@ -1,5 +1,0 @@
-use Rattle.two_level_shadow.proofs.Levels.{levels_laid_out, levels_local}
-use Rattle.two_level_shadow.proofs.two_level.TwoLevelShadowForm.entries_are_local.Goals as goal
-
-pub returns : goal.returns
-returns c = λ map m m' mapped keep g. levels_local map m m' (levels_laid_out map mapped) keep g

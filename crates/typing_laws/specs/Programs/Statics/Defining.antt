@@ -1,0 +1,15 @@
+-- The functions of the program of a file: each definition has its own, by its number (C99 6.9.1).
+use Rattle.std.specs.Prelude.{[]}
+use Rattle.c_tree.specs.Valid.{Scope}
+use Rattle.c_unit_typing.specs.Files.{File}
+use Rattle.c_unit_typing.specs.Programs.{program_of}
+use Rattle.typing_laws.specs.Validity.Sound.{Covers}
+use Rattle.typing_laws.specs.Programs.Bodies.Whole.{AreInTurn}
+use Rattle.typing_laws.specs.Programs.Statics.Program.{AreFunctionsOf}
+
+-- the definitions, in turn, have their functions; in some scope the program has what the file has
+pub record HasFunctions (f : File) : Type 0 where
+  pub turn : AreInTurn f f.definitions [] f.statics
+  pub functions : AreFunctionsOf (program_of f) (program_of f).structures f f.definitions [] f.statics turn
+  pub scope : Scope
+  pub covers : Covers scope (program_of f).structures f.state

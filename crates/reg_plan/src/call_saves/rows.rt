@@ -7,8 +7,8 @@ ghost use Rattle.reg_plan.specs.Accepted.{holds, covers};
 ghost use Rattle.reg_plan.specs.Saves.Saves.{ends_with, with_last, items_of, is_call_at, calls_before, is_saved};
 ghost use Rattle.reg_plan.specs.Saves.Saves.{is_register, PutsWhere, Counts};
 
+use crate::{FunctionPlan, LiveInterval, Place};
 use flat_meaning::{FlatFunction, FlatInstruction};
-use reg_plan::{FunctionPlan, LiveInterval, Place};
 use std::alloc::AllocError;
 
 // Whether a row ends with a number.

@@ -6,9 +6,9 @@ ghost use Rattle.flat_meaning.specs.Meaning.{body_of};
 ghost use Rattle.reg_plan.specs.Saves.Saves.{is_call, is_call_at, items_of, calls_before, saved_below, row_at};
 ghost use Rattle.reg_plan.specs.Saves.Saves.{HasSaves, Counts};
 
+use crate::FunctionPlan;
 use crate::call_saves::rows::put_register;
 use flat_meaning::{FlatFunction, FlatInstruction, FlatProgram};
-use reg_plan::FunctionPlan;
 use std::alloc::{AllocError, Global};
 
 /// What each call of a function saves under its plan: the virtual registers that are kept in registers of the machine

@@ -8,13 +8,13 @@ ghost use Rattle.rv_codegen.specs.Generated.{IsReady, IsCause};
 ghost use Rattle.rv_codegen.specs.MachineImages.Image.{code_part, image_with, IsImage, ImageFollows};
 
 use crate::images::laws::images_follow;
+use crate::{Code, GenerateError, generate};
 use addr_map::laws::{objects_stand_in_object_space, regions_stand_in_order, sizes_are_in_range};
 use addr_map::{AddrMap, Region};
 use elf_image::laws::segments_in_order_fit;
 use elf_image::{Image, NewImage, NewSegment};
 use flat_meaning::FlatProgram;
 use reg_plan::FunctionPlan;
-use rv_codegen::{Code, GenerateError, generate};
 use std::alloc::{AllocError, Global};
 
 // Where the segments begin.

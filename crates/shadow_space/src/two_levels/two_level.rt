@@ -6,11 +6,11 @@ ghost use Rattle.shadow_space.specs.TwoLevel.Tables.{two_level_entry, AreTablesG
 ghost use Rattle.shadow_space.specs.TwoLevel.Code.{two_level_read, two_level_write, two_level_clear};
 
 use crate::two_levels::start::start_bytes;
+use crate::{ShadowForm, StartEntry};
 use addr_map::AddrMap;
 use flat_meaning::{FlatInstruction, RightOperand};
 use flat_routines::Entry;
 use rv_isa::{BranchOp, LoadOp, RegOp, StoreOp};
-use shadow_space::{ShadowForm, StartEntry};
 use std::alloc::{AllocError, Global};
 
 // The first address of object space, that of the shadow space, and that of the first level behind the cell of the

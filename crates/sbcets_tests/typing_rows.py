@@ -21,7 +21,7 @@ sys.path.insert(0, os.path.join(HERE, "..", "..", "rows"))
 import units  # noqa: E402
 
 M = "int main(void){return 0;}"
-NAMES = re.findall(r"^    (\w+),$", re.search(r"pub enum Rule \{(.*?)^\}", open(os.path.join(HERE, "..", "c_rules", "src", "fault.rt")).read(),
+NAMES = re.findall(r"^    (\w+),$", re.search(r"pub enum Rule \{(.*?)^\}", open(os.path.join(HERE, "..", "c_faults", "src", "fault.rt")).read(),
                                             re.M | re.S)[1], re.M)
 
 

@@ -24,9 +24,9 @@ use Rattle.c_tree.specs.Valid.{Scope, is_valid, is_lvalue, is_plain, is_update, 
 use Rattle.c_rules.specs.declared.class.Class.{Class}
 use Rattle.c_rules.specs.declared.class.Class.TheVariants as class
 use Rattle.c_rules.specs.declared.class.Target.TheVariants as target
-use Rattle.c_rules.specs.declared.fault.Rule.TheVariants as rule
+use Rattle.c_faults.specs.declared.fault.Rule.TheVariants as rule
 use Rattle.c_rules.specs.declared.row.Row.TheVariants as row
-use Rattle.c_rules.specs.Answer.{Answer, ◌>>=◌}
+use Rattle.c_faults.specs.Answer.{Answer, ◌>>=◌}
 use Rattle.c_rules.specs.Types.{class_of as class_of_type, target_of, unqualified}
 use Rattle.c_rules.specs.Values.{Value, converted}
 use Rattle.c_rules.specs.Rows.{row_of, sum_row, difference_row, integer_row, shift_row, comparison_row, may_meet}

@@ -12,11 +12,11 @@ use Rattle.c_tree.specs.Kinds.{integer}
 use Rattle.c_tree.specs.Tree.{Expression}
 use Rattle.c_rules.specs.declared.class.Class.{Class}
 use Rattle.c_rules.specs.declared.class.Class.TheVariants as class
-use Rattle.c_rules.specs.declared.fault.Rule.TheVariants.{Operands}
+use Rattle.c_faults.specs.declared.fault.Rule.TheVariants.{Operands}
 use Rattle.c_rules.specs.declared.row.Row.{Row}
 use Rattle.c_rules.specs.declared.row.Row.TheVariants as row
 use Rattle.c_rules.specs.declared.row.Pair.{Pair}
-use Rattle.c_rules.specs.Answer.{Answer, violates, ◌>>=◌}
+use Rattle.c_faults.specs.Answer.{Answer, violates, ◌>>=◌}
 use Rattle.c_rules.specs.Types.{class_of}
 use Rattle.c_rules.specs.Values.{Value, converted}
 use Rattle.c_rules.specs.Rows.{row_of}

@@ -6,8 +6,8 @@ use Rattle.c_tree.specs.declared.expression.PlainName.{PlainName}
 use Rattle.c_tree.specs.Tree.{Expression, expression, Node, assign, assign_plain, compound, change_plain, step}
 use Rattle.c_tree.specs.Tree.{step_plain, Lvalue, kind_of, lvalue_kind}
 use Rattle.c_tree.specs.View.{expression_of}
-use Rattle.c_rules.specs.declared.fault.Rule.TheVariants.{NotAssignable}
-use Rattle.c_rules.specs.Answer.{Answer, violates}
+use Rattle.c_faults.specs.declared.fault.Rule.TheVariants.{NotAssignable}
+use Rattle.c_faults.specs.Answer.{Answer, violates}
 use Rattle.c_rules.specs.Types.{unqualified}
 use Rattle.c_rules.specs.Values.{Value}
 use Rattle.c_place_rules.specs.Operands.{Place, Variable, Operand, a_value, a_place, a_variable, a_function}

@@ -1,15 +1,15 @@
 //! What may be written (C99 6.3.2.1 paragraph 1).
 
 ghost use Rattle.std.specs.Prelude.{◌≡◌, get_or, false};
-ghost use Rattle.c_rules.specs.Answer.{Gives};
+ghost use Rattle.c_faults.specs.Answer.{Gives};
 ghost use Rattle.c_place_rules.specs.Operands.{operand_of, place_of, variable_of};
 ghost use Rattle.c_assignment_rules.specs.Assignable.{assignable, has_const, is_array_type, is_unsized_structure};
 ghost use Rattle.c_assignment_rules.specs.Assignable.{place_rule, variable_rule, write_rule};
 
+use c_faults::{Refusal, Rule};
 use c_place_rules::operand::is_lvalue;
 use c_place_rules::refusal::refused;
 use c_place_rules::{Operand, TypedPlace, TypedVariable};
-use c_rules::{Refusal, Rule};
 use c_tree::{Kind, TypeWord};
 use sb_base::Line;
 

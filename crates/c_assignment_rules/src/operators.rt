@@ -4,7 +4,7 @@ ghost use Rattle.std.specs.Prelude.{◌≡◌, IfOk, Some};
 ghost use Rattle.c_tree.specs.declared.expression.Update.TheVariants.{Arithmetic};
 ghost use Rattle.c_tree.specs.Kinds.{integer};
 ghost use Rattle.c_tree.specs.View.{expression_of};
-ghost use Rattle.c_rules.specs.Answer.{Gives};
+ghost use Rattle.c_faults.specs.Answer.{Gives};
 ghost use Rattle.c_rules.specs.Values.{value_of};
 ghost use Rattle.c_place_rules.specs.Operands.{operand_of};
 ghost use Rattle.c_assignment_rules.specs.Writing.{writing_of};
@@ -13,13 +13,14 @@ ghost use Rattle.c_assignment_rules.specs.Assignments.{converted_if, operator_of
 
 use crate::modifiable::assignable;
 use crate::writing::{Writing, written};
+use c_faults::{Fault, Refusal, Rule};
 use c_place_rules::refusal::refused;
 use c_place_rules::{Operand, type_in};
 use c_rules::conversion::assigned;
 use c_rules::holding::beside;
 use c_rules::row::Pair;
 use c_rules::value::{converted, integer};
-use c_rules::{Class, Fault, Refusal, Row, Rule, TypedValue};
+use c_rules::{Class, Row, TypedValue};
 use c_tree::{Expression, Extent, Fixity, Kind, OffsetForm, Update};
 use obj_memory::{BinaryOperator, IntType};
 use sb_base::Line;

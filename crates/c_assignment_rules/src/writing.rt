@@ -3,19 +3,20 @@
 ghost use Rattle.std.specs.Prelude.{◌≡◌, IfOk, Ok, Err};
 ghost use Rattle.c_tree.specs.Tree.{expression, lvalue_kind};
 ghost use Rattle.c_tree.specs.View.{expression_of, lvalue_of};
-ghost use Rattle.c_rules.specs.declared.fault.Refusal.TheVariants.{Fault as OfFault};
-ghost use Rattle.c_rules.specs.declared.fault.Rule.TheVariants.{NotAssignable};
-ghost use Rattle.c_rules.specs.Answer.{Gives};
+ghost use Rattle.c_faults.specs.declared.fault.Refusal.TheVariants.{Fault as OfFault};
+ghost use Rattle.c_faults.specs.declared.fault.Rule.TheVariants.{NotAssignable};
+ghost use Rattle.c_faults.specs.Answer.{Gives};
 ghost use Rattle.c_rules.specs.Values.{value_of};
 ghost use Rattle.c_place_rules.specs.Operands.{operand_of, place_of, variable_of};
 ghost use Rattle.c_assignment_rules.specs.Writing.{place_node, place_written, variable_node, variable_written};
 ghost use Rattle.c_assignment_rules.specs.Writing.{writing_of, written};
 
+use c_faults::{Refusal, Rule};
 use c_place_rules::refusal::refused;
 use c_place_rules::target::unqualified_type;
 use c_place_rules::{Operand, TypedPlace, TypedVariable};
+use c_rules::TypedValue;
 use c_rules::holding::boxed_pair;
-use c_rules::{Refusal, Rule, TypedValue};
 use c_tree::{Expression, Fixity, Kind, Lvalue, Node, PlainName, Update};
 use sb_base::Line;
 use std::alloc::{AllocError, Global};

@@ -16,8 +16,8 @@ use Rattle.c_tree.specs.TypesAgree.{takes_kind, agrees}
 use Rattle.c_tree.specs.Valid.{Scope, is_valid, is_converted, are_valid, is_call, has_number, no_signature}
 use Rattle.c_rules.specs.declared.class.Target.{Target}
 use Rattle.c_rules.specs.declared.class.Target.TheVariants as target
-use Rattle.c_rules.specs.declared.fault.Rule.TheVariants.{ArgumentCount}
-use Rattle.c_rules.specs.Answer.{Answer, violates, ◌>>=◌}
+use Rattle.c_faults.specs.declared.fault.Rule.TheVariants.{ArgumentCount}
+use Rattle.c_faults.specs.Answer.{Answer, violates, ◌>>=◌}
 use Rattle.c_rules.specs.Types.{unqualified, object_of, target_of}
 use Rattle.c_rules.specs.Values.{Value}
 use Rattle.c_rules.specs.Conversions.{assigned}

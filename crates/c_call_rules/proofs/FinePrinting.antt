@@ -15,8 +15,8 @@ use Rattle.c_tree.specs.Tree.{Expression, expressions_in, kinds_of, kind_of}
 use Rattle.c_tree.specs.Valid.{Scope, is_valid, are_valid, are_printed}
 use Rattle.c_rules.specs.declared.class.Class.{Class}
 use Rattle.c_rules.specs.declared.class.Class.TheVariants as class
-use Rattle.c_rules.specs.declared.fault.Rule.TheVariants.{MistakenFormat}
-use Rattle.c_rules.specs.Answer.{Answer, violates, ◌>>=◌}
+use Rattle.c_faults.specs.declared.fault.Rule.TheVariants.{MistakenFormat}
+use Rattle.c_faults.specs.Answer.{Answer, violates, ◌>>=◌}
 use Rattle.c_rules.specs.Types.{class_of}
 use Rattle.c_rules.specs.Values.{Value, integer_words, converted}
 use Rattle.c_rules.specs.Conversions.{assigned}

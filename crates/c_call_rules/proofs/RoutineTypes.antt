@@ -6,7 +6,7 @@ use Rattle.c_tree.specs.declared.expression.Routine.TheVariants.{Memcmp, Strlen,
 use Rattle.c_tree.specs.declared.expression.Routine.TheVariants.{Strchr, Putchar, Getchar, Puts, Exit, Abort}
 use Rattle.c_tree.specs.Extents.{TypeExtent}
 use Rattle.c_tree.specs.Kinds.{routine_signature}
-use Rattle.c_call_rules.specs.Routines.{routine_words}
+use Rattle.c_tree.specs.Routines.{routine_words}
 use Rattle.c_call_rules.specs.FineCalls.{Spells}
 
 pub routines_spell : (structures : List (Option TypeExtent)) (r : Routine)

@@ -10,8 +10,8 @@ use Rattle.c_tree.specs.Tree.{Expression, expression, Expressions, expressions_i
 use Rattle.c_tree.specs.View.{expression_of}
 use Rattle.c_rules.specs.declared.class.Target.{Target}
 use Rattle.c_rules.specs.declared.class.Target.TheVariants as target
-use Rattle.c_rules.specs.declared.fault.Rule.TheVariants.{Incomplete, NoCallee, ArgumentCount}
-use Rattle.c_rules.specs.Answer.{Answer, violates, ◌>>=◌}
+use Rattle.c_faults.specs.declared.fault.Rule.TheVariants.{Incomplete, NoCallee, ArgumentCount}
+use Rattle.c_faults.specs.Answer.{Answer, violates, ◌>>=◌}
 use Rattle.c_rules.specs.Types.{unqualified, target_of}
 use Rattle.c_rules.specs.Values.{Value}
 use Rattle.c_rules.specs.Conversions.{assigned}

@@ -14,8 +14,8 @@ use Rattle.c_tree.specs.Kinds.{integer, pointer, fits_directive}
 use Rattle.c_tree.specs.Tree.{Expression, expression, expressions_in, printf as printf_node}
 use Rattle.c_rules.specs.declared.class.Class.{Class}
 use Rattle.c_rules.specs.declared.class.Class.TheVariants as class
-use Rattle.c_rules.specs.declared.fault.Rule.TheVariants.{ArgumentCount, MistakenFormat}
-use Rattle.c_rules.specs.Answer.{Answer, violates, ◌>>=◌}
+use Rattle.c_faults.specs.declared.fault.Rule.TheVariants.{ArgumentCount, MistakenFormat}
+use Rattle.c_faults.specs.Answer.{Answer, violates, ◌>>=◌}
 use Rattle.c_rules.specs.Types.{class_of}
 use Rattle.c_rules.specs.Values.{Value, value_of, integer_words, converted}
 use Rattle.c_rules.specs.Conversions.{assigned}

@@ -1,12 +1,13 @@
 //! What is called, and what it gives.
 
 ghost use Rattle.std.specs.Prelude.{◌≡◌, Ok};
-ghost use Rattle.c_rules.specs.Answer.{Gives};
+ghost use Rattle.c_faults.specs.Answer.{Gives};
 ghost use Rattle.c_call_rules.specs.Calls.{complete_result, outcome_in, outcome_of, result_kind};
 
 use crate::function_type::result_type;
+use c_faults::{Fault, Refusal, Rule};
 use c_place_rules::target::{object_kind, target, unqualified_type};
-use c_rules::{Fault, Refusal, Rule, Target};
+use c_rules::Target;
 use c_tree::{CType, Expression, Extent, Kind, Routine, TypeWord};
 use sb_base::Line;
 use std::alloc::Global;

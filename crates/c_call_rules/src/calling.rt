@@ -2,17 +2,18 @@
 
 ghost use Rattle.std.specs.Prelude.{◌≡◌, ◌∷◌, [], ◌++◌, map, option_map, IfOk, Ok};
 ghost use Rattle.c_tree.specs.View.{expression_of};
-ghost use Rattle.c_rules.specs.Answer.{Gives};
+ghost use Rattle.c_faults.specs.Answer.{Gives};
 ghost use Rattle.c_rules.specs.Values.{value_of};
 ghost use Rattle.c_call_rules.specs.Calls.{call_tree, called, called_if, called_through, callee_of, counted};
 ghost use Rattle.c_call_rules.specs.Calls.{one_passed, passed};
 
 use crate::callee::{Callee, Outcome, outcome_in};
 use crate::function_type::{behind_parameter, callee_type, first_type};
+use c_faults::{Refusal, Rule};
 use c_place_rules::refusal::refused;
+use c_rules::TypedValue;
 use c_rules::conversion::assigned;
 use c_rules::holding::beside;
-use c_rules::{Refusal, Rule, TypedValue};
 use c_tree::{CType, Expression, Extent, Kind, Node, TypeWord};
 use sb_base::Line;
 use std::alloc::{AllocError, Global};

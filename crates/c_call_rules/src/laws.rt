@@ -11,7 +11,7 @@ ghost use Rattle.c_call_rules.specs.FunctionTypes.{callee_type};
 ghost use Rattle.c_call_rules.specs.Calls.{Callee, called, called_through};
 ghost use Rattle.c_call_rules.specs.FineCalls.{AreFine, HasSignature, IsFineCallee, Spells};
 ghost use Rattle.c_call_rules.specs.Printing.{Format, formatted};
-ghost use Rattle.c_call_rules.specs.Routines.{routine_words};
+ghost use Rattle.c_tree.specs.Routines.{routine_words};
 
 /// What a call gives is valid where the callee has a signature that its type spells, and the arguments are valid; and
 /// it has the kind of its type.

@@ -8,10 +8,8 @@ pub mod format;
 pub mod function_type;
 pub mod laws;
 pub mod printing;
-pub mod routines;
 
 pub use crate::callee::Callee;
 pub use crate::calling::{called, called_through};
 pub use crate::function_type::callee_type;
 pub use crate::printing::{Format, formatted};
-pub use crate::routines::routine_type;

@@ -3,7 +3,7 @@
 ghost use Rattle.std.specs.Prelude.{◌≡◌, ◌∷◌, [], ◌&&◌, ◌==◌, map, option_map, IfOk, Ok};
 ghost use Rattle.c_tree.specs.Kinds.{fits_directive, is_integer, size_of_kind};
 ghost use Rattle.c_tree.specs.View.{expression_of};
-ghost use Rattle.c_rules.specs.Answer.{Gives};
+ghost use Rattle.c_faults.specs.Answer.{Gives};
 ghost use Rattle.c_rules.specs.Values.{value_of};
 ghost use Rattle.c_call_rules.specs.Printing.{all_printed, behind_first, directives_in, fits, format_of, formatted};
 ghost use Rattle.c_call_rules.specs.Printing.{is_text};
@@ -12,11 +12,12 @@ ghost use Rattle.c_call_rules.specs.Printing.{printf_tree, promoted_kind, takes_
 
 use crate::calling::pushed;
 use crate::format::directives_in;
+use c_faults::{Fault, Refusal, Rule};
 use c_place_rules::refusal::refused;
 use c_rules::conversion::assigned;
 use c_rules::holding::beside;
 use c_rules::value::{converted, integer, is_kind, typed};
-use c_rules::{Class, Fault, Refusal, Rule, TypedValue};
+use c_rules::{Class, TypedValue};
 use c_tree::{Directive, Expression, Extent, Kind, Node, TypeWord};
 use obj_memory::{IntType, Scalar};
 use sb_base::Line;

@@ -14,8 +14,8 @@ use Rattle.c_tree.specs.Valid.{Scope, is_valid}
 use Rattle.c_rules.specs.declared.class.Class.{Class}
 use Rattle.c_rules.specs.declared.class.Class.TheVariants as class
 use Rattle.c_rules.specs.declared.row.Pair.{Pair}
-use Rattle.c_rules.specs.declared.fault.Rule.TheVariants.{Operands, NoCondition}
-use Rattle.c_rules.specs.Answer.{violates, ◌>>=◌}
+use Rattle.c_faults.specs.declared.fault.Rule.TheVariants.{Operands, NoCondition}
+use Rattle.c_faults.specs.Answer.{violates, ◌>>=◌}
 use Rattle.c_rules.specs.Types.{class_of}
 use Rattle.c_rules.specs.Values.{Value, converted}
 use Rattle.c_rules.specs.Rows.{may_meet}

@@ -10,9 +10,9 @@ use Rattle.c_tree.specs.Tree.{Expression, expression, conditional as conditional
 use Rattle.c_rules.specs.declared.class.Class.{Class}
 use Rattle.c_rules.specs.declared.class.Class.TheVariants as class
 use Rattle.c_rules.specs.declared.class.Target.{Target}
-use Rattle.c_rules.specs.declared.fault.Rule.TheVariants.{Operands, NoCondition}
+use Rattle.c_faults.specs.declared.fault.Rule.TheVariants.{Operands, NoCondition}
 use Rattle.c_rules.specs.declared.row.Pair.{Pair}
-use Rattle.c_rules.specs.Answer.{Answer, violates, ◌>>=◌}
+use Rattle.c_faults.specs.Answer.{Answer, violates, ◌>>=◌}
 use Rattle.c_rules.specs.Types.{unqualified, class_of}
 use Rattle.c_rules.specs.Values.{Value, integer_words, converted}
 use Rattle.c_rules.specs.Rows.{may_meet}

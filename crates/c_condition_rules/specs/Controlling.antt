@@ -5,7 +5,7 @@ use Rattle.c_tree.specs.Kinds.{is_promoted}
 use Rattle.c_tree.specs.Tree.{Expression, kind_of}
 use Rattle.c_tree.specs.TypesAgree.{kind_of_type}
 use Rattle.c_tree.specs.Valid.{Scope, is_valid, is_condition}
-use Rattle.c_rules.specs.Answer.{Answer}
+use Rattle.c_faults.specs.Answer.{Answer}
 use Rattle.c_rules.specs.Values.{Value}
 
 abbrev pub IfCondition : Scope → Answer Expression → Type 0

@@ -2,24 +2,23 @@
 
 ghost use Rattle.std.specs.Prelude.{◌≡◌, IfOk, Ok, Err};
 ghost use Rattle.c_tree.specs.View.{expression_of};
-ghost use Rattle.c_rules.specs.declared.fault.Refusal.{Refusal as AnyRefusal};
-ghost use Rattle.c_rules.specs.declared.fault.Refusal.TheVariants.{Memory};
-ghost use Rattle.c_rules.specs.Answer.{Gives};
+ghost use Rattle.c_faults.specs.declared.fault.Refusal.{Refusal as AnyRefusal};
+ghost use Rattle.c_faults.specs.declared.fault.Refusal.TheVariants.{Memory};
+ghost use Rattle.c_faults.specs.Answer.{Gives};
 ghost use Rattle.c_rules.specs.Binary.{pair_of};
 ghost use Rattle.c_rules.specs.Values.{converted, value_of};
 ghost use Rattle.c_condition_rules.specs.Conditions.{are_same, chosen, conditional, meeting_in, meeting_of};
 ghost use Rattle.c_condition_rules.specs.Conditions.{merged_pointer, pointers_meet, shape_in, shape_of, shape_view};
 ghost use Rattle.c_condition_rules.specs.Conditions.{where_met};
 
+use c_faults::{Fault, Refusal, Rule};
 use c_place_rules::target::{is_const, pointee, pointer_to, qualified};
 use c_rules::holding::{beside, boxed_pair};
 use c_rules::row::{Pair, may_meet};
 use c_rules::unary::is_scalar;
-use c_rules::value::{
-    converted, integer, integer_type, is_null, same_pointee, same_words, unqualified,
-};
-use c_rules::{Class, Fault, Refusal, Rule, Target, TypedValue};
-use c_tree::{CType, Expression, Extent, Kind, Node, TypeWord};
+use c_rules::value::{converted, integer, integer_type, is_null, same_pointee, unqualified};
+use c_rules::{Class, Target, TypedValue};
+use c_tree::{CType, Expression, Extent, Kind, Node, TypeWord, same_words};
 use obj_memory::{IntType, Scalar};
 use sb_base::Line;
 use std::alloc::{AllocError, Global};

@@ -1,14 +1,15 @@
 //! The controlling expressions of statements (C99 6.8.4, 6.8.5).
 
 ghost use Rattle.c_tree.specs.View.{expression_of};
-ghost use Rattle.c_rules.specs.Answer.{Gives};
+ghost use Rattle.c_faults.specs.Answer.{Gives};
 ghost use Rattle.c_rules.specs.Values.{value_of};
 ghost use Rattle.c_condition_rules.specs.Conditions.{condition, switch_value};
 
+use c_faults::{Refusal, Rule};
 use c_place_rules::refusal::refused;
 use c_rules::unary::is_scalar;
 use c_rules::value::{converted, integer, typed};
-use c_rules::{Class, Refusal, Rule, TypedValue};
+use c_rules::{Class, TypedValue};
 use c_tree::{Expression, Extent};
 use sb_base::Line;
 use std::alloc::Global;

@@ -1,7 +1,7 @@
 -- Members that lie at the start of their structure, from one on.
 use Rattle.std.proofs.Common.{◌≡◌, ℕ, zero, suc, ◌+◌, ◌&&◌, true, false, List, [], ◌∷◌, map, drop}
 use Rattle.std.proofs.Common.{slice_get, refl, ap, ◌∙◌, arith}
-use Rattle.c_place_rules.specs.declared.place.Member.{Member}
+use Rattle.c_tree.specs.declared.member.Member.{Member}
 use Rattle.c_scope.specs.Names.{Name}
 use Rattle.c_current_object.specs.Members.{is_union, lies_at_start}
 

@@ -1,8 +1,8 @@
 -- The current object (C99 6.7.8 paragraphs 17, 18 and 20): the subobject that the next initializer is for.
 use Rattle.std.specs.Prelude.{ℕ, zero, suc, ◌^◌, Bool, true, false, List, [], ◌∷◌, ◌++◌, Option, Some, None, Ok}
 use Rattle.c_tree.specs.Extents.{TypeExtent}
-use Rattle.c_rules.specs.declared.fault.Rule.TheVariants.{MisplacedItem}
-use Rattle.c_rules.specs.Answer.{Answer, violates}
+use Rattle.c_faults.specs.declared.fault.Rule.TheVariants.{MisplacedItem}
+use Rattle.c_faults.specs.Answer.{Answer, violates}
 use Rattle.c_current_object.specs.declared.current.CurrentObject.{CurrentObject}
 use Rattle.c_current_object.specs.declared.current.Open.{Open}
 use Rattle.c_current_object.specs.declared.filler.Filler.{Filler}

@@ -1,7 +1,7 @@
 -- The members of structures and unions in the order of their declarations (C99 6.7.2.1).
 use Rattle.std.specs.Prelude.{ℕ, ◌==◌, Bool, true, Option, Some, None, option_map}
 use Rattle.std.specs.List.{list_all}
-use Rattle.c_place_rules.specs.declared.place.Member.{Member}
+use Rattle.c_tree.specs.declared.member.Member.{Member}
 use Rattle.c_scope.specs.declared.structures.Structures as code
 use Rattle.c_scope.specs.Names.{Names}
 use Rattle.c_scope.specs.Structures.{Structures, members_of, structures_of}

@@ -6,7 +6,7 @@ use Rattle.c_tree.specs.declared.c_type.TypeWord.{TypeWord}
 use Rattle.c_tree.specs.declared.c_type.TypeWord.TheVariants.{Array, OpenArray, Structure}
 use Rattle.c_tree.specs.Extents.{TypeExtent, capped, extent_of}
 use Rattle.c_tree.specs.Layout.{array_size}
-use Rattle.c_place_rules.specs.declared.place.Member.{Member}
+use Rattle.c_tree.specs.declared.member.Member.{Member}
 use Rattle.c_rules.specs.Types.{unqualified}
 use Rattle.c_current_object.specs.declared.subobject.Step.{Step}
 use Rattle.c_current_object.specs.declared.subobject.Subobject.{Subobject}

@@ -6,8 +6,8 @@ ghost use Rattle.c_current_object.specs.Members.{lists_of};
 
 use crate::filler::Filler;
 use crate::subobject::{Subobject, element_number, member_number, number_behind};
+use c_faults::{Refusal, Rule};
 use c_place_rules::refusal::refused;
-use c_rules::{Refusal, Rule};
 use c_scope::structures::Structures;
 use c_tree::Extent;
 use sb_base::Line;
@@ -38,7 +38,7 @@ pub const MOST_LEVELS: u64 = 1 << 20;
 
 impl CurrentObject {
     ghost use Rattle.std.specs.Prelude.{◌≡◌, IfOk};
-    ghost use Rattle.c_rules.specs.Answer.{Gives};
+    ghost use Rattle.c_faults.specs.Answer.{Gives};
     ghost use Rattle.c_current_object.specs.CurrentObject.{alone, by_index, by_name, designated, first_part};
     ghost use Rattle.c_current_object.specs.CurrentObject.{part_within, reached};
     ghost use Rattle.c_current_object.specs.Members.{lists_of};

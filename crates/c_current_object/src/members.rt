@@ -4,8 +4,8 @@ ghost use Rattle.std.specs.Prelude.{◌≡◌, option_copied};
 ghost use Rattle.c_scope.specs.Names.{names_of};
 ghost use Rattle.c_current_object.specs.Members.{is_union, lies_at_start};
 
-use c_place_rules::Member;
 use c_scope::names::Names;
+use c_tree::Member;
 
 /// Whether members are initialized as those of a union are: all of them lie at the start.
 pub fn is_union(members: &Names<Member>) -> bool

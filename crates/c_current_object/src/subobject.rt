@@ -9,11 +9,10 @@ ghost use Rattle.c_current_object.specs.Subobjects.{element_number, following, m
 ghost use Rattle.c_current_object.specs.Subobjects.{number_behind, number_in, size_or_0};
 
 use crate::members::is_union;
-use c_place_rules::Member;
 use c_rules::value::unqualified;
 use c_scope::names::Names;
 use c_scope::structures::Structures;
-use c_tree::{CType, Extent, MAX_SIZE, TypeWord, array_size};
+use c_tree::{CType, Extent, MAX_SIZE, Member, TypeWord, array_size};
 use std::alloc::{AllocError, Global};
 use tree_containers::Items;
 

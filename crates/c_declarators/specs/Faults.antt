@@ -1,7 +1,7 @@
 -- The rules that the type of a declarator may violate by itself (C99 6.7.5.2, 6.7.5.3).
 use Rattle.std.specs.Prelude.{Bool, true, false, ◌||◌, Option, Some, None}
-use Rattle.c_rules.specs.declared.fault.Rule.{Rule}
-use Rattle.c_rules.specs.declared.fault.Rule.TheVariants.{Incomplete, MisplacedFunction, NoConstant, LargeType}
+use Rattle.c_faults.specs.declared.fault.Rule.{Rule}
+use Rattle.c_faults.specs.declared.fault.Rule.TheVariants.{Incomplete, MisplacedFunction, NoConstant, LargeType}
 use Rattle.c_declarators.specs.declared.faults.TypeFaults.{TypeFaults}
 
 abbrev pub no_faults : TypeFaults

@@ -2,7 +2,7 @@
 
 ghost use Rattle.std.specs.Prelude.{◌≡◌};
 
-use c_rules::Rule;
+use c_faults::Rule;
 
 /// Which rules a type violates by itself.
 #[derive(Clone, Copy, Debug, PartialEq, Eq)]

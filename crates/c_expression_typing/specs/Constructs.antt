@@ -8,8 +8,8 @@ use Rattle.c_syntax.specs.declared.position.Spelled.{Spelled}
 use Rattle.c_syntax.specs.Tree.{Expression, Specifiers, identifier, strings}
 use Rattle.c_tree.specs.declared.c_type.TypeWord.{TypeWord}
 use Rattle.c_tree.specs.declared.expression.Fixity.TheVariants as fixity
-use Rattle.c_rules.specs.declared.fault.Rule.TheVariants.{Operands}
-use Rattle.c_rules.specs.Answer.{Answer, violates, ◌>>=◌}
+use Rattle.c_faults.specs.declared.fault.Rule.TheVariants.{Operands}
+use Rattle.c_faults.specs.Answer.{Answer, violates, ◌>>=◌}
 use Rattle.c_rules.specs.Conversions.{cast}
 use Rattle.c_rules.specs.Values.{Value, value_of}
 use Rattle.c_place_rules.specs.Operands.{Operand, a_value}

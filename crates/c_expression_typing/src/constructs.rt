@@ -1,7 +1,7 @@
 //! Constructs whose parts are typed, as the recursion over the syntax puts them together.
 
 ghost use Rattle.std.specs.Prelude.{◌≡◌, ◌++◌, map, option_map, option_copied, IfOk, Ok};
-ghost use Rattle.c_rules.specs.Answer.{Gives};
+ghost use Rattle.c_faults.specs.Answer.{Gives};
 ghost use Rattle.c_rules.specs.Values.{value_of};
 ghost use Rattle.c_place_rules.specs.Operands.{a_value, operand_of};
 ghost use Rattle.c_call_rules.specs.Printing.{format_of};
@@ -17,13 +17,14 @@ ghost use Rattle.c_expression_typing.specs.Lines.{spellings};
 
 use c_call_rules::printing::Format;
 use c_condition_rules::conditional;
+use c_faults::{Refusal, Rule};
 use c_lexer::Punctuator;
 use c_place_rules::operand::Operand;
 use c_place_rules::place::size_of;
 use c_place_rules::refusal::refused;
+use c_rules::TypedValue;
 use c_rules::conversion::cast;
 use c_rules::holding::beside;
-use c_rules::{Refusal, Rule, TypedValue};
 use c_scope::meaning::Tag;
 use c_scope::tags::TagKind;
 use c_syntax::{Expression, Spelled};

@@ -4,9 +4,9 @@ use Rattle.std.specs.Prelude.{Option, Some, None, is_some, Result, Ok, Err, slic
 use Rattle.c_tree.specs.declared.c_type.TypeWord.{TypeWord}
 use Rattle.c_tree.specs.Extents.{TypeExtent}
 use Rattle.c_tree.specs.Statements.{Content, value_content, literal_content, Part}
-use Rattle.c_rules.specs.declared.fault.Refusal.{Refusal}
-use Rattle.c_rules.specs.declared.fault.Rule.TheVariants.{MisplacedItem}
-use Rattle.c_rules.specs.Answer.{Answer, Fails, violates, ◌>>=◌}
+use Rattle.c_faults.specs.declared.fault.Refusal.{Refusal}
+use Rattle.c_faults.specs.declared.fault.Rule.TheVariants.{MisplacedItem}
+use Rattle.c_faults.specs.Answer.{Answer, Fails, violates, ◌>>=◌}
 use Rattle.c_rules.specs.Conversions.{assigned}
 use Rattle.c_rules.specs.Values.{Value}
 use Rattle.c_current_object.specs.declared.current.CurrentObject.{CurrentObject}

@@ -1,8 +1,8 @@
 //! An initializer, read from left to right (C99 6.7.8 paragraphs 11 to 22).
 
 ghost use Rattle.std.specs.Prelude.{◌≡◌, ◌++◌, ◌∷◌, [], None, Err, IfOk, option_copied, unwrap_or};
-ghost use Rattle.c_rules.specs.declared.fault.Refusal.TheVariants.{Fault as OfFault};
-ghost use Rattle.c_rules.specs.declared.fault.Rule.TheVariants.{MisplacedItem};
+ghost use Rattle.c_faults.specs.declared.fault.Refusal.TheVariants.{Fault as OfFault};
+ghost use Rattle.c_faults.specs.declared.fault.Rule.TheVariants.{MisplacedItem};
 ghost use Rattle.c_current_object.specs.Members.{lists_of};
 ghost use Rattle.c_current_object.specs.Subobjects.{part};
 ghost use Rattle.c_initializer_rules.specs.Initializing.{braces_for, first_of, from_whole_list, further, is_literal};
@@ -13,9 +13,10 @@ use crate::parts::Parts;
 use crate::placed::PlacedPart;
 use c_current_object::current::next_in;
 use c_current_object::{CurrentObject, Filler, Open, Subobject, is_character_array};
+use c_faults::{Fault, Refusal, Rule};
+use c_rules::TypedValue;
 use c_rules::conversion::assigned;
 use c_rules::holding::beside;
-use c_rules::{Fault, Refusal, Rule, TypedValue};
 use c_scope::structures::Structures;
 use c_tree::{Content, Extent, Part, TypeWord};
 use sb_base::Line;

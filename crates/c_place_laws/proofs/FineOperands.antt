@@ -18,8 +18,8 @@ use Rattle.c_rules.specs.declared.class.Class.{Class}
 use Rattle.c_rules.specs.declared.class.Class.TheVariants as class
 use Rattle.c_rules.specs.declared.class.Target.{Target}
 use Rattle.c_rules.specs.declared.class.Target.TheVariants as target
-use Rattle.c_rules.specs.declared.fault.Rule.TheVariants.{ArrayOfValue, NoAddress}
-use Rattle.c_rules.specs.Answer.{violates, ◌>>=◌}
+use Rattle.c_faults.specs.declared.fault.Rule.TheVariants.{ArrayOfValue, NoAddress}
+use Rattle.c_faults.specs.Answer.{violates, ◌>>=◌}
 use Rattle.c_rules.specs.Types.{class_of, object_of, target_of, unqualified}
 use Rattle.c_rules.specs.Values.{Value}
 use Rattle.c_rules.specs.Fine.{IsFine, IfFine}

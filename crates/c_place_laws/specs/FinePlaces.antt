@@ -11,7 +11,7 @@ use Rattle.c_tree.specs.Tree.{kind_of, lvalue_kind}
 use Rattle.c_tree.specs.TypesAgree.{kind_of_type}
 use Rattle.c_tree.specs.Valid.{Scope, is_valid, is_converted, is_valid_lvalue, is_plain}
 use Rattle.c_rules.specs.declared.class.Target.TheVariants.{Object}
-use Rattle.c_rules.specs.Answer.{Answer}
+use Rattle.c_faults.specs.Answer.{Answer}
 use Rattle.c_rules.specs.Types.{target_of}
 use Rattle.c_rules.specs.Values.{Value}
 use Rattle.c_rules.specs.Fine.{IsFine}

@@ -9,8 +9,8 @@ use Rattle.c_tree.specs.Tree.{kind_of}
 use Rattle.c_tree.specs.Tree.{lvalue_kind, lvalue_line}
 use Rattle.c_tree.specs.Valid.{is_lvalue}
 use Rattle.c_tree.specs.View.{expression_of, lvalue_of}
-use Rattle.c_rules.specs.declared.fault.Rule.TheVariants.{ArrayOfValue}
-use Rattle.c_rules.specs.Answer.{Answer, violates, ◌>>=◌}
+use Rattle.c_faults.specs.declared.fault.Rule.TheVariants.{ArrayOfValue}
+use Rattle.c_faults.specs.Answer.{Answer, violates, ◌>>=◌}
 use Rattle.c_rules.specs.Types.{unqualified}
 use Rattle.c_rules.specs.Values.{Value, value_of}
 use Rattle.c_place_rules.specs.declared.operand.TypedPlace as code_place

@@ -18,11 +18,11 @@ use Rattle.c_rules.specs.declared.class.Class.{Class}
 use Rattle.c_rules.specs.declared.class.Class.TheVariants as class
 use Rattle.c_rules.specs.declared.class.Target.{Target}
 use Rattle.c_rules.specs.declared.class.Target.TheVariants as target
-use Rattle.c_rules.specs.declared.fault.Rule.TheVariants.{Incomplete, NoMember, NoTarget, NoAddress, Operands}
-use Rattle.c_rules.specs.Answer.{Answer, violates, ◌>>=◌}
+use Rattle.c_faults.specs.declared.fault.Rule.TheVariants.{Incomplete, NoMember, NoTarget, NoAddress, Operands}
+use Rattle.c_faults.specs.Answer.{Answer, violates, ◌>>=◌}
 use Rattle.c_rules.specs.Types.{class_of, target_of}
 use Rattle.c_rules.specs.Values.{Value, integer_words}
-use Rattle.c_place_rules.specs.declared.place.Member as code
+use Rattle.c_tree.specs.declared.member.Member as code
 use Rattle.c_place_rules.specs.declared.place.Element as code_element
 use Rattle.c_place_rules.specs.Targets.{pointee_of, object_kind, is_const, qualified}
 use Rattle.c_place_rules.specs.Operands.{Place, Operand, a_value, a_place, a_variable, a_function}

@@ -10,5 +10,5 @@ pub mod target;
 
 pub use crate::operand::{Operand, TypedPlace, TypedVariable, enclosed, value_in};
 pub use crate::place::{
-    Member, address, arrow, dereferenced, indexed, selected, size_of, structure_number, type_in,
+    address, arrow, dereferenced, indexed, selected, size_of, structure_number, type_in,
 };

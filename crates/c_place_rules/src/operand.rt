@@ -3,7 +3,7 @@
 ghost use Rattle.std.specs.Prelude.{◌≡◌, IfOk, Ok};
 ghost use Rattle.c_tree.specs.View.{expression_of, lvalue_of};
 ghost use Rattle.c_tree.specs.Valid.{is_lvalue};
-ghost use Rattle.c_rules.specs.Answer.{Gives};
+ghost use Rattle.c_faults.specs.Answer.{Gives};
 ghost use Rattle.c_rules.specs.Values.{value_of};
 ghost use Rattle.c_place_rules.specs.Operands.{decayed, element_of, element_pointer, enclosed, enclosed_name};
 ghost use Rattle.c_place_rules.specs.Operands.{enclosed_place};
@@ -12,9 +12,10 @@ ghost use Rattle.c_place_rules.specs.Operands.{loaded};
 ghost use Rattle.c_place_rules.specs.Operands.{operand_of, place_of, read_value, value_in, variable_of, variable_value};
 
 use crate::target::{pointer_to, unqualified_type};
+use c_faults::{Fault, Refusal, Rule};
+use c_rules::TypedValue;
 use c_rules::holding::beside;
 use c_rules::value::unqualified;
-use c_rules::{Fault, Refusal, Rule, TypedValue};
 use c_tree::{CType, Expression, Kind, Lvalue, LvalueNode, Node, PlainName, TypeWord};
 use obj_memory::Scalar;
 use sb_base::Line;

@@ -1,7 +1,7 @@
 //! `*`, `&`, `[]`, `.`, `->` and `sizeof` (C99 6.5.2.1, 6.5.2.3, 6.5.3.2, 6.5.3.4).
 
 ghost use Rattle.std.specs.Prelude.{◌≡◌, option_map, Ok};
-ghost use Rattle.c_rules.specs.Answer.{Gives};
+ghost use Rattle.c_faults.specs.Answer.{Gives};
 ghost use Rattle.c_rules.specs.Values.{value_of};
 ghost use Rattle.c_place_rules.specs.Operands.{a_function, a_place, operand_of, place_of};
 ghost use Rattle.c_place_rules.specs.Places.{address, arrow, dereferenced, designated, element_view, function_address};
@@ -15,25 +15,15 @@ ghost use Rattle.c_place_rules.specs.Places.{type_in};
 use crate::operand::{Operand, POINTER, TypedPlace, is_lvalue};
 use crate::refusal::refused;
 use crate::target::{is_const, object_kind, pointee, pointee_type, pointer_to, qualified, target};
+use c_faults::{Fault, Refusal, Rule};
 use c_rules::holding::{beside, boxed_pair};
 use c_rules::value::{integer, typed};
-use c_rules::{Class, Fault, Refusal, Rule, Target, TypedValue};
-use c_tree::{CType, Expression, Extent, Lvalue, LvalueNode, Node, OffsetForm, TypeWord};
+use c_rules::{Class, Target, TypedValue};
+use c_tree::{CType, Expression, Extent, Lvalue, LvalueNode, Member, Node, OffsetForm, TypeWord};
 use obj_memory::IntType;
 use sb_base::Line;
 use std::alloc::Global;
 use tree_containers::Boxed;
-
-/// A member of a structure or union.
-#[derive(Drop)]
-pub struct Member {
-    /// Its type.
-    pub c_type: CType,
-    /// Its place in the structure, in bytes.
-    pub offset: u64,
-    /// Its bytes.
-    pub size: u64,
-}
 
 /// `*` of a pointer: the object or the function that it points to. The rule on targets is violated by what is no
 /// pointer to

@@ -2,9 +2,9 @@
 //! the type is a parameter.
 
 ghost use Rattle.std.specs.Prelude.{◌≡◌, Err};
-ghost use Rattle.c_rules.specs.declared.fault.Refusal.TheVariants.{Fault as OfFault};
+ghost use Rattle.c_faults.specs.declared.fault.Refusal.TheVariants.{Fault as OfFault};
 
-use c_rules::{Fault, Refusal, Rule};
+use c_faults::{Fault, Refusal, Rule};
 use sb_base::Line;
 
 /// Lets a value go, and answers that a rule is violated on a line.

@@ -11,11 +11,11 @@ use Rattle.c_tree.specs.declared.expression.OffsetForm.TheVariants.{PointerMinus
 use Rattle.c_tree.specs.Extents.{TypeExtent}
 use Rattle.c_tree.specs.Kinds.{integer, pointer}
 use Rattle.c_tree.specs.Tree.{expression, binary as binary_node, offset_by, difference}
-use Rattle.c_rules.specs.declared.fault.Rule.TheVariants.{Operands}
+use Rattle.c_faults.specs.declared.fault.Rule.TheVariants.{Operands}
 use Rattle.c_rules.specs.declared.row.Row.{Row}
 use Rattle.c_rules.specs.declared.row.Row.TheVariants as row
 use Rattle.c_rules.specs.declared.row.Pair.{Pair}
-use Rattle.c_rules.specs.Answer.{Answer, violates}
+use Rattle.c_faults.specs.Answer.{Answer, violates}
 use Rattle.c_rules.specs.Types.{class_of, same_pointee}
 use Rattle.c_rules.specs.Values.{Value, integer_words, converted, is_null}
 use Rattle.c_rules.specs.Rows.{row_of}

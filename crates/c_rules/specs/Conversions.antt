@@ -10,10 +10,10 @@ use Rattle.c_tree.specs.Tree.{Expression, expression, cast as cast_node}
 use Rattle.c_tree.specs.TypesAgree.{same_words}
 use Rattle.c_rules.specs.declared.class.Class.{Class}
 use Rattle.c_rules.specs.declared.class.Class.TheVariants as class
-use Rattle.c_rules.specs.declared.fault.Rule.TheVariants.{NoCast, NoConversion}
+use Rattle.c_faults.specs.declared.fault.Rule.TheVariants.{NoCast, NoConversion}
 use Rattle.c_rules.specs.declared.conversion.Passing.{Passing}
 use Rattle.c_rules.specs.declared.conversion.Passing.TheVariants as passing
-use Rattle.c_rules.specs.Answer.{Answer, violates}
+use Rattle.c_faults.specs.Answer.{Answer, violates}
 use Rattle.c_rules.specs.Types.{unqualified, class_of, same_pointee}
 use Rattle.c_rules.specs.Values.{Value, converted, is_null}
 use Rattle.c_rules.specs.Rows.{may_meet}

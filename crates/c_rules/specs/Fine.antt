@@ -6,7 +6,7 @@ use Rattle.c_tree.specs.Kinds.{is_value}
 use Rattle.c_tree.specs.Tree.{Expression, kind_of}
 use Rattle.c_tree.specs.TypesAgree.{kind_of_type}
 use Rattle.c_tree.specs.Valid.{Scope, is_valid, is_converted}
-use Rattle.c_rules.specs.Answer.{Answer}
+use Rattle.c_faults.specs.Answer.{Answer}
 use Rattle.c_rules.specs.Values.{Value}
 
 -- a value whose tree is valid where names stand for this, has the kind of its type, and is no implicit conversion, so

@@ -1,4 +1,3 @@
-pub mod Answer
 pub mod Types
 pub mod Values
 pub mod Rows

@@ -10,10 +10,10 @@ use Rattle.c_tree.specs.Tree.{Node, expression, unary as unary_node, logical_and
 use Rattle.c_tree.specs.Tree.{kind_of}
 use Rattle.c_rules.specs.declared.class.Class.{Class}
 use Rattle.c_rules.specs.declared.class.Class.TheVariants as class
-use Rattle.c_rules.specs.declared.fault.Rule.TheVariants.{Operands}
+use Rattle.c_faults.specs.declared.fault.Rule.TheVariants.{Operands}
 use Rattle.c_rules.specs.declared.unary.LogicalOperator.{LogicalOperator}
 use Rattle.c_rules.specs.declared.unary.LogicalOperator.TheVariants as logical
-use Rattle.c_rules.specs.Answer.{Answer, violates}
+use Rattle.c_faults.specs.Answer.{Answer, violates}
 use Rattle.c_rules.specs.Types.{class_of}
 use Rattle.c_rules.specs.Values.{Value, integer_words, converted}
 

@@ -2,15 +2,15 @@
 
 ghost use Rattle.std.specs.Prelude.{◌≡◌, IfOk};
 ghost use Rattle.c_tree.specs.View.{expression_of};
-ghost use Rattle.c_rules.specs.Answer.{Gives};
+ghost use Rattle.c_faults.specs.Answer.{Gives};
 ghost use Rattle.c_rules.specs.Binary.{binary, built, counted, moved, operated, pair_of};
 ghost use Rattle.c_rules.specs.Values.{converted, value_of};
 
 use crate::class::Class;
-use crate::fault::{Fault, Refusal, Rule};
 use crate::holding::{beside, boxed_pair};
 use crate::row::{Pair, Row};
 use crate::value::{TypedValue, converted, integer, is_null, same_pointee, typed};
+use c_faults::{Fault, Refusal, Rule};
 use c_tree::{Expression, Extent, Kind, Node, OffsetForm};
 use obj_memory::{BinaryOperator, IntType, Scalar};
 use sb_base::Line;

@@ -2,20 +2,18 @@
 
 ghost use Rattle.std.specs.Prelude.{◌≡◌};
 ghost use Rattle.c_tree.specs.View.{expression_of};
-ghost use Rattle.c_rules.specs.Answer.{Gives};
+ghost use Rattle.c_faults.specs.Answer.{Gives};
 ghost use Rattle.c_rules.specs.Conversions.{are_one_structure, assigned, cast, cast_kind, is_structure_type};
 ghost use Rattle.c_rules.specs.Conversions.{is_void_type, passed, passing_of};
 ghost use Rattle.c_rules.specs.Values.{value_of};
 
 use crate::class::Class;
-use crate::fault::{Fault, Refusal, Rule};
 use crate::holding::beside;
 use crate::row::may_meet;
 use crate::unary::is_scalar;
-use crate::value::{
-    TypedValue, converted, integer, is_null, same_pointee, same_words, unqualified,
-};
-use c_tree::{CType, Expression, Extent, Kind, Node, TypeWord};
+use crate::value::{TypedValue, converted, integer, is_null, same_pointee, unqualified};
+use c_faults::{Fault, Refusal, Rule};
+use c_tree::{CType, Expression, Extent, Kind, Node, TypeWord, same_words};
 use obj_memory::Scalar;
 use sb_base::Line;
 use std::alloc::Global;

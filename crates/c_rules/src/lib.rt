@@ -5,7 +5,6 @@
 pub mod between;
 pub mod class;
 pub mod conversion;
-pub mod fault;
 pub mod holding;
 pub mod laws;
 pub mod row;
@@ -15,7 +14,6 @@ pub mod value;
 pub use crate::between::binary;
 pub use crate::class::{Class, Target};
 pub use crate::conversion::{Passing, assigned, cast};
-pub use crate::fault::{Fault, Refusal, Rule};
 pub use crate::row::Row;
 pub use crate::unary::{LogicalOperator, comma, logical};
 pub use crate::value::TypedValue;

@@ -2,14 +2,14 @@
 
 ghost use Rattle.std.specs.Prelude.{◌≡◌, Ok};
 ghost use Rattle.c_tree.specs.View.{expression_of};
-ghost use Rattle.c_rules.specs.Answer.{Gives};
+ghost use Rattle.c_faults.specs.Answer.{Gives};
 ghost use Rattle.c_rules.specs.Unary.{combined, comma, is_scalar, negating, promoting, unary};
 ghost use Rattle.c_rules.specs.Values.{integer_words, value_of};
 
 use crate::class::Class;
-use crate::fault::{Fault, Refusal, Rule};
 use crate::holding::boxed_pair;
 use crate::value::{TypedValue, converted, integer, typed};
+use c_faults::{Fault, Refusal, Rule};
 use c_tree::{Expression, Extent, Node};
 use obj_memory::{IntType, UnaryOperator};
 use sb_base::Line;

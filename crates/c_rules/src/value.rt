@@ -5,14 +5,14 @@ ghost use Rattle.c_tree.specs.Kinds.{integer, is_kind};
 ghost use Rattle.c_tree.specs.View.{expression_of};
 ghost use Rattle.c_tree.specs.Tree.{kind_of};
 ghost use Rattle.c_rules.specs.Types.{same_pointee, same_pointee_behind, unqualified};
-ghost use Rattle.c_tree.specs.TypesAgree.{same_word, same_words};
-ghost use Rattle.c_rules.specs.Answer.{Gives};
+ghost use Rattle.c_tree.specs.TypesAgree.{same_words};
+ghost use Rattle.c_faults.specs.Answer.{Gives};
 ghost use Rattle.c_rules.specs.Values.{converted, integer_words, is_null, is_null_tree, is_zero, value_of};
 
-use crate::fault::Refusal;
 use crate::holding::beside;
 use c_const::constant_word;
-use c_tree::{CType, Expression, Kind, Node, TypeWord};
+use c_faults::Refusal;
+use c_tree::{CType, Expression, Kind, Node, TypeWord, same_words};
 use obj_memory::{IntType, Scalar};
 use std::alloc::{AllocError, Global};
 use tree_containers::Boxed;
@@ -94,43 +94,6 @@ pub fn same_pointee(left: &[TypeWord], right: &[TypeWord]) -> bool
         ([TypeWord::Pointer, s @ ..], [TypeWord::Pointer, t @ ..]) => {
             same_words(unqualified(s), unqualified(t))
         }
-        _ => false,
-    }
-}
-
-/// Whether both types are the same.
-pub fn same_words(left: &[TypeWord], right: &[TypeWord]) -> bool
-    ensures { result ≡ same_words left.now right.now }
-{
-    match left {
-        [] => right.is_empty(),
-        [first, behind @ ..] => match right {
-            [] => false,
-            [other, others @ ..] => same_word(*first, *other) && same_words(behind, others),
-        },
-    }
-}
-
-fn same_word(left: TypeWord, right: TypeWord) -> bool
-    ensures { result ≡ same_word left right }
-{
-    match (left, right) {
-        (TypeWord::Integer(s), TypeWord::Integer(t)) => s as u8 == t as u8,
-        (TypeWord::Enumeration(m), TypeWord::Enumeration(n))
-        | (TypeWord::Structure(m), TypeWord::Structure(n)) => m == n,
-        (
-            TypeWord::Array { count, bytes },
-            TypeWord::Array {
-                count: others,
-                bytes: size,
-            },
-        ) => { count == others && bytes == size }
-        (TypeWord::Void, TypeWord::Void)
-        | (TypeWord::Pointer, TypeWord::Pointer)
-        | (TypeWord::OpenArray, TypeWord::OpenArray)
-        | (TypeWord::Const, TypeWord::Const)
-        | (TypeWord::Takes, TypeWord::Takes)
-        | (TypeWord::Gives, TypeWord::Gives) => true,
         _ => false,
     }
 }

@@ -1,7 +1,7 @@
 -- Enumerators (C99 6.7.2.2).
 use Rattle.std.specs.Prelude.{ℕ, if◌then◌else◌, Option, Some, None, is_some, Ok}
-use Rattle.c_rules.specs.declared.fault.Rule.TheVariants.{NoConstant, Redeclared}
-use Rattle.c_rules.specs.Answer.{Answer, violates}
+use Rattle.c_faults.specs.declared.fault.Rule.TheVariants.{NoConstant, Redeclared}
+use Rattle.c_faults.specs.Answer.{Answer, violates}
 use Rattle.c_scope.specs.declared.meaning.Meaning.TheVariants.{Constant}
 use Rattle.c_scope.specs.Environment.{Environment, with_name}
 use Rattle.c_scope.specs.Names.{Name, declared}

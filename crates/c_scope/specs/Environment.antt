@@ -3,8 +3,8 @@ use Rattle.std.specs.Prelude.{◌≡◌, ℕ, ◌+◌, Bool, true, false, ◌||�
 use Rattle.std.specs.Prelude.{Option, Some, None, is_some, Result, Ok, Err, slice_get}
 use Rattle.c_tree.specs.declared.c_type.TypeWord.{TypeWord}
 use Rattle.c_tree.specs.declared.c_type.TypeWord.TheVariants as word
-use Rattle.c_rules.specs.declared.fault.Refusal.{Refusal}
-use Rattle.c_rules.specs.Answer.{Answer, Fails, ◌>>=◌}
+use Rattle.c_faults.specs.declared.fault.Refusal.{Refusal}
+use Rattle.c_faults.specs.Answer.{Answer, Fails, ◌>>=◌}
 use Rattle.c_scope.specs.declared.environment.Environment as code
 use Rattle.c_scope.specs.declared.environment.Facts as code_facts
 use Rattle.c_scope.specs.declared.meaning.Designated.{Designated}

@@ -10,7 +10,7 @@ use Rattle.c_scope.specs.declared.meaning.LibraryFunction.{LibraryFunction}
 use Rattle.c_scope.specs.declared.meaning.LibraryFunction.TheVariants as library
 use Rattle.c_scope.specs.declared.meaning.Meaning.TheVariants.{Named, Typedef}
 use Rattle.c_scope.specs.Environment.{Environment, Facts, with_name}
-use Rattle.c_call_rules.specs.Routines.{routine_words}
+use Rattle.c_tree.specs.Routines.{routine_words}
 use Rattle.c_scope.specs.Library.{name_of, routines}
 use Rattle.c_scope.specs.Names.{Name, bound}
 use Rattle.c_scope.specs.Structures.{none}

@@ -2,7 +2,7 @@
 use Rattle.std.specs.Prelude.{ℕ, zero, suc, Bool, true, false, List, [], ◌∷◌, ◌++◌, map, Option, Some, None}
 use Rattle.std.specs.Prelude.{if◌then◌else◌, option_copied, slice_get}
 use Rattle.c_tree.specs.Extents.{TypeExtent}
-use Rattle.c_place_rules.specs.declared.place.Member.{Member}
+use Rattle.c_tree.specs.declared.member.Member.{Member}
 use Rattle.c_scope.specs.declared.structures.Body as code
 use Rattle.c_scope.specs.declared.structures.Structures as code_structures
 use Rattle.c_scope.specs.Names.{Name, Names, declared, names_of}

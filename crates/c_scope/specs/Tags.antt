@@ -1,9 +1,9 @@
 -- Tags of structures, unions and enumerations (C99 6.7.2.3).
 use Rattle.std.specs.Prelude.{◌≡◌, ℕ, Bool, true, false, not, ◌&&◌, if◌then◌else◌, [], ◌∷◌, ◌++◌, length}
 use Rattle.std.specs.Prelude.{Option, Some, None, Result, Ok, Err, slice_get}
-use Rattle.c_rules.specs.declared.fault.Refusal.{Refusal}
-use Rattle.c_rules.specs.declared.fault.Rule.TheVariants.{MistakenTag}
-use Rattle.c_rules.specs.Answer.{Answer, Fails, violates}
+use Rattle.c_faults.specs.declared.fault.Refusal.{Refusal}
+use Rattle.c_faults.specs.declared.fault.Rule.TheVariants.{MistakenTag}
+use Rattle.c_faults.specs.Answer.{Answer, Fails, violates}
 use Rattle.c_scope.specs.declared.meaning.Tag.{Tag}
 use Rattle.c_scope.specs.declared.meaning.Tag.TheVariants as tag
 use Rattle.c_scope.specs.declared.tags.TagKind.{TagKind}

@@ -3,8 +3,7 @@
 ghost use Rattle.std.specs.Prelude.{◌≡◌, IfOk, is_some, option_map};
 ghost use Rattle.c_scope.specs.Composite.{composite, joint};
 
-use c_rules::value::same_words;
-use c_tree::{CType, TypeWord};
+use c_tree::{CType, TypeWord, same_words};
 use std::alloc::{AllocError, Global};
 
 /// The composite of two types, where they are compatible: of two arrays one of which has no size it has the other's

@@ -10,7 +10,7 @@ ghost use Rattle.c_scope.specs.Declaring.{sized_by_initializer, surroundings_of}
 
 use crate::composite::are_compatible;
 use crate::meaning::{Designated, Entity, Meaning, Storage};
-use c_rules::{Fault, Rule};
+use c_faults::{Fault, Rule};
 use c_tree::{Extent, TypeWord};
 use sb_base::Line;
 
@@ -149,7 +149,7 @@ impl Declared<'_, '_> {
 
 impl Surroundings<'_> {
     ghost use Rattle.std.specs.Prelude.{◌≡◌};
-    ghost use Rattle.c_rules.specs.Answer.{Answer};
+    ghost use Rattle.c_faults.specs.Answer.{Answer};
 
     fn is_redeclared(&self, declared: &Declared) -> bool
         ensures { result ≡ is_redeclared (surroundings_of self.now) (declaration_of declared.now) }

@@ -5,7 +5,7 @@ ghost use Rattle.c_scope.specs.Enumerators.{enumerated};
 
 use crate::environment::Environment;
 use crate::meaning::Meaning;
-use c_rules::{Fault, Refusal, Rule};
+use c_faults::{Fault, Refusal, Rule};
 use sb_base::Line;
 
 impl<'a> Environment<'a> {

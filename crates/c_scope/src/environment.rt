@@ -1,7 +1,7 @@
 //! What stands for names where a construct is typed, and what a declarator adds (C99 6.2.1 to 6.2.4, 6.7, 6.9.2).
 
 ghost use Rattle.std.specs.Prelude.{◌≡◌, ◌+◌, OnOk, IfOk, is_some, length, map, option_copied, Ok};
-ghost use Rattle.c_rules.specs.Answer.{Gives};
+ghost use Rattle.c_faults.specs.Answer.{Gives};
 ghost use Rattle.c_scope.specs.Composite.{composite};
 ghost use Rattle.c_scope.specs.Declaring.{Surroundings, declaration_of, surroundings_of};
 ghost use Rattle.c_scope.specs.Environment.{at_end, declared_in, designated, ends_complete};
@@ -16,7 +16,7 @@ use crate::declaring::{Declared, Surroundings, is_function, is_linked};
 use crate::meaning::{Designated, Entity, Meaning, Storage, Tag};
 use crate::names::{Names, Scopes};
 use crate::structures::Structures;
-use c_rules::Refusal;
+use c_faults::Refusal;
 use c_tree::{CType, TypeWord};
 use std::alloc::{AllocError, Global};
 

@@ -3,8 +3,7 @@
 ghost use Rattle.std.specs.Prelude.{◌≡◌, IfOk};
 
 use crate::names::Duplicate;
-use c_place_rules::Member;
-use c_tree::{CType, Routine};
+use c_tree::{CType, Member, Routine};
 use std::alloc::{AllocError, Global};
 
 /// A function of the library (C99 7.19 to 7.21).

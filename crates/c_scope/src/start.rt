@@ -10,8 +10,7 @@ use crate::library::{ROUTINES, name};
 use crate::meaning::{Designated, Entity, LibraryFunction, Meaning};
 use crate::names::{Names, Scopes};
 use crate::structures::Structures;
-use c_call_rules::routine_type;
-use c_tree::{CType, Routine, TypeWord};
+use c_tree::{CType, Routine, TypeWord, routine_type};
 use obj_memory::IntType;
 use std::alloc::{AllocError, Global};
 

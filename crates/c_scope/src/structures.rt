@@ -1,8 +1,7 @@
 //! The structures and unions of a source (C99 6.7.2.1), by number in the order of their declarations.
 
 use crate::names::Names;
-use c_place_rules::Member;
-use c_tree::Extent;
+use c_tree::{Extent, Member};
 use std::alloc::{AllocError, Global};
 
 /// What is said of a structure or union beside its size and alignment.

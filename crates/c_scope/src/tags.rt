@@ -1,14 +1,14 @@
 //! Tags of structures, unions and enumerations (C99 6.7.2.3).
 
 ghost use Rattle.std.specs.Prelude.{◌≡◌, Err, IfOk, OnOk, option_copied};
-ghost use Rattle.c_rules.specs.declared.fault.Refusal.TheVariants.{Fault as OfFault};
-ghost use Rattle.c_rules.specs.declared.fault.Rule.TheVariants.{MistakenTag};
+ghost use Rattle.c_faults.specs.declared.fault.Refusal.TheVariants.{Fault as OfFault};
+ghost use Rattle.c_faults.specs.declared.fault.Rule.TheVariants.{MistakenTag};
 ghost use Rattle.c_scope.specs.Environment.{environment_of};
 ghost use Rattle.c_scope.specs.Tags.{is_enumeration, is_of};
 
 use crate::environment::Environment;
 use crate::meaning::Tag;
-use c_rules::{Fault, Refusal, Rule};
+use c_faults::{Fault, Refusal, Rule};
 use sb_base::Line;
 use std::alloc::{AllocError, Global};
 

@@ -2,9 +2,9 @@
 use Rattle.std.proofs.Common.{◌≡◌, ℕ, Bool, Result, Ok, Err, refl, sym, ap, ◌∙◌, subst, false}
 use Rattle.c_syntax.specs.declared.position.Position.{Position}
 use Rattle.c_syntax.specs.Tree.{Declarator, Expression, MoreDeclarators, Specifier, Specifiers, member_declaration}
-use Rattle.c_rules.specs.declared.fault.Refusal.{Refusal}
-use Rattle.c_rules.specs.declared.fault.Refusal.TheVariants.{Memory, Fault}
-use Rattle.c_rules.specs.Answer.{Answer, Fails, Gives, ◌>>=◌}
+use Rattle.c_faults.specs.declared.fault.Refusal.{Refusal}
+use Rattle.c_faults.specs.declared.fault.Refusal.TheVariants.{Memory, Fault}
+use Rattle.c_faults.specs.Answer.{Answer, Fails, Gives, ◌>>=◌}
 use Rattle.c_place_rules.specs.declared.operand.Operand as code_operand
 use Rattle.c_place_rules.specs.Operands.{operand_of}
 use Rattle.c_typing.specs.declared.members.Entries as code_entries

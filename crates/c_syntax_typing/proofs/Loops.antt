@@ -1,8 +1,8 @@
 -- Items of a list that are typed one behind the other, and their levels: what a turn of a loop over the list does.
 use Rattle.std.proofs.Common.{◌≡◌, ℕ, ◌+◌, ◌<◌, List, ◌∷◌, Ok, length, drop, get_or, max, sym, ap, ◌∙◌, subst}
 use Rattle.std.proofs.lemmas.List.{drop_more}
-use Rattle.c_rules.specs.declared.fault.Refusal.{Refusal}
-use Rattle.c_rules.specs.Answer.{Fails, ◌>>=◌}
+use Rattle.c_faults.specs.declared.fault.Refusal.{Refusal}
+use Rattle.c_faults.specs.Answer.{Fails, ◌>>=◌}
 use Rattle.c_typing.specs.State.{State, Typing, ◌>>>◌}
 use Rattle.c_syntax_typing.proofs.Composing.{fails_on}
 

@@ -7,7 +7,7 @@ use Rattle.c_syntax.specs.declared.tree.Expression.{Expression}
 use Rattle.c_syntax.specs.declared.tree.Specifier.{Specifier}
 use Rattle.c_syntax.specs.Levels.{declarator_levels, expression_levels, specifiers_levels}
 use Rattle.c_syntax.specs.View.{declarator_of, expression_of, specifiers_in}
-use Rattle.c_rules.specs.declared.fault.Refusal.{Refusal}
+use Rattle.c_faults.specs.declared.fault.Refusal.{Refusal}
 use Rattle.c_place_rules.specs.declared.operand.Operand.{Operand}
 use Rattle.c_typing.specs.declared.shape.Shape.{Shape}
 use Rattle.c_typing.specs.declared.specification.Specification.{Specification}

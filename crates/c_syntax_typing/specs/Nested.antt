@@ -8,7 +8,7 @@ use Rattle.c_syntax.specs.declared.tree.Specifier as code_specifier
 use Rattle.c_syntax.specs.Tree.{Declarator, Expression, Specifiers}
 use Rattle.c_syntax.specs.View.{declarator_of, expression_of, specifiers_in}
 use Rattle.c_syntax.specs.Levels.{declarator_levels, expression_levels, specifiers_levels}
-use Rattle.c_rules.specs.declared.fault.Refusal.{Refusal}
+use Rattle.c_faults.specs.declared.fault.Refusal.{Refusal}
 use Rattle.c_place_rules.specs.declared.operand.Operand as code_operand
 use Rattle.c_place_rules.specs.Operands.{operand_of}
 use Rattle.c_typing.specs.declared.shape.Shape as code_shape

@@ -1,6 +1,6 @@
 -- What specifiers say with a typedef name (C99 6.7.7).
 use Rattle.std.specs.Prelude.{ℕ, Ok}
-use Rattle.c_rules.specs.Answer.{Answer, ◌>>=◌}
+use Rattle.c_faults.specs.Answer.{Answer, ◌>>=◌}
 use Rattle.c_scope.specs.Names.{Name}
 use Rattle.c_typing.specs.Specifications.{Gathered, typedef_type, with_named}
 use Rattle.c_typing.specs.State.{State}

@@ -3,8 +3,8 @@
 use crate::dropped::without;
 use crate::nested::Nested;
 use c_expression_typing::constructs::enumerated_as;
+use c_faults::Refusal;
 use c_place_rules::operand::Operand;
-use c_rules::Refusal;
 use c_syntax::{Boxed, Declarator, Enumerator, Expression, Position, Specifier, Spelled};
 use c_typing::sizes::enumeration_value;
 use c_typing::{Shape, Specification, Typer};

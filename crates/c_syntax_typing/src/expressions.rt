@@ -5,10 +5,10 @@ use crate::nested::Nested;
 use c_expression_typing::constructs::{
     accessed, cast_to, character, chosen, integer, prefixed, sized, strings,
 };
+use c_faults::Refusal;
 use c_lexer::Punctuator;
 use c_place_rules::operand::{Operand, enclosed};
 use c_place_rules::place::type_in;
-use c_rules::Refusal;
 use c_rules::holding::beside;
 use c_syntax::{Boxed, Declarator, Expression, Position, Specifier, Spelled, TypedDeclarator};
 use c_tree::Fixity;

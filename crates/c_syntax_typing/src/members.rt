@@ -2,8 +2,8 @@
 
 use crate::dropped::without;
 use crate::nested::Nested;
+use c_faults::Refusal;
 use c_place_rules::operand::Operand;
-use c_rules::Refusal;
 use c_rules::holding::beside;
 use c_syntax::{Boxed, Declarator, Expression, Member, Position, Specifier};
 use c_typing::{Entries, Shape, Specification, Typer};

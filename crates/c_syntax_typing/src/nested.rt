@@ -1,7 +1,8 @@
 //! The rules for a construct take the functions that type its parts as values, so that each rule is proved by itself.
 
+use c_faults::Refusal;
 use c_place_rules::operand::Operand;
-use c_rules::{Refusal, TypedValue};
+use c_rules::TypedValue;
 use c_syntax::{Boxed, Declarator, Expression, Specifier};
 use c_typing::{Shape, Specification, Typer};
 

@@ -1,7 +1,7 @@
 //! Specifiers (C99 6.7.1 to 6.7.4).
 
 ghost use Rattle.std.specs.Prelude.{◌≡◌};
-ghost use Rattle.c_rules.specs.Answer.{Gives};
+ghost use Rattle.c_faults.specs.Answer.{Gives};
 ghost use Rattle.c_syntax_typing.specs.Specifiers.{with_typedef_name};
 ghost use Rattle.c_typing.specs.Specifications.{gathered_of, tag_type, with_named};
 ghost use Rattle.c_typing.specs.State.{Types, done, state_of, ◌>>>◌};
@@ -11,9 +11,9 @@ ghost use Rattle.c_expression_typing.specs.Lines.{name_of};
 use crate::nested::Nested;
 use c_expression_typing::constructs::{begun_as, tagged_as, with_tag};
 use c_expression_typing::lines::{first_line, tag_name};
+use c_faults::Refusal;
 use c_lexer::Keyword;
 use c_place_rules::operand::Operand;
-use c_rules::Refusal;
 use c_rules::holding::beside;
 use c_scope::meaning::Tag;
 use c_scope::tags::TagKind;

@@ -3,8 +3,8 @@
 use crate::dropped::without;
 use crate::lists::{only, with_item};
 use crate::nested::Nested;
+use c_faults::Refusal;
 use c_place_rules::operand::Operand;
-use c_rules::Refusal;
 use c_rules::holding::beside;
 use c_syntax::{Declarator, Expression, Parameters, Position, Specifier, TypedDeclarator};
 use c_tree::CType;

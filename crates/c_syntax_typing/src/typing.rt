@@ -8,8 +8,8 @@ ghost use Rattle.c_typing.specs.State.{Types, state_of};
 ghost use Rattle.c_expression_typing.specs.Typed.{shape, specification, type_name, typed};
 
 use crate::nested::Nested;
+use c_faults::Refusal;
 use c_place_rules::operand::Operand;
-use c_rules::Refusal;
 use c_syntax::{Declarator, Expression, Specifier, TypedDeclarator};
 use c_tree::CType;
 use c_typing::{Shape, Specification, Typer};

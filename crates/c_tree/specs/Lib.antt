@@ -13,5 +13,6 @@ pub mod Blocks
 pub mod Room
 pub mod Valid
 pub mod TypesAgree
+pub mod Routines
 pub mod ValidProgram
 pub mod Assigning

@@ -8,10 +8,10 @@ use Rattle.c_tree.specs.declared.program.Program.{Program as CodeProgram}
 use Rattle.c_tree.specs.Programs.{Program}
 use Rattle.c_tree.specs.ValidProgram.{is_valid_program}
 use Rattle.c_tree.specs.View as view
-use Rattle.c_rules.specs.declared.fault.Fault.{Fault}
-use Rattle.c_rules.specs.declared.fault.Refusal.{Refusal}
-use Rattle.c_rules.specs.declared.fault.Refusal.TheVariants as rules
-use Rattle.c_rules.specs.Answer.{Fails}
+use Rattle.c_faults.specs.declared.fault.Fault.{Fault}
+use Rattle.c_faults.specs.declared.fault.Refusal.{Refusal}
+use Rattle.c_faults.specs.declared.fault.Refusal.TheVariants as rules
+use Rattle.c_faults.specs.Answer.{Fails}
 use Rattle.c_unit_typing.specs.declared.limits.Limited.{Limited}
 use Rattle.c_unit_typing.specs.Files.{File}
 use Rattle.c_unit_typing.specs.Programs.{program_of}

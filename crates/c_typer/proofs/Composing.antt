@@ -8,8 +8,8 @@ use Rattle.c_tree.specs.declared.statement.First as code_first
 use Rattle.c_tree.specs.declared.statement.Statement as code
 use Rattle.c_tree.specs.Statements.{Statement, first_expression}
 use Rattle.c_tree.specs.View.{first_of, statement_of}
-use Rattle.c_rules.specs.declared.fault.Refusal.{Refusal}
-use Rattle.c_rules.specs.Answer.{Answer, Fails, Gives, ◌>>=◌}
+use Rattle.c_faults.specs.declared.fault.Refusal.{Refusal}
+use Rattle.c_faults.specs.Answer.{Answer, Fails, Gives, ◌>>=◌}
 use Rattle.c_typing.specs.State.{State, Types, Typing, judged}
 use Rattle.c_syntax_typing.proofs.Composing.{fails_on}
 use Rattle.c_typer.specs.FileState.{FileTypes}

@@ -1,7 +1,7 @@
 -- Of equal designators the same is typed.
 use Rattle.std.proofs.Common.{◌≡◌, Result, subst}
 use Rattle.c_syntax.specs.Tree.{Designator}
-use Rattle.c_rules.specs.declared.fault.Refusal.{Refusal}
+use Rattle.c_faults.specs.declared.fault.Refusal.{Refusal}
 use Rattle.c_initializer_rules.specs.Initializing.{Initializing}
 use Rattle.c_typing.specs.State.{State, Types}
 use Rattle.c_unit_typing.specs.Initializers.{designated_once}

@@ -4,8 +4,8 @@ use Rattle.c_syntax.specs.Tree.{Expression}
 use Rattle.c_tree.specs.declared.statement.Statement as code
 use Rattle.c_tree.specs.Statements.{Statement}
 use Rattle.c_tree.specs.View.{statement_of}
-use Rattle.c_rules.specs.declared.fault.Refusal.{Refusal}
-use Rattle.c_rules.specs.Answer.{Answer, Fails}
+use Rattle.c_faults.specs.declared.fault.Refusal.{Refusal}
+use Rattle.c_faults.specs.Answer.{Answer, Fails}
 use Rattle.c_typing.specs.State.{State}
 use Rattle.c_typer.specs.FileState.{FileTypes}
 use Rattle.c_unit_typing.specs.Constructs.{do_behind, do_typed, scope_closed, scope_opened}

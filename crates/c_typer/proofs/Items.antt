@@ -5,8 +5,8 @@ use Rattle.c_syntax.specs.Statements as t
 use Rattle.c_tree.specs.declared.statement.CaseLabel.{CaseLabel}
 use Rattle.c_tree.specs.Statements.{Statement, Statements, SwitchItems, items, items_in, no_items, no_statements}
 use Rattle.c_tree.specs.Statements.{statements, statements_in}
-use Rattle.c_rules.specs.declared.fault.Refusal.{Refusal}
-use Rattle.c_rules.specs.Answer.{Answer, Fails, ◌>>=◌}
+use Rattle.c_faults.specs.declared.fault.Refusal.{Refusal}
+use Rattle.c_faults.specs.Answer.{Answer, Fails, ◌>>=◌}
 use Rattle.c_unit_typing.specs.Constructs.{Around, Labelled, labels_on}
 use Rattle.c_unit_typing.specs.Files.{File, finished, ◌~>◌}
 use Rattle.c_unit_typing.specs.Statements.{block_item, block_items, switch_item, switch_items}

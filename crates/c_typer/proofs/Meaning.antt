@@ -2,7 +2,7 @@
 use Rattle.std.proofs.Common.{◌≡◌, ℕ, List, Option, Result, subst}
 use Rattle.c_syntax.specs.Tree.{Initializer}
 use Rattle.c_tree.specs.Statements.{DeclaredVariable}
-use Rattle.c_rules.specs.declared.fault.Refusal.{Refusal}
+use Rattle.c_faults.specs.declared.fault.Refusal.{Refusal}
 use Rattle.c_scope.specs.declared.meaning.Meaning.{Meaning}
 use Rattle.c_scope.specs.Names.{Name}
 use Rattle.c_typer.specs.FileState.{FileTypes}

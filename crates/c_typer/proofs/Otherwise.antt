@@ -5,8 +5,8 @@ use Rattle.c_tree.specs.declared.statement.Statement as code
 use Rattle.c_tree.specs.Statements.{Statement, if_else}
 use Rattle.c_tree.specs.Tree as typed_tree
 use Rattle.c_tree.specs.View.{statement_of}
-use Rattle.c_rules.specs.declared.fault.Refusal.{Refusal}
-use Rattle.c_rules.specs.Answer.{Answer, ◌>>=◌}
+use Rattle.c_faults.specs.declared.fault.Refusal.{Refusal}
+use Rattle.c_faults.specs.Answer.{Answer, ◌>>=◌}
 use Rattle.c_typer.specs.FileState.{FileTypes}
 use Rattle.c_unit_typing.specs.Constructs.{controlling, if_else_typed, scope_opened}
 use Rattle.c_unit_typing.specs.Files.{File, FileTyping, finished, in_state, ◌~>◌}

@@ -13,8 +13,8 @@ use Rattle.c_tree.specs.declared.statement.SwitchItem as code_item
 use Rattle.c_tree.specs.Statements.{Statement, Statements, SwitchItems, statements_in}
 use Rattle.c_tree.specs.Statements as tree
 use Rattle.c_tree.specs.View.{statement_of}
-use Rattle.c_rules.specs.declared.fault.Refusal.{Refusal}
-use Rattle.c_rules.specs.Answer.{Answer, Fails}
+use Rattle.c_faults.specs.declared.fault.Refusal.{Refusal}
+use Rattle.c_faults.specs.Answer.{Answer, Fails}
 use Rattle.c_typer.specs.FileState.{FileTypes}
 use Rattle.c_unit_typing.specs.Constructs.{Around, Labelled, labels_on}
 use Rattle.c_unit_typing.specs.Files.{File}

@@ -6,7 +6,7 @@ use Rattle.c_tree.specs.declared.statement.Statement as code
 use Rattle.c_tree.specs.Statements.{Statement, if_else}
 use Rattle.c_tree.specs.Tree as typed_tree
 use Rattle.c_tree.specs.View.{expression_of, statement_of}
-use Rattle.c_rules.specs.Answer.{Answer, ◌>>=◌}
+use Rattle.c_faults.specs.Answer.{Answer, ◌>>=◌}
 use Rattle.c_unit_typing.specs.Constructs.{controlling, scope_closed, scope_opened}
 use Rattle.c_unit_typing.specs.Files.{File, FileTyping, finished, in_state, ◌~>◌}
 

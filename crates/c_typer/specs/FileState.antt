@@ -3,8 +3,8 @@ use Rattle.std.specs.Prelude.{◌≡◌, ℕ, Bool, List, [], map, Option, None,
 use Rattle.c_tree.specs.Programs.{StaticObject}
 use Rattle.c_tree.specs.Statements.{Part, statements_in}
 use Rattle.c_tree.specs.View.{part_of, statement_of, static_of}
-use Rattle.c_rules.specs.declared.fault.Refusal.{Refusal}
-use Rattle.c_rules.specs.Answer.{Answer, Fails}
+use Rattle.c_faults.specs.declared.fault.Refusal.{Refusal}
+use Rattle.c_faults.specs.Answer.{Answer, Fails}
 use Rattle.c_scope.specs.Environment.{Environment}
 use Rattle.c_typing.specs.State.{state_of}
 use Rattle.c_typer.specs.declared.state.Definition as code_definition

@@ -1,8 +1,8 @@
 -- Why a file has no typed program (C99 6.9).
 use Rattle.std.specs.Prelude.{◌≡◌, ℕ, Some}
 use Rattle.c_tree.specs.Programs.{Program}
-use Rattle.c_rules.specs.declared.fault.Refusal.{Refusal}
-use Rattle.c_rules.specs.declared.fault.Refusal.TheVariants as rules
+use Rattle.c_faults.specs.declared.fault.Refusal.{Refusal}
+use Rattle.c_faults.specs.declared.fault.Refusal.TheVariants as rules
 use Rattle.c_unit_typing.specs.Typed.{TypedUnit, a_fault, a_program, too_large}
 use Rattle.c_typer.specs.Rooms.{first_without_room}
 use Rattle.c_typer.specs.declared.unit.UnitRefusal.{UnitRefusal}

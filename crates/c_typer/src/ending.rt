@@ -1,15 +1,14 @@
 //! The end of a file (C99 5.1.2.2.1, 6.9 paragraph 5).
 
 ghost use Rattle.std.specs.Prelude.{◌≡◌, option_copied};
-ghost use Rattle.c_rules.specs.Answer.{Gives};
+ghost use Rattle.c_faults.specs.Answer.{Gives};
 ghost use Rattle.c_typer.specs.FileState.{file_of};
 ghost use Rattle.c_unit_typing.specs.Units.{all_defined, ended, is_main};
 
 use crate::state::FileTyper;
-use c_rules::value::same_words;
-use c_rules::{Fault, Refusal, Rule};
+use c_faults::{Fault, Refusal, Rule};
 use c_scope::meaning::Entity;
-use c_tree::TypeWord;
+use c_tree::{TypeWord, same_words};
 use obj_memory::IntType;
 use sb_base::Line;
 

@@ -25,7 +25,7 @@ use crate::state::FileTyper;
 use crate::statements::around::Around;
 use crate::statements::statement::block_items;
 use c_call_rules::function_type::result_type;
-use c_rules::Refusal;
+use c_faults::Refusal;
 use c_rules::holding::beside;
 use c_scope::meaning::{Designated, Meaning};
 use c_scope::names::Names;

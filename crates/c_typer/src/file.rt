@@ -3,7 +3,7 @@
 ghost use Rattle.std.specs.Prelude.{◌≡◌, IfOk};
 ghost use Rattle.c_syntax.specs.StatementsView as views;
 ghost use Rattle.c_facts.specs.Facts.{facts_in};
-ghost use Rattle.c_rules.specs.Answer.{Gives};
+ghost use Rattle.c_faults.specs.Answer.{Gives};
 ghost use Rattle.c_typer.specs.FileState.{file_of};
 ghost use Rattle.c_unit_typing.specs.Units.{file_before, file_in, file_with};
 
@@ -11,7 +11,7 @@ use crate::ending::ended;
 use crate::externals::externals;
 use crate::state::FileTyper;
 use c_facts::found::facts_in;
-use c_rules::Refusal;
+use c_faults::Refusal;
 use c_rules::holding::beside;
 use c_scope::environment::Environment;
 use c_syntax::External;

@@ -3,8 +3,7 @@
 ghost use Rattle.std.specs.Prelude.{◌≡◌};
 ghost use Rattle.c_typing.specs.Calls.{place_among};
 
-use c_rules::value::same_words;
-use c_tree::{CType, TypeWord};
+use c_tree::{CType, TypeWord, same_words};
 
 /// The place of a type among others, or how many these are where it is none of them.
 pub(crate) fn place_among(words: &[TypeWord], types: &[CType]) -> usize

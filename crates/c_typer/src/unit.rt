@@ -18,7 +18,7 @@ use crate::programs::limits::excess;
 use crate::programs::outline::{Outline, complete, outlined};
 use crate::programs::refusal::ProgramRefusal;
 use crate::state::FileTyper;
-use c_rules::{Fault, Refusal};
+use c_faults::{Fault, Refusal};
 use c_syntax::Unit;
 use c_tree::Program;
 use c_unit_typing::limits::Limited;

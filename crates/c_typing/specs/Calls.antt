@@ -4,12 +4,12 @@ use Rattle.std.specs.Prelude.{Option, Some, None, Ok}
 use Rattle.c_tree.specs.declared.c_type.TypeWord.{TypeWord}
 use Rattle.c_tree.specs.declared.expression.Routine.{Routine}
 use Rattle.c_tree.specs.TypesAgree.{same_words}
-use Rattle.c_rules.specs.Answer.{Answer, ◌>>=◌}
+use Rattle.c_faults.specs.Answer.{Answer, ◌>>=◌}
 use Rattle.c_rules.specs.Values.{Value, value_of}
 use Rattle.c_call_rules.specs.Calls.{Callee, called as called_rule, called_through, of_function, of_routine}
 use Rattle.c_call_rules.specs.FunctionTypes.{callee_type}
 use Rattle.c_call_rules.specs.Printing.{Format, formatted}
-use Rattle.c_call_rules.specs.Routines.{routine_words}
+use Rattle.c_tree.specs.Routines.{routine_words}
 use Rattle.c_place_rules.specs.Operands.{Operand}
 use Rattle.c_scope.specs.declared.meaning.Designated.TheVariants as what
 use Rattle.c_scope.specs.declared.meaning.LibraryFunction.{LibraryFunction}

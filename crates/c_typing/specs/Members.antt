@@ -4,10 +4,10 @@ use Rattle.std.specs.Prelude.{List, [], ◌∷◌, ◌++◌, map, Option, Some, 
 use Rattle.c_tree.specs.declared.c_type.TypeWord.{TypeWord}
 use Rattle.c_tree.specs.Extents.{TypeExtent, extent_of}
 use Rattle.c_tree.specs.Layout.{member_offsets, structure_of, union_of}
-use Rattle.c_rules.specs.declared.fault.Rule.{Rule}
-use Rattle.c_rules.specs.declared.fault.Rule.TheVariants as rule
-use Rattle.c_rules.specs.Answer.{Answer, violates, ◌>>=◌}
-use Rattle.c_place_rules.specs.declared.place.Member.{Member}
+use Rattle.c_faults.specs.declared.fault.Rule.{Rule}
+use Rattle.c_faults.specs.declared.fault.Rule.TheVariants as rule
+use Rattle.c_faults.specs.Answer.{Answer, violates, ◌>>=◌}
+use Rattle.c_tree.specs.declared.member.Member.{Member}
 use Rattle.c_assignment_rules.specs.Assignable.{has_const}
 use Rattle.c_declarators.specs.Derivations.{BuiltType, element_faults}
 use Rattle.c_declarators.specs.Faults.{and_faults, rule_of}

@@ -10,9 +10,9 @@ use Rattle.c_tree.specs.declared.c_type.TypeWord.TheVariants as word
 use Rattle.c_tree.specs.declared.expression.Fixity.{Fixity}
 use Rattle.c_tree.specs.Extents.{TypeExtent, extent_of}
 use Rattle.c_tree.specs.Tree.{Lvalue, lvalue, LvalueNode, automatic, parenthesized_lvalue, lvalue_line}
-use Rattle.c_rules.specs.declared.fault.Rule.TheVariants.{Incomplete, Operands}
+use Rattle.c_faults.specs.declared.fault.Rule.TheVariants.{Incomplete, Operands}
 use Rattle.c_rules.specs.declared.unary.LogicalOperator.TheVariants as logical_operator
-use Rattle.c_rules.specs.Answer.{Answer, violates, ◌>>=◌}
+use Rattle.c_faults.specs.Answer.{Answer, violates, ◌>>=◌}
 use Rattle.c_rules.specs.Binary.{binary}
 use Rattle.c_rules.specs.Types.{unqualified}
 use Rattle.c_rules.specs.Unary as unary_rules

@@ -15,8 +15,8 @@ use Rattle.c_tree.specs.Arrays.{array_word}
 use Rattle.c_tree.specs.Extents.{TypeExtent, extent_of, scalar_extent}
 use Rattle.c_tree.specs.Kinds.{integer, pointer}
 use Rattle.c_tree.specs.Tree.{expression, constant, function, plain, lvalue, automatic, static, LvalueNode}
-use Rattle.c_rules.specs.declared.fault.Rule.TheVariants.{LibraryName, Undeclared}
-use Rattle.c_rules.specs.Answer.{Answer, violates, ◌>>=◌}
+use Rattle.c_faults.specs.declared.fault.Rule.TheVariants.{LibraryName, Undeclared}
+use Rattle.c_faults.specs.Answer.{Answer, violates, ◌>>=◌}
 use Rattle.c_rules.specs.Values.{Value, integer_words}
 use Rattle.c_place_rules.specs.Operands.{Operand, a_value, a_place, a_variable, a_function}
 use Rattle.c_place_rules.specs.Targets.{object_kind}

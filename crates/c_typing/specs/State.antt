@@ -2,8 +2,8 @@
 use Rattle.std.specs.Prelude.{◌≡◌, ℕ, Bool, List, map, Option, option_map, Result, Ok, Err}
 use Rattle.c_tree.specs.declared.c_type.TypeWord.{TypeWord}
 use Rattle.c_tree.specs.Extents.{TypeExtent}
-use Rattle.c_rules.specs.declared.fault.Refusal.{Refusal}
-use Rattle.c_rules.specs.Answer.{Answer, Fails, ◌>>=◌}
+use Rattle.c_faults.specs.declared.fault.Refusal.{Refusal}
+use Rattle.c_faults.specs.Answer.{Answer, Fails, ◌>>=◌}
 use Rattle.c_scope.specs.Environment.{Environment, environment_of}
 use Rattle.c_typing.specs.declared.typer.Literal as code_literal
 use Rattle.c_typing.specs.declared.typer.Typer as code

@@ -8,13 +8,12 @@ use c_call_rules::callee::Callee;
 use c_call_rules::calling::{called, called_through};
 use c_call_rules::function_type::callee_type;
 use c_call_rules::printing::{Format, formatted};
-use c_call_rules::routines::routine_type;
+use c_faults::Refusal;
 use c_place_rules::operand::Operand;
+use c_rules::TypedValue;
 use c_rules::holding::beside;
-use c_rules::value::same_words;
-use c_rules::{Refusal, TypedValue};
 use c_scope::meaning::{Designated, LibraryFunction, Meaning};
-use c_tree::{CType, Routine, TypeWord};
+use c_tree::{CType, Routine, TypeWord, routine_type, same_words};
 use sb_base::Line;
 use std::alloc::{AllocError, Global};
 
@@ -56,9 +55,9 @@ fn place_among(words: &[TypeWord], types: &[CType]) -> usize
 
 impl<'a> Typer<'a> {
     ghost use Rattle.std.specs.Prelude.{◌≡◌, ◌++◌, ◌∷◌, [], map, option_map, IfOk, OnOk, Ok, Err};
-    ghost use Rattle.c_rules.specs.declared.fault.Refusal.{Refusal};
-    ghost use Rattle.c_rules.specs.declared.fault.Refusal.TheVariants.{Memory};
-    ghost use Rattle.c_rules.specs.Answer.{Gives};
+    ghost use Rattle.c_faults.specs.declared.fault.Refusal.{Refusal};
+    ghost use Rattle.c_faults.specs.declared.fault.Refusal.TheVariants.{Memory};
+    ghost use Rattle.c_faults.specs.Answer.{Gives};
     ghost use Rattle.c_rules.specs.Values.{value_of};
     ghost use Rattle.c_place_rules.specs.Operands.{operand_of};
     ghost use Rattle.c_call_rules.specs.FunctionTypes.{callee_type};

@@ -11,13 +11,12 @@ use crate::typer::Typer;
 use c_assignment_rules::has_const;
 use c_declarators::BuiltType;
 use c_declarators::derivation::element_faults;
-use c_place_rules::Member;
+use c_faults::{Fault, Refusal, Rule};
 use c_rules::holding::beside;
-use c_rules::{Fault, Refusal, Rule};
 use c_scope::meaning::Tag;
 use c_scope::names::Names;
 use c_tree::layout::{member_offsets, structure_of, union_of};
-use c_tree::{CType, Extent, MAX_SIZE};
+use c_tree::{CType, Extent, MAX_SIZE, Member};
 use sb_base::Line;
 use std::alloc::{AllocError, Global};
 
@@ -43,7 +42,7 @@ pub struct Entries<'a> {
 
 impl<'a> Entries<'a> {
     ghost use Rattle.std.specs.Prelude.{◌≡◌, option_map, IfOk};
-    ghost use Rattle.c_rules.specs.Answer.{Gives};
+    ghost use Rattle.c_faults.specs.Answer.{Gives};
     ghost use Rattle.c_tree.specs.Extents.{extent_of};
     ghost use Rattle.c_declarators.specs.Derivations.{built_of};
     ghost use Rattle.c_typing.specs.Declarators.{located};
@@ -223,7 +222,7 @@ fn members_at<'a>(
 
 impl Specification {
     ghost use Rattle.std.specs.Prelude.{◌≡◌};
-    ghost use Rattle.c_rules.specs.Answer.{Gives};
+    ghost use Rattle.c_faults.specs.Answer.{Gives};
     ghost use Rattle.c_typing.specs.Members.{member_specified};
     ghost use Rattle.c_typing.specs.Specifications.{specification_of};
 
@@ -241,7 +240,7 @@ impl Specification {
 
 impl<'a> Typer<'a> {
     ghost use Rattle.std.specs.Prelude.{◌≡◌, map};
-    ghost use Rattle.c_rules.specs.Answer.{Gives};
+    ghost use Rattle.c_faults.specs.Answer.{Gives};
     ghost use Rattle.c_typing.specs.Declarators.{shape_of};
     ghost use Rattle.c_typing.specs.Members.{entries_of, entry_of, member_added, structure_completed, tag_completed};
     ghost use Rattle.c_typing.specs.Specifications.{specification_of};

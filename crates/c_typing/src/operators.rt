@@ -1,7 +1,7 @@
 //! The operators of the syntax, on operands that are typed (C99 6.5.2 to 6.5.17).
 
 ghost use Rattle.std.specs.Prelude.{◌≡◌, ◌+◌, ◌<◌, length, OnOk};
-ghost use Rattle.c_rules.specs.Answer.{Gives};
+ghost use Rattle.c_faults.specs.Answer.{Gives};
 ghost use Rattle.c_rules.specs.Values.{value_of};
 ghost use Rattle.c_place_rules.specs.Operands.{operand_of};
 ghost use Rattle.c_tree.specs.View.{lvalue_of};
@@ -11,7 +11,7 @@ ghost use Rattle.c_typing.specs.Operators.{unreadable, value_among, variable_nam
 use crate::forms::{AssignmentForm, BinaryForm, PrefixForm};
 use crate::typer::Typer;
 use c_assignment_rules::{assignment, compound, stepped};
-use c_place_rules::Member;
+use c_faults::{Refusal, Rule};
 use c_place_rules::operand::{Operand, value_in};
 use c_place_rules::place::{
     address, arrow, dereferenced, indexed, selected, structure_number, type_in,
@@ -19,8 +19,8 @@ use c_place_rules::place::{
 use c_place_rules::refusal::refused;
 use c_rules::unary::unary;
 use c_rules::value::unqualified;
-use c_rules::{Refusal, Rule, TypedValue, binary, comma, logical};
-use c_tree::{Extent, Fixity, Lvalue, LvalueNode, TypeWord};
+use c_rules::{TypedValue, binary, comma, logical};
+use c_tree::{Extent, Fixity, Lvalue, LvalueNode, Member, TypeWord};
 use sb_base::Line;
 use std::alloc::{AllocError, Global};
 
@@ -96,7 +96,7 @@ fn mark(marks: &mut Vec<bool>, number: usize) -> Result<(), AllocError>
 
 impl<'a> Typer<'a> {
     ghost use Rattle.std.specs.Prelude.{◌≡◌, option_copied, option_map, OnOk};
-    ghost use Rattle.c_rules.specs.Answer.{Gives};
+    ghost use Rattle.c_faults.specs.Answer.{Gives};
     ghost use Rattle.c_rules.specs.Values.{value_of};
     ghost use Rattle.c_place_rules.specs.Operands.{operand_of};
     ghost use Rattle.c_place_rules.specs.Places.{member_view};

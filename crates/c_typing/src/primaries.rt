@@ -2,7 +2,7 @@
 
 ghost use Rattle.std.specs.Prelude.{◌≡◌, ◌++◌, IfOk, Ok};
 ghost use Rattle.c_lexer.specs.Literals.{bytes_of_literal};
-ghost use Rattle.c_rules.specs.Answer.{Gives};
+ghost use Rattle.c_faults.specs.Answer.{Gives};
 ghost use Rattle.c_rules.specs.Values.{value_of};
 ghost use Rattle.c_place_rules.specs.Operands.{operand_of};
 ghost use Rattle.c_place_rules.specs.Targets.{object_kind};
@@ -13,11 +13,12 @@ ghost use Rattle.c_typing.specs.Primaries.{is_aggregate, literal_type, or_empty,
 ghost use Rattle.c_typing.specs.Primaries.{size_or_zero, type_of_constant};
 
 use crate::typer::{Literal, Typer};
+use c_faults::{Fault, Refusal, Rule};
 use c_lexer::{IntegerType, bytes_of_literal, character_value, constant_of};
 use c_place_rules::operand::{Operand, POINTER, TypedPlace, TypedVariable};
 use c_place_rules::target::object_kind;
+use c_rules::TypedValue;
 use c_rules::value::{integer, typed};
-use c_rules::{Fault, Refusal, Rule, TypedValue};
 use c_scope::meaning::{Designated, Meaning};
 use c_tree::{CType, Expression, Extent, Kind, Lvalue, LvalueNode, Node, PlainName, TypeWord};
 use obj_memory::IntType;
@@ -203,7 +204,7 @@ fn is_aggregate(words: &[TypeWord]) -> bool
 
 impl<'a> Typer<'a> {
     ghost use Rattle.std.specs.Prelude.{◌≡◌, Ok, OnOk};
-    ghost use Rattle.c_rules.specs.Answer.{Gives};
+    ghost use Rattle.c_faults.specs.Answer.{Gives};
     ghost use Rattle.c_place_rules.specs.Operands.{operand_of};
     ghost use Rattle.c_scope.specs.Names.{meaning};
     ghost use Rattle.c_typing.specs.Primaries.{designated, is_marked, is_object, literal, meant, named, used_as};

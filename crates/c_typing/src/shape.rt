@@ -1,15 +1,15 @@
 //! Declarators without initializers: type names and parameters (C99 6.7.5, 6.7.6).
 
 ghost use Rattle.std.specs.Prelude.{◌≡◌, not};
-ghost use Rattle.c_rules.specs.Answer.{Gives};
+ghost use Rattle.c_faults.specs.Answer.{Gives};
 ghost use Rattle.c_typing.specs.Declarators.{has_storage, is_void, not_for_parameter, rule_or_storage, unless};
 
 use crate::specification::Specification;
 use crate::typer::Typer;
 use c_declarators::{BuiltType, Derivation, adjusted, built};
+use c_faults::{Fault, Refusal, Rule};
 use c_lexer::Spelling;
 use c_place_rules::target::unqualified_type;
-use c_rules::{Fault, Refusal, Rule};
 use c_scope::declaring::Declared;
 use c_scope::meaning::Storage;
 use c_scope::parameters::ParameterScope;
@@ -165,7 +165,7 @@ impl Specification {
 
 impl<'a> Typer<'a> {
     ghost use Rattle.std.specs.Prelude.{◌≡◌, IfOk, Ok, Some};
-    ghost use Rattle.c_rules.specs.Answer.{Gives};
+    ghost use Rattle.c_faults.specs.Answer.{Gives};
     ghost use Rattle.c_declarators.specs.Derivations.{built_of};
     ghost use Rattle.c_scope.specs.Parameters.{scope_of};
     ghost use Rattle.c_rules.specs.Types.{unqualified};

@@ -1,14 +1,14 @@
 //! What the specifiers of a declaration say (C99 6.7.1 to 6.7.4, 6.7.7).
 
 ghost use Rattle.std.specs.Prelude.{◌≡◌, IfOk};
-ghost use Rattle.c_rules.specs.Answer.{Gives};
+ghost use Rattle.c_faults.specs.Answer.{Gives};
 ghost use Rattle.c_typing.specs.Specifications.{gathered_of, nothing_gathered, specification_of, specified, tag_kind};
 ghost use Rattle.c_typing.specs.Specifications.{tag_type, with_keyword, with_named};
 
 use crate::typer::Typer;
+use c_faults::{Fault, Refusal, Rule};
 use c_lexer::Keyword;
 use c_place_rules::target::qualified;
-use c_rules::{Fault, Refusal, Rule};
 use c_scope::meaning::{Meaning, Storage, Tag};
 use c_scope::tags::TagKind;
 use c_specifiers::Specified;
@@ -116,7 +116,7 @@ pub fn tag_type(alloc: Global, tag: Tag) -> Result<CType, AllocError>
 
 impl<'a> Typer<'a> {
     ghost use Rattle.std.specs.Prelude.{◌≡◌};
-    ghost use Rattle.c_rules.specs.Answer.{Gives};
+    ghost use Rattle.c_faults.specs.Answer.{Gives};
     ghost use Rattle.c_typing.specs.Specifications.{typedef_type};
     ghost use Rattle.c_typing.specs.State.{state_of};
 

@@ -14,9 +14,9 @@ use Rattle.c_tree.specs.Statements as tree
 use Rattle.c_tree.specs.Tree as typed_tree
 use Rattle.c_tree.specs.ValidProgram.{Inside, in_loop, in_switch, same_label}
 use Rattle.c_const.specs.Integers.{constant_word}
-use Rattle.c_rules.specs.declared.fault.Fault.{Fault}
-use Rattle.c_rules.specs.declared.fault.Rule.TheVariants.{MisplacedLabel, MistakenReturn, NoConstant}
-use Rattle.c_rules.specs.Answer.{Answer, violates, ◌>>=◌}
+use Rattle.c_faults.specs.declared.fault.Fault.{Fault}
+use Rattle.c_faults.specs.declared.fault.Rule.TheVariants.{MisplacedLabel, MistakenReturn, NoConstant}
+use Rattle.c_faults.specs.Answer.{Answer, violates, ◌>>=◌}
 use Rattle.c_rules.specs.Conversions.{assigned, is_void_type}
 use Rattle.c_rules.specs.Types.{unqualified}
 use Rattle.c_rules.specs.Values.{Value}

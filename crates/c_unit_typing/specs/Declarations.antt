@@ -12,8 +12,8 @@ use Rattle.c_tree.specs.Extents.{extent_of}
 use Rattle.c_tree.specs.Programs.{StaticObject}
 use Rattle.c_tree.specs.Statements as tree
 use Rattle.c_tree.specs.Statements.{Content, DeclaredVariable, Part}
-use Rattle.c_rules.specs.declared.fault.Rule.TheVariants.{LargeType, MisplacedStorage, Redeclared}
-use Rattle.c_rules.specs.Answer.{Answer, violates}
+use Rattle.c_faults.specs.declared.fault.Rule.TheVariants.{LargeType, MisplacedStorage, Redeclared}
+use Rattle.c_faults.specs.Answer.{Answer, violates}
 use Rattle.c_place_rules.specs.Targets.{object_kind}
 use Rattle.c_declarators.specs.Derivations.{BuiltType, array_of, is_large}
 use Rattle.c_declarators.specs.Faults.{rule_of}

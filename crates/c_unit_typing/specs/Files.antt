@@ -4,7 +4,7 @@ use Rattle.c_tree.specs.declared.c_type.TypeWord.{TypeWord}
 use Rattle.c_tree.specs.declared.program.Variable.{Variable}
 use Rattle.c_tree.specs.Programs.{StaticObject}
 use Rattle.c_tree.specs.Statements.{Part, Statements}
-use Rattle.c_rules.specs.Answer.{Answer, ◌>>=◌}
+use Rattle.c_faults.specs.Answer.{Answer, ◌>>=◌}
 use Rattle.c_typing.specs.State.{State, Typing}
 
 -- a function that is defined: the line of its name, its type, its parameters, its automatic variables and its block

@@ -4,7 +4,7 @@ use Rattle.std.specs.Prelude.{None, Ok}
 use Rattle.c_syntax.specs.Tree.{Designation, Designator, Expression, Initializer, InitializerItem, MoreItems}
 use Rattle.c_syntax.specs.Tree as t
 use Rattle.c_tree.specs.Extents.{TypeExtent}
-use Rattle.c_rules.specs.Answer.{Answer}
+use Rattle.c_faults.specs.Answer.{Answer}
 use Rattle.c_rules.specs.Values.{Value}
 use Rattle.c_scope.specs.Names.{Name}
 use Rattle.c_current_object.specs.Members.{MemberLists, lists_in}

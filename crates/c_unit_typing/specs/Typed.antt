@@ -12,8 +12,8 @@ use Rattle.c_tree.specs.Statements.{Content, literal_content, value_content}
 use Rattle.c_tree.specs.Tree.{kind_of}
 use Rattle.c_const.specs.Addresses.{Pointers, untagged}
 use Rattle.c_const.specs.Contents.{constant_in}
-use Rattle.c_rules.specs.declared.fault.Fault.{Fault}
-use Rattle.c_rules.specs.Answer.{Answer}
+use Rattle.c_faults.specs.declared.fault.Fault.{Fault}
+use Rattle.c_faults.specs.Answer.{Answer}
 use Rattle.c_counts.specs.Counts.{Count, counts_of}
 use Rattle.c_counts.specs.Excess.{first_above, members_among, most_members, most_parameters, parameters_among}
 use Rattle.c_unit_typing.specs.declared.limits.Limited.{Limited}

@@ -10,9 +10,9 @@ use Rattle.c_tree.specs.declared.program.Variable.{Variable}
 use Rattle.c_tree.specs.Extents.{TypeExtent, extent_of}
 use Rattle.c_tree.specs.Statements.{Statements}
 use Rattle.c_tree.specs.TypesAgree.{same_words}
-use Rattle.c_rules.specs.declared.fault.Rule.{Rule}
-use Rattle.c_rules.specs.declared.fault.Rule.TheVariants.{MisplacedStorage, NoMain, UndefinedFunction}
-use Rattle.c_rules.specs.Answer.{Answer, violates, ◌>>=◌}
+use Rattle.c_faults.specs.declared.fault.Rule.{Rule}
+use Rattle.c_faults.specs.declared.fault.Rule.TheVariants.{MisplacedStorage, NoMain, UndefinedFunction}
+use Rattle.c_faults.specs.Answer.{Answer, violates, ◌>>=◌}
 use Rattle.c_rules.specs.Types.{unqualified}
 use Rattle.c_call_rules.specs.FunctionTypes.{result_type}
 use Rattle.c_declarators.specs.Derivations.{BuiltType}

@@ -13,7 +13,7 @@ use Rattle.c_tree.specs.Statements.{Content, Part, value_content, literal_conten
 use Rattle.c_tree.specs.Tree.{line_of}
 use Rattle.c_tree.specs.ValidProgram.{is_valid_program}
 use Rattle.c_const.specs.Addresses.{Pointers}
-use Rattle.c_rules.specs.Answer.{Answer}
+use Rattle.c_faults.specs.Answer.{Answer}
 use Rattle.c_unit_typing.specs.Files.{File}
 use Rattle.c_unit_typing.specs.Units.{file_in}
 use Rattle.c_unit_typing.specs.Programs.{program_of}

@@ -1,7 +1,7 @@
 -- The numbers of the typing rules, as the tool's line tells them.
 use Rattle.std.specs.Prelude.{ℕ}
-use Rattle.c_rules.specs.declared.fault.Rule.{Rule}
-use Rattle.c_rules.specs.declared.fault.Rule.TheVariants as rule
+use Rattle.c_faults.specs.declared.fault.Rule.{Rule}
+use Rattle.c_faults.specs.declared.fault.Rule.TheVariants as rule
 
 abbrev pub rule_number : Rule → ℕ
 rule_number rule.NoMain = 0

@@ -1,7 +1,7 @@
 //! Why a source is refused.
+use c_faults::Fault;
 use c_lexer::LexFault;
 use c_pre::PreFault;
-use c_rules::Fault;
 use sb_base::Line;
 use std::alloc::{AllocError, Global};
 use std::marker::Model;

@@ -11,8 +11,8 @@ ghost use Rattle.sbcets_core.specs.Rules.{rule_number};
 
 use crate::outcome::{Outcome, ReadFault};
 use crate::refusal::{Counted, SourceRefusal};
+use c_faults::{Fault, Rule};
 use c_pre::PreFault;
-use c_rules::{Fault, Rule};
 use itoa::Buffer;
 use rv_sim::TrapKind;
 use sb_base::Line;

@@ -2,10 +2,10 @@
 
 use crate::statics::put_statics;
 use anyhow::{Result, bail};
+use c_faults::Fault;
 use c_lexer::{LexError, Tokens, lex};
 use c_parser::{ParseFault, parse, release};
 use c_pre::{PreError, expand};
-use c_rules::Fault;
 use c_syntax::Unit;
 use c_tree::Program;
 use c_typer::{UnitRefusal, type_unit};

@@ -12,7 +12,7 @@ use Rattle.c_syntax.specs.Tree as t
 use Rattle.c_tree.specs.declared.c_type.TypeWord.{TypeWord}
 use Rattle.c_tree.specs.declared.c_type.TypeWord.TheVariants.{Gives, Integer, Pointer}
 use Rattle.c_const.specs.Integers.{constant_word}
-use Rattle.c_rules.specs.Answer.{Answer, ◌>>=◌}
+use Rattle.c_faults.specs.Answer.{Answer, ◌>>=◌}
 use Rattle.c_place_rules.specs.Operands.{value_in}
 use Rattle.c_place_rules.specs.Places.{type_in}
 use Rattle.c_scope.specs.declared.meaning.Designated.TheVariants.{Function}

@@ -26,7 +26,7 @@ use Rattle.c_place_rules.specs.Places.{dereferenced, indexed, size_of as size_of
 use Rattle.c_assignment_rules.specs.Assignments.{assignment, compound, stepped}
 use Rattle.c_condition_rules.specs.Conditions.{condition, conditional, switch_value}
 use Rattle.c_call_rules.specs.Calls.{called, called_through}
-use Rattle.c_call_rules.specs.Routines.{routine_words}
+use Rattle.c_tree.specs.Routines.{routine_words}
 use Rattle.c_scope.specs.Composite.{composite}
 use Rattle.c_scope.specs.Declaring.{judged}
 use Rattle.c_scope.specs.Start.{start}

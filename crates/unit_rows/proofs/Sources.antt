@@ -13,7 +13,7 @@ use Rattle.c_tree.specs.Programs.{Function, StaticObject}
 use Rattle.c_tree.specs.Statements.{Content, literal_content, value_content}
 use Rattle.c_tree.specs.ValidProgram.{is_valid_program}
 use Rattle.c_const.specs.Integers.{constant_word}
-use Rattle.c_rules.specs.declared.fault.Rule.{Rule}
+use Rattle.c_faults.specs.declared.fault.Rule.{Rule}
 use Rattle.c_unit_typing.specs.declared.limits.Limited.{Limited}
 use Rattle.c_unit_typing.specs.Typed.{TypedUnit, a_fault, a_program, too_large, typed_unit}
 

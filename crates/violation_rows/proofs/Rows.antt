@@ -8,7 +8,7 @@ use Rattle.c_lexer.specs.declared.keyword.Keyword.TheVariants as keyword
 use Rattle.c_lexer.specs.declared.punctuator.Punctuator.TheVariants as sign
 use Rattle.c_syntax.specs.Statements as s
 use Rattle.c_syntax.specs.Tree as t
-use Rattle.c_rules.specs.declared.fault.Rule.TheVariants as rule
+use Rattle.c_faults.specs.declared.fault.Rule.TheVariants as rule
 use Rattle.obj_memory.specs.Integers.{balanced_type, common_type, fit, is_signed, mixed_type, promoted, rank, size_of}
 use Rattle.obj_memory.specs.Integers.{unsigned_of}
 use Rattle.obj_memory.specs.Operators.{binary_value, shift_amount, unary_value}
@@ -26,7 +26,7 @@ use Rattle.c_place_rules.specs.Places.{dereferenced, indexed, size_of as size_of
 use Rattle.c_assignment_rules.specs.Assignments.{assignment, compound, stepped}
 use Rattle.c_condition_rules.specs.Conditions.{condition, conditional, switch_value}
 use Rattle.c_call_rules.specs.Calls.{called, called_through}
-use Rattle.c_call_rules.specs.Routines.{routine_words}
+use Rattle.c_tree.specs.Routines.{routine_words}
 use Rattle.c_scope.specs.Composite.{composite}
 use Rattle.c_scope.specs.Declaring.{judged}
 use Rattle.c_scope.specs.Start.{start}

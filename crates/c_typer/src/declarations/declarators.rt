@@ -21,7 +21,7 @@ use crate::declarations::sizing::initialized_if;
 use crate::declarations::specifying::{alone_in, specified};
 use crate::initializers::dropping::let_go;
 use crate::state::FileTyper;
-use c_rules::Refusal;
+use c_faults::Refusal;
 use c_rules::holding::beside;
 use c_scope::meaning::{Designated, Meaning};
 use c_syntax::declaration::{Declaration, InitDeclarator, InitDeclarators, Initializer};

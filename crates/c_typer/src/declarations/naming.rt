@@ -11,7 +11,7 @@ ghost use Rattle.c_unit_typing.specs.Declarations.{declaration_of, declared_as, 
 
 use crate::declarations::specifying::{has_place, misplaced};
 use c_declarators::BuiltType;
-use c_rules::Refusal;
+use c_faults::Refusal;
 use c_scope::declaring::Declared;
 use c_scope::meaning::Meaning;
 use c_tree::CType;

@@ -13,7 +13,7 @@ use crate::declarations::lists::{only, put, single};
 use crate::declarations::sizing::Initialized;
 use crate::initializers::dropping::let_go;
 use crate::state::{FileTyper, LinkedInitializer, LocalStatic};
-use c_rules::Refusal;
+use c_faults::Refusal;
 use c_rules::holding::beside;
 use c_tree::{Content, DeclaredVariable, Initializer, Part, StaticObject, TypeWord, Variable};
 use c_typing::Typer;

@@ -16,9 +16,9 @@ ghost use Rattle.c_typer.specs.Initialized.{initialized_of};
 
 use crate::initializers::initialized;
 use c_declarators::derivation::{array_of, is_large};
+use c_faults::{Fault, Refusal, Rule};
 use c_initializer_rules::Initializing;
 use c_rules::holding::beside;
-use c_rules::{Fault, Refusal, Rule};
 use c_scope::composite::{are_compatible, composite};
 use c_scope::environment::Environment;
 use c_scope::meaning::{Designated, Entity, Meaning};

@@ -2,15 +2,15 @@
 
 ghost use Rattle.std.specs.Prelude.{◌≡◌, [], if◌then◌else◌, Ok, Err};
 ghost use Rattle.c_syntax.specs.StatementsView as views;
-ghost use Rattle.c_rules.specs.declared.fault.Refusal.TheVariants.{Fault as OfFault};
-ghost use Rattle.c_rules.specs.declared.fault.Rule.TheVariants.{MisplacedStorage};
-ghost use Rattle.c_rules.specs.Answer.{Gives, violates};
+ghost use Rattle.c_faults.specs.declared.fault.Refusal.TheVariants.{Fault as OfFault};
+ghost use Rattle.c_faults.specs.declared.fault.Rule.TheVariants.{MisplacedStorage};
+ghost use Rattle.c_faults.specs.Answer.{Gives, violates};
 ghost use Rattle.c_typing.specs.Specifications.{specification_of};
 ghost use Rattle.c_typing.specs.State.{Types, state_of};
 ghost use Rattle.c_unit_typing.specs.Declarations.{alone_in, has_place, is_automatic, specified};
 
+use c_faults::{Fault, Refusal, Rule};
 use c_rules::holding::beside;
-use c_rules::{Fault, Refusal, Rule};
 use c_scope::declaring::{is_function, is_misplaced};
 use c_scope::meaning::Storage;
 use c_syntax::declaration::Declaration;

@@ -11,8 +11,8 @@ ghost use Rattle.c_unit_typing.specs.Initializers.{by_index, designated, designa
 
 use crate::initializers::steps::{with_index, with_name};
 use crate::initializers::values::{index_of, value};
+use c_faults::Refusal;
 use c_initializer_rules::Initializing;
-use c_rules::Refusal;
 use c_syntax::Expression;
 use c_syntax::declaration::{Designation, Designator};
 use c_typing::Typer;

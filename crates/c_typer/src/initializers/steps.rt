@@ -7,8 +7,9 @@ ghost use Rattle.c_initializer_rules.specs.Initializing.{with_index, with_litera
 ghost use Rattle.c_typing.specs.State.{extents, state_of};
 ghost use Rattle.c_unit_typing.specs.Initializers.{member_lists};
 
+use c_faults::Refusal;
 use c_initializer_rules::Initializing;
-use c_rules::{Refusal, TypedValue};
+use c_rules::TypedValue;
 use c_typing::Typer;
 use sb_base::Line;
 use std::alloc::AllocError;

@@ -10,7 +10,8 @@ ghost use Rattle.c_unit_typing.specs.Initializers.{index_in, is_index};
 
 use crate::initializers::dropping::let_go;
 use c_const::constant_word;
-use c_rules::{Refusal, TypedValue};
+use c_faults::Refusal;
+use c_rules::TypedValue;
 use c_syntax::Expression;
 use c_syntax_typing::expression;
 use c_typing::Typer;

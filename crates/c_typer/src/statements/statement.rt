@@ -7,7 +7,7 @@ ghost use Rattle.c_tree.specs.Statements as built;
 ghost use Rattle.c_tree.specs.Tree as typed_tree;
 ghost use Rattle.c_tree.specs.View as tree;
 ghost use Rattle.c_tree.specs.View.{statement_of};
-ghost use Rattle.c_rules.specs.Answer.{Answer};
+ghost use Rattle.c_faults.specs.Answer.{Answer};
 ghost use Rattle.c_rules.specs.Values.{value_of};
 ghost use Rattle.c_typing.specs.State.{judged};
 ghost use Rattle.c_typer.specs.FileState.{FileTypes, file_of};
@@ -30,8 +30,9 @@ use crate::statements::labels::{Labels, case_label};
 use crate::statements::leaving::{break_at, continue_at, returned};
 use crate::statements::lists::{followed, with_item};
 use crate::statements::repeating::do_behind;
+use c_faults::Refusal;
+use c_rules::TypedValue;
 use c_rules::holding::beside;
-use c_rules::{Refusal, TypedValue};
 use c_syntax::{
     Block, BlockItem, CaseLabel as CaseTree, Declaration, Expression, ForHead,
     Statement as StatementTree,

@@ -5,9 +5,9 @@ use Rattle.std.proofs.Common.{List, [], ◌∷◌, length, Option, Some, None, i
 use Rattle.std.specs.Prelude.{Ok, slice_get, get_or, nat_lt}
 use Rattle.std.proofs.lemmas.Bool.{false≢true, le-leb, ltb-false}
 use Rattle.c_tree.specs.Extents.{TypeExtent, structure_extent}
-use Rattle.c_rules.specs.declared.fault.Rule.TheVariants as rule
-use Rattle.c_rules.specs.Answer.{violates, ◌>>=◌}
-use Rattle.c_place_rules.specs.declared.place.Member.{Member}
+use Rattle.c_faults.specs.declared.fault.Rule.TheVariants as rule
+use Rattle.c_faults.specs.Answer.{violates, ◌>>=◌}
+use Rattle.c_tree.specs.declared.member.Member.{Member}
 use Rattle.c_place_rules.specs.Places.{member_view}
 use Rattle.c_place_laws.specs.FinePlaces.{IsMemberOf}
 use Rattle.c_scope.specs.declared.meaning.Tag.{Tag}

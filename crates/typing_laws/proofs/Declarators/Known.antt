@@ -3,7 +3,7 @@ use Rattle.std.proofs.Common.{◌≡◌, false, ◌||◌, sym, ap, ◌∙◌, su
 use Rattle.std.specs.Prelude.{Ok, Err}
 use Rattle.c_tree.specs.declared.c_type.TypeWord.{TypeWord}
 use Rattle.c_tree.specs.Valid.{Scope}
-use Rattle.c_rules.specs.Answer.{Answer}
+use Rattle.c_faults.specs.Answer.{Answer}
 use Rattle.c_scope.specs.declared.meaning.Designated.{Designated}
 use Rattle.c_scope.specs.declared.meaning.Designated.TheVariants as what
 use Rattle.c_scope.specs.declared.meaning.Meaning.{Meaning}

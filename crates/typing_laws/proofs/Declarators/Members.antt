@@ -8,9 +8,9 @@ use Rattle.c_tree.specs.Extents.{IsExtent, TypeExtent, extent_of}
 use Rattle.c_tree.specs.Layout.{greatest_alignment, structure_of, union_of}
 use Rattle.c_tree.specs.Members.{size_at}
 use Rattle.c_tree.proofs.Layouts.{structure_laid_out, union_inside}
-use Rattle.c_rules.specs.declared.fault.Rule.{Rule}
-use Rattle.c_rules.specs.Answer.{Answer, ◌>>=◌}
-use Rattle.c_place_rules.specs.declared.place.Member.{Member}
+use Rattle.c_faults.specs.declared.fault.Rule.{Rule}
+use Rattle.c_faults.specs.Answer.{Answer, ◌>>=◌}
+use Rattle.c_tree.specs.declared.member.Member.{Member}
 use Rattle.c_declarators.specs.Derivations.{BuiltType, element_faults}
 use Rattle.c_declarators.specs.Faults.{and_faults, rule_of}
 use Rattle.c_scope.specs.Names.{Name, Names, bound, declared}

@@ -26,8 +26,8 @@ use Rattle.c_rules.specs.declared.row.Row.{Row}
 use Rattle.c_rules.specs.declared.row.Row.TheVariants as row
 use Rattle.c_rules.specs.declared.unary.LogicalOperator.{LogicalOperator}
 use Rattle.c_rules.specs.declared.unary.LogicalOperator.TheVariants as logical
-use Rattle.c_rules.specs.declared.fault.Rule.TheVariants.{MistakenFormat}
-use Rattle.c_rules.specs.Answer.{Answer, violates, ◌>>=◌}
+use Rattle.c_faults.specs.declared.fault.Rule.TheVariants.{MistakenFormat}
+use Rattle.c_faults.specs.Answer.{Answer, violates, ◌>>=◌}
 use Rattle.c_rules.specs.Binary.{binary, built, pair_of}
 use Rattle.c_rules.specs.Conversions as conversions
 use Rattle.c_rules.specs.Rows.{row_of}

@@ -4,8 +4,8 @@ use Rattle.std.proofs.Common.{◌++◌, length, Option, Some, None, if◌then◌
 use Rattle.std.specs.Prelude.{Ok, Err, not}
 use Rattle.c_tree.specs.declared.c_type.TypeWord.{TypeWord}
 use Rattle.c_tree.specs.declared.c_type.TypeWord.TheVariants as word
-use Rattle.c_rules.specs.declared.fault.Rule.TheVariants as rule
-use Rattle.c_rules.specs.Answer.{Answer, violates, ◌>>=◌}
+use Rattle.c_faults.specs.declared.fault.Rule.TheVariants as rule
+use Rattle.c_faults.specs.Answer.{Answer, violates, ◌>>=◌}
 use Rattle.c_rules.specs.Types.{unqualified}
 use Rattle.c_declarators.specs.Adjusted.{adjusted}
 use Rattle.c_declarators.specs.Derivations.{BuiltType}

@@ -10,15 +10,15 @@ use Rattle.c_tree.specs.declared.c_type.TypeWord.{TypeWord}
 use Rattle.c_tree.specs.declared.expression.Fixity.TheVariants as fixity
 use Rattle.c_tree.specs.Tree.{automatic}
 use Rattle.c_const.specs.Integers.{constant_word}
-use Rattle.c_rules.specs.declared.fault.Rule.TheVariants.{Redeclared}
-use Rattle.c_rules.specs.Answer.{Answer, violates, ◌>>=◌}
+use Rattle.c_faults.specs.declared.fault.Rule.TheVariants.{Redeclared}
+use Rattle.c_faults.specs.Answer.{Answer, violates, ◌>>=◌}
 use Rattle.c_rules.specs.Values.{Value}
 use Rattle.c_place_rules.specs.Operands.{Operand}
 use Rattle.c_place_rules.specs.Places.{address}
 use Rattle.c_call_rules.specs.Calls.{called_through, of_function, of_routine}
 use Rattle.c_call_rules.specs.FunctionTypes.{callee_type}
 use Rattle.c_call_rules.specs.Printing.{another}
-use Rattle.c_call_rules.specs.Routines.{routine_words}
+use Rattle.c_tree.specs.Routines.{routine_words}
 use Rattle.c_declarators.specs.Derivations.{to_array}
 use Rattle.c_scope.specs.declared.meaning.Designated.{Designated}
 use Rattle.c_scope.specs.declared.meaning.Designated.TheVariants as what

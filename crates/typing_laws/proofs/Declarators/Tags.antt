@@ -4,9 +4,9 @@ use Rattle.std.proofs.Common.{List, [], ◌∷◌, ◌++◌, length, Option, Som
 use Rattle.std.proofs.lemmas.Bool.{false≢true}
 use Rattle.std.specs.Prelude.{Ok, not}
 use Rattle.c_tree.specs.Extents.{TypeExtent, structure_extent}
-use Rattle.c_rules.specs.Answer.{Answer, violates, ◌>>=◌}
-use Rattle.c_rules.specs.declared.fault.Rule.TheVariants.{MistakenTag}
-use Rattle.c_place_rules.specs.declared.place.Member.{Member}
+use Rattle.c_faults.specs.Answer.{Answer, violates, ◌>>=◌}
+use Rattle.c_faults.specs.declared.fault.Rule.TheVariants.{MistakenTag}
+use Rattle.c_tree.specs.declared.member.Member.{Member}
 use Rattle.c_place_rules.specs.Places.{member_view}
 use Rattle.c_place_rules.specs.Places as places
 use Rattle.c_place_laws.specs.FinePlaces.{IsMemberOf}

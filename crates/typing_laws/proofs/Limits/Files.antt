@@ -12,8 +12,8 @@ use Rattle.c_tree.specs.declared.c_type.TypeWord.{TypeWord}
 use Rattle.c_tree.specs.declared.program.Variable.{Variable}
 use Rattle.c_tree.specs.Programs.{Program, StaticObject}
 use Rattle.c_tree.specs.Statements.{Statements}
-use Rattle.c_rules.specs.declared.fault.Rule.TheVariants.{NoMain}
-use Rattle.c_rules.specs.Answer.{Answer, violates, ◌>>=◌}
+use Rattle.c_faults.specs.declared.fault.Rule.TheVariants.{NoMain}
+use Rattle.c_faults.specs.Answer.{Answer, violates, ◌>>=◌}
 use Rattle.c_counts.specs.Counts.{Count, counts_of}
 use Rattle.c_counts.specs.Counts as counts
 use Rattle.c_counts.specs.Excess.{most_parameters}

@@ -13,8 +13,8 @@ use Rattle.c_tree.specs.Statements.{DeclaredVariable, Part, Statement}
 use Rattle.c_tree.specs.Statements as tree
 use Rattle.c_tree.specs.Tree.{kind_of}
 use Rattle.c_const.specs.Integers.{type_of}
-use Rattle.c_rules.specs.declared.fault.Fault.{Fault}
-use Rattle.c_rules.specs.Answer.{Answer, ◌>>=◌}
+use Rattle.c_faults.specs.declared.fault.Fault.{Fault}
+use Rattle.c_faults.specs.Answer.{Answer, ◌>>=◌}
 use Rattle.c_rules.specs.Values.{Value}
 use Rattle.c_scope.specs.declared.meaning.Designated.TheVariants as what
 use Rattle.c_scope.specs.declared.meaning.Meaning.{Meaning}

@@ -3,8 +3,8 @@
 use Rattle.std.proofs.Common.{◌≡◌, ℕ, ◌+◌, ◌≤◌, Bool, true, false, refl, ap, ◌∙◌, List, [], ◌∷◌, Option, Some, None}
 use Rattle.std.proofs.Common.{if◌then◌else◌, arith, not, ◌&&◌}
 use Rattle.std.specs.Prelude.{is_some, Ok, Err}
-use Rattle.c_rules.specs.declared.fault.Rule.TheVariants.{LargeType, MistakenTag, MisplacedStorage, Redeclared}
-use Rattle.c_rules.specs.Answer.{Answer, violates, ◌>>=◌}
+use Rattle.c_faults.specs.declared.fault.Rule.TheVariants.{LargeType, MistakenTag, MisplacedStorage, Redeclared}
+use Rattle.c_faults.specs.Answer.{Answer, violates, ◌>>=◌}
 use Rattle.c_rules.specs.Types.{unqualified}
 use Rattle.c_declarators.specs.Adjusted.{adjusted}
 use Rattle.c_declarators.specs.Derivations.{BuiltType}

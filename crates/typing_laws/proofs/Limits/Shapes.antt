@@ -7,7 +7,7 @@ use Rattle.c_syntax.specs.Formed.{is_plain_name}
 use Rattle.c_syntax.specs.Tree.{Declarator, Parameters}
 use Rattle.c_syntax.specs.Tree as t
 use Rattle.c_tree.specs.declared.c_type.TypeWord.{TypeWord}
-use Rattle.c_rules.specs.Answer.{Answer, ◌>>=◌}
+use Rattle.c_faults.specs.Answer.{Answer, ◌>>=◌}
 use Rattle.c_rules.specs.Values.{Value}
 use Rattle.c_declarators.specs.Derivations.{Derivation, to_array, to_open_array, to_pointer}
 use Rattle.c_counts.specs.Counts.{Count, parameters_counted}

@@ -7,13 +7,13 @@ use Rattle.c_lexer.specs.declared.punctuator.Punctuator.TheVariants as sign
 use Rattle.c_syntax.specs.declared.position.Spelled.{Spelled}
 use Rattle.c_tree.specs.declared.c_type.TypeWord.{TypeWord}
 use Rattle.c_tree.specs.declared.expression.Fixity.TheVariants as fixity
-use Rattle.c_rules.specs.Answer.{Answer, ◌>>=◌}
+use Rattle.c_faults.specs.Answer.{Answer, ◌>>=◌}
 use Rattle.c_rules.specs.Values.{Value}
 use Rattle.c_place_rules.specs.Operands.{Operand, a_function as a_function_operand, a_place, a_value, a_variable}
 use Rattle.c_place_rules.specs.Places.{address}
 use Rattle.c_call_rules.specs.Calls.{called_through, of_function, of_routine}
 use Rattle.c_call_rules.specs.FunctionTypes.{callee_type}
-use Rattle.c_call_rules.specs.Routines.{routine_words}
+use Rattle.c_tree.specs.Routines.{routine_words}
 use Rattle.c_scope.specs.declared.meaning.Designated.{Designated}
 use Rattle.c_scope.specs.declared.meaning.Designated.TheVariants as what
 use Rattle.c_scope.specs.declared.meaning.Meaning.{Meaning}

@@ -7,8 +7,8 @@ use Rattle.c_syntax.specs.Tree.{Declarator, Specifiers}
 use Rattle.c_tree.specs.declared.c_type.TypeWord.{TypeWord}
 use Rattle.c_tree.specs.declared.program.Variable.{Variable}
 use Rattle.c_tree.specs.Statements.{Statements}
-use Rattle.c_rules.specs.declared.fault.Rule.TheVariants.{MisplacedStorage, NoMain}
-use Rattle.c_rules.specs.Answer.{violates}
+use Rattle.c_faults.specs.declared.fault.Rule.TheVariants.{MisplacedStorage, NoMain}
+use Rattle.c_faults.specs.Answer.{violates}
 use Rattle.c_facts.specs.Facts.{facts_in}
 use Rattle.c_scope.specs.declared.meaning.Designated.TheVariants as what
 use Rattle.c_scope.specs.declared.meaning.Meaning.{Meaning}

@@ -6,8 +6,8 @@ use Rattle.c_syntax.specs.Tree.{Designation, Designator, Expression, Initializer
 use Rattle.c_syntax.specs.Tree as t
 use Rattle.c_tree.specs.Extents.{TypeExtent}
 use Rattle.c_tree.specs.Statements.{Content, literal_content, value_content}
-use Rattle.c_rules.specs.declared.fault.Rule.TheVariants.{MisplacedItem}
-use Rattle.c_rules.specs.Answer.{Answer, violates, ◌>>=◌}
+use Rattle.c_faults.specs.declared.fault.Rule.TheVariants.{MisplacedItem}
+use Rattle.c_faults.specs.Answer.{Answer, violates, ◌>>=◌}
 use Rattle.c_rules.specs.Values.{Value}
 use Rattle.c_current_object.specs.declared.current.CurrentObject.{CurrentObject}
 use Rattle.c_current_object.specs.declared.filler.Filler.TheVariants as filler

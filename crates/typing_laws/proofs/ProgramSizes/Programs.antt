@@ -8,7 +8,7 @@ use Rattle.c_syntax.specs.Words.{unit_words}
 use Rattle.c_tree.specs.declared.c_type.TypeWord.{TypeWord}
 use Rattle.c_tree.specs.Programs.{Program, StaticObject}
 use Rattle.c_tree.specs.Statements.{Part}
-use Rattle.c_rules.specs.Answer.{Answer}
+use Rattle.c_faults.specs.Answer.{Answer}
 use Rattle.c_counts.specs.Counts.{Count, counts_of}
 use Rattle.c_counts.specs.Excess.{first_above, members_among, most_members, most_parameters, parameters_among}
 use Rattle.c_scope.specs.declared.meaning.Designated.{Designated}

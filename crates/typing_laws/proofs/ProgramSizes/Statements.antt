@@ -17,9 +17,9 @@ use Rattle.c_tree.specs.Statements as tree
 use Rattle.c_tree.specs.Tree.{kind_of}
 use Rattle.c_tree.specs.ValidProgram.{same_label}
 use Rattle.c_const.specs.Integers.{constant_word, type_of}
-use Rattle.c_rules.specs.declared.fault.Fault.{Fault}
-use Rattle.c_rules.specs.declared.fault.Rule.TheVariants.{MisplacedLabel, MistakenReturn}
-use Rattle.c_rules.specs.Answer.{Answer, violates, ◌>>=◌}
+use Rattle.c_faults.specs.declared.fault.Fault.{Fault}
+use Rattle.c_faults.specs.declared.fault.Rule.TheVariants.{MisplacedLabel, MistakenReturn}
+use Rattle.c_faults.specs.Answer.{Answer, violates, ◌>>=◌}
 use Rattle.c_rules.specs.Conversions.{assigned}
 use Rattle.c_rules.specs.Values.{Value}
 use Rattle.c_typing.specs.State.{State, extents, judged}

@@ -1,8 +1,8 @@
 -- Bounds on the size of answers, along the steps that give them.
 use Rattle.std.proofs.Common.{◌≡◌, ℕ, ◌≤◌, refl, subst, arith}
 use Rattle.std.specs.Prelude.{Ok, Err}
-use Rattle.c_rules.specs.declared.fault.Fault.{Fault}
-use Rattle.c_rules.specs.Answer.{Answer, ◌>>=◌}
+use Rattle.c_faults.specs.declared.fault.Fault.{Fault}
+use Rattle.c_faults.specs.Answer.{Answer, ◌>>=◌}
 use Rattle.typing_laws.specs.TreeSizes.AtMost.{AtMost, no_size}
 
 abbrev answered : {A : Type 0} → A → Answer A

@@ -10,8 +10,8 @@ use Rattle.c_tree.specs.declared.format.Directive.{Directive}
 use Rattle.c_tree.specs.Extents.{TypeExtent}
 use Rattle.c_tree.specs.Tree.{Expression, expressions_in}
 use Rattle.c_tree.specs.Walk.{sum_of, walk_each}
-use Rattle.c_rules.specs.declared.fault.Rule.TheVariants.{MistakenFormat}
-use Rattle.c_rules.specs.Answer.{violates}
+use Rattle.c_faults.specs.declared.fault.Rule.TheVariants.{MistakenFormat}
+use Rattle.c_faults.specs.Answer.{violates}
 use Rattle.c_rules.specs.Conversions.{assigned}
 use Rattle.c_rules.specs.Types.{class_of}
 use Rattle.c_rules.specs.Values.{Value, converted}

@@ -18,13 +18,13 @@ use Rattle.c_rules.specs.declared.class.Target.{Target}
 use Rattle.c_rules.specs.declared.class.Target.TheVariants as target
 use Rattle.c_rules.specs.declared.conversion.Passing.{Passing}
 use Rattle.c_rules.specs.declared.conversion.Passing.TheVariants as passing
-use Rattle.c_rules.specs.declared.fault.Rule.{Rule}
-use Rattle.c_rules.specs.declared.fault.Rule.TheVariants.{NoCondition}
+use Rattle.c_faults.specs.declared.fault.Rule.{Rule}
+use Rattle.c_faults.specs.declared.fault.Rule.TheVariants.{NoCondition}
 use Rattle.c_rules.specs.declared.row.Row.{Row}
 use Rattle.c_rules.specs.declared.row.Row.TheVariants as row
 use Rattle.c_rules.specs.declared.unary.LogicalOperator.{LogicalOperator}
 use Rattle.c_rules.specs.declared.unary.LogicalOperator.TheVariants as logical
-use Rattle.c_rules.specs.Answer.{violates}
+use Rattle.c_faults.specs.Answer.{violates}
 use Rattle.c_rules.specs.Binary.{binary, built}
 use Rattle.c_rules.specs.Conversions.{assigned, cast, cast_to, passed}
 use Rattle.c_rules.specs.Types.{class_of}

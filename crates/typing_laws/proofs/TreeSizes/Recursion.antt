@@ -10,8 +10,8 @@ use Rattle.c_syntax.specs.Tree.{TypedDeclarator}
 use Rattle.c_syntax.specs.Tree as t
 use Rattle.c_tree.specs.declared.c_type.TypeWord.{TypeWord}
 use Rattle.c_tree.specs.declared.expression.Fixity.TheVariants as fixity
-use Rattle.c_rules.specs.declared.fault.Rule.TheVariants.{LargeType, MisplacedStorage}
-use Rattle.c_rules.specs.Answer.{Answer, violates, ◌>>=◌}
+use Rattle.c_faults.specs.declared.fault.Rule.TheVariants.{LargeType, MisplacedStorage}
+use Rattle.c_faults.specs.Answer.{Answer, violates, ◌>>=◌}
 use Rattle.c_rules.specs.Types.{unqualified}
 use Rattle.c_rules.specs.Values.{Value}
 use Rattle.c_place_rules.specs.Places.{type_in}

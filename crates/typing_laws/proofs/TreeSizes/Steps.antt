@@ -13,7 +13,7 @@ use Rattle.c_tree.specs.Extents.{TypeExtent}
 use Rattle.c_tree.specs.Tree.{automatic}
 use Rattle.c_tree.specs.declared.expression.Fixity.{Fixity}
 use Rattle.c_tree.specs.declared.expression.Fixity.TheVariants as fixity
-use Rattle.c_rules.specs.Answer.{Answer, ◌>>=◌}
+use Rattle.c_faults.specs.Answer.{Answer, ◌>>=◌}
 use Rattle.c_rules.specs.Unary.{comma}
 use Rattle.c_rules.specs.Unary as unary_rules
 use Rattle.c_rules.specs.Values.{Value}
@@ -21,7 +21,7 @@ use Rattle.c_place_rules.specs.Operands.{Operand, Place, a_function as a_functio
 use Rattle.c_call_rules.specs.Calls.{Callee, of_function, of_routine}
 use Rattle.c_call_rules.specs.FunctionTypes.{callee_type}
 use Rattle.c_call_rules.specs.Printing.{Format}
-use Rattle.c_call_rules.specs.Routines.{routine_words}
+use Rattle.c_tree.specs.Routines.{routine_words}
 use Rattle.c_scope.specs.declared.meaning.Designated.{Designated}
 use Rattle.c_scope.specs.declared.meaning.Designated.TheVariants as what
 use Rattle.c_scope.specs.declared.meaning.LibraryFunction.{LibraryFunction}

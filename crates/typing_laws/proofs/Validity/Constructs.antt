@@ -9,7 +9,7 @@ use Rattle.c_tree.specs.declared.expression.Fixity.TheVariants as fixity
 use Rattle.c_tree.specs.Extents.{TypeExtent, extent_of, structure_extent}
 use Rattle.c_tree.specs.Tree.{lvalue_line}
 use Rattle.c_tree.specs.Valid.{Scope}
-use Rattle.c_rules.specs.Answer.{Answer, ◌>>=◌}
+use Rattle.c_faults.specs.Answer.{Answer, ◌>>=◌}
 use Rattle.c_rules.specs.Fine.{IfFine, IsFine}
 use Rattle.c_rules.specs.Types.{unqualified}
 use Rattle.c_rules.specs.Values.{Value}

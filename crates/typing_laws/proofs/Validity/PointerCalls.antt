@@ -16,7 +16,7 @@ use Rattle.c_tree.specs.TypesAgree.{same_words, structure_kind}
 use Rattle.c_tree.specs.Valid.{Scope}
 use Rattle.c_rules.specs.declared.class.Target.{Target}
 use Rattle.c_rules.specs.declared.class.Target.TheVariants as target
-use Rattle.c_rules.specs.Answer.{Answer, ◌>>=◌}
+use Rattle.c_faults.specs.Answer.{Answer, ◌>>=◌}
 use Rattle.c_rules.specs.Conversions.{assigned}
 use Rattle.c_rules.specs.Fine.{IfFine, IfFineAs, IsFine}
 use Rattle.c_rules.specs.Types.{object_of, target_of}

@@ -11,11 +11,11 @@ use Rattle.c_tree.specs.declared.expression.Fixity.TheVariants as fixity
 use Rattle.c_tree.specs.Kinds.{pointer, routine_signature}
 use Rattle.c_tree.specs.TypesAgree.{kind_of_type}
 use Rattle.c_tree.specs.Valid.{Scope}
-use Rattle.c_rules.specs.Answer.{Answer, ◌>>=◌}
+use Rattle.c_faults.specs.Answer.{Answer, ◌>>=◌}
 use Rattle.c_rules.specs.Fine.{IfFine, IsFine}
 use Rattle.c_rules.specs.Types.{unqualified}
 use Rattle.c_rules.specs.Values.{Value}
-use Rattle.c_place_rules.specs.declared.place.Member as code_member
+use Rattle.c_tree.specs.declared.member.Member as code_member
 use Rattle.c_place_rules.specs.Operands.{Operand}
 use Rattle.c_place_rules.specs.Places.{Member, address, member_view, structure_of, type_in}
 use Rattle.c_place_rules.specs.Targets.{pointee_of}
@@ -23,7 +23,7 @@ use Rattle.c_place_laws.specs.FinePlaces.{IfFineOperand, IsFineOperand, IsFound,
 use Rattle.c_place_laws.proofs.FineOperands.{address_fine, arrow_fine, selected_fine}
 use Rattle.c_call_rules.specs.Calls.{of_function, of_routine}
 use Rattle.c_call_rules.specs.Printing.{Format}
-use Rattle.c_call_rules.specs.Routines.{routine_words}
+use Rattle.c_tree.specs.Routines.{routine_words}
 use Rattle.c_call_rules.proofs.FineCalls.{called_fine}
 use Rattle.c_call_rules.proofs.FinePrinting.{formatted_fine}
 use Rattle.c_call_rules.proofs.RoutineTypes.{routines_spell}

@@ -16,9 +16,9 @@ use Rattle.c_tree.specs.Statements as tree
 use Rattle.c_tree.specs.Tree as typed_tree
 use Rattle.c_tree.specs.ValidProgram.{same_label}
 use Rattle.c_const.specs.Integers.{constant_word}
-use Rattle.c_rules.specs.declared.fault.Fault.{Fault}
-use Rattle.c_rules.specs.declared.fault.Rule.TheVariants.{MisplacedLabel}
-use Rattle.c_rules.specs.Answer.{Answer, violates, ◌>>=◌}
+use Rattle.c_faults.specs.declared.fault.Fault.{Fault}
+use Rattle.c_faults.specs.declared.fault.Rule.TheVariants.{MisplacedLabel}
+use Rattle.c_faults.specs.Answer.{Answer, violates, ◌>>=◌}
 use Rattle.c_rules.specs.Values.{Value}
 use Rattle.c_typing.specs.State.{State, Typing, judged}
 use Rattle.c_expression_typing.specs.Constructs as expression_typing

@@ -11,7 +11,7 @@ use Rattle.c_syntax.specs.Tree as t
 use Rattle.c_syntax.specs.Formed.{is_plain_name}
 use Rattle.c_tree.specs.declared.c_type.TypeWord.{TypeWord}
 use Rattle.c_tree.specs.declared.expression.Fixity.TheVariants as fixity
-use Rattle.c_rules.specs.Answer.{Answer, ◌>>=◌}
+use Rattle.c_faults.specs.Answer.{Answer, ◌>>=◌}
 use Rattle.c_rules.specs.Values.{Value}
 use Rattle.c_call_rules.specs.Printing.{another}
 use Rattle.c_place_rules.specs.Operands.{Operand, enclosed}

@@ -3,7 +3,7 @@ use Rattle.std.proofs.Common.{Bool, true, false, refl, ◌∙◌, subst, List, [
 use Rattle.std.proofs.Common.{Option, Some, None, if◌then◌else◌}
 use Rattle.c_syntax.specs.Tree.{Designation, Designator, Expression, Initializer, InitializerItem, MoreItems}
 use Rattle.c_syntax.specs.Tree as t
-use Rattle.c_rules.specs.Answer.{◌>>=◌}
+use Rattle.c_faults.specs.Answer.{◌>>=◌}
 use Rattle.c_scope.specs.Names.{Name}
 use Rattle.c_initializer_rules.specs.Initializing.{Initializing, designation_begun, with_value}
 use Rattle.c_typing.specs.Primaries.{spelled_bytes}

@@ -10,7 +10,7 @@ use Rattle.c_tree.specs.declared.expression.Kind.TheVariants as kind
 use Rattle.c_tree.specs.Extents.{TypeExtent, structure_extent}
 use Rattle.c_tree.specs.Kinds.{Signature, is_size}
 use Rattle.c_tree.specs.Valid.{Scope, has_number}
-use Rattle.c_rules.specs.Answer.{Answer}
+use Rattle.c_faults.specs.Answer.{Answer}
 use Rattle.c_call_rules.specs.FineCalls.{HasSignature, Spells}
 use Rattle.c_scope.specs.declared.meaning.Meaning.TheVariants.{Constant, Typedef}
 use Rattle.c_scope.specs.declared.meaning.Tag.{Tag}

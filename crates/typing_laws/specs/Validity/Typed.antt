@@ -1,7 +1,7 @@
 -- Constructs that are typed to what is valid, with the structures that are complete behind them (C99 6.5).
 use Rattle.std.specs.Prelude.{◌≡◌, ℕ, Some, Ok, Err}
 use Rattle.c_tree.specs.Valid.{Scope}
-use Rattle.c_rules.specs.Answer.{Answer}
+use Rattle.c_faults.specs.Answer.{Answer}
 use Rattle.c_rules.specs.Fine.{IsFine}
 use Rattle.c_rules.specs.Values.{Value}
 use Rattle.c_place_rules.specs.Operands.{Operand}
@@ -9,7 +9,7 @@ use Rattle.c_place_rules.specs.Places.{member_view}
 use Rattle.c_place_laws.specs.FinePlaces.{IsFineOperand, IsMemberOf}
 use Rattle.c_scope.specs.Names.{Name}
 use Rattle.c_scope.specs.Structures.{member_of}
-use Rattle.c_place_rules.specs.declared.place.Member.{Member}
+use Rattle.c_tree.specs.declared.member.Member.{Member}
 use Rattle.c_typing.specs.State.{State, extents}
 
 abbrev pub IfTyped : Scope → Answer (State × Operand) → Type 0

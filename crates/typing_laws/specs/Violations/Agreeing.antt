@@ -1,7 +1,7 @@
 -- That the first violation in a judgement is what typing answers.
 use Rattle.std.specs.Prelude.{◌≡◌, List, [], ◌∷◌, Option, Some, None, Ok, Err}
-use Rattle.c_rules.specs.declared.fault.Fault.{Fault}
-use Rattle.c_rules.specs.Answer.{Answer}
+use Rattle.c_faults.specs.declared.fault.Fault.{Fault}
+use Rattle.c_faults.specs.Answer.{Answer}
 use Rattle.typing_laws.specs.Violations.Judgements.{Judgement, Violation}
 
 abbrev pub first_of : List Violation → Option Fault

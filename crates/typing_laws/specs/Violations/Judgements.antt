@@ -1,8 +1,8 @@
 -- Judgements of constructs: all violations of typing rules in a construct in the order of its tokens, and what is known
 -- behind it.
 use Rattle.std.specs.Prelude.{ℕ, List, [], ◌∷◌, ◌++◌, Option, Some, None, option_map, Ok, Err}
-use Rattle.c_rules.specs.declared.fault.Fault.{Fault}
-use Rattle.c_rules.specs.Answer.{Answer}
+use Rattle.c_faults.specs.declared.fault.Fault.{Fault}
+use Rattle.c_faults.specs.Answer.{Answer}
 
 -- a violation, with the number of the token at which the rule is judged
 pub record Violation : Type 0 where

@@ -14,7 +14,7 @@ use Rattle.c_tree.specs.Tree.{kind_of}
 use Rattle.c_tree.specs.Tree as typed_tree
 use Rattle.c_tree.specs.ValidProgram.{Inside, in_loop, in_switch}
 use Rattle.c_const.specs.Integers.{constant_word, type_of}
-use Rattle.c_rules.specs.Answer.{Answer, ◌>>=◌}
+use Rattle.c_faults.specs.Answer.{Answer, ◌>>=◌}
 use Rattle.c_rules.specs.Values.{Value}
 use Rattle.c_typing.specs.State.{State, judged}
 use Rattle.c_unit_typing.specs.Constructs.{Around, Head, Labelled, Labels, case_with, controls, controls_if, default_on}

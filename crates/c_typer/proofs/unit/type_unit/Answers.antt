@@ -2,7 +2,7 @@ use Rattle.std.proofs.Common.{◌≡◌, ◌∙◌, sym, ap, subst}
 use Rattle.std.specs.Prelude.{IfErr, IfOk, Ok}
 use Rattle.c_syntax.specs.StatementsView.{externals_in, unit_of}
 use Rattle.c_tree.specs.View as view
-use Rattle.c_rules.specs.Answer.{Fails}
+use Rattle.c_faults.specs.Answer.{Fails}
 use Rattle.c_typer.specs.FileState.{file_of}
 use Rattle.c_unit_typing.specs.Typed.{TypedUnit, a_program}
 use Rattle.c_unit_typing.specs.Units.{file_in}

@@ -14,7 +14,7 @@ use Rattle.typing_laws.proofs.Validity.Sound.{more_more}
 use Rattle.c_tree.specs.Statements.{Statements}
 use Rattle.c_tree.specs.Valid.{Scope}
 use Rattle.c_tree.specs.ValidProgram.{are_parameters, are_statements, count_from, declares_all, is_variable}
-use Rattle.c_rules.specs.Answer.{Answer}
+use Rattle.c_faults.specs.Answer.{Answer}
 use Rattle.c_call_rules.specs.FunctionTypes.{result_type}
 use Rattle.c_typing.specs.State.{extents}
 use Rattle.c_unit_typing.specs.Constructs.{Around}

@@ -14,9 +14,9 @@ use Rattle.c_tree.specs.Tree.{kind_of}
 use Rattle.c_tree.specs.Tree as typed_tree
 use Rattle.c_tree.specs.Valid.{Scope, is_condition, is_valid}
 use Rattle.c_tree.specs.ValidProgram.{is_condition_if, is_expression_if, is_first}
-use Rattle.c_rules.specs.declared.fault.Fault.{Fault}
-use Rattle.c_rules.specs.declared.fault.Rule.TheVariants.{MistakenReturn}
-use Rattle.c_rules.specs.Answer.{Answer, violates, ◌>>=◌}
+use Rattle.c_faults.specs.declared.fault.Fault.{Fault}
+use Rattle.c_faults.specs.declared.fault.Rule.TheVariants.{MistakenReturn}
+use Rattle.c_faults.specs.Answer.{Answer, violates, ◌>>=◌}
 use Rattle.c_rules.specs.Conversions.{assigned}
 use Rattle.c_rules.specs.Values.{Value}
 use Rattle.c_typing.specs.State.{State, Typing, done, extents, judged}

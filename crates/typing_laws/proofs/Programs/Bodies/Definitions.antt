@@ -11,8 +11,8 @@ use Rattle.c_syntax.specs.Statements as t
 use Rattle.c_tree.specs.declared.c_type.TypeWord.{TypeWord}
 use Rattle.c_tree.specs.Blocks.{block_variables, each_variables}
 use Rattle.c_tree.specs.Statements.{Statements}
-use Rattle.c_rules.specs.declared.fault.Rule.TheVariants.{MisplacedStorage}
-use Rattle.c_rules.specs.Answer.{Answer, violates, ◌>>=◌}
+use Rattle.c_faults.specs.declared.fault.Rule.TheVariants.{MisplacedStorage}
+use Rattle.c_faults.specs.Answer.{Answer, violates, ◌>>=◌}
 use Rattle.c_declarators.specs.Derivations.{built}
 use Rattle.c_call_rules.specs.FunctionTypes.{result_type}
 use Rattle.c_scope.specs.declared.meaning.Designated.{Designated}

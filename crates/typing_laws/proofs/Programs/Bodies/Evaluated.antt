@@ -16,8 +16,8 @@ use Rattle.c_tree.specs.Tree as typed_tree
 use Rattle.c_tree.specs.TypesAgree.{is_kind_of, kind_of_type}
 use Rattle.c_tree.specs.Valid.{Scope, is_condition, is_valid}
 use Rattle.c_tree.specs.ValidProgram.{is_condition_if, is_expression_if}
-use Rattle.c_rules.specs.declared.fault.Rule.TheVariants.{MistakenReturn}
-use Rattle.c_rules.specs.Answer.{Answer, violates, ◌>>=◌}
+use Rattle.c_faults.specs.declared.fault.Rule.TheVariants.{MistakenReturn}
+use Rattle.c_faults.specs.Answer.{Answer, violates, ◌>>=◌}
 use Rattle.c_rules.specs.Conversions.{assigned, is_void_type}
 use Rattle.c_rules.specs.Fine.{IfFineAs}
 use Rattle.c_rules.specs.Types.{unqualified}

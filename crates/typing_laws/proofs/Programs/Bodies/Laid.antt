@@ -5,8 +5,8 @@ use Rattle.std.specs.Prelude.{Ok, Err}
 use Rattle.c_syntax.specs.Tree.{Expression, Specifiers}
 use Rattle.c_tree.specs.declared.c_type.TypeWord.{TypeWord}
 use Rattle.c_tree.specs.Statements.{First}
-use Rattle.c_rules.specs.declared.fault.Rule.TheVariants.{MisplacedStorage}
-use Rattle.c_rules.specs.Answer.{Answer, violates, ◌>>=◌}
+use Rattle.c_faults.specs.declared.fault.Rule.TheVariants.{MisplacedStorage}
+use Rattle.c_faults.specs.Answer.{Answer, violates, ◌>>=◌}
 use Rattle.c_scope.specs.Declaring.{Declaration, judged as judged_declarator}
 use Rattle.c_scope.specs.Environment.{surroundings}
 use Rattle.c_scope.specs.Names.{Name}

@@ -12,7 +12,7 @@ use Rattle.c_tree.specs.Tree.{kind_of}
 use Rattle.c_tree.specs.Valid.{Scope, at_number, is_valid, variable_at}
 use Rattle.c_tree.specs.ValidProgram.{count_from, are_declared, are_parts, is_initializer, is_variable}
 use Rattle.c_tree.specs.Blocks.{variables_in}
-use Rattle.c_rules.specs.Answer.{Answer, ◌>>=◌}
+use Rattle.c_faults.specs.Answer.{Answer, ◌>>=◌}
 use Rattle.c_rules.proofs.FineUnary.{same_kind}
 use Rattle.c_scope.specs.declared.meaning.Designated.{Designated}
 use Rattle.c_scope.specs.declared.meaning.Designated.TheVariants as what

@@ -10,8 +10,8 @@ use Rattle.c_syntax.specs.Tree as t
 use Rattle.c_tree.specs.declared.c_type.TypeWord.{TypeWord}
 use Rattle.c_tree.specs.declared.c_type.TypeWord.TheVariants as word
 use Rattle.c_tree.specs.Extents.{extent_of}
-use Rattle.c_rules.specs.declared.fault.Rule.TheVariants as rule
-use Rattle.c_rules.specs.Answer.{Answer, violates, ◌>>=◌}
+use Rattle.c_faults.specs.declared.fault.Rule.TheVariants as rule
+use Rattle.c_faults.specs.Answer.{Answer, violates, ◌>>=◌}
 use Rattle.c_rules.specs.Types.{unqualified}
 use Rattle.c_rules.specs.Values.{Value}
 use Rattle.c_declarators.specs.Adjusted.{adjusted}

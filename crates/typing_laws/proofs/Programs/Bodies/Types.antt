@@ -11,9 +11,9 @@ use Rattle.c_tree.specs.declared.c_type.TypeWord.{TypeWord}
 use Rattle.c_tree.specs.declared.c_type.TypeWord.TheVariants as word
 use Rattle.c_tree.specs.Extents.{TypeExtent, extent_of}
 use Rattle.c_tree.specs.TypesAgree.{behind_types, still}
-use Rattle.c_rules.specs.declared.fault.Rule.{Rule}
-use Rattle.c_rules.specs.declared.fault.Rule.TheVariants as rule
-use Rattle.c_rules.specs.Answer.{Answer, violates, ◌>>=◌}
+use Rattle.c_faults.specs.declared.fault.Rule.{Rule}
+use Rattle.c_faults.specs.declared.fault.Rule.TheVariants as rule
+use Rattle.c_faults.specs.Answer.{Answer, violates, ◌>>=◌}
 use Rattle.c_rules.specs.Types.{unqualified}
 use Rattle.c_place_rules.specs.Targets.{constant, qualified}
 use Rattle.c_declarators.specs.Adjusted.{adjusted}

@@ -6,8 +6,8 @@ use Rattle.c_tree.specs.declared.c_type.TypeWord.{TypeWord}
 use Rattle.c_tree.specs.declared.c_type.TypeWord.TheVariants as word
 use Rattle.c_tree.specs.Arrays.{array_word}
 use Rattle.c_tree.specs.Extents.{TypeExtent, array_extent, extent_of}
-use Rattle.c_rules.specs.declared.fault.Rule.TheVariants.{Redeclared}
-use Rattle.c_rules.specs.Answer.{violates}
+use Rattle.c_faults.specs.declared.fault.Rule.TheVariants.{Redeclared}
+use Rattle.c_faults.specs.Answer.{violates}
 use Rattle.c_declarators.specs.Derivations.{array_of, is_large}
 use Rattle.c_scope.specs.declared.meaning.Designated.{Designated}
 use Rattle.c_scope.specs.declared.meaning.Designated.TheVariants as what

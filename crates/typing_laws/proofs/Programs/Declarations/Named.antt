@@ -4,7 +4,7 @@ use Rattle.std.specs.Prelude.{Ok, Err, option_map}
 use Rattle.c_syntax.specs.Formed as formed
 use Rattle.c_syntax.specs.Tree.{Declarator}
 use Rattle.c_syntax.specs.Tree as tree
-use Rattle.c_rules.specs.Answer.{Answer, ◌>>=◌}
+use Rattle.c_faults.specs.Answer.{Answer, ◌>>=◌}
 use Rattle.c_scope.specs.Names.{Name}
 use Rattle.c_typing.specs.Declarators.{Shape}
 use Rattle.c_typing.specs.State.{State}

@@ -10,8 +10,8 @@ use Rattle.c_syntax.specs.Tree.{Declarator}
 use Rattle.c_tree.specs.declared.c_type.TypeWord.{TypeWord}
 use Rattle.c_tree.specs.declared.program.Variable.{Variable}
 use Rattle.c_tree.specs.Statements.{DeclaredVariable, Statements}
-use Rattle.c_rules.specs.declared.fault.Rule.TheVariants.{MisplacedStorage}
-use Rattle.c_rules.specs.Answer.{Answer, violates, ◌>>=◌}
+use Rattle.c_faults.specs.declared.fault.Rule.TheVariants.{MisplacedStorage}
+use Rattle.c_faults.specs.Answer.{Answer, violates, ◌>>=◌}
 use Rattle.c_call_rules.specs.FunctionTypes.{result_type}
 use Rattle.c_declarators.specs.Derivations.{Derivation, built, function_words, to_array, to_function}
 use Rattle.c_declarators.specs.Derivations.{to_open_array, to_pointer}

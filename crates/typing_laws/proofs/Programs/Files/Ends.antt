@@ -4,8 +4,8 @@ use Rattle.std.proofs.Common.{None, if◌then◌else◌, arith}
 use Rattle.std.specs.Prelude.{Ok, Err, codes, nat_lt}
 use Rattle.std.proofs.lemmas.Bool.{ltb-true}
 use Rattle.c_syntax.specs.Statements as t
-use Rattle.c_rules.specs.declared.fault.Rule.TheVariants.{NoMain}
-use Rattle.c_rules.specs.Answer.{Answer, violates, ◌>>=◌}
+use Rattle.c_faults.specs.declared.fault.Rule.TheVariants.{NoMain}
+use Rattle.c_faults.specs.Answer.{Answer, violates, ◌>>=◌}
 use Rattle.c_facts.specs.Facts.{facts_in}
 use Rattle.c_scope.specs.Environment.{Facts}
 use Rattle.c_scope.specs.Names.{declared}

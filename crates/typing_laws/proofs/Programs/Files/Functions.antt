@@ -13,9 +13,9 @@ use Rattle.c_tree.specs.Arrays.{is_sized}
 use Rattle.c_tree.specs.Programs.{Program}
 use Rattle.c_tree.specs.TypesAgree.{agrees, same_words}
 use Rattle.c_tree.specs.ValidProgram.{are_all_different, is_function_type}
-use Rattle.c_call_rules.specs.Routines.{routine_words}
+use Rattle.c_tree.specs.Routines.{routine_words}
 use Rattle.c_facts.specs.Facts.{facts_in}
-use Rattle.c_rules.specs.Answer.{Answer}
+use Rattle.c_faults.specs.Answer.{Answer}
 use Rattle.c_scope.specs.declared.meaning.Designated.TheVariants.{Library}
 use Rattle.c_scope.specs.declared.meaning.LibraryFunction.{LibraryFunction}
 use Rattle.c_scope.specs.declared.meaning.LibraryFunction.TheVariants as library

@@ -16,7 +16,7 @@ use Rattle.c_tree.specs.TypesAgree.{same_words}
 use Rattle.c_tree.specs.Valid.{Scope, has_number, no_signature}
 use Rattle.c_tree.specs.ValidProgram.{is_main, is_main_signature, scope_in, signature_at, signature_of, signatures_of}
 use Rattle.c_facts.specs.Facts.{Found, facts_in, found_in, nothing_found, with_external}
-use Rattle.c_rules.specs.Answer.{Answer, ◌>>=◌}
+use Rattle.c_faults.specs.Answer.{Answer, ◌>>=◌}
 use Rattle.c_rules.proofs.SameTypes.{both_true, words_are}
 use Rattle.c_scope.specs.declared.meaning.Designated as what
 use Rattle.c_scope.specs.declared.meaning.Designated.TheVariants as whats

@@ -6,7 +6,7 @@ use Rattle.std.specs.Prelude.{Ok, Err, slice_index_or}
 use Rattle.c_tree.specs.declared.c_type.TypeWord.{TypeWord}
 use Rattle.c_tree.specs.Extents.{TypeExtent}
 use Rattle.c_tree.specs.Statements.{Content}
-use Rattle.c_rules.specs.Answer.{Answer, ◌>>=◌}
+use Rattle.c_faults.specs.Answer.{Answer, ◌>>=◌}
 use Rattle.c_scope.specs.Names.{Name}
 use Rattle.c_current_object.specs.declared.current.CurrentObject.{CurrentObject}
 use Rattle.c_current_object.specs.declared.current.Open.{Open}

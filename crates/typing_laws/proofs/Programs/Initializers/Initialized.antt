@@ -13,7 +13,7 @@ use Rattle.c_tree.specs.Statements.{Part, of_plain}
 use Rattle.c_tree.specs.Tree.{kind_of}
 use Rattle.c_tree.specs.Valid.{Scope}
 use Rattle.c_tree.specs.ValidProgram.{are_parts}
-use Rattle.c_rules.specs.Answer.{Answer, ◌>>=◌}
+use Rattle.c_faults.specs.Answer.{Answer, ◌>>=◌}
 use Rattle.c_rules.specs.Types.{unqualified}
 use Rattle.c_scope.specs.declared.meaning.Designated.{Designated}
 use Rattle.c_scope.specs.declared.meaning.Meaning.TheVariants as meaning

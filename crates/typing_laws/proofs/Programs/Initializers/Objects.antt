@@ -10,8 +10,8 @@ use Rattle.c_tree.specs.Extents.{TypeExtent, array_extent, capped, extent_of, st
 use Rattle.c_tree.specs.Kinds.{is_size, size_of_kind}
 use Rattle.c_tree.specs.Layout.{array_size}
 use Rattle.c_tree.specs.Valid.{Scope}
-use Rattle.c_rules.specs.declared.fault.Rule.TheVariants.{LargeType, Redeclared}
-use Rattle.c_rules.specs.Answer.{violates}
+use Rattle.c_faults.specs.declared.fault.Rule.TheVariants.{LargeType, Redeclared}
+use Rattle.c_faults.specs.Answer.{violates}
 use Rattle.c_place_rules.specs.Targets.{object_kind}
 use Rattle.c_place_laws.proofs.Sizes.{kind_bytes}
 use Rattle.c_declarators.specs.Derivations.{array_of, is_large}

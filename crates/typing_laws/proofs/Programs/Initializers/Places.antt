@@ -9,7 +9,7 @@ use Rattle.c_tree.specs.declared.c_type.TypeWord.TheVariants as word
 use Rattle.c_tree.specs.Extents.{TypeExtent, capped, extent_of, structure_extent}
 use Rattle.c_tree.specs.Layout.{array_size}
 use Rattle.c_rules.specs.Types.{unqualified}
-use Rattle.c_place_rules.specs.declared.place.Member.{Member}
+use Rattle.c_tree.specs.declared.member.Member.{Member}
 use Rattle.c_place_laws.proofs.Sizes.{target_size}
 use Rattle.c_current_object.specs.declared.subobject.Step.{Step}
 use Rattle.c_current_object.specs.declared.subobject.Subobject.{Subobject}

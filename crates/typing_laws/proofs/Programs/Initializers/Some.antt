@@ -8,8 +8,8 @@ use Rattle.c_tree.specs.Extents.{TypeExtent}
 use Rattle.c_tree.specs.Statements.{Content, value_content, literal_content}
 use Rattle.c_tree.specs.Tree.{Expression}
 use Rattle.c_tree.specs.Valid.{Scope}
-use Rattle.c_rules.specs.declared.fault.Rule.TheVariants.{MisplacedItem}
-use Rattle.c_rules.specs.Answer.{Answer, violates, ◌>>=◌}
+use Rattle.c_faults.specs.declared.fault.Rule.TheVariants.{MisplacedItem}
+use Rattle.c_faults.specs.Answer.{Answer, violates, ◌>>=◌}
 use Rattle.c_rules.specs.Conversions.{assigned}
 use Rattle.c_rules.specs.Values.{Value}
 use Rattle.c_current_object.specs.declared.current.CurrentObject.{CurrentObject}

@@ -6,7 +6,7 @@ use Rattle.c_syntax.specs.Tree.{Initializer}
 use Rattle.c_tree.specs.Kinds.{is_value}
 use Rattle.c_tree.specs.Tree.{kind_of}
 use Rattle.c_tree.specs.Valid.{Scope, is_valid}
-use Rattle.c_rules.specs.Answer.{Answer}
+use Rattle.c_faults.specs.Answer.{Answer}
 use Rattle.c_current_object.specs.declared.subobject.Subobject.{Subobject}
 use Rattle.c_initializer_rules.specs.Initializing.{Initializing}
 use Rattle.c_typing.specs.State.{State, extents}

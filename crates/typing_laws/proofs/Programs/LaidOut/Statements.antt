@@ -12,8 +12,8 @@ use Rattle.c_tree.specs.Statements as tree
 use Rattle.c_tree.specs.Tree as tree_of
 use Rattle.c_tree.specs.Tree.{kind_of}
 use Rattle.c_const.specs.Integers.{constant_word, type_of}
-use Rattle.c_rules.specs.declared.fault.Fault.{Fault}
-use Rattle.c_rules.specs.Answer.{Answer}
+use Rattle.c_faults.specs.declared.fault.Fault.{Fault}
+use Rattle.c_faults.specs.Answer.{Answer}
 use Rattle.c_rules.specs.Values.{Value}
 use Rattle.c_typing.specs.State.{State, done, judged, ◌>>>◌}
 use Rattle.c_expression_typing.specs.Constructs.{valued}

@@ -7,7 +7,7 @@ use Rattle.c_tree.specs.declared.c_type.TypeWord.TheVariants as word
 use Rattle.c_tree.specs.Arrays.{has_bytes}
 use Rattle.c_tree.specs.Extents.{TypeExtent, extent_of}
 use Rattle.c_tree.specs.Layout.{array_size}
-use Rattle.c_place_rules.specs.declared.place.Member.{Member}
+use Rattle.c_tree.specs.declared.member.Member.{Member}
 use Rattle.c_place_rules.specs.Places.{member_view}
 use Rattle.c_place_rules.specs.Targets.{constant, qualified}
 use Rattle.c_place_laws.proofs.Sizes.{constant_extent}

@@ -7,9 +7,9 @@ use Rattle.std.specs.Prelude.{Ok, not, get_or, nat_lt, option_map, slice_get}
 use Rattle.std.proofs.lemmas.Bool.{ltb-false}
 use Rattle.c_tree.specs.declared.c_type.TypeWord.{TypeWord}
 use Rattle.c_tree.specs.Extents.{TypeExtent, extent_of}
-use Rattle.c_rules.specs.declared.fault.Rule.TheVariants as rule
-use Rattle.c_rules.specs.Answer.{violates, ◌>>=◌}
-use Rattle.c_place_rules.specs.declared.place.Member.{Member}
+use Rattle.c_faults.specs.declared.fault.Rule.TheVariants as rule
+use Rattle.c_faults.specs.Answer.{violates, ◌>>=◌}
+use Rattle.c_tree.specs.declared.member.Member.{Member}
 use Rattle.c_declarators.specs.Derivations.{BuiltType, element_faults}
 use Rattle.c_declarators.specs.Faults.{and_faults, rule_of}
 use Rattle.c_scope.specs.declared.meaning.Tag.{Tag}

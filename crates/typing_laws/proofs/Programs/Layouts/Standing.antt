@@ -6,14 +6,14 @@ use Rattle.c_lexer.specs.declared.punctuator.Punctuator.{Punctuator}
 use Rattle.c_lexer.specs.declared.punctuator.Punctuator.TheVariants as sign
 use Rattle.c_tree.specs.declared.c_type.TypeWord.{TypeWord}
 use Rattle.c_tree.specs.declared.expression.Fixity.TheVariants as fixity
-use Rattle.c_rules.specs.declared.fault.Rule.TheVariants.{MisplacedStorage, Redeclared}
-use Rattle.c_rules.specs.Answer.{Answer, violates, ◌>>=◌}
+use Rattle.c_faults.specs.declared.fault.Rule.TheVariants.{MisplacedStorage, Redeclared}
+use Rattle.c_faults.specs.Answer.{Answer, violates, ◌>>=◌}
 use Rattle.c_rules.specs.Values.{Value}
 use Rattle.c_place_rules.specs.Operands.{Operand, a_value, a_place, a_variable, a_function}
 use Rattle.c_place_rules.specs.Places.{address}
 use Rattle.c_call_rules.specs.Calls.{of_function, of_routine}
 use Rattle.c_call_rules.specs.FunctionTypes.{callee_type}
-use Rattle.c_call_rules.specs.Routines.{routine_words}
+use Rattle.c_tree.specs.Routines.{routine_words}
 use Rattle.c_declarators.specs.Adjusted.{adjusted}
 use Rattle.c_declarators.specs.Derivations.{BuiltType}
 use Rattle.c_rules.specs.Types.{unqualified}

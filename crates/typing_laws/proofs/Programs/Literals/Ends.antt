@@ -6,7 +6,7 @@ use Rattle.std.proofs.lemmas.Bool.{and_from, lt-ltb}
 use Rattle.c_syntax.specs.Statements as t
 use Rattle.c_tree.specs.ValidProgram.{is_function_number}
 use Rattle.c_facts.specs.Facts.{facts_in}
-use Rattle.c_rules.specs.Answer.{Answer}
+use Rattle.c_faults.specs.Answer.{Answer}
 use Rattle.c_scope.specs.Environment.{Facts, number_or}
 use Rattle.c_scope.specs.Names.{Names, declared}
 use Rattle.c_typing.specs.State.{Literal}

@@ -5,7 +5,7 @@ use Rattle.c_syntax.specs.Statements as t
 use Rattle.c_tree.specs.declared.c_type.TypeWord.{TypeWord}
 use Rattle.c_tree.specs.declared.program.Variable.{Variable}
 use Rattle.c_tree.specs.Statements.{DeclaredVariable, Statements}
-use Rattle.c_rules.specs.Answer.{Answer, ◌>>=◌}
+use Rattle.c_faults.specs.Answer.{Answer, ◌>>=◌}
 use Rattle.c_scope.specs.Names.{Name, closed, declared}
 use Rattle.c_scope.specs.Names as names
 use Rattle.c_scope.specs.Parameters.{ParameterScope}

@@ -10,7 +10,7 @@ use Rattle.c_syntax.specs.Statements as t
 use Rattle.c_tree.specs.Programs.{StaticObject}
 use Rattle.c_facts.specs.Facts.{Found, facts_in, found_in, nothing_found, with_external}
 use Rattle.c_facts.specs.Facts as facts
-use Rattle.c_rules.specs.Answer.{Answer, ◌>>=◌}
+use Rattle.c_faults.specs.Answer.{Answer, ◌>>=◌}
 use Rattle.c_scope.specs.Environment.{Facts}
 use Rattle.c_scope.specs.Names.{Name, Names, is_empty}
 use Rattle.c_unit_typing.specs.Declarations.{declaration}

@@ -20,8 +20,8 @@ use Rattle.c_tree.specs.ValidProgram.{are_different, is_label, same_label}
 use Rattle.c_const.specs.Integers.{type_of}
 use Rattle.c_rules.specs.declared.class.Class.{Class}
 use Rattle.c_rules.specs.declared.class.Class.TheVariants as class
-use Rattle.c_rules.specs.declared.fault.Rule.TheVariants.{MisplacedLabel}
-use Rattle.c_rules.specs.Answer.{Answer, violates}
+use Rattle.c_faults.specs.declared.fault.Rule.TheVariants.{MisplacedLabel}
+use Rattle.c_faults.specs.Answer.{Answer, violates}
 use Rattle.c_rules.specs.Types.{class_of}
 use Rattle.c_rules.specs.Values.{Value}
 use Rattle.c_condition_rules.specs.Conditions.{switch_value, switched}

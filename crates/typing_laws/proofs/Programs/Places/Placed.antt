@@ -18,9 +18,9 @@ use Rattle.c_tree.specs.Tree.{kind_of}
 use Rattle.c_tree.specs.Tree as typed_tree
 use Rattle.c_tree.specs.ValidProgram.{are_different, in_switch, is_declaration, is_label, labels_of}
 use Rattle.c_const.specs.Integers.{constant_word, type_of}
-use Rattle.c_rules.specs.declared.fault.Fault.{Fault}
-use Rattle.c_rules.specs.declared.fault.Rule.TheVariants.{MistakenReturn}
-use Rattle.c_rules.specs.Answer.{Answer, violates, ◌>>=◌}
+use Rattle.c_faults.specs.declared.fault.Fault.{Fault}
+use Rattle.c_faults.specs.declared.fault.Rule.TheVariants.{MistakenReturn}
+use Rattle.c_faults.specs.Answer.{Answer, violates, ◌>>=◌}
 use Rattle.c_rules.specs.Conversions.{assigned}
 use Rattle.c_rules.specs.Values.{Value}
 use Rattle.c_typing.specs.State.{State, done, extents, judged}

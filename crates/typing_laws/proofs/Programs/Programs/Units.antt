@@ -5,7 +5,7 @@ use Rattle.c_syntax.specs.Formed.{IsWellFormed}
 use Rattle.c_syntax.specs.Statements.{External, Unit as TextUnit}
 use Rattle.c_tree.specs.Programs.{Program}
 use Rattle.c_tree.specs.ValidProgram.{is_valid_program}
-use Rattle.c_rules.specs.Answer.{Answer, ◌>>=◌}
+use Rattle.c_faults.specs.Answer.{Answer, ◌>>=◌}
 use Rattle.c_counts.specs.Counts.{counts_of}
 use Rattle.c_unit_typing.specs.Files.{File}
 use Rattle.c_unit_typing.specs.Programs.{program_of}

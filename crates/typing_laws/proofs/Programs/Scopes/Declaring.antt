@@ -7,7 +7,7 @@ use Rattle.c_syntax.specs.declared.position.Position.{Position}
 use Rattle.c_syntax.specs.Statements as t
 use Rattle.c_syntax.specs.Tree.{Initializer}
 use Rattle.c_tree.specs.Statements.{DeclaredVariable}
-use Rattle.c_rules.specs.Answer.{Answer, ◌>>=◌}
+use Rattle.c_faults.specs.Answer.{Answer, ◌>>=◌}
 use Rattle.c_scope.specs.Names.{Name}
 use Rattle.c_typing.specs.Declarators.{Shape}
 use Rattle.c_typing.specs.Specifications.{Specification}

@@ -11,8 +11,8 @@ use Rattle.c_tree.specs.Statements.{First, Statement, Statements, SwitchItems}
 use Rattle.c_tree.specs.Statements as tree
 use Rattle.c_tree.specs.Tree.{kind_of}
 use Rattle.c_const.specs.Integers.{constant_word, type_of}
-use Rattle.c_rules.specs.declared.fault.Fault.{Fault}
-use Rattle.c_rules.specs.Answer.{Answer, ◌>>=◌}
+use Rattle.c_faults.specs.declared.fault.Fault.{Fault}
+use Rattle.c_faults.specs.Answer.{Answer, ◌>>=◌}
 use Rattle.c_rules.specs.Values.{Value}
 use Rattle.c_typing.specs.State.{State, Typing, done, judged, ◌>>>◌}
 use Rattle.c_expression_typing.specs.Constructs.{valued}

@@ -1,7 +1,7 @@
 -- States behind which structures and unions keep their numbers and tags, and their members stay laid out.
 use Rattle.std.proofs.Common.{false, List}
 use Rattle.std.specs.Prelude.{Ok, Err}
-use Rattle.c_rules.specs.Answer.{Answer}
+use Rattle.c_faults.specs.Answer.{Answer}
 use Rattle.c_scope.specs.Structures.{Body}
 use Rattle.c_typing.specs.State.{State}
 use Rattle.c_expression_typing.specs.Constructs.{valued}

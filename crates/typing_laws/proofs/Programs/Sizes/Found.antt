@@ -10,8 +10,8 @@ use Rattle.c_syntax.specs.Tree.{Initializer}
 use Rattle.c_tree.specs.Statements.{DeclaredVariable}
 use Rattle.c_facts.specs.Facts.{Found}
 use Rattle.c_facts.specs.Facts as facts
-use Rattle.c_rules.specs.declared.fault.Rule.TheVariants.{MisplacedStorage}
-use Rattle.c_rules.specs.Answer.{Answer, violates, ◌>>=◌}
+use Rattle.c_faults.specs.declared.fault.Rule.TheVariants.{MisplacedStorage}
+use Rattle.c_faults.specs.Answer.{Answer, violates, ◌>>=◌}
 use Rattle.c_scope.specs.declared.meaning.Meaning.{Meaning}
 use Rattle.c_scope.specs.Declaring.{Declaration, is_extern, is_function, is_typedef, judged as judged_declarator}
 use Rattle.c_scope.specs.Environment.{Environment, in_file, surroundings}

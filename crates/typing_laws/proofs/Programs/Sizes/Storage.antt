@@ -12,8 +12,8 @@ use Rattle.c_syntax.specs.Statements as s
 use Rattle.c_syntax.specs.Tree.{Specifier, Specifiers}
 use Rattle.c_syntax.specs.Tree as t
 use Rattle.c_facts.specs.Facts as facts
-use Rattle.c_rules.specs.declared.fault.Rule.TheVariants.{MisplacedStorage}
-use Rattle.c_rules.specs.Answer.{Answer, violates, ◌>>=◌}
+use Rattle.c_faults.specs.declared.fault.Rule.TheVariants.{MisplacedStorage}
+use Rattle.c_faults.specs.Answer.{Answer, violates, ◌>>=◌}
 use Rattle.c_scope.specs.declared.meaning.Storage.{Storage}
 use Rattle.c_scope.specs.declared.meaning.Storage.TheVariants as storage
 use Rattle.c_scope.specs.declared.meaning.Tag.{Tag}

@@ -15,7 +15,7 @@ use Rattle.c_tree.specs.Programs.{Program}
 use Rattle.c_tree.specs.Statements.{DeclaredVariable, Part}
 use Rattle.c_tree.specs.Valid.{Scope}
 use Rattle.c_tree.specs.ValidProgram.{are_parts, scope_in}
-use Rattle.c_rules.specs.Answer.{Answer, ◌>>=◌}
+use Rattle.c_faults.specs.Answer.{Answer, ◌>>=◌}
 use Rattle.c_place_rules.specs.Targets.{object_kind}
 use Rattle.c_facts.specs.Facts.{facts_in}
 use Rattle.c_scope.specs.declared.meaning.Designated.{Designated}

@@ -11,9 +11,9 @@ use Rattle.c_tree.specs.declared.expression.Routine.{Routine}
 use Rattle.c_tree.specs.declared.program.Variable.{Variable}
 use Rattle.c_tree.specs.Extents.{extent_of}
 use Rattle.c_tree.specs.Statements.{DeclaredVariable, Part, Statements}
-use Rattle.c_rules.specs.declared.fault.Rule.TheVariants.{Redeclared}
-use Rattle.c_rules.specs.Answer.{Answer, violates, ◌>>=◌}
-use Rattle.c_call_rules.specs.Routines.{routine_words}
+use Rattle.c_faults.specs.declared.fault.Rule.TheVariants.{Redeclared}
+use Rattle.c_faults.specs.Answer.{Answer, violates, ◌>>=◌}
+use Rattle.c_tree.specs.Routines.{routine_words}
 use Rattle.c_declarators.specs.Derivations.{array_of, is_large}
 use Rattle.c_initializer_rules.specs.Initializing.{begun}
 use Rattle.c_initializer_rules.specs.Placed.{count_of, parts_in}

@@ -4,7 +4,7 @@ use Rattle.std.specs.Prelude.{Ok, Err}
 use Rattle.c_syntax.specs.Statements as t
 use Rattle.c_syntax.specs.Tree.{Expression}
 use Rattle.c_tree.specs.declared.c_type.TypeWord.{TypeWord}
-use Rattle.c_rules.specs.Answer.{Answer}
+use Rattle.c_faults.specs.Answer.{Answer}
 use Rattle.c_typing.specs.State.{State}
 use Rattle.c_expression_typing.specs.Constructs.{valued}
 use Rattle.c_expression_typing.specs.Typed.{typed}

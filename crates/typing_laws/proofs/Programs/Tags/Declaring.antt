@@ -3,8 +3,8 @@ use Rattle.std.proofs.Common.{◌≡◌, ◌⊎◌, inl, inr, ℕ, zero, suc, �
 use Rattle.std.proofs.Common.{◌∙◌, List, [], ◌∷◌, ◌++◌, length, Option, Some, None, if◌then◌else◌, arith}
 use Rattle.std.specs.Prelude.{Ok, Err, nat_lt, not, slice_get}
 use Rattle.c_tree.specs.Extents.{TypeExtent}
-use Rattle.c_rules.specs.declared.fault.Rule.TheVariants.{LargeType}
-use Rattle.c_rules.specs.Answer.{Answer, violates, ◌>>=◌}
+use Rattle.c_faults.specs.declared.fault.Rule.TheVariants.{LargeType}
+use Rattle.c_faults.specs.Answer.{Answer, violates, ◌>>=◌}
 use Rattle.c_scope.specs.declared.meaning.Tag.{Tag}
 use Rattle.c_scope.specs.declared.meaning.Tag.TheVariants as tag
 use Rattle.c_scope.specs.declared.tags.TagKind.{TagKind}

@@ -8,8 +8,8 @@ use Rattle.c_syntax.specs.Statements as t
 use Rattle.c_syntax.specs.Tree.{Declarator, Specifiers}
 use Rattle.c_tree.specs.declared.c_type.TypeWord.{TypeWord}
 use Rattle.c_tree.specs.Statements.{Statements}
-use Rattle.c_rules.specs.declared.fault.Rule.TheVariants.{MisplacedStorage}
-use Rattle.c_rules.specs.Answer.{Answer, violates, ◌>>=◌}
+use Rattle.c_faults.specs.declared.fault.Rule.TheVariants.{MisplacedStorage}
+use Rattle.c_faults.specs.Answer.{Answer, violates, ◌>>=◌}
 use Rattle.c_facts.specs.Facts.{Found, facts_in, found_in, nothing_found, tags_in, with_external}
 use Rattle.c_facts.specs.Facts as facts
 use Rattle.c_scope.specs.declared.meaning.Designated.TheVariants as what

@@ -5,7 +5,7 @@ use Rattle.c_lexer.specs.declared.keyword.Keyword.{Keyword}
 use Rattle.c_lexer.specs.declared.keyword.Keyword.TheVariants as keyword
 use Rattle.c_syntax.specs.Tree.{Specifier, Specifiers}
 use Rattle.c_syntax.specs.Tree as t
-use Rattle.c_rules.specs.Answer.{Answer, ◌>>=◌}
+use Rattle.c_faults.specs.Answer.{Answer, ◌>>=◌}
 use Rattle.c_facts.specs.Facts.{tags_in, tags_in_members, tags_of}
 use Rattle.c_scope.specs.declared.meaning.Tag.{Tag}
 use Rattle.c_scope.specs.Names.{Name, Names, bound, declared, is_empty}

@@ -18,8 +18,8 @@ use Rattle.c_rules.specs.declared.class.Class.{Class}
 use Rattle.c_rules.specs.declared.class.Class.TheVariants as class
 use Rattle.c_rules.specs.declared.class.Target.{Target}
 use Rattle.c_rules.specs.declared.class.Target.TheVariants as target
-use Rattle.c_rules.specs.declared.fault.Rule.TheVariants.{MistakenFormat}
-use Rattle.c_rules.specs.Answer.{Answer, violates, ◌>>=◌}
+use Rattle.c_faults.specs.declared.fault.Rule.TheVariants.{MistakenFormat}
+use Rattle.c_faults.specs.Answer.{Answer, violates, ◌>>=◌}
 use Rattle.c_rules.specs.declared.conversion.Passing.{Passing}
 use Rattle.c_rules.specs.declared.conversion.Passing.TheVariants as passing
 use Rattle.c_rules.specs.Conversions as conversions
@@ -35,7 +35,7 @@ use Rattle.c_call_rules.specs.Calls.{counted, passed, result_kind}
 use Rattle.c_call_rules.specs.FunctionTypes.{first_types, result_type}
 use Rattle.c_call_rules.specs.Printing.{Format, a_literal, another, directives_in, formatted, printed, printed_by}
 use Rattle.c_call_rules.specs.Printing.{printf_tree}
-use Rattle.c_call_rules.specs.Routines.{routine_words}
+use Rattle.c_tree.specs.Routines.{routine_words}
 use Rattle.typing_laws.proofs.Validity.Common.{first as left, second as right}
 use Rattle.typing_laws.proofs.Validity.Sound.{IfAnswer}
 use Rattle.typing_laws.specs.Validity.Steps.{Structures}

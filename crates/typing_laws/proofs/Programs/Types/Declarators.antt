@@ -8,7 +8,7 @@ use Rattle.c_syntax.specs.Tree.{Declarator, MoreParameters, Parameters}
 use Rattle.c_syntax.specs.Tree as t
 use Rattle.c_tree.specs.declared.c_type.TypeWord.{TypeWord}
 use Rattle.c_tree.specs.Extents.{TypeExtent, extent_of}
-use Rattle.c_rules.specs.Answer.{Answer, ◌>>=◌}
+use Rattle.c_faults.specs.Answer.{Answer, ◌>>=◌}
 use Rattle.c_declarators.specs.Derivations.{BuiltType, Derivation, element_faults, to_array, to_function, to_open_array}
 use Rattle.c_declarators.specs.Derivations.{to_pointer}
 use Rattle.c_declarators.specs.Faults.{and_faults, rule_of}

@@ -15,11 +15,11 @@ use Rattle.c_tree.specs.Extents.{TypeExtent, extent_of}
 use Rattle.c_tree.specs.Layout.{array_size}
 use Rattle.c_tree.specs.Tree.{LvalueNode, arrow as arrow_node, automatic, member as member_node}
 use Rattle.c_tree.specs.Tree.{member_of_value as member_of_value_node, static}
-use Rattle.c_rules.specs.declared.fault.Rule.TheVariants as rule
-use Rattle.c_rules.specs.Answer.{Answer, violates, ◌>>=◌}
+use Rattle.c_faults.specs.declared.fault.Rule.TheVariants as rule
+use Rattle.c_faults.specs.Answer.{Answer, violates, ◌>>=◌}
 use Rattle.c_rules.specs.Types.{unqualified}
 use Rattle.c_rules.specs.Values.{Value}
-use Rattle.c_place_rules.specs.declared.place.Member.{Member}
+use Rattle.c_tree.specs.declared.member.Member.{Member}
 use Rattle.c_place_rules.specs.Operands.{Operand, a_value, a_place, a_variable, a_function}
 use Rattle.c_place_rules.specs.Places.{address, arrow, member_view, selected, structure_of, type_in}
 use Rattle.c_place_rules.specs.Places as places
@@ -28,7 +28,7 @@ use Rattle.c_assignment_rules.specs.Assignable.{is_unsized_structure}
 use Rattle.c_call_rules.specs.Calls.{called, called_if, called_through, of_function, of_pointer, of_routine}
 use Rattle.c_call_rules.specs.FunctionTypes.{callee_type}
 use Rattle.c_call_rules.specs.Printing.{Format, another, formatted}
-use Rattle.c_call_rules.specs.Routines.{routine_words}
+use Rattle.c_tree.specs.Routines.{routine_words}
 use Rattle.c_scope.specs.declared.meaning.Designated.{Designated}
 use Rattle.c_scope.specs.declared.meaning.Designated.TheVariants as what
 use Rattle.c_scope.specs.declared.meaning.LibraryFunction.{LibraryFunction}

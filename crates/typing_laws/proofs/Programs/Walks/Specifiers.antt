@@ -2,8 +2,8 @@
 -- of parameters.
 use Rattle.std.proofs.Common.{◌≡◌, ℕ, ◌^◌, Bool, true, false, ◌&&◌, refl, List, [], Option, Some, None, if◌then◌else◌}
 use Rattle.std.specs.Prelude.{Ok, Err, nat_lt, not}
-use Rattle.c_rules.specs.declared.fault.Rule.TheVariants.{LargeType}
-use Rattle.c_rules.specs.Answer.{Answer, violates, ◌>>=◌}
+use Rattle.c_faults.specs.declared.fault.Rule.TheVariants.{LargeType}
+use Rattle.c_faults.specs.Answer.{Answer, violates, ◌>>=◌}
 use Rattle.c_scope.specs.declared.meaning.Tag.{Tag}
 use Rattle.c_scope.specs.declared.meaning.Tag.TheVariants as tag
 use Rattle.c_scope.specs.declared.tags.TagKind.{TagKind}

@@ -1,7 +1,7 @@
 -- What statements and the items of blocks keep, they keep together with what each step of typing keeps (C99 6.8).
 use Rattle.std.proofs.Common.{refl}
 use Rattle.std.specs.Prelude.{Ok, Err}
-use Rattle.c_rules.specs.Answer.{Answer}
+use Rattle.c_faults.specs.Answer.{Answer}
 use Rattle.c_typing.specs.State.{State}
 use Rattle.c_expression_typing.specs.Constructs.{valued}
 use Rattle.c_expression_typing.specs.Typed.{typed}

@@ -1,8 +1,8 @@
 -- A relation of states that holds behind each step of typing, and constructs that are typed one behind the other.
 use Rattle.std.proofs.Common.{◌≡◌, ℕ, ◌≤◌, Bool, refl, List, Option, Some, None, length}
 use Rattle.std.specs.Prelude.{Ok, Err}
-use Rattle.c_rules.specs.declared.fault.Fault.{Fault}
-use Rattle.c_rules.specs.Answer.{Answer, ◌>>=◌}
+use Rattle.c_faults.specs.declared.fault.Fault.{Fault}
+use Rattle.c_faults.specs.Answer.{Answer, ◌>>=◌}
 use Rattle.c_scope.specs.declared.meaning.Tag.{Tag}
 use Rattle.c_scope.specs.declared.tags.TagKind.{TagKind}
 use Rattle.c_scope.specs.Names.{Name, Names, around, declared, innermost}

@@ -10,7 +10,7 @@ use Rattle.c_tree.specs.Statements.{Statements}
 use Rattle.c_tree.specs.TypesAgree.{agrees}
 use Rattle.c_tree.specs.Valid.{Scope}
 use Rattle.c_tree.specs.ValidProgram.{Inside, are_statements}
-use Rattle.c_rules.specs.Answer.{Answer}
+use Rattle.c_faults.specs.Answer.{Answer}
 use Rattle.c_call_rules.specs.FunctionTypes.{result_type}
 use Rattle.c_scope.specs.Parameters.{ParameterScope}
 use Rattle.c_typing.specs.State.{extents}

@@ -1,7 +1,7 @@
 -- Files whose functions have valid bodies (C99 6.9).
 use Rattle.std.specs.Prelude.{◌≡◌, ℕ, List, [], ◌∷◌, Ok, Err}
 use Rattle.c_tree.specs.Programs.{StaticObject}
-use Rattle.c_rules.specs.Answer.{Answer}
+use Rattle.c_faults.specs.Answer.{Answer}
 use Rattle.c_unit_typing.specs.Files.{Definition, File}
 use Rattle.c_unit_typing.specs.Units.{entered, parameters_in}
 use Rattle.typing_laws.specs.Programs.Scopes.Leaving.{Grows}

@@ -8,7 +8,7 @@ use Rattle.c_scope.specs.declared.meaning.Entity.{Entity}
 use Rattle.c_scope.specs.Declaring.{is_function}
 use Rattle.c_scope.specs.Environment.{number_or}
 use Rattle.c_scope.specs.Names.{Name, Names, declared}
-use Rattle.c_rules.specs.Answer.{Answer}
+use Rattle.c_faults.specs.Answer.{Answer}
 use Rattle.c_unit_typing.specs.Files.{File}
 
 -- the words of a type but for the sizes of its arrays

@@ -4,7 +4,7 @@ use Rattle.c_syntax.specs.Tree as t
 use Rattle.c_tree.specs.declared.c_type.TypeWord.{TypeWord}
 use Rattle.c_tree.specs.Tree.{Expression}
 use Rattle.c_tree.specs.Valid.{Scope}
-use Rattle.c_rules.specs.Answer.{Answer}
+use Rattle.c_faults.specs.Answer.{Answer}
 use Rattle.c_rules.specs.Conversions.{assigned}
 use Rattle.c_rules.specs.Fine.{IsFine, IsFineAs}
 use Rattle.c_rules.specs.Values.{Value}

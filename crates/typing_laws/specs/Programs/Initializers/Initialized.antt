@@ -7,7 +7,7 @@ use Rattle.c_tree.specs.Statements.{Part, value_content}
 use Rattle.c_tree.specs.Tree.{Expression, kind_of}
 use Rattle.c_tree.specs.Valid.{Scope, is_valid}
 use Rattle.c_tree.specs.ValidProgram.{are_parts, is_content}
-use Rattle.c_rules.specs.Answer.{Answer}
+use Rattle.c_faults.specs.Answer.{Answer}
 use Rattle.c_scope.specs.declared.meaning.Designated.{Designated}
 use Rattle.c_scope.specs.Names.{Name}
 use Rattle.c_initializer_rules.specs.Placed.{PlacedPart}

@@ -1,6 +1,6 @@
 -- A file behind declarations and statements.
 use Rattle.std.specs.Prelude.{Ok, Err}
-use Rattle.c_rules.specs.Answer.{Answer}
+use Rattle.c_faults.specs.Answer.{Answer}
 use Rattle.c_unit_typing.specs.Files.{File}
 use Rattle.typing_laws.specs.Programs.Layouts.Listed.{IsLaidOut}
 use Rattle.typing_laws.specs.Programs.Scopes.Leaving.{FileLeads}

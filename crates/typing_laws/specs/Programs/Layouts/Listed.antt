@@ -5,8 +5,8 @@ use Rattle.c_tree.specs.declared.c_type.TypeWord.{TypeWord}
 use Rattle.c_tree.specs.declared.c_type.TypeWord.TheVariants as word
 use Rattle.c_tree.specs.Arrays.{has_bytes}
 use Rattle.c_tree.specs.Extents.{TypeExtent, extent_of}
-use Rattle.c_rules.specs.Answer.{Answer}
-use Rattle.c_place_rules.specs.declared.place.Member.{Member}
+use Rattle.c_faults.specs.Answer.{Answer}
+use Rattle.c_tree.specs.declared.member.Member.{Member}
 use Rattle.c_place_rules.specs.Places.{member_view}
 use Rattle.c_place_laws.specs.FinePlaces.{IsMemberOf}
 use Rattle.c_scope.specs.declared.meaning.Meaning.{Meaning}

@@ -9,7 +9,7 @@ use Rattle.c_tree.specs.Statements.{Statement, Statements, SwitchItems}
 use Rattle.c_tree.specs.Statements as tree
 use Rattle.c_tree.specs.Tree.{kind_of}
 use Rattle.c_tree.specs.ValidProgram.{Inside, are_different, in_loop, in_switch, is_declaration, is_label, labels_of}
-use Rattle.c_rules.specs.Answer.{Answer}
+use Rattle.c_faults.specs.Answer.{Answer}
 use Rattle.c_unit_typing.specs.Constructs.{Around, Labelled, Labels}
 use Rattle.c_unit_typing.specs.Files.{File}
 

@@ -1,7 +1,7 @@
 -- Structures and unions whose tags get their members at file scope (C99 6.2.3, 6.7.2.3), on the way through a file and
 -- at its end.
 use Rattle.std.specs.Prelude.{◌≡◌, ℕ, true, List, Some, Ok, Err, is_some, slice_get}
-use Rattle.c_rules.specs.Answer.{Answer}
+use Rattle.c_faults.specs.Answer.{Answer}
 use Rattle.c_scope.specs.Names.{Name, declared}
 use Rattle.c_scope.specs.Structures.{Body, file_tag_of, is_known}
 use Rattle.c_typing.specs.State.{State}

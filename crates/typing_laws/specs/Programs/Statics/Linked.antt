@@ -8,7 +8,7 @@ use Rattle.c_tree.specs.Programs.{Program}
 use Rattle.c_tree.specs.Statements.{Part}
 use Rattle.c_tree.specs.Valid.{Scope}
 use Rattle.c_tree.specs.ValidProgram.{are_parts, scope_in}
-use Rattle.c_rules.specs.Answer.{Answer}
+use Rattle.c_faults.specs.Answer.{Answer}
 use Rattle.c_scope.specs.declared.meaning.Designated.{Designated}
 use Rattle.c_scope.specs.declared.meaning.Designated.TheVariants as what
 use Rattle.c_scope.specs.declared.meaning.Entity.{Entity}

@@ -5,7 +5,7 @@ use Rattle.std.specs.List.{list_any}
 use Rattle.c_tree.specs.declared.c_type.TypeWord.{TypeWord}
 use Rattle.c_tree.specs.Tree.{lvalue_kind}
 use Rattle.c_tree.specs.TypesAgree.{same_words}
-use Rattle.c_rules.specs.Answer.{Answer}
+use Rattle.c_faults.specs.Answer.{Answer}
 use Rattle.c_rules.specs.Values.{Value}
 use Rattle.c_place_rules.specs.Operands.{Operand, Place, a_value, a_place, a_variable, a_function}
 use Rattle.c_assignment_rules.specs.Assignable.{is_unsized_structure}

@@ -4,7 +4,7 @@ use Rattle.c_typing.specs.Declarators.{shape_of}
 use Rattle.c_typing.specs.Members.{entries_of, member_added}
 use Rattle.c_typing.specs.Specifications.{specification_of}
 use Rattle.c_typing.specs.State.{Types, state_of}
-use Rattle.c_rules.specs.Answer.{Gives}
+use Rattle.c_faults.specs.Answer.{Gives}
 use Rattle.c_expression_typing.specs.Constructs.{with_shape}
 use Rattle.c_expression_typing.specs.Typed.{shape}
 use Rattle.c_syntax_typing.proofs.Composing.{shape_added}

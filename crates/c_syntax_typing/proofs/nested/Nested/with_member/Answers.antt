@@ -2,7 +2,7 @@ use Rattle.std.proofs.Common.{◌≡◌, Ok, refl, subst, sym, ap, ◌∙◌, fa
 use Rattle.std.proofs.lemmas.Result.{err_from_is_err_and}
 use Rattle.c_syntax.specs.View.{declarator_of, member_of, more_declarators_in, specifiers_in}
 use Rattle.c_syntax.proofs.MemberView.{member_view}
-use Rattle.c_rules.specs.Answer.{Fails}
+use Rattle.c_faults.specs.Answer.{Fails}
 use Rattle.c_typing.specs.Members.{entries_of}
 use Rattle.c_typing.specs.Specifications.{specification_of}
 use Rattle.c_typing.specs.State.{Types, state_of}

@@ -2,7 +2,7 @@ use Rattle.std.proofs.Common.{refl, ◌∙◌, subst, arith, false}
 use Rattle.std.proofs.lemmas.Result.{err_from_is_err_and}
 use Rattle.c_syntax.specs.View.{declarator_of, more_declarators_in}
 use Rattle.c_syntax.specs.Levels.{declarator_levels, more_declarators_levels}
-use Rattle.c_rules.specs.Answer.{Fails}
+use Rattle.c_faults.specs.Answer.{Fails}
 use Rattle.c_typing.specs.Members.{entries_of}
 use Rattle.c_typing.specs.Specifications.{specification_of}
 use Rattle.c_typing.specs.State.{state_of}

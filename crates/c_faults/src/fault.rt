@@ -1,7 +1,7 @@
 //! Why a source has no typed program.
 
 ghost use Rattle.std.specs.Prelude.{◌≡◌};
-ghost use Rattle.c_rules.specs.declared.fault.Refusal.TheVariants.{Memory};
+ghost use Rattle.c_faults.specs.declared.fault.Refusal.TheVariants.{Memory};
 
 use sb_base::Line;
 use std::alloc::AllocError;

@@ -1,5 +1,5 @@
 use Rattle.std.proofs.Common.{length}
-use Rattle.c_rules.proofs.value.+same_words.Given as goal
+use Rattle.c_tree.proofs.same_type.+same_words.Given as goal
 
 abbrev pub decreases-same_words : goal.decreases-same_words
 decreases-same_words l = length l.left.now

@@ -1,9 +1,10 @@
 //! The types of the routines of the library (C99 7.19, 7.20, 7.21).
 
 ghost use Rattle.std.specs.Prelude.{◌≡◌};
-ghost use Rattle.c_call_rules.specs.Routines.{routine_words};
+ghost use Rattle.c_tree.specs.Routines.{routine_words};
 
-use c_tree::{Routine, TypeWord};
+use crate::c_type::TypeWord;
+use crate::expression::Routine;
 use obj_memory::IntType;
 
 const MALLOC: &[TypeWord] = &[

@@ -1,9 +1,9 @@
 -- What a construct gives: its typed form, or the first rule that it violates.
 use Rattle.std.specs.Prelude.{◌≡◌, ℕ, Result, Ok, Err}
-use Rattle.c_rules.specs.declared.fault.Fault.{Fault}
-use Rattle.c_rules.specs.declared.fault.Refusal.{Refusal}
-use Rattle.c_rules.specs.declared.fault.Refusal.TheVariants as refusal
-use Rattle.c_rules.specs.declared.fault.Rule.{Rule}
+use Rattle.c_faults.specs.declared.fault.Fault.{Fault}
+use Rattle.c_faults.specs.declared.fault.Refusal.{Refusal}
+use Rattle.c_faults.specs.declared.fault.Refusal.TheVariants as refusal
+use Rattle.c_faults.specs.declared.fault.Rule.{Rule}
 
 abbrev pub Answer : Type 0 → Type 0
 Answer A = Result A Fault

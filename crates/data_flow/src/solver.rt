@@ -13,6 +13,16 @@ use crate::relation::Relation;
 use crate::runs::{Run, run_start};
 use std::alloc::{AllocError, Global};
 
+// What a fact does: the edges along which it flows, for each node the first of a run that ends with it, and where it is
+// generated and killed.
+#[derive(Clone, Copy)]
+struct Flow<'a> {
+    edges: &'a Relation,
+    starts: &'a [u32],
+    generated: &'a [u32],
+    killed: &'a [u32],
+}
+
 // Puts a node into the set and behind its list, unless it is there.
 #[tactic(auto, using(crate::proofs::Visits::visiting))]
 fn visit(set: &mut NodeSet, list: &mut Vec<u32>, node: u32) -> Result<(), AllocError>
@@ -32,26 +42,25 @@ fn visit_run(
     begun: &mut NodeSet,
     firsts: &mut Vec<u32>,
     runs: &mut Vec<Run>,
-    edges: &Relation,
-    starts: &[u32],
-    generated: &[u32],
-    killed: &[u32],
+    flow: &Flow,
     node: u32,
 ) -> Result<(), AllocError>
     requires inside { node < node_count begun.old }
-    requires starts_size { length starts.now ≡ node_count begun.old }
-    requires starts { HasStarts edges.now starts.now }
-    requires sorted { IsNonDecreasing killed.now }
-    requires reached { IsReached edges.now generated.now killed.now node }
-    requires found { AreFound edges.now generated.now killed.now begun.old firsts.old.items runs.old.items }
+    requires starts_size { length flow.now.starts.now ≡ node_count begun.old }
+    requires starts { HasStarts flow.now.edges.now flow.now.starts.now }
+    requires sorted { IsNonDecreasing flow.now.killed.now }
+    requires reached { IsReached flow.now.edges.now flow.now.generated.now flow.now.killed.now node }
+    requires found { AreFound flow.now.edges.now flow.now.generated.now flow.now.killed.now
+        begun.old firsts.old.items runs.old.items }
     ensures found { OnOk result
-        (AreFound edges.now generated.now killed.now begun.new firsts.new.items runs.new.items) }
+        (AreFound flow.now.edges.now flow.now.generated.now flow.now.killed.now
+        begun.new firsts.new.items runs.new.items) }
     ensures grows { OnOk result
         (Grows begun.old begun.new firsts.old.items firsts.new.items runs.old.items runs.new.items) }
     ensures covered { OnOk result (is_covered runs.new.items node ≡ true) }
     ensures size { node_count begun.new ≡ node_count begun.old }
 {
-    let first = run_start(edges, starts, killed, node);
+    let first = run_start(flow.edges, flow.starts, flow.killed, node);
     runs.push(Run { first, last: node })?;
     let visited = visit(begun, firsts, first)?;
     Ok(visited)
@@ -63,22 +72,22 @@ fn visit_run_unless(
     begun: &mut NodeSet,
     firsts: &mut Vec<u32>,
     runs: &mut Vec<Run>,
-    edges: &Relation,
-    starts: &[u32],
-    generated: &[u32],
-    killed: &[u32],
+    flow: &Flow,
     but: &NodeSet,
     node: u32,
 ) -> Result<(), AllocError>
     requires inside { node < node_count begun.old }
     requires same_size { node_count but.now ≡ node_count begun.old }
-    requires starts_size { length starts.now ≡ node_count begun.old }
-    requires starts { HasStarts edges.now starts.now }
-    requires sorted { IsNonDecreasing killed.now }
-    requires reached { is_in but.now node ≡ false → IsReached edges.now generated.now killed.now node }
-    requires found { AreFound edges.now generated.now killed.now begun.old firsts.old.items runs.old.items }
+    requires starts_size { length flow.now.starts.now ≡ node_count begun.old }
+    requires starts { HasStarts flow.now.edges.now flow.now.starts.now }
+    requires sorted { IsNonDecreasing flow.now.killed.now }
+    requires reached { is_in but.now node ≡ false
+        → IsReached flow.now.edges.now flow.now.generated.now flow.now.killed.now node }
+    requires found { AreFound flow.now.edges.now flow.now.generated.now flow.now.killed.now
+        begun.old firsts.old.items runs.old.items }
     ensures found { OnOk result
-        (AreFound edges.now generated.now killed.now begun.new firsts.new.items runs.new.items) }
+        (AreFound flow.now.edges.now flow.now.generated.now flow.now.killed.now
+        begun.new firsts.new.items runs.new.items) }
     ensures grows { OnOk result
         (Grows begun.old begun.new firsts.old.items firsts.new.items runs.old.items runs.new.items) }
     ensures covered { OnOk result (is_in but.now node ≡ false → is_covered runs.new.items node ≡ true) }
@@ -87,7 +96,7 @@ fn visit_run_unless(
     if but.contains(node as usize) {
         return Ok(());
     }
-    let visited = visit_run(begun, firsts, runs, edges, starts, generated, killed, node)?;
+    let visited = visit_run(begun, firsts, runs, flow, node)?;
     Ok(visited)
 }
 
@@ -96,23 +105,22 @@ fn visit_runs(
     begun: &mut NodeSet,
     firsts: &mut Vec<u32>,
     runs: &mut Vec<Run>,
-    edges: &Relation,
-    starts: &[u32],
-    generated: &[u32],
-    killed: &[u32],
+    flow: &Flow,
     but: &NodeSet,
     nodes: &[u32],
 ) -> Result<(), AllocError>
     requires inside { AreBelow (node_count begun.old) nodes.now }
     requires same_size { node_count but.now ≡ node_count begun.old }
-    requires starts_size { length starts.now ≡ node_count begun.old }
-    requires starts { HasStarts edges.now starts.now }
-    requires sorted { IsNonDecreasing killed.now }
+    requires starts_size { length flow.now.starts.now ≡ node_count begun.old }
+    requires starts { HasStarts flow.now.edges.now flow.now.starts.now }
+    requires sorted { IsNonDecreasing flow.now.killed.now }
     requires reached { (v : ℕ) → Has nodes.now v → is_in but.now v ≡ false
-        → IsReached edges.now generated.now killed.now v }
-    requires found { AreFound edges.now generated.now killed.now begun.old firsts.old.items runs.old.items }
+        → IsReached flow.now.edges.now flow.now.generated.now flow.now.killed.now v }
+    requires found { AreFound flow.now.edges.now flow.now.generated.now flow.now.killed.now
+        begun.old firsts.old.items runs.old.items }
     ensures found { OnOk result
-        (AreFound edges.now generated.now killed.now begun.new firsts.new.items runs.new.items) }
+        (AreFound flow.now.edges.now flow.now.generated.now flow.now.killed.now
+        begun.new firsts.new.items runs.new.items) }
     ensures grows { OnOk result
         (Grows begun.old begun.new firsts.old.items firsts.new.items runs.old.items runs.new.items) }
     ensures covered { OnOk result
@@ -120,9 +128,7 @@ fn visit_runs(
     ensures size { node_count begun.new ≡ node_count begun.old }
 {
     for node in nodes {
-        visit_run_unless(
-            begun, firsts, runs, edges, starts, generated, killed, but, *node,
-        )?;
+        visit_run_unless(begun, firsts, runs, flow, but, *node)?;
     }
     Ok(())
 }
@@ -168,21 +174,17 @@ pub fn least_runs(
     ensures begun_size { node_count begun.new ≡ node_count begun.old }
     ensures killing_size { node_count killing.new ≡ node_count killing.old }
 {
-    begun.clear();
-    killing.clear();
-    let mut firsts = Vec::new(alloc);
-    let mut runs = Vec::new(alloc);
-    visit_runs(
-        begun,
-        &mut firsts,
-        &mut runs,
+    let flow = Flow {
         edges,
         starts,
         generated,
         killed,
-        killing,
-        generated,
-    )?;
+    };
+    begun.clear();
+    killing.clear();
+    let mut firsts = Vec::new(alloc);
+    let mut runs = Vec::new(alloc);
+    visit_runs(begun, &mut firsts, &mut runs, &flow, killing, generated)?;
     insert_all(killing, killed);
     let mut done = 0usize;
     while done < firsts.len() {
@@ -191,10 +193,7 @@ pub fn least_runs(
             begun,
             &mut firsts,
             &mut runs,
-            edges,
-            starts,
-            generated,
-            killed,
+            &flow,
             killing,
             edges.images(first as usize),
         )?;

@@ -28,37 +28,47 @@ fn sorted(alloc: Global, list: &[u32]) -> Result<Vec<u32>, AllocError>
     Ok(sorted)
 }
 
+// A function of a program, the data-flow problem of its virtual registers, and for each instruction the first of a run
+// that ends with it.
+#[derive(Clone, Copy)]
+struct Analysis<'a> {
+    program: &'a FlatProgram,
+    function: u32,
+    body: &'a [FlatInstruction],
+    problem: &'a Problem,
+    starts: &'a [u32],
+}
+
 // The live range of one virtual register.
 fn live_range(
     alloc: Global,
-    program: &FlatProgram,
-    function: u32,
-    body: &[FlatInstruction],
-    problem: &Problem,
-    starts: &[u32],
+    analysis: &Analysis,
     register: usize,
     begun: &mut NodeSet,
     killing: &mut NodeSet,
 ) -> Result<Vec<LiveInterval>, AllocError>
-    requires count { length body.now < 2 ^ 32 }
-    requires represents { Represents program.now function body.now (length body.now) problem.now }
-    requires starts_size { length starts.now ≡ length body.now }
-    requires starts { HasStarts problem.now.edges starts.now }
-    requires begun_size { node_count begun.old ≡ length body.now }
-    requires killing_size { node_count killing.old ≡ length body.now }
+    requires count { length analysis.now.body.now < 2 ^ 32 }
+    requires represents { Represents analysis.now.program.now analysis.now.function analysis.now.body.now
+        (length analysis.now.body.now) analysis.now.problem.now }
+    requires starts_size { length analysis.now.starts.now ≡ length analysis.now.body.now }
+    requires starts { HasStarts analysis.now.problem.now.edges analysis.now.starts.now }
+    requires begun_size { node_count begun.old ≡ length analysis.now.body.now }
+    requires killing_size { node_count killing.old ≡ length analysis.now.body.now }
     ensures needed { IfOk result
-        (λ list. (pc : ℕ) → IsNeeded program.now function body.now pc register → covers list.items pc ≡ true) }
+        (λ list. (pc : ℕ) → IsNeeded analysis.now.program.now analysis.now.function analysis.now.body.now pc register
+        → covers list.items pc ≡ true) }
     ensures only { IfOk result
-        (λ list. (pc : ℕ) → covers list.items pc ≡ true → IsNeeded program.now function body.now pc register) }
-    ensures begun_size { node_count begun.new ≡ length body.now }
-    ensures killing_size { node_count killing.new ≡ length body.now }
+        (λ list. (pc : ℕ) → covers list.items pc ≡ true
+        → IsNeeded analysis.now.program.now analysis.now.function analysis.now.body.now pc register) }
+    ensures begun_size { node_count begun.new ≡ length analysis.now.body.now }
+    ensures killing_size { node_count killing.new ≡ length analysis.now.body.now }
 {
-    let killed = sorted(alloc, problem.killed.images(register))?;
+    let killed = sorted(alloc, analysis.problem.killed.images(register))?;
     let runs = least_runs(
         alloc,
-        &problem.edges,
-        starts,
-        problem.generated.images(register),
+        &analysis.problem.edges,
+        analysis.starts,
+        analysis.problem.generated.images(register),
         &killed,
         begun,
         killing,
@@ -89,21 +99,18 @@ pub fn live_ranges(
 {
     let problem = problem_of(alloc, program, function, body, registers)?;
     let starts = run_starts(alloc, &problem.edges)?;
+    let analysis = Analysis {
+        program,
+        function,
+        body,
+        problem: &problem,
+        starts: &starts,
+    };
     let mut begun = NodeSet::new(alloc, body.len())?;
     let mut killing = NodeSet::new(alloc, body.len())?;
     let mut ranges = Vec::new(alloc);
     for register in 0..registers {
-        let range = live_range(
-            alloc,
-            program,
-            function,
-            body,
-            &problem,
-            &starts,
-            register,
-            &mut begun,
-            &mut killing,
-        )?;
+        let range = live_range(alloc, &analysis, register, &mut begun, &mut killing)?;
         ranges.push(range)?;
     }
     Ok(ranges)

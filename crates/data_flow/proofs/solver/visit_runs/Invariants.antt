@@ -6,7 +6,7 @@ use Rattle.data_flow.proofs.solver.visit_runs.Given as goal
 
 abbrev pub invariant-loop-node : goal.invariant-loop-node
 invariant-loop-node l = record {
-  found : AreFound l.edges l.generated l.killed l.begun l.firsts.items l.runs.items;
+  found : AreFound l.flow.edges.now l.flow.generated.now l.flow.killed.now l.begun l.firsts.items l.runs.items;
   grows : Grows l.initial.begun l.begun l.initial.firsts.items l.firsts.items l.initial.runs.items l.runs.items;
   covered : (k v : ℕ) → k < l.node-index → slice_get l.nodes k ≡ Some v → is_in l.but v ≡ false
       → is_covered l.runs.items v ≡ true;

@@ -9,8 +9,8 @@ ghost use Rattle.shadow_space.specs.TwoLevel.Start.{start_size, counted_bytes, e
 
 use crate::two_levels::two_level::first_table;
 use addr_map::AddrMap;
-use shadow_space::StartEntry;
-use shadow_space::start::{put_entry, put_word};
+use crate::StartEntry;
+use crate::start::{put_entry, put_word};
 use std::alloc::{AllocError, Global};
 
 // The first address of object space, and that of the shadow space.

@@ -10,7 +10,7 @@ use addr_map::AddrMap;
 use flat_meaning::{FlatInstruction, RightOperand};
 use flat_routines::Entry;
 use rv_isa::{BranchOp, LoadOp, RegOp, StoreOp};
-use shadow_space::{ShadowForm, StartEntry};
+use crate::{ShadowForm, StartEntry};
 use std::alloc::{AllocError, Global};
 
 // The first address of object space, that of the shadow space, and that of the first level behind the cell of the

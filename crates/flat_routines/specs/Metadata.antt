@@ -46,17 +46,17 @@ abbrev pub held_registers : Held → List ℕ
 held_registers h = h.value ∷ entry_registers h.tag
 
 -- an aligned word of object space
-pub record IsObjectWord (m : MapSizes) (a : ℕ) : Type 0 where
+pub record IsObjectWord (map : MapSizes) (a : ℕ) : Type 0 where
   pub first : objects_begin ≤ a
-  pub last : a + 8 ≤ region_end m Heap
+  pub last : a + 8 ≤ region_end map Heap
   pub aligned : a % 8 ≡ 0
 
 -- all but the shadow space stays, and the shadow space stays
 abbrev pub KeepsButShadow : MapSizes → Bytes → Bytes → Type 0
-KeepsButShadow m = KeepsBut spaces_begin (region_size m Shadow)
+KeepsButShadow map = KeepsBut spaces_begin (region_size map Shadow)
 
 abbrev pub KeepsShadow : MapSizes → Bytes → Bytes → Type 0
-KeepsShadow m = Keeps spaces_begin (region_size m Shadow)
+KeepsShadow map = Keeps spaces_begin (region_size map Shadow)
 
 -- nothing was taken from the input, put out or shown as an access, and no turn was begun
 pub record ShowsNothing (s s' : State) : Type 0 where

@@ -5,9 +5,9 @@
 //! A routine is proved alone, from place 0 and over the registers 0, 1, 2 and so on; `laws` carries it to any place of
 //! any function and to any registers, and from there to runs of whole programs.
 //!
-//! `specs/Objects/StandsFor` says what a flat memory stands for: the objects of a source, by their bytes, the entries of
-//! their words, keys and lock words, over the ways in which the runtime's spaces are read (`Views`); `specs/Objects/Changes`
-//! what actions do to a memory. `specs/Spaces/Quiet` says when code uses the spaces of the runtime alone.
+//! `specs/Objects/StandsFor` says what a flat memory stands for: the objects of a source, by their bytes, the entries
+//! of their words, keys and lock words, over the ways in which the runtime's spaces are read (`Views`);
+//! `specs/Objects/Changes` what actions do to a memory. `specs/Spaces/Quiet` says when code uses the spaces of the runtime alone.
 #![tactic(auto)]
 
 pub mod laws;

@@ -22,7 +22,8 @@ use Rattle.flat_routines.proofs.Regions.{IsLaidOut}
 use Rattle.flat_routines.proofs.Branches.{not_below, is_below, if_not_below, if_below}
 use Rattle.flat_routines.specs.Objects.StandsFor.{BlockRow}
 use Rattle.flat_routines.proofs.Spaces.Quiet.{in_spaces}
-use Rattle.flat_routines.proofs.Spaces.Rules.{ReachesQuietly, QuietTurn, quiet_line, quiet_end, quiet_branch, quiet_jump}
+use Rattle.flat_routines.proofs.Spaces.Rules.{ReachesQuietly, QuietTurn, quiet_line, quiet_end, quiet_branch}
+use Rattle.flat_routines.proofs.Spaces.Rules.{quiet_jump}
 use Rattle.flat_routines.proofs.Spaces.Rules.{quiet_loop, quiet_weaken, quiet_arrived}
 use Rattle.heap_space.specs.Rows.{row_end, AreInOrder, with_row, first_gap}
 use Rattle.heap_space.specs.Table.{row_cell, block_total, row_at, rows_from, block_rows, IsTableGood}

@@ -8,13 +8,13 @@ use Rattle.heap_space.specs.Rows.{row_end, AreInOrder}
 
 -- the number of live blocks, and behind it the rows: the start of a block, its size, its key, and where its room ends
 abbrev pub total_cell : MapSizes → ℕ
-total_cell s = region_start s Blocks
+total_cell map = region_start map Blocks
 
 abbrev pub row_cell : MapSizes → (i : ℕ) → ℕ
-row_cell s i = region_start s Blocks + 8 + 32 * i
+row_cell map i = region_start map Blocks + 8 + 32 * i
 
 abbrev pub block_total : MapSizes → Bytes → ℕ
-block_total s m = load 8 m (total_cell s)
+block_total map m = load 8 m (total_cell map)
 
 abbrev pub row_at : Bytes → (address : ℕ) → BlockRow
 row_at m a = record { start = load 8 m a; size = load 8 m (a + 8); key = load 8 m (a + 16) }
@@ -25,18 +25,18 @@ rows_from m a zero = []
 rows_from m a (suc n) = row_at m a ∷ rows_from m (a + 32) n
 
 abbrev pub block_rows : MapSizes → Bytes → List BlockRow
-block_rows s m = rows_from m (row_cell s 0) (block_total s m)
+block_rows map m = rows_from m (row_cell map 0) (block_total map m)
 
 -- What holds of the memory whenever a routine is called: there are no more rows than blocks may live, their rooms stand
 -- in the heap in order, and each row has the end of its room.
-pub record IsTableGood (s : MapSizes) (m : Bytes) : Type 0 where
-  pub few : block_total s m ≤ s.budgets.blocks
-  pub in_order : AreInOrder (region_start s Heap) (region_end s Heap) (block_rows s m)
-  pub ends : (i : ℕ) → i < block_total s m → load 8 m (row_cell s i + 24) ≡ row_end (row_at m (row_cell s i))
+pub record IsTableGood (map : MapSizes) (m : Bytes) : Type 0 where
+  pub few : block_total map m ≤ map.budgets.blocks
+  pub in_order : AreInOrder (region_start map Heap) (region_end map Heap) (block_rows map m)
+  pub ends : (i : ℕ) → i < block_total map m → load 8 m (row_cell map i + 24) ≡ row_end (row_at m (row_cell map i))
 
 -- the bytes of the table
 abbrev pub KeepsButTable : MapSizes → Bytes → Bytes → Type 0
-KeepsButTable s = KeepsBut (region_start s Blocks) (region_size s Blocks)
+KeepsButTable map = KeepsBut (region_start map Blocks) (region_size map Blocks)
 
 abbrev pub KeepsTable : MapSizes → Bytes → Bytes → Type 0
-KeepsTable s = Keeps (region_start s Blocks) (region_size s Blocks)
+KeepsTable map = Keeps (region_start map Blocks) (region_size map Blocks)

@@ -9,64 +9,64 @@ use Rattle.flat_routines.specs.Objects.StandsFor.{IsLock, global_lock}
 
 -- all lock words but the global one are handed out: one for each 16 bytes of automatic objects and one for each block
 abbrev pub lock_total : MapSizes → ℕ
-lock_total s = s.budgets.stack / 16 + s.budgets.blocks
+lock_total map = map.budgets.stack / 16 + map.budgets.blocks
 
 -- two cells, how many keys were made and how many lock words are in use, and behind them the list
 abbrev pub keys_cell : MapSizes → ℕ
-keys_cell s = region_start s FreeLocks
+keys_cell map = region_start map FreeLocks
 
 abbrev pub used_cell : MapSizes → ℕ
-used_cell s = region_start s FreeLocks + 8
+used_cell map = region_start map FreeLocks + 8
 
 abbrev pub listed_cell : MapSizes → (i : ℕ) → ℕ
-listed_cell s i = region_start s FreeLocks + 16 + 8 * i
+listed_cell map i = region_start map FreeLocks + 16 + 8 * i
 
 -- ---- what they hold
 
 -- keys are counted from 2 on: 0 is no key, and 1 that of all static objects
 abbrev pub key_counter : MapSizes → Bytes → ℕ
-key_counter s m = 2 + load 8 m (keys_cell s)
+key_counter map m = 2 + load 8 m (keys_cell map)
 
 abbrev pub used_locks : MapSizes → Bytes → ℕ
-used_locks s m = load 8 m (used_cell s)
+used_locks map m = load 8 m (used_cell map)
 
 -- The list has a place for each lock word but the global one; those from the number of used ones on are free. A lock
 -- word is kept as the difference from the one that stands at this place when a run begins, modulo 2 ^ 64: bytes of
 -- zero are the list of all lock words in order.
 abbrev pub first_lock : MapSizes → (i : ℕ) → ℕ
-first_lock s i = region_start s Locks + 8 * (i + 1)
+first_lock map i = region_start map Locks + 8 * (i + 1)
 
 abbrev pub listed_lock : MapSizes → Bytes → (i : ℕ) → ℕ
-listed_lock s m i = (first_lock s i + load 8 m (listed_cell s i)) % 2 ^ 64
+listed_lock map m i = (first_lock map i + load 8 m (listed_cell map i)) % 2 ^ 64
 
 -- a lock word, not the global one, that holds no key
-pub record IsFree (s : MapSizes) (m : Bytes) (a : ℕ) : Type 0 where
-  pub lock : IsLock s a
-  pub not_global : a ≢ global_lock s
+pub record IsFree (map : MapSizes) (m : Bytes) (a : ℕ) : Type 0 where
+  pub lock : IsLock map a
+  pub not_global : a ≢ global_lock map
   pub empty : load 8 m a ≡ 0
 
 -- What holds of the memory whenever a routine is called: the free lock words are just those in the list, each once.
-pub record AreLocksGood (s : MapSizes) (m : Bytes) : Type 0 where
-  pub within : used_locks s m ≤ lock_total s
-  pub free : (i : ℕ) → used_locks s m ≤ i → i < lock_total s → IsFree s m (listed_lock s m i)
-  pub once : (i j : ℕ) → used_locks s m ≤ i → i < lock_total s → used_locks s m ≤ j → j < lock_total s
-      → listed_lock s m i ≡ listed_lock s m j → i ≡ j
-  pub listed : (a : ℕ) → IsFree s m a
-      → (i : ℕ) × (used_locks s m ≤ i) × (i < lock_total s) × (listed_lock s m i ≡ a)
-  pub global : load 8 m (global_lock s) ≡ 1
+pub record AreLocksGood (map : MapSizes) (m : Bytes) : Type 0 where
+  pub within : used_locks map m ≤ lock_total map
+  pub free : (i : ℕ) → used_locks map m ≤ i → i < lock_total map → IsFree map m (listed_lock map m i)
+  pub once : (i j : ℕ) → used_locks map m ≤ i → i < lock_total map → used_locks map m ≤ j → j < lock_total map
+      → listed_lock map m i ≡ listed_lock map m j → i ≡ j
+  pub listed : (a : ℕ) → IsFree map m a
+      → (i : ℕ) × (used_locks map m ≤ i) × (i < lock_total map) × (listed_lock map m i ≡ a)
+  pub global : load 8 m (global_lock map) ≡ 1
 
 -- ---- the bytes of the lock space: the lock words, the cells and the list
 
 abbrev pub lock_space_size : MapSizes → ℕ
-lock_space_size s = region_start s Blocks - region_start s Locks
+lock_space_size map = region_start map Blocks - region_start map Locks
 
 abbrev pub KeepsButLocks : MapSizes → Bytes → Bytes → Type 0
-KeepsButLocks s = KeepsBut (region_start s Locks) (lock_space_size s)
+KeepsButLocks map = KeepsBut (region_start map Locks) (lock_space_size map)
 
 abbrev pub KeepsLocks : MapSizes → Bytes → Bytes → Type 0
-KeepsLocks s = Keeps (region_start s Locks) (lock_space_size s)
+KeepsLocks map = Keeps (region_start map Locks) (lock_space_size map)
 
 -- the lock space when a run begins: the global lock word holds 1, and all else is zero
-pub record IsLockStart (s : MapSizes) (m : Bytes) : Type 0 where
-  pub global : load 8 m (global_lock s) ≡ 1
-  pub zeros : (a : ℕ) → region_start s Locks + 8 ≤ a → a < region_start s Blocks → m a ≡ 0
+pub record IsLockStart (map : MapSizes) (m : Bytes) : Type 0 where
+  pub global : load 8 m (global_lock map) ≡ 1
+  pub zeros : (a : ℕ) → region_start map Locks + 8 ≤ a → a < region_start map Blocks → m a ≡ 0

@@ -54,4 +54,4 @@ direct_put bytes e = with_entry (4 * (e.at - objects_begin)) (metadata_of e) byt
 
 -- four bytes for each of static objects
 abbrev pub direct_start : MapSizes → List StartEntry → List ℕ
-direct_start s es = begun direct_put es (replicate (4 * whole_pages s.global_bytes) 0)
+direct_start map es = begun direct_put es (replicate (4 * whole_pages map.global_bytes) 0)

@@ -17,14 +17,14 @@ abbrev pub words_of : List StartEntry → List ℕ
 words_of es = map (λ e. e.at) es
 
 -- a word of static objects
-pub record IsGlobalWord (s : MapSizes) (a : ℕ) : Type 0 where
+pub record IsGlobalWord (map : MapSizes) (a : ℕ) : Type 0 where
   pub first : objects_begin ≤ a
-  pub last : a + 8 ≤ region_end s Globals
+  pub last : a + 8 ≤ region_end map Globals
   pub aligned : a % 8 ≡ 0
 
 -- an entry of four words, of one of these
-pub record IsStartEntry (s : MapSizes) (e : StartEntry) : Type 0 where
-  pub word : IsGlobalWord s e.at
+pub record IsStartEntry (map : MapSizes) (e : StartEntry) : Type 0 where
+  pub word : IsGlobalWord map e.at
   pub base : e.base < 2 ^ 64
   pub bound : e.bound < 2 ^ 64
   pub key : e.key < 2 ^ 64
@@ -32,12 +32,12 @@ pub record IsStartEntry (s : MapSizes) (e : StartEntry) : Type 0 where
 
 -- each is one, and none is of the word of another
 abbrev pub AreStartEntries : MapSizes → List StartEntry → Type 0
-AreStartEntries s [] = Unit {0}
-AreStartEntries s (e ∷ es) = IsStartEntry s e × IsNoneOf e.at (words_of es) × AreStartEntries s es
+AreStartEntries map [] = Unit {0}
+AreStartEntries map (e ∷ es) = IsStartEntry map e × IsNoneOf e.at (words_of es) × AreStartEntries map es
 
 -- the region begins with these bytes, and all behind them is zero
 abbrev pub BeginsWith : MapSizes → List ℕ → Bytes → Type 0
-BeginsWith s bytes m = (i : ℕ) → i < region_size s Shadow → m (spaces_begin + i) ≡ get_or bytes i 0
+BeginsWith map bytes m = (i : ℕ) → i < region_size map Shadow → m (spaces_begin + i) ≡ get_or bytes i 0
 
 -- the words of the entries read as they are
 abbrev pub AreRead : View → Bytes → List StartEntry → Type 0
@@ -45,14 +45,14 @@ AreRead entry m [] = Unit {0}
 AreRead entry m (e ∷ es) = (entry m e.at ≡ metadata_of e) × AreRead entry m es
 
 -- and every other word of object space as none
-pub record IsStarted (s : MapSizes) (entry : View) (IsGood : Bytes → Type 0) (es : List StartEntry) (m : Bytes) : Type 0
-  where
-    pub good : IsGood m
-    pub read : AreRead entry m es
-    pub others : (a : ℕ) → IsObjectWord s a → IsNoneOf a (words_of es) → entry m a ≡ no_metadata
+pub record IsStarted (map : MapSizes) (entry : View) (IsGood : Bytes → Type 0) (es : List StartEntry) (m : Bytes)
+    : Type 0 where
+  pub good : IsGood m
+  pub read : AreRead entry m es
+  pub others : (a : ℕ) → IsObjectWord map a → IsNoneOf a (words_of es) → entry m a ≡ no_metadata
 
 abbrev pub StartsShadow : MapSizes → View → (Bytes → Type 0) → List StartEntry → List ℕ → Type 0
-StartsShadow s entry IsGood es bytes = (m : Bytes) → BeginsWith s bytes m → IsStarted s entry IsGood es m
+StartsShadow map entry IsGood es bytes = (m : Bytes) → BeginsWith map bytes m → IsStarted map entry IsGood es m
 
 -- bytes with a word at an offset
 abbrev pub with_word : (offset word : ℕ) → List ℕ → List ℕ

@@ -5,16 +5,14 @@ ghost use Rattle.addr_map.specs.Places.{AreMapped};
 ghost use Rattle.shadow_space.specs.Direct.{direct_entry, direct_read, direct_write, direct_clear};
 ghost use Rattle.shadow_space.specs.Start.{AreStartEntries, StartsShadow};
 
+use crate::entry_words::{load_entry, same_register, store_entry};
 use crate::form::ShadowForm;
-use crate::start::{StartEntry, put_entry};
+use crate::start::{OBJECTS, StartEntry, put_entry};
 use addr_map::AddrMap;
 use flat_meaning::{FlatInstruction, RightOperand};
 use flat_routines::Entry;
-use rv_isa::{BranchOp, LoadOp, RegOp, StoreOp};
+use rv_isa::{BranchOp, RegOp};
 use std::alloc::{AllocError, Global};
-
-// The first address of object space.
-const OBJECTS: u64 = 0x1000_0000;
 
 /// The form in which the entry of each word has a place of its own, at four times the word's address.
 pub struct Direct;
@@ -85,39 +83,16 @@ fn read_code(
 ) -> Result<Vec<FlatInstruction>, AllocError>
     ensures { IfOk result (λ r. r.items ≡ direct_read at into scratch) }
 {
-    let code = [
-        FlatInstruction::Operate {
-            op: RegOp::Sll,
-            into: scratch,
-            left: at,
-            right: RightOperand::Number(2),
-        },
-        FlatInstruction::Load {
-            op: LoadOp::Ld,
-            into: into.base,
-            at: scratch,
-            offset: 0,
-        },
-        FlatInstruction::Load {
-            op: LoadOp::Ld,
-            into: into.bound,
-            at: scratch,
-            offset: 8,
-        },
-        FlatInstruction::Load {
-            op: LoadOp::Ld,
-            into: into.key,
-            at: scratch,
-            offset: 16,
-        },
-        FlatInstruction::Load {
-            op: LoadOp::Ld,
-            into: into.lock,
-            at: scratch,
-            offset: 24,
-        },
-    ];
-    Vec::from_slice(alloc, &code)
+    let place = [FlatInstruction::Operate {
+        op: RegOp::Sll,
+        into: scratch,
+        left: at,
+        right: RightOperand::Number(2),
+    }];
+    let mut code = Vec::from_slice(alloc, &place)?;
+    let words = load_entry(alloc, scratch, into)?;
+    code.extend_from_slice(&words)?;
+    Ok(code)
 }
 
 fn write_code(
@@ -128,39 +103,16 @@ fn write_code(
 ) -> Result<Vec<FlatInstruction>, AllocError>
     ensures { IfOk result (λ r. r.items ≡ direct_write at from scratch) }
 {
-    let code = [
-        FlatInstruction::Operate {
-            op: RegOp::Sll,
-            into: scratch,
-            left: at,
-            right: RightOperand::Number(2),
-        },
-        FlatInstruction::Store {
-            op: StoreOp::Sd,
-            at: scratch,
-            offset: 0,
-            from: from.base,
-        },
-        FlatInstruction::Store {
-            op: StoreOp::Sd,
-            at: scratch,
-            offset: 8,
-            from: from.bound,
-        },
-        FlatInstruction::Store {
-            op: StoreOp::Sd,
-            at: scratch,
-            offset: 16,
-            from: from.key,
-        },
-        FlatInstruction::Store {
-            op: StoreOp::Sd,
-            at: scratch,
-            offset: 24,
-            from: from.lock,
-        },
-    ];
-    Vec::from_slice(alloc, &code)
+    let place = [FlatInstruction::Operate {
+        op: RegOp::Sll,
+        into: scratch,
+        left: at,
+        right: RightOperand::Number(2),
+    }];
+    let mut code = Vec::from_slice(alloc, &place)?;
+    let words = store_entry(alloc, scratch, from)?;
+    code.extend_from_slice(&words)?;
+    Ok(code)
 }
 
 fn clear_code(
@@ -175,7 +127,7 @@ fn clear_code(
     let cursor = scratch;
     let end = scratch + 1;
     let zero = scratch + 2;
-    let code = [
+    let begin = [
         FlatInstruction::Operate {
             op: RegOp::Sll,
             into: cursor,
@@ -205,30 +157,11 @@ fn clear_code(
             right: RightOperand::Register(end),
             past: 6,
         },
-        FlatInstruction::Store {
-            op: StoreOp::Sd,
-            at: cursor,
-            offset: 0,
-            from: zero,
-        },
-        FlatInstruction::Store {
-            op: StoreOp::Sd,
-            at: cursor,
-            offset: 8,
-            from: zero,
-        },
-        FlatInstruction::Store {
-            op: StoreOp::Sd,
-            at: cursor,
-            offset: 16,
-            from: zero,
-        },
-        FlatInstruction::Store {
-            op: StoreOp::Sd,
-            at: cursor,
-            offset: 24,
-            from: zero,
-        },
+    ];
+    let mut code = Vec::from_slice(alloc, &begin)?;
+    let clear = store_entry(alloc, cursor, same_register(zero))?;
+    code.extend_from_slice(&clear)?;
+    let turn = [
         FlatInstruction::Operate {
             op: RegOp::Add,
             into: cursor,
@@ -237,5 +170,6 @@ fn clear_code(
         },
         FlatInstruction::JumpBack { back: 6 },
     ];
-    Vec::from_slice(alloc, &code)
+    code.extend_from_slice(&turn)?;
+    Ok(code)
 }

@@ -8,6 +8,7 @@
 #![tactic(auto)]
 
 pub mod direct;
+mod entry_words;
 pub mod form;
 pub mod start;
 pub mod two_levels;

@@ -3,6 +3,11 @@
 ghost use Rattle.std.specs.Prelude.{◌≡◌, ◌+◌, ◌≤◌, length};
 ghost use Rattle.shadow_space.specs.Start.{metadata_of, with_word, with_entry};
 
+// The first address of object space, and that of the shadow space.
+pub(crate) const OBJECTS: u64 = 0x1000_0000;
+
+pub(crate) const SHADOW: u64 = 0x4000_0000;
+
 /// The entry of a word of static objects, when a run begins.
 #[derive(Clone, Copy)]
 pub struct StartEntry {

@@ -60,29 +60,29 @@ pub record Spells (g : Views) (k : Keys) (v : Value) (h : Held) (values : Values
 -- ---- the objects and their keys, whatever the memory
 
 -- a live object lies in object space
-pub record IsPlaced (sizes : MapSizes) (o : ObjectState) : Type 0 where
+pub record IsPlaced (map : MapSizes) (o : ObjectState) : Type 0 where
   pub first : objects_begin ≤ o.address
-  pub last : o.address + o.size ≤ region_end sizes Heap
+  pub last : o.address + o.size ≤ region_end map Heap
 
 -- a lock word, and the one of all static objects
-pub record IsLock (m : MapSizes) (a : ℕ) : Type 0 where
-  pub first : region_start m Locks ≤ a
-  pub last : a + 8 ≤ region_start m Locks + 8 * lock_count m
+pub record IsLock (map : MapSizes) (a : ℕ) : Type 0 where
+  pub first : region_start map Locks ≤ a
+  pub last : a + 8 ≤ region_start map Locks + 8 * lock_count map
   pub aligned : a % 8 ≡ 0
 
 abbrev pub global_lock : MapSizes → ℕ
-global_lock m = region_start m Locks
+global_lock map = region_start map Locks
 
 -- static objects have key 1 and the global lock word; every other has the key that was made for it, counted from 2, and
 -- another lock word
-pub record IsKeyed (sizes : MapSizes) (k : Keys) (n : ℕ) (o : ObjectState) : Type 0 where
-  pub lock : IsLock sizes (k.held n).lock
-  pub static : o.storage ≡ Static → ((k.held n).key ≡ 1) × ((k.held n).lock ≡ global_lock sizes)
+pub record IsKeyed (map : MapSizes) (k : Keys) (n : ℕ) (o : ObjectState) : Type 0 where
+  pub lock : IsLock map (k.held n).lock
+  pub static : o.storage ≡ Static → ((k.held n).key ≡ 1) × ((k.held n).lock ≡ global_lock map)
   pub other : o.storage ≢ Static
-      → ((k.held n).key ≡ 2 + k.own n) × (k.own n < k.made) × ((k.held n).lock ≢ global_lock sizes)
+      → ((k.held n).key ≡ 2 + k.own n) × (k.own n < k.made) × ((k.held n).lock ≢ global_lock map)
 
-pub record AreKeyed (sizes : MapSizes) (k : Keys) (objects : Objects) : Type 0 where
-  pub each : (n : ℕ) → n < length objects → IsKeyed sizes k n (object_at objects n)
+pub record AreKeyed (map : MapSizes) (k : Keys) (objects : Objects) : Type 0 where
+  pub each : (n : ℕ) → n < length objects → IsKeyed map k n (object_at objects n)
   -- a block of the heap shares its key with no object
   pub alone : (n j : ℕ) → n < length objects → j < length objects → n ≢ j → (object_at objects n).storage ≡ Allocated
       → (k.held n).key ≢ (k.held j).key
@@ -97,12 +97,12 @@ pub record IsHere (g : Views) (k : Keys) (m : Bytes) (o : ObjectState) : Type 0 
 -- A lock word holds the key of an object exactly where that object is live. The global one holds 1, and one that no
 -- live
 -- object uses 0.
-pub record AreLocked (sizes : MapSizes) (k : Keys) (objects : Objects) (m : Bytes) : Type 0 where
+pub record AreLocked (map : MapSizes) (k : Keys) (objects : Objects) (m : Bytes) : Type 0 where
   pub live : (n : ℕ) → (object_at objects n).is_live ≡ true → load 8 m (k.held n).lock ≡ (k.held n).key
   pub dead : (n : ℕ) → n < length objects → (object_at objects n).is_live ≡ false
       → load 8 m (k.held n).lock ≢ (k.held n).key
-  pub global : load 8 m (global_lock sizes) ≡ 1
-  pub unused : (a : ℕ) → IsLock sizes a → a ≢ global_lock sizes
+  pub global : load 8 m (global_lock map) ≡ 1
+  pub unused : (a : ℕ) → IsLock map a → a ≢ global_lock map
       → ((n : ℕ) → (object_at objects n).is_live ≡ true → (k.held n).lock ≢ a) → load 8 m a ≡ 0
 
 abbrev pub no_row : BlockRow

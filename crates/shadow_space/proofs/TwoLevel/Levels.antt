@@ -8,7 +8,8 @@ use Rattle.flat_meaning.specs.Memory.{Bytes, Keeps}
 use Rattle.flat_meaning.proofs.Stored.{load_kept, kept_beside, keeps_within}
 use Rattle.flat_routines.specs.Metadata.{Metadata, no_metadata, metadata_at, IsObjectWord, KeepsButShadow, KeepsShadow}
 use Rattle.flat_routines.proofs.Words.{store_four, IsOfFourWords, four_read, four_beside, metadata_kept}
-use Rattle.shadow_space.specs.TwoLevel.Tables.{pages, page_of, entry_offset, taken_cell, page_cell, first_table, table_of}
+use Rattle.shadow_space.specs.TwoLevel.Tables.{pages, page_of, entry_offset, taken_cell, page_cell, first_table}
+use Rattle.shadow_space.specs.TwoLevel.Tables.{table_of}
 use Rattle.shadow_space.specs.TwoLevel.Tables.{in_table, two_level_entry, AreTablesGood}
 
 pub record AreLevelsLaidOut (s : MapSizes) : Type 0 where

@@ -29,7 +29,8 @@ use Rattle.shadow_space.specs.Direct.{load_entry}
 use Rattle.shadow_space.proofs.Entries.{context_of, agrees_shows, agrees_memory}
 use Rattle.flat_routines.specs.Spaces.Quiet.{AreQuiet}
 use Rattle.flat_routines.proofs.Spaces.Quiet.{in_spaces, shows_itself}
-use Rattle.flat_routines.proofs.Spaces.Rules.{Quietly, ReachesQuietly, quiet_line, quiet_end, quiet_branch, quiet_weaken}
+use Rattle.flat_routines.proofs.Spaces.Rules.{Quietly, ReachesQuietly, quiet_line, quiet_end, quiet_branch}
+use Rattle.flat_routines.proofs.Spaces.Rules.{quiet_weaken}
 use Rattle.flat_routines.proofs.Spaces.Rules.{quiet_arrived}
 use Rattle.shadow_space.specs.TwoLevel.Tables.{page_of, entry_offset, page_cell, table_of}
 use Rattle.shadow_space.specs.TwoLevel.Tables.{two_level_entry, AreTablesGood}

@@ -13,9 +13,11 @@ use Rattle.shadow_space.specs.Start.{metadata_of, with_word, IsGlobalWord, IsSta
 use Rattle.shadow_space.specs.Start.{begun}
 use Rattle.shadow_space.proofs.Starting.{Agrees, word_agrees, length_word, entry_agrees, length_entry, global_word}
 use Rattle.shadow_space.proofs.Starting.{HasEntry, have_entries, started, entry_at, past_end, zeros_agree}
-use Rattle.shadow_space.specs.TwoLevel.Tables.{pages, page_of, entry_offset, taken_cell, page_cell, first_table, table_of}
+use Rattle.shadow_space.specs.TwoLevel.Tables.{pages, page_of, entry_offset, taken_cell, page_cell, first_table}
+use Rattle.shadow_space.specs.TwoLevel.Tables.{table_of}
 use Rattle.shadow_space.specs.TwoLevel.Tables.{taken_bytes, two_level_entry, AreTablesGood}
-use Rattle.shadow_space.specs.TwoLevel.Start.{global_pages, start_size, with_tables, empty_tables, table_put, counted_bytes}
+use Rattle.shadow_space.specs.TwoLevel.Start.{global_pages, start_size, with_tables, empty_tables, table_put}
+use Rattle.shadow_space.specs.TwoLevel.Start.{counted_bytes}
 use Rattle.shadow_space.specs.TwoLevel.Start.{two_level_start}
 use Rattle.shadow_space.proofs.TwoLevel.Levels.{AreLevelsLaidOut, levels_laid_out, no_table, with_table}
 use Rattle.shadow_space.proofs.TwoLevel.Levels.{offset_below, cell_kept, levels_local}

@@ -9,9 +9,11 @@ use Rattle.flat_meaning.proofs.Stored.{load_stored, load_beside, store_beside, k
 use Rattle.flat_routines.specs.Metadata.{no_metadata, metadata_at, IsObjectWord, KeepsButShadow}
 use Rattle.flat_routines.proofs.Words.{metadata_kept}
 use Rattle.flat_routines.proofs.Spaces.Few.{at_most_of}
-use Rattle.shadow_space.specs.TwoLevel.Tables.{pages, page_of, entry_offset, taken_cell, page_cell, first_table, table_of}
+use Rattle.shadow_space.specs.TwoLevel.Tables.{pages, page_of, entry_offset, taken_cell, page_cell, first_table}
+use Rattle.shadow_space.specs.TwoLevel.Tables.{table_of}
 use Rattle.shadow_space.specs.TwoLevel.Tables.{in_table, two_level_entry, AreTablesGood}
-use Rattle.shadow_space.proofs.TwoLevel.Levels.{AreLevelsLaidOut, no_table, with_table, page_below, offset_below, entry_kept}
+use Rattle.shadow_space.proofs.TwoLevel.Levels.{AreLevelsLaidOut, no_table, with_table, page_below, offset_below}
+use Rattle.shadow_space.proofs.TwoLevel.Levels.{entry_kept}
 
 -- an entry of zero bytes is none
 pub zero_entry : (m : Bytes) (p : ℕ) → ((i : ℕ) → i < 32 → m (p + i) ≡ 0) → metadata_at m p ≡ no_metadata

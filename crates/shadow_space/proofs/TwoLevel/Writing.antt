@@ -32,9 +32,11 @@ use Rattle.shadow_space.specs.Form.{HasWritten, IsWriteRoutine}
 use Rattle.shadow_space.specs.Direct.{store_entry}
 use Rattle.shadow_space.proofs.Entries.{context_of, agrees_shows, agrees_memory}
 use Rattle.flat_routines.proofs.Spaces.Quiet.{in_spaces, shows_itself}
-use Rattle.flat_routines.proofs.Spaces.Rules.{Quietly, ReachesQuietly, quiet_line, quiet_end, quiet_branch, quiet_weaken}
+use Rattle.flat_routines.proofs.Spaces.Rules.{Quietly, ReachesQuietly, quiet_line, quiet_end, quiet_branch}
+use Rattle.flat_routines.proofs.Spaces.Rules.{quiet_weaken}
 use Rattle.flat_routines.proofs.Spaces.Rules.{quiet_arrived}
-use Rattle.shadow_space.specs.TwoLevel.Tables.{pages, page_of, entry_offset, taken_cell, page_cell, first_table, table_of}
+use Rattle.shadow_space.specs.TwoLevel.Tables.{pages, page_of, entry_offset, taken_cell, page_cell, first_table}
+use Rattle.shadow_space.specs.TwoLevel.Tables.{table_of}
 use Rattle.shadow_space.specs.TwoLevel.Tables.{two_level_entry, AreTablesGood}
 use Rattle.shadow_space.specs.TwoLevel.Code.{look_up, take_table, two_level_write}
 use Rattle.shadow_space.proofs.TwoLevel.Levels.{AreLevelsLaidOut, levels_laid_out, no_table, page_below, offset_below}

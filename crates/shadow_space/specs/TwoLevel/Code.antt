@@ -34,25 +34,25 @@ two_level_read a e t f u =
 
 -- the next table of the reserve is taken for the page
 abbrev pub take_table : MapSizes → (table cell taken next : ℕ) → List FlatInstruction
-take_table s t f z y =
+take_table map t f z y =
     Constant z spaces_begin
     ∷ Load Ld t z 0
     ∷ Operate Add y t (Number 16384)
     ∷ Store Sd z 0 y
-    ∷ Operate Add t t (Number (first_table s))
+    ∷ Operate Add t t (Number (first_table map))
     ∷ Store Sd f 0 t
     ∷ []
 
 -- a page without a table takes one where the entry is not none, and else nothing is to be written
 abbrev pub two_level_write : MapSizes → (at : ℕ) → Entry → (table cell offset taken next : ℕ) → List FlatInstruction
-two_level_write s a e t f u z y =
+two_level_write map a e t f u z y =
     look_up a t f u
     ++ (Branch Bne t (Number 0) 10
     ∷ Branch Bne e.base (Number 0) 3
     ∷ Branch Bne e.bound (Number 0) 2
     ∷ Branch Bne e.key (Number 0) 1
     ∷ Branch Beq e.lock (Number 0) 11
-    ∷ (take_table s t f z y ++ Operate Add t t (Register u) ∷ store_entry t e))
+    ∷ (take_table map t f z y ++ Operate Add t t (Register u) ∷ store_entry t e))
 
 -- an entry is cleared where the page has a table
 abbrev pub clear_word : (cursor zero table cell offset : ℕ) → List FlatInstruction

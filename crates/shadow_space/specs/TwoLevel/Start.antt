@@ -7,28 +7,28 @@ use Rattle.shadow_space.specs.TwoLevel.Tables.{pages, page_of, entry_offset, fir
 
 -- the pages of static objects
 abbrev pub global_pages : MapSizes → ℕ
-global_pages s = whole_pages s.global_bytes / 4096
+global_pages map = whole_pages map.global_bytes / 4096
 
 -- how many bytes: the cell, the first level and these tables
 abbrev pub start_size : MapSizes → ℕ
-start_size s = 8 + 8 * pages s + 16384 * global_pages s
+start_size map = 8 + 8 * pages map + 16384 * global_pages map
 
 -- the first level with the tables of so many pages
 abbrev pub with_tables : MapSizes → (count : ℕ) → List ℕ → List ℕ
-with_tables s zero bytes = bytes
-with_tables s (suc q) bytes = with_word (8 + 8 * q) (first_table s + 16384 * q) (with_tables s q bytes)
+with_tables map zero bytes = bytes
+with_tables map (suc q) bytes = with_word (8 + 8 * q) (first_table map + 16384 * q) (with_tables map q bytes)
 
 -- the cell, and zeros
 unfoldable pub counted_bytes : MapSizes → List ℕ
-counted_bytes s = with_word 0 (16384 * global_pages s) (replicate (start_size s) 0)
+counted_bytes map = with_word 0 (16384 * global_pages map) (replicate (start_size map) 0)
 
 abbrev pub empty_tables : MapSizes → List ℕ
-empty_tables s = with_tables s (global_pages s) (counted_bytes s)
+empty_tables map = with_tables map (global_pages map) (counted_bytes map)
 
 -- an entry in the table of its page
 abbrev pub table_put : MapSizes → List ℕ → StartEntry → List ℕ
-table_put s bytes e =
-    with_entry (8 + 8 * pages s + 16384 * page_of e.at + entry_offset e.at) (metadata_of e) bytes
+table_put map bytes e =
+    with_entry (8 + 8 * pages map + 16384 * page_of e.at + entry_offset e.at) (metadata_of e) bytes
 
 abbrev pub two_level_start : MapSizes → List StartEntry → List ℕ
-two_level_start s es = begun (table_put s) es (empty_tables s)
+two_level_start map es = begun (table_put map) es (empty_tables map)

@@ -8,7 +8,7 @@ use Rattle.flat_routines.specs.Metadata.{Metadata, no_metadata, metadata_at}
 
 -- a page has 4096 bytes, and a table the 512 entries of 32 bytes of its words
 abbrev pub pages : MapSizes → ℕ
-pages s = object_space s / 4096
+pages map = object_space map / 4096
 
 abbrev pub page_of : (address : ℕ) → ℕ
 page_of a = (a - objects_begin) / 4096
@@ -25,7 +25,7 @@ abbrev pub page_cell : (page : ℕ) → ℕ
 page_cell q = spaces_begin + 8 + 8 * q
 
 abbrev pub first_table : MapSizes → ℕ
-first_table s = spaces_begin + 8 + 8 * pages s
+first_table map = spaces_begin + 8 + 8 * pages map
 
 -- ---- what they hold
 
@@ -45,12 +45,12 @@ two_level_entry m a = in_table m (table_of m (page_of a)) (entry_offset a)
 
 -- What holds of the memory whenever a routine is called: so many tables are taken, each by one page, the others of the
 -- reserve are zero, and there is one for each page.
-pub record AreTablesGood (s : MapSizes) (m : Bytes) : Type 0 where
+pub record AreTablesGood (map : MapSizes) (m : Bytes) : Type 0 where
   pub taken : ℕ
-  pub within : taken ≤ pages s
+  pub within : taken ≤ pages map
   pub counted : taken_bytes m ≡ 16384 * taken
-  pub table : (q : ℕ) → q < pages s → table_of m q ≢ 0
-      → (i : ℕ) × (i < taken) × (table_of m q ≡ first_table s + 16384 * i)
-  pub owner : (i : ℕ) → i < taken → (q : ℕ) × (q < pages s) × (table_of m q ≡ first_table s + 16384 * i)
-  pub once : (p q : ℕ) → p < pages s → q < pages s → table_of m p ≢ 0 → table_of m p ≡ table_of m q → p ≡ q
-  pub reserve : (a : ℕ) → first_table s + 16384 * taken ≤ a → a < first_table s + 16384 * pages s → m a ≡ 0
+  pub table : (q : ℕ) → q < pages map → table_of m q ≢ 0
+      → (i : ℕ) × (i < taken) × (table_of m q ≡ first_table map + 16384 * i)
+  pub owner : (i : ℕ) → i < taken → (q : ℕ) × (q < pages map) × (table_of m q ≡ first_table map + 16384 * i)
+  pub once : (p q : ℕ) → p < pages map → q < pages map → table_of m p ≢ 0 → table_of m p ≡ table_of m q → p ≡ q
+  pub reserve : (a : ℕ) → first_table map + 16384 * taken ≤ a → a < first_table map + 16384 * pages map → m a ≡ 0

@@ -7,16 +7,10 @@ ghost use Rattle.shadow_space.specs.Start.{AreStartEntries, StartsShadow};
 ghost use Rattle.shadow_space.specs.TwoLevel.Tables.{pages, page_of, entry_offset, two_level_entry, AreTablesGood};
 ghost use Rattle.shadow_space.specs.TwoLevel.Start.{start_size, counted_bytes, empty_tables, table_put};
 
-use crate::StartEntry;
-use crate::start::{put_entry, put_word};
-use crate::two_levels::two_level::first_table;
+use crate::start::{OBJECTS, SHADOW, StartEntry, put_entry, put_word};
+use crate::two_levels::two_level::{first_table, global_pages};
 use addr_map::AddrMap;
 use std::alloc::{AllocError, Global};
-
-// The first address of object space, and that of the shadow space.
-const OBJECTS: u64 = 0x1000_0000;
-
-const SHADOW: u64 = 0x4000_0000;
 
 // The bytes of a table.
 const TABLE: u64 = 16384;
@@ -32,7 +26,7 @@ fn counted(alloc: Global, map: &AddrMap) -> Result<Vec<u8>, AllocError>
     ensures value { IfOk result (λ r. r.items ≡ counted_bytes map.now) }
     ensures size { IfOk result (λ r. length r.items ≡ start_size map.now) }
 {
-    let tables = map.global_bytes().div_ceil(4096);
+    let tables = global_pages(map);
     let size = first_table(map) - SHADOW + TABLE * tables;
     let mut bytes = zeros(alloc, size)?;
     put_word(&mut bytes, 0, TABLE * tables);
@@ -46,7 +40,7 @@ fn empty(alloc: Global, map: &AddrMap) -> Result<Vec<u8>, AllocError>
 {
     let mut bytes = counted(alloc, map)?;
     let first = first_table(map);
-    let tables = map.global_bytes().div_ceil(4096);
+    let tables = global_pages(map);
     for page in 0..tables {
         put_word(&mut bytes, (8 + 8 * page) as usize, first + TABLE * page);
     }

@@ -3,8 +3,13 @@
 ghost use Rattle.std.specs.Prelude.{◌≡◌, ◌+◌, ◌≤◌, ◌^◌, IfOk};
 ghost use Rattle.addr_map.specs.Places.{AreMapped};
 ghost use Rattle.shadow_space.specs.TwoLevel.Tables.{two_level_entry, AreTablesGood, first_table};
-ghost use Rattle.shadow_space.specs.TwoLevel.Code.{two_level_read, two_level_write, two_level_clear};
+ghost use Rattle.shadow_space.specs.TwoLevel.Code.{look_up as look_up_code, two_level_read, two_level_write};
+ghost use Rattle.shadow_space.specs.TwoLevel.Code.{two_level_clear};
+ghost use Rattle.shadow_space.specs.TwoLevel.Start.{global_pages as pages_of_globals};
 
+use crate::entry_words::{load_entry, same_register, store_entry};
+use crate::form::ShadowForm;
+use crate::start::{OBJECTS, SHADOW, StartEntry};
 use crate::two_levels::start::start_bytes;
 use crate::{ShadowForm, StartEntry};
 use addr_map::AddrMap;
@@ -13,12 +18,7 @@ use flat_routines::Entry;
 use rv_isa::{BranchOp, LoadOp, RegOp, StoreOp};
 use std::alloc::{AllocError, Global};
 
-// The first address of object space, that of the shadow space, and that of the first level behind the cell of the
-// reserve.
-const OBJECTS: u64 = 0x1000_0000;
-
-const SHADOW: u64 = 0x4000_0000;
-
+// The address of the first level, behind the cell of the reserve.
 const FIRST_LEVEL: u64 = 0x4000_0008;
 
 /// The form with a word for each page of 4096 bytes of object space, and tables of 512 entries from a reserve that has
@@ -67,27 +67,33 @@ impl ShadowForm for TwoLevel {
     }
 }
 
+// The pages of static objects.
+pub(crate) fn global_pages(map: &AddrMap) -> u64
+    ensures value { result ≡ pages_of_globals map.now }
+    ensures few { result ≤ 1024 }
+{
+    map.global_bytes().div_ceil(4096)
+}
+
 // The address of the first table: behind the cell and a word for each page.
 pub(crate) fn first_table(map: &AddrMap) -> u64
     ensures { result ≡ first_table map.now }
 {
     let budgets = map.budgets();
-    let objects = map.global_bytes().div_ceil(4096) * 4096 + budgets.stack() + budgets.heap();
+    let objects = global_pages(map) * 4096 + budgets.stack() + budgets.heap();
     FIRST_LEVEL + 8 * (objects / 4096)
 }
 
-fn read_code(
+// The page of the address in a register is looked up: its table, the cell with it, and the offset of the entry there.
+fn look_up(
     alloc: Global,
     at: u32,
-    into: Entry,
-    scratch: u32,
+    table: u32,
+    cell: u32,
+    offset: u32,
 ) -> Result<Vec<FlatInstruction>, AllocError>
-    requires { scratch ≤ 2 ^ 31 }
-    ensures { IfOk result (λ r. r.items ≡ two_level_read at into scratch (scratch + 1) (scratch + 2)) }
+    ensures { IfOk result (λ r. r.items ≡ look_up_code at table cell offset) }
 {
-    let table = scratch;
-    let cell = scratch + 1;
-    let offset = scratch + 2;
     let code = [
         FlatInstruction::Operate {
             op: RegOp::Sub,
@@ -131,6 +137,24 @@ fn read_code(
             at: cell,
             offset: 0,
         },
+    ];
+    Vec::from_slice(alloc, &code)
+}
+
+fn read_code(
+    alloc: Global,
+    at: u32,
+    into: Entry,
+    scratch: u32,
+) -> Result<Vec<FlatInstruction>, AllocError>
+    requires { scratch ≤ 2 ^ 31 }
+    ensures { IfOk result (λ r. r.items ≡ two_level_read at into scratch (scratch + 1) (scratch + 2)) }
+{
+    let table = scratch;
+    let cell = scratch + 1;
+    let offset = scratch + 2;
+    let mut code = look_up(alloc, at, table, cell, offset)?;
+    let entry = [
         FlatInstruction::Constant {
             into: into.base,
             value: 0,
@@ -159,32 +183,11 @@ fn read_code(
             left: table,
             right: RightOperand::Register(offset),
         },
-        FlatInstruction::Load {
-            op: LoadOp::Ld,
-            into: into.base,
-            at: table,
-            offset: 0,
-        },
-        FlatInstruction::Load {
-            op: LoadOp::Ld,
-            into: into.bound,
-            at: table,
-            offset: 8,
-        },
-        FlatInstruction::Load {
-            op: LoadOp::Ld,
-            into: into.key,
-            at: table,
-            offset: 16,
-        },
-        FlatInstruction::Load {
-            op: LoadOp::Ld,
-            into: into.lock,
-            at: table,
-            offset: 24,
-        },
     ];
-    Vec::from_slice(alloc, &code)
+    code.extend_from_slice(&entry)?;
+    let words = load_entry(alloc, table, into)?;
+    code.extend_from_slice(&words)?;
+    Ok(code)
 }
 
 fn write_code(
@@ -204,49 +207,8 @@ fn write_code(
     let offset = scratch + 2;
     let taken = scratch + 3;
     let next = scratch + 4;
-    let code = [
-        FlatInstruction::Operate {
-            op: RegOp::Sub,
-            into: cell,
-            left: at,
-            right: RightOperand::Number(OBJECTS),
-        },
-        FlatInstruction::Operate {
-            op: RegOp::Sll,
-            into: offset,
-            left: cell,
-            right: RightOperand::Number(52),
-        },
-        FlatInstruction::Operate {
-            op: RegOp::Srl,
-            into: offset,
-            left: offset,
-            right: RightOperand::Number(50),
-        },
-        FlatInstruction::Operate {
-            op: RegOp::Srl,
-            into: cell,
-            left: cell,
-            right: RightOperand::Number(12),
-        },
-        FlatInstruction::Operate {
-            op: RegOp::Sll,
-            into: cell,
-            left: cell,
-            right: RightOperand::Number(3),
-        },
-        FlatInstruction::Operate {
-            op: RegOp::Add,
-            into: cell,
-            left: cell,
-            right: RightOperand::Number(FIRST_LEVEL),
-        },
-        FlatInstruction::Load {
-            op: LoadOp::Ld,
-            into: table,
-            at: cell,
-            offset: 0,
-        },
+    let mut code = look_up(alloc, at, table, cell, offset)?;
+    let entry = [
         FlatInstruction::Branch {
             op: BranchOp::Bne,
             left: table,
@@ -319,32 +281,11 @@ fn write_code(
             left: table,
             right: RightOperand::Register(offset),
         },
-        FlatInstruction::Store {
-            op: StoreOp::Sd,
-            at: table,
-            offset: 0,
-            from: from.base,
-        },
-        FlatInstruction::Store {
-            op: StoreOp::Sd,
-            at: table,
-            offset: 8,
-            from: from.bound,
-        },
-        FlatInstruction::Store {
-            op: StoreOp::Sd,
-            at: table,
-            offset: 16,
-            from: from.key,
-        },
-        FlatInstruction::Store {
-            op: StoreOp::Sd,
-            at: table,
-            offset: 24,
-            from: from.lock,
-        },
     ];
-    Vec::from_slice(alloc, &code)
+    code.extend_from_slice(&entry)?;
+    let words = store_entry(alloc, table, from)?;
+    code.extend_from_slice(&words)?;
+    Ok(code)
 }
 
 fn clear_code(
@@ -363,7 +304,7 @@ fn clear_code(
     let table = scratch + 3;
     let cell = scratch + 4;
     let offset = scratch + 5;
-    let code = [
+    let begin = [
         FlatInstruction::Move {
             into: cursor,
             from: first,
@@ -385,48 +326,11 @@ fn clear_code(
             right: RightOperand::Register(end),
             past: 15,
         },
-        FlatInstruction::Operate {
-            op: RegOp::Sub,
-            into: cell,
-            left: cursor,
-            right: RightOperand::Number(OBJECTS),
-        },
-        FlatInstruction::Operate {
-            op: RegOp::Sll,
-            into: offset,
-            left: cell,
-            right: RightOperand::Number(52),
-        },
-        FlatInstruction::Operate {
-            op: RegOp::Srl,
-            into: offset,
-            left: offset,
-            right: RightOperand::Number(50),
-        },
-        FlatInstruction::Operate {
-            op: RegOp::Srl,
-            into: cell,
-            left: cell,
-            right: RightOperand::Number(12),
-        },
-        FlatInstruction::Operate {
-            op: RegOp::Sll,
-            into: cell,
-            left: cell,
-            right: RightOperand::Number(3),
-        },
-        FlatInstruction::Operate {
-            op: RegOp::Add,
-            into: cell,
-            left: cell,
-            right: RightOperand::Number(FIRST_LEVEL),
-        },
-        FlatInstruction::Load {
-            op: LoadOp::Ld,
-            into: table,
-            at: cell,
-            offset: 0,
-        },
+    ];
+    let mut code = Vec::from_slice(alloc, &begin)?;
+    let found = look_up(alloc, cursor, table, cell, offset)?;
+    code.extend_from_slice(&found)?;
+    let entry = [
         FlatInstruction::Branch {
             op: BranchOp::Beq,
             left: table,
@@ -439,30 +343,11 @@ fn clear_code(
             left: table,
             right: RightOperand::Register(offset),
         },
-        FlatInstruction::Store {
-            op: StoreOp::Sd,
-            at: table,
-            offset: 0,
-            from: zero,
-        },
-        FlatInstruction::Store {
-            op: StoreOp::Sd,
-            at: table,
-            offset: 8,
-            from: zero,
-        },
-        FlatInstruction::Store {
-            op: StoreOp::Sd,
-            at: table,
-            offset: 16,
-            from: zero,
-        },
-        FlatInstruction::Store {
-            op: StoreOp::Sd,
-            at: table,
-            offset: 24,
-            from: zero,
-        },
+    ];
+    code.extend_from_slice(&entry)?;
+    let clear = store_entry(alloc, table, same_register(zero))?;
+    code.extend_from_slice(&clear)?;
+    let turn = [
         FlatInstruction::Operate {
             op: RegOp::Add,
             into: cursor,
@@ -471,5 +356,6 @@ fn clear_code(
         },
         FlatInstruction::JumpBack { back: 15 },
     ];
-    Vec::from_slice(alloc, &code)
+    code.extend_from_slice(&turn)?;
+    Ok(code)
 }

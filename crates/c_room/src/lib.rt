@@ -5,10 +5,12 @@
 pub mod demand;
 pub mod expression;
 pub mod function;
+pub mod labels;
 pub mod number;
 pub mod statement;
 pub mod statics;
 
 pub use crate::expression::{height, passed_bytes, structure_bytes};
 pub use crate::function::{room, rooms};
+pub use crate::labels::SwitchLabels;
 pub use crate::statics::static_heights;

@@ -41,6 +41,7 @@ pub fn function_addresses_differ()
 pub fn sizes_are_in_range(map: &AddrMap)
     ensures { AreMapped map.now }
 {
+    // What each of these reads ensures is that its number is in its range.
     let budgets = map.budgets();
     let _ = map.global_bytes();
     let _ = budgets.heap();

@@ -54,6 +54,7 @@ pub fn written(
 fn refused_both<T: Drop, U: Drop, V>(operand: T, writing: U, line: Line) -> Result<V, Refusal>
     ensures { result ≡ Err (OfFault (record { rule = NotAssignable; line = line })) }
 {
+    // It has no further use: it is dropped where the function ends.
     let _ = writing;
     refused(operand, Rule::NotAssignable, line)
 }

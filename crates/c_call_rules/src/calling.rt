@@ -97,6 +97,7 @@ pub fn pushed<T: Drop>(before: Vec<T>, next: T) -> Result<Vec<T>, AllocError>
 fn without<T, U: Drop>(values: T, other: U) -> T
     ensures { result ≡ values }
 {
+    // It has no further use: it is dropped where the function ends.
     let _ = other;
     values
 }

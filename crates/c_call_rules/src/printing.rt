@@ -60,6 +60,7 @@ pub fn formatted(
 fn behind<T: Drop, U>(value: T, answer: U) -> U
     ensures { result ≡ answer }
 {
+    // It has no further use: it is dropped where the function ends.
     let _ = value;
     answer
 }

@@ -392,6 +392,7 @@ fn misplaced<T>(line: Line) -> Result<T, Refusal>
 }
 
 fn let_go<T: Drop>(value: T) {
+    // It has no further use: it is dropped where the function ends.
     let _ = value;
 }
 

@@ -11,6 +11,7 @@ use sb_base::Line;
 pub fn refused<T: Drop, U>(value: T, rule: Rule, line: Line) -> Result<U, Refusal>
     ensures { result ≡ Err (OfFault (record { rule = rule; line = line })) }
 {
+    // It has no further use: it is dropped where the function ends.
     let _ = value;
     Err(Refusal::Fault(Fault { rule, line }))
 }

@@ -95,6 +95,7 @@ fn constant_fault(alloc: Global, program: &Program) -> Result<Option<Line>, Allo
 fn room_is_a_number(function: &Function)
     ensures { nat_lt (function_of function.now).room (2 ^ 64) ≡ true }
 {
+    // A number that is read is known to be in the range of its type.
     let _room = function.room;
 }
 

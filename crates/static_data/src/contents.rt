@@ -23,6 +23,7 @@ use tree_containers::Items;
 fn are_bytes(bytes: &[u8])
     ensures { AreBytes bytes.now }
 {
+    // What is known of a slice that is read: each of its items is in the range of its type.
     let _count = bytes.len();
 }
 

@@ -77,6 +77,7 @@ pub fn lower_function(
     requires decided { each_decided (function_of f.now).body ≡ true }
     ensures { IfOk result (λ r. FunctionCode (function_of f.now) kind texts.items r) }
 {
+    // A number that is read is known to be in the range of its type: the room is less than 2^64.
     let _room = f.room;
     let all = all_variables(alloc, f)?;
     let numbered = all.as_slice();

@@ -3,12 +3,14 @@
 ghost use Rattle.std.specs.Prelude.{◌≡◌, ◌≤◌, ◌^◌, IfOk, ◌∷◌};
 ghost use Rattle.flat_routines.specs.Registers.{AreBelow};
 ghost use Rattle.flat_routines.specs.Metadata.{held_registers};
-ghost use Rattle.flat_actions.specs.Judgement.Judging.{IsJudgeRoutine, judge_code};
+ghost use Rattle.flat_actions.specs.Judgement.Judging.{IsJudgeRoutine};
+ghost use Rattle.flat_actions.specs.Judgement.Code.{judge_code};
 
+use crate::lists::joined;
+use crate::testing::{spatial_instructions, temporal_instructions};
 use flat_meaning::{FlatInstruction, RightOperand};
 use flat_routines::Held;
-use rv_isa::{BranchOp, LoadOp, RegOp};
-use sb_base::{Ending, Line};
+use sb_base::Line;
 use std::alloc::{AllocError, Global};
 
 /// Judges an access of as many bytes as `size` holds, at least one, through the pointer in `pointer`: the run ends with
@@ -38,48 +40,13 @@ pub fn judge_instructions(
 ) -> Result<Vec<FlatInstruction>, AllocError>
     ensures { IfOk result (λ r. r.items ≡ judge_code pointer size line scratch) }
 {
-    let code = [
-        FlatInstruction::Branch {
-            op: BranchOp::Bgeu,
-            left: pointer.value,
-            right: RightOperand::Register(pointer.tag.base),
-            past: 1,
-        },
-        FlatInstruction::End(Ending::Spatial(line)),
-        FlatInstruction::Branch {
-            op: BranchOp::Bgeu,
-            left: pointer.tag.bound,
-            right: RightOperand::Register(pointer.value),
-            past: 1,
-        },
-        FlatInstruction::End(Ending::Spatial(line)),
-        // the bytes from the address to the bound, without a sum that could wrap
-        FlatInstruction::Operate {
-            op: RegOp::Sub,
-            into: scratch,
-            left: pointer.tag.bound,
-            right: RightOperand::Register(pointer.value),
-        },
-        FlatInstruction::Branch {
-            op: BranchOp::Bgeu,
-            left: scratch,
-            right: RightOperand::Register(size),
-            past: 1,
-        },
-        FlatInstruction::End(Ending::Spatial(line)),
-        FlatInstruction::Load {
-            op: LoadOp::Ld,
-            into: scratch,
-            at: pointer.tag.lock,
-            offset: 0,
-        },
-        FlatInstruction::Branch {
-            op: BranchOp::Beq,
-            left: scratch,
-            right: RightOperand::Register(pointer.tag.key),
-            past: 1,
-        },
-        FlatInstruction::End(Ending::Temporal(line)),
-    ];
-    Vec::from_slice(alloc, &code)
+    let spatial = spatial_instructions(
+        alloc,
+        pointer,
+        RightOperand::Register(size),
+        line,
+        scratch,
+    )?;
+    let temporal = temporal_instructions(alloc, pointer, line, scratch)?;
+    joined(alloc, spatial.as_slice(), temporal.as_slice())
 }

@@ -3,5 +3,5 @@
 pub mod comparing;
 pub mod seeking;
 
-pub use crate::comparing::comparing::{memcmp, strcmp};
+pub use crate::comparing::comparing::{RangeRegisters, memcmp, strcmp};
 pub use crate::comparing::seeking::strchr;

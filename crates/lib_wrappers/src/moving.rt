@@ -7,6 +7,6 @@ pub mod moving;
 pub mod structures;
 
 pub use crate::moving::filling::fill;
-pub use crate::moving::library::{memmove, memset};
+pub use crate::moving::library::{CopyRegisters, FillRegisters, memmove, memset};
 pub use crate::moving::moving::{move_bytes, move_tagged};
 pub use crate::moving::structures::copy_structure;

@@ -1,4 +1,3 @@
-pub mod Tests
 pub mod Places
 pub mod Shown
 pub mod Integers

@@ -1,3 +1,2 @@
-pub mod Testing
 pub mod Holding
 pub mod Accessing

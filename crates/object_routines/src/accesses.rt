@@ -5,10 +5,9 @@ pub mod checked;
 pub mod held;
 pub mod loading;
 pub mod storing;
-pub mod testing;
 
 pub use crate::accesses::checked::{checked_load, checked_store};
 pub use crate::accesses::held::HeldScalar;
 pub use crate::accesses::loading::load;
 pub use crate::accesses::storing::store;
-pub use crate::accesses::testing::{spatial_check, temporal_check};
+pub use flat_actions::{spatial_check, temporal_check};

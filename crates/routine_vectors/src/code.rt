@@ -11,8 +11,10 @@ use addr_map::AddrMap;
 use c_tree::Directive;
 use flat_meaning::{FlatInstruction, RightOperand};
 use flat_routines::{Entry, Held};
-use lib_wrappers::comparing::{memcmp, strchr, strcmp};
-use lib_wrappers::moving::{copy_structure, fill, memmove, memset, move_bytes, move_tagged};
+use lib_wrappers::comparing::{RangeRegisters, memcmp, strchr, strcmp};
+use lib_wrappers::moving::{
+    CopyRegisters, FillRegisters, copy_structure, fill, memmove, memset, move_bytes, move_tagged,
+};
 use lib_wrappers::printing::{Printed, digits, numbers, printf};
 use lib_wrappers::strings::{put_bytes, puts, scan, scan_at_most, strcat, strcpy, strlen, strncpy};
 use object_routines::accesses::{
@@ -66,6 +68,27 @@ const BLOCK: EntryRegisters = EntryRegisters {
 
 const THIRD: u32 = 10;
 
+const COPY: CopyRegisters = CopyRegisters {
+    to: FIRST,
+    from: SECOND,
+    size: THIRD,
+    into: RESULT,
+};
+
+const RANGE: FillRegisters = FillRegisters {
+    to: FIRST,
+    byte: 5,
+    size: THIRD,
+    into: RESULT,
+};
+
+const RANGES: RangeRegisters = RangeRegisters {
+    left: FIRST,
+    right: SECOND,
+    size: THIRD,
+    into: 30,
+};
+
 /// The first register that a routine may use for itself.
 pub const SCRATCH: u32 = 40;
 
@@ -105,8 +128,8 @@ fn moving_code<S: ShadowForm>(
 {
     let line = line_of(call.line);
     match moving {
-        Moving::Memmove => { memmove::<S>(alloc, map, FIRST, SECOND, THIRD, RESULT, line, SCRATCH) }
-        Moving::Memset => memset::<S>(alloc, map, FIRST, 5, THIRD, RESULT, line, SCRATCH),
+        Moving::Memmove => memmove::<S>(alloc, map, COPY, line, SCRATCH),
+        Moving::Memset => memset::<S>(alloc, map, RANGE, line, SCRATCH),
         Moving::CopyStructure => {
             copy_structure::<S>(alloc, map, FIRST, SECOND, call.number, SCRATCH)
         }
@@ -129,12 +152,10 @@ fn string_code<S: ShadowForm>(
         Strings::Strlen => strlen::<S>(alloc, map, FIRST, 30, line, SCRATCH),
         Strings::Strcpy => strcpy::<S>(alloc, map, FIRST, SECOND, RESULT, line, SCRATCH),
         Strings::Strcat => strcat::<S>(alloc, map, FIRST, SECOND, RESULT, line, SCRATCH),
-        Strings::Strncpy => {
-            strncpy::<S>(alloc, map, FIRST, SECOND, THIRD, RESULT, line, SCRATCH)
-        }
+        Strings::Strncpy => { strncpy::<S>(alloc, map, COPY, line, SCRATCH) }
         Strings::Strcmp => strcmp::<S>(alloc, map, FIRST, SECOND, 30, line, SCRATCH),
         Strings::Strchr => strchr::<S>(alloc, map, FIRST, 5, RESULT, line, SCRATCH),
-        Strings::Memcmp => memcmp::<S>(alloc, map, FIRST, SECOND, THIRD, 30, line, SCRATCH),
+        Strings::Memcmp => memcmp::<S>(alloc, map, RANGES, line, SCRATCH),
         Strings::Scan => scan::<S>(alloc, map, FIRST, 30, line, SCRATCH),
         Strings::ScanAtMost => scan_at_most::<S>(alloc, map, FIRST, 30, line, 5, SCRATCH),
     }

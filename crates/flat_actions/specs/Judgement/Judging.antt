@@ -1,21 +1,16 @@
 -- The judgement of an access in flat code.
-use Rattle.std.specs.Prelude.{◌≡◌, ℕ, ◌≤◌, Bool, List, [], ◌∷◌}
+use Rattle.std.specs.Prelude.{◌≡◌, ℕ, ◌≤◌, Bool, List, []}
 use Rattle.sb_base.specs.declared.ending.Ending.{Ending}
 use Rattle.sb_base.specs.declared.ending.Ending.TheVariants.{Spatial, Temporal}
 use Rattle.sb_base.specs.Endings.{code_of, report_of}
 use Rattle.addr_map.specs.Places.{AreMapped}
-use Rattle.rv_isa.specs.declared.instruction.BranchOp.TheVariants.{Beq, Bgeu}
-use Rattle.rv_isa.specs.declared.instruction.RegOp.TheVariants.{Sub}
-use Rattle.rv_isa.specs.declared.instruction.LoadOp.TheVariants.{Ld}
 use Rattle.obj_memory.specs.declared.value.Value.{Value}
 use Rattle.obj_memory.specs.declared.judgement.Verdict.{Verdict}
 use Rattle.obj_memory.specs.declared.judgement.Verdict.TheVariants.{Outside, Dead, Inside}
 use Rattle.obj_memory.specs.Objects.{Objects}
 use Rattle.obj_memory.specs.Judgement.{judge}
 use Rattle.obj_memory.specs.Sound.{IsSoundTag}
-use Rattle.flat_meaning.specs.declared.instruction.RightOperand.TheVariants.{Register}
 use Rattle.flat_meaning.specs.declared.instruction.FlatInstruction.{FlatInstruction}
-use Rattle.flat_meaning.specs.declared.instruction.FlatInstruction.TheVariants.{Operate, Load, Branch, End}
 use Rattle.flat_meaning.specs.State.{State}
 use Rattle.flat_routines.specs.declared.registers.Held.{Held}
 use Rattle.flat_routines.specs.Registers.{OthersStay}
@@ -50,21 +45,6 @@ IsJudged (Inside p) line t s (Halts status report s') = ⊥
 IsJudged Outside line t s (Continues s') = ⊥
 IsJudged Dead line t s (Continues s') = ⊥
 IsJudged (Inside p) line t s (Continues s') = IsSameBut t s s'
-
--- the bounds are tested first, then the key of the lock word
-abbrev pub judge_code : Held → (size line scratch : ℕ) → List FlatInstruction
-judge_code h n line t =
-    Branch Bgeu h.value (Register h.tag.base) 1
-    ∷ End (Spatial line)
-    ∷ Branch Bgeu h.tag.bound (Register h.value) 1
-    ∷ End (Spatial line)
-    ∷ Operate Sub t h.tag.bound (Register h.value)
-    ∷ Branch Bgeu t (Register n) 1
-    ∷ End (Spatial line)
-    ∷ Load Ld t h.tag.lock 0
-    ∷ Branch Beq t (Register h.tag.key) 1
-    ∷ End (Temporal line)
-    ∷ []
 
 -- Of whatever objects, under whatever map and form of the shadow space, in functions of the program and of the runtime:
 -- within 10 steps the access is judged.

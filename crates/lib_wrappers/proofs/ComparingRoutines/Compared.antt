@@ -42,7 +42,8 @@ use Rattle.lib_wrappers.proofs.ComparingRoutines.Looks.{byte_of}
 use Rattle.flat_actions.proofs.Looking.{looked_by}
 use Rattle.lib_wrappers.proofs.ComparingRoutines.Looks.{bytes_of}
 use Rattle.lib_wrappers.proofs.ComparingRoutines.Sought.{one_reached, sound_of}
-use Rattle.lib_wrappers.proofs.ComparingRoutines.Pairs.{own_left, own_right, own_strcmp, has_left, has_right, has_cursors}
+use Rattle.lib_wrappers.proofs.ComparingRoutines.Pairs.{own_left, own_right, own_strcmp, has_left, has_right}
+use Rattle.lib_wrappers.proofs.ComparingRoutines.Pairs.{has_cursors}
 use Rattle.lib_wrappers.proofs.ComparingRoutines.Pairs.{ArePaired}
 use Rattle.lib_wrappers.proofs.ComparingRoutines.Pairs.{compares}
 use Rattle.lib_wrappers.proofs.ComparingRoutines.Wraps.{refused, AnswersAlone, GivesAs, answers_act}

@@ -38,7 +38,7 @@ use Rattle.flat_routines.proofs.Words.{byte_loaded}
 use Rattle.flat_routines.proofs.Showing.{shows_on}
 use Rattle.flat_routines.specs.Objects.StandsFor.{Views, Keys}
 use Rattle.shadow_space.proofs.Entries.{context_of}
-use Rattle.flat_actions.specs.Judgement.Judging.{judge_code}
+use Rattle.flat_actions.specs.Judgement.Code.{judge_code}
 use Rattle.flat_actions.specs.Actions.{Word}
 use Rattle.lib_wrappers.specs.ComparingRoutines.Answering.{IsAnswered, IsWorking}
 use Rattle.lib_wrappers.specs.ComparingRoutines.Comparing.{order_code, pair_code, string_loop, strcmp_code}

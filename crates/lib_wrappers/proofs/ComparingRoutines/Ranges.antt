@@ -27,7 +27,7 @@ use Rattle.flat_routines.proofs.Branches.{if_equal, if_unequal, if_apart, if_ali
 use Rattle.flat_routines.proofs.Words.{byte_loaded}
 use Rattle.flat_routines.proofs.Showing.{shows_on}
 use Rattle.shadow_space.proofs.Entries.{context_of}
-use Rattle.flat_actions.specs.Judgement.Judging.{judge_code}
+use Rattle.flat_actions.specs.Judgement.Code.{judge_code}
 use Rattle.lib_wrappers.specs.ComparingRoutines.Comparing.{order_code, pair_code, range_loop, memcmp_code}
 use Rattle.lib_wrappers.proofs.ComparingRoutines.Pairs.{order_is, own_left, own_right}
 

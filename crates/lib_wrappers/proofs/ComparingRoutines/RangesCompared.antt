@@ -52,7 +52,8 @@ use Rattle.lib_wrappers.specs.ComparingRoutines.Answering.{IsAnswered}
 use Rattle.lib_wrappers.specs.ComparingRoutines.Comparing.{memcmp_code, IsMemcmp}
 use Rattle.lib_wrappers.proofs.ComparingRoutines.Pairs.{own_left, own_right}
 use Rattle.flat_actions.proofs.Standing.{same_then}
-use Rattle.lib_wrappers.proofs.ComparingRoutines.Ranges.{own_memcmp, has_first, has_second, has_range_start, range_start, StandsAt}
+use Rattle.lib_wrappers.proofs.ComparingRoutines.Ranges.{own_memcmp, has_first, has_second, has_range_start}
+use Rattle.lib_wrappers.proofs.ComparingRoutines.Ranges.{range_start, StandsAt}
 use Rattle.lib_wrappers.proofs.ComparingRoutines.Ranges.{AreRanged, HasOrder, compares_ranges}
 use Rattle.lib_wrappers.proofs.ComparingRoutines.Wraps.{refused, AnswersAlone, GivesAs, answers_act}
 

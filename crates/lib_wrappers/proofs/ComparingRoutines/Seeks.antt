@@ -35,10 +35,11 @@ use Rattle.flat_routines.proofs.Words.{byte_loaded}
 use Rattle.flat_routines.proofs.Showing.{shows_on}
 use Rattle.flat_routines.specs.Objects.StandsFor.{Views, Keys, spell, Spells}
 use Rattle.shadow_space.proofs.Entries.{context_of}
-use Rattle.flat_actions.specs.Judgement.Judging.{judge_code}
+use Rattle.flat_actions.specs.Judgement.Code.{judge_code}
 use Rattle.flat_actions.specs.Actions.{Pointer}
 use Rattle.lib_wrappers.specs.ComparingRoutines.Answering.{IsAnswered, IsWorking}
-use Rattle.lib_wrappers.specs.ComparingRoutines.Seeking.{seek_loop, null_code, same_entry_code, seek_start, seek_code, strchr_code}
+use Rattle.lib_wrappers.specs.ComparingRoutines.Seeking.{seek_loop, null_code, same_entry_code, seek_start, seek_code}
+use Rattle.lib_wrappers.specs.ComparingRoutines.Seeking.{strchr_code}
 use Rattle.flat_actions.proofs.Looking.{looked, moved_tag}
 use Rattle.lib_wrappers.proofs.ComparingRoutines.Looks.{byte_of, AreBytesOf}
 

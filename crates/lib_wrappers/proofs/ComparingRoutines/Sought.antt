@@ -35,7 +35,8 @@ use Rattle.flat_routines.proofs.Words.{same_metadata}
 use Rattle.flat_routines.specs.Objects.StandsFor.{Views, Keys, spell, Spells}
 use Rattle.shadow_space.proofs.Entries.{context_of}
 use Rattle.flat_routines.proofs.Spaces.Quiet.{quiet_words}
-use Rattle.flat_actions.specs.Judgement.Judging.{judge_code, IsSameBut, IsJudged}
+use Rattle.flat_actions.specs.Judgement.Judging.{IsSameBut, IsJudged}
+use Rattle.flat_actions.specs.Judgement.Code.{judge_code}
 use Rattle.flat_actions.proofs.Judgement.Judges.{judges}
 use Rattle.flat_actions.specs.Actions.{IsFor, Word, Pointer, views_of, work_of, runtime_basis}
 use Rattle.flat_actions.proofs.Judged.{after_judge}

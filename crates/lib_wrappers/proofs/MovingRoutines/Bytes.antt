@@ -21,7 +21,8 @@ use Rattle.flat_routines.proofs.Showing.{shows_both}
 use Rattle.flat_routines.proofs.Words.{byte_loaded}
 use Rattle.flat_actions.specs.Ranges.{IsObjectRange, IsToMove, HasMovedBytes, IsByteMoveRoutine}
 use Rattle.flat_actions.proofs.Standing.{others_trans}
-use Rattle.lib_wrappers.specs.MovingRoutines.Copying.{OneByte, Cells, AreCells, HasCopied, IsToCopy, CopiesOne, move_cells}
+use Rattle.lib_wrappers.specs.MovingRoutines.Copying.{OneByte, Cells, AreCells, HasCopied, IsToCopy, CopiesOne}
+use Rattle.lib_wrappers.specs.MovingRoutines.Copying.{move_cells}
 use Rattle.lib_wrappers.specs.MovingRoutines.Copying.{IsToMoveCells, HasMovedCells}
 use Rattle.lib_wrappers.specs.MovingRoutines.Moving.{byte_body, byte_places, move_bytes_code}
 use Rattle.lib_wrappers.proofs.MovingRoutines.Steps.{both_quiet, quiet_weaken, IsGlued, glued, named}

@@ -21,8 +21,10 @@ use Rattle.flat_routines.proofs.Distinct.{registers_rename, others_stay}
 use Rattle.flat_routines.proofs.Wrapped.{routine}
 use Rattle.flat_routines.proofs.Branches.{if_not_below, if_below}
 use Rattle.shadow_space.proofs.Entries.{agrees_shows, agrees_memory}
-use Rattle.lib_wrappers.specs.MovingRoutines.Copying.{CellSize, OneByte, OneWord, unit_of, shift_of, Cells, AreCells, CopiesOne}
-use Rattle.lib_wrappers.specs.MovingRoutines.Copying.{turn_round, choose_order, copy_loop, move_cells, AreRanges, IsToMoveCells}
+use Rattle.lib_wrappers.specs.MovingRoutines.Copying.{CellSize, OneByte, OneWord, unit_of, shift_of, Cells, AreCells}
+use Rattle.lib_wrappers.specs.MovingRoutines.Copying.{CopiesOne}
+use Rattle.lib_wrappers.specs.MovingRoutines.Copying.{turn_round, choose_order, copy_loop, move_cells, AreRanges}
+use Rattle.lib_wrappers.specs.MovingRoutines.Copying.{IsToMoveCells}
 use Rattle.lib_wrappers.specs.MovingRoutines.Copying.{HasMovedCells}
 use Rattle.lib_wrappers.proofs.MovingRoutines.Steps.{both_quiet, quiet_weaken, named, own_registers, registers_from}
 use Rattle.lib_wrappers.proofs.MovingRoutines.Copying.{IsOrder, Copying, copies_all}

@@ -27,7 +27,8 @@ use Rattle.flat_routines.proofs.Objects.Moves.{move_stands, put_stands}
 use Rattle.flat_actions.specs.Actions.{views_of, IsFor, StaysElsewhere, Nowhere, HasGiven}
 use Rattle.flat_actions.specs.Ranges.{IsObjectRange, HasMovedBytes, HasMovedTagged, HasFilled}
 use Rattle.flat_actions.proofs.Standing.{shown_still, keeps_same}
-use Rattle.lib_wrappers.proofs.MovingRoutines.Tagged.{ChangesRange, tables_stay, spaces_stay, behind_stays, shadow_stays}
+use Rattle.lib_wrappers.proofs.MovingRoutines.Tagged.{ChangesRange, tables_stay, spaces_stay, behind_stays}
+use Rattle.lib_wrappers.proofs.MovingRoutines.Tagged.{shadow_stays}
 
 -- the bytes of an access that is allowed lie in object space
 pub allowed_range : (g : Views) (k : Keys) (objects : Objects) (m : Bytes) (v : Value) (n : ℕ) (p : Place)

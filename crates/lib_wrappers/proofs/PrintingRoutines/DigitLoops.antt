@@ -24,7 +24,8 @@ use Rattle.flat_routines.proofs.Branches.{is_less, is_not_less, are_equal, are_n
 use Rattle.shadow_space.proofs.Entries.{context_of}
 use Rattle.flat_routines.proofs.Spaces.Quiet.{quiet_words}
 use Rattle.lib_wrappers.specs.PrintingRoutines.Digits.{seek_power, put_digit, digits_code}
-use Rattle.lib_wrappers.proofs.PrintingRoutines.DigitLists.{digits_from, IsHighest, no_power, divided_again, still_left, positive}
+use Rattle.lib_wrappers.proofs.PrintingRoutines.DigitLists.{digits_from, IsHighest, no_power, divided_again, still_left}
+use Rattle.lib_wrappers.proofs.PrintingRoutines.DigitLists.{positive}
 
 -- ---- the operators
 

@@ -30,9 +30,11 @@ use Rattle.shadow_space.proofs.Entries.{context_of}
 use Rattle.flat_routines.proofs.Spaces.Quiet.{quiet_words, worked_words}
 use Rattle.flat_operators.proofs.Values.{int_by_word}
 use Rattle.lib_wrappers.specs.PrintingRoutines.Digits.{HasPrinted}
-use Rattle.lib_wrappers.specs.PrintingRoutines.Numbers.{number_bytes, IsNumberRoutine, sign_code, base_code, low_code, number_code}
+use Rattle.lib_wrappers.specs.PrintingRoutines.Numbers.{number_bytes, IsNumberRoutine, sign_code, base_code, low_code}
+use Rattle.lib_wrappers.specs.PrintingRoutines.Numbers.{number_code}
 use Rattle.lib_wrappers.proofs.PrintingRoutines.DigitRoutine.{IsBase, ten, sixteen, puts_digits}
-use Rattle.lib_wrappers.proofs.PrintingRoutines.NumberBytes.{signed_bytes, long_bytes, int_bytes, printed_both, printed_as}
+use Rattle.lib_wrappers.proofs.PrintingRoutines.NumberBytes.{signed_bytes, long_bytes, int_bytes, printed_both}
+use Rattle.lib_wrappers.proofs.PrintingRoutines.NumberBytes.{printed_as}
 use Rattle.lib_wrappers.proofs.PrintingRoutines.NumberBytes.{printed_none}
 
 module _ (map : MapSizes) (charge weight : ℕ) (count t : ℕ) (counts : count < t) where

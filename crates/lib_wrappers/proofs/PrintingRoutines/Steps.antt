@@ -19,7 +19,8 @@ use Rattle.lib_wrappers.specs.StringRoutines.Putting.{IsPutRoutine}
 use Rattle.lib_wrappers.specs.declared.printing.formats.Printed.{Printed}
 use Rattle.lib_wrappers.specs.declared.printing.formats.Printed.TheVariants.{Byte, Number, String}
 use Rattle.lib_wrappers.specs.PrintingRoutines.Numbers.{IsNumberRoutine}
-use Rattle.lib_wrappers.specs.PrintingRoutines.Formats.{cursor_of, byte_code, count_string, counted_code, AreScans, ArePuts}
+use Rattle.lib_wrappers.specs.PrintingRoutines.Formats.{cursor_of, byte_code, count_string, counted_code, AreScans}
+use Rattle.lib_wrappers.specs.PrintingRoutines.Formats.{ArePuts}
 use Rattle.lib_wrappers.specs.PrintingRoutines.Printed.{ScanThese, PutThese, ScansSoFar, PutsSoFar, ScansNext, PutsNext}
 use Rattle.lib_wrappers.specs.PrintingRoutines.Printed.{pieces_of, holders_of, argument_count, ArePrintable}
 use Rattle.lib_wrappers.proofs.PrintingRoutines.Printable.{directive_count}

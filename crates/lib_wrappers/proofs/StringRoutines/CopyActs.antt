@@ -35,7 +35,8 @@ use Rattle.lib_wrappers.proofs.MovingRoutines.Guarded.{act_then_gives}
 use Rattle.lib_wrappers.specs.StringRoutines.Copying.{size_code}
 use Rattle.lib_wrappers.proofs.StringRoutines.Handing.{IsSince, left_from}
 use Rattle.lib_wrappers.proofs.StringRoutines.AfterScan.{over, after_scan}
-use Rattle.lib_wrappers.proofs.StringRoutines.StringCopies.{copied, copied_gives, copied_works, copied_is, IsToCopy, copies}
+use Rattle.lib_wrappers.proofs.StringRoutines.StringCopies.{copied, copied_gives, copied_works, copied_is, IsToCopy}
+use Rattle.lib_wrappers.proofs.StringRoutines.StringCopies.{copies}
 
 -- ---- `strcpy`
 

@@ -12,7 +12,7 @@ use Rattle.flat_meaning.specs.declared.instruction.FlatInstruction.{FlatInstruct
 use Rattle.flat_meaning.specs.declared.instruction.FlatInstruction.TheVariants.{Constant, Move, Operate, Load, Branch}
 use Rattle.flat_meaning.specs.declared.instruction.FlatInstruction.TheVariants.{JumpBack, End}
 use Rattle.flat_routines.specs.declared.registers.Held.{Held}
-use Rattle.flat_actions.specs.Judgement.Judging.{judge_code}
+use Rattle.flat_actions.specs.Judgement.Code.{judge_code}
 use Rattle.flat_actions.specs.Actions.{Basis, Word, Pointer, IsAction}
 
 -- how two bytes compare: whether the first is greater, less whether it is less, which is -1, 0 or 1

@@ -12,7 +12,7 @@ use Rattle.flat_meaning.specs.declared.instruction.FlatInstruction.TheVariants.{
 use Rattle.flat_meaning.specs.declared.instruction.FlatInstruction.TheVariants.{JumpForward, JumpBack, End}
 use Rattle.flat_routines.specs.declared.registers.Held.{Held}
 use Rattle.flat_routines.specs.declared.registers.Entry.{Entry}
-use Rattle.flat_actions.specs.Judgement.Judging.{judge_code}
+use Rattle.flat_actions.specs.Judgement.Code.{judge_code}
 use Rattle.flat_actions.specs.Actions.{Basis, Word, Pointer, IsAction}
 
 -- From the cursor on to the first byte that is sought, behind which 16 instructions on its pointer is given; or to the

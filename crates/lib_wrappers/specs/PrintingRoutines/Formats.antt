@@ -59,19 +59,19 @@ abbrev pub count_string : Held → (cursor count own : ℕ) → List FlatInstruc
 count_string h k c w = Operate Sub w k (Register h.value) ∷ Operate Add c c (Register w) ∷ []
 
 abbrev pub IsPutPart : MapSizes → Directive → Holder → (cursor count own : ℕ) → List FlatInstruction → Type 0
-IsPutPart m d Nowhere k c w code = ⊥
-IsPutPart m d (Word r) k c w code = IsNumberRoutine m d r c w code
-IsPutPart m d (Pointer h) k c w code =
-    (putting : List FlatInstruction) × (code ≡ putting ++ count_string h k c w) × IsPutRoutine m h.value k w putting
+IsPutPart map d Nowhere k c w code = ⊥
+IsPutPart map d (Word r) k c w code = IsNumberRoutine map d r c w code
+IsPutPart map d (Pointer h) k c w code =
+    (putting : List FlatInstruction) × (code ≡ putting ++ count_string h k c w) × IsPutRoutine map h.value k w putting
 
 abbrev pub ArePuts : MapSizes → (scratch own : ℕ) → List Piece → List Holder → (i : ℕ) → List FlatInstruction → Type 0
-ArePuts m t w [] hs i code = code ≡ []
-ArePuts m t w (piece.Byte b ∷ ps) hs i code =
-    (b < 256) × (rest : List FlatInstruction) × (code ≡ byte_code b t w ++ rest) × ArePuts m t w ps hs i rest
-ArePuts m t w (piece.Directive d ∷ ps) [] i code = ⊥
-ArePuts m t w (piece.Directive d ∷ ps) (h ∷ hs) i code =
-    (first rest : List FlatInstruction) × (code ≡ first ++ rest) × IsPutPart m d h (cursor_of t i) t w first
-    × ArePuts m t w ps hs (i + 1) rest
+ArePuts map t w [] hs i code = code ≡ []
+ArePuts map t w (piece.Byte b ∷ ps) hs i code =
+    (b < 256) × (rest : List FlatInstruction) × (code ≡ byte_code b t w ++ rest) × ArePuts map t w ps hs i rest
+ArePuts map t w (piece.Directive d ∷ ps) [] i code = ⊥
+ArePuts map t w (piece.Directive d ∷ ps) (h ∷ hs) i code =
+    (first rest : List FlatInstruction) × (code ≡ first ++ rest) × IsPutPart map d h (cursor_of t i) t w first
+    × ArePuts map t w ps hs (i + 1) rest
 
 -- the count is the result, converted to int
 abbrev pub counted_code : (into count : ℕ) → List FlatInstruction

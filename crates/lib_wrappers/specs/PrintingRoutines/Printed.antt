@@ -55,24 +55,24 @@ ScanThese g line t w (String h ∷ ps) i code =
 
 -- all is put out
 abbrev pub PutThese : MapSizes → (scratch own : ℕ) → List Printed → (i : ℕ) → List FlatInstruction → Type 0
-PutThese m t w [] i code = code ≡ []
-PutThese m t w (Byte b ∷ ps) i code =
-    (b < 256) × (rest : List FlatInstruction) × (code ≡ byte_code b t w ++ rest) × PutThese m t w ps i rest
-PutThese m t w (Number d r ∷ ps) i code =
-    (first rest : List FlatInstruction) × (code ≡ first ++ rest) × IsNumberRoutine m d r t w first
-    × PutThese m t w ps (i + 1) rest
-PutThese m t w (String h ∷ ps) i code =
+PutThese map t w [] i code = code ≡ []
+PutThese map t w (Byte b ∷ ps) i code =
+    (b < 256) × (rest : List FlatInstruction) × (code ≡ byte_code b t w ++ rest) × PutThese map t w ps i rest
+PutThese map t w (Number d r ∷ ps) i code =
+    (first rest : List FlatInstruction) × (code ≡ first ++ rest) × IsNumberRoutine map d r t w first
+    × PutThese map t w ps (i + 1) rest
+PutThese map t w (String h ∷ ps) i code =
     (first rest : List FlatInstruction) × (code ≡ (first ++ count_string h (cursor_of t i) t w) ++ rest)
-    × IsPutRoutine m h.value (cursor_of t i) w first × PutThese m t w ps (i + 1) rest
+    × IsPutRoutine map h.value (cursor_of t i) w first × PutThese map t w ps (i + 1) rest
 
 -- behind what is done comes all that is left
 pub record ScansSoFar (g : Basis) (line t w : ℕ) (ps left : List Printed) (i : ℕ) (code : List FlatInstruction) :
     Type 0 where
   pub on : (rest : List FlatInstruction) → ScanThese g line t w left i rest → ScanThese g line t w ps 0 (code ++ rest)
 
-pub record PutsSoFar (m : MapSizes) (t w : ℕ) (ps left : List Printed) (i : ℕ) (code : List FlatInstruction) : Type 0
+pub record PutsSoFar (map : MapSizes) (t w : ℕ) (ps left : List Printed) (i : ℕ) (code : List FlatInstruction) : Type 0
   where
-    pub on : (rest : List FlatInstruction) → PutThese m t w left i rest → PutThese m t w ps 0 (code ++ rest)
+    pub on : (rest : List FlatInstruction) → PutThese map t w left i rest → PutThese map t w ps 0 (code ++ rest)
 
 -- the number of the next argument
 abbrev pub index_after : Printed → (i : ℕ) → ℕ
@@ -87,5 +87,5 @@ ScansNext g line t w p i old new =
     → ScansSoFar g line t w ps left (index_after p i) new
 
 abbrev pub PutsNext : MapSizes → (scratch own : ℕ) → Printed → (i : ℕ) → (old new : List FlatInstruction) → Type 0
-PutsNext m t w p i old new =
-    (ps left : List Printed) → PutsSoFar m t w ps (p ∷ left) i old → PutsSoFar m t w ps left (index_after p i) new
+PutsNext map t w p i old new =
+    (ps left : List Printed) → PutsSoFar map t w ps (p ∷ left) i old → PutsSoFar map t w ps left (index_after p i) new

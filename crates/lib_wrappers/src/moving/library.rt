@@ -17,38 +17,68 @@ use sb_base::Line;
 use shadow_space::ShadowForm;
 use std::alloc::{AllocError, Global};
 
+/// The registers of a copy of bytes.
+#[derive(Clone, Copy)]
+pub struct CopyRegisters {
+    /// The pointer to the destination.
+    pub to: Held,
+    /// The pointer to the source.
+    pub from: Held,
+    /// How many bytes.
+    pub size: u32,
+    /// What get the pointer that the call gives.
+    pub into: Held,
+}
+
+/// The registers of a range that is filled.
+#[derive(Clone, Copy)]
+pub struct FillRegisters {
+    /// The pointer to the range.
+    pub to: Held,
+    /// The byte, in the low eight bits.
+    pub byte: u32,
+    /// How many bytes.
+    pub size: u32,
+    /// What get the pointer that the call gives.
+    pub into: Held,
+}
+
 /// `memmove` and `memcpy`, of as many bytes as `size` holds: the destination is judged, then the source, and the bytes
 /// are moved with their tags; nothing is judged where there are none. What it gives, the pointer in `to`, is put into
 /// the registers of `into`. It may write the registers from `scratch` on. The only refusal is that memory fails.
 pub fn memmove<S: ShadowForm>(
     alloc: Global,
     map: &AddrMap,
-    to: Held,
-    from: Held,
-    size: u32,
-    into: Held,
+    copy: CopyRegisters,
     line: Line,
     scratch: u32,
 ) -> Result<Vec<FlatInstruction>, AllocError>
     requires map { AreMapped map.now }
-    requires to { AreBelow scratch (held_registers to) }
-    requires from { AreBelow scratch (held_registers from) }
-    requires size { size < scratch }
-    requires into { AreBelow scratch (held_registers into) }
-    requires distinct { AreDistinct (held_registers into) }
-    requires others { AreNoneOf (held_registers to) (held_registers into) }
+    requires to { AreBelow scratch (held_registers copy.to) }
+    requires from { AreBelow scratch (held_registers copy.from) }
+    requires size { copy.size < scratch }
+    requires into { AreBelow scratch (held_registers copy.into) }
+    requires distinct { AreDistinct (held_registers copy.into) }
+    requires others { AreNoneOf (held_registers copy.to) (held_registers copy.into) }
     requires room { scratch + 8 ≤ 2 ^ 31 }
-    ensures memmove { IfOk result (λ r. MovesObjects (runtime_basis map.now S.entry (S.IsGood map.now)) to from size
-        into line scratch r.items) }
-    ensures memcpy { IfOk result (λ r. CopiesObjects (runtime_basis map.now S.entry (S.IsGood map.now)) to from size
-        into line scratch r.items) }
+    ensures memmove { IfOk result (λ r. MovesObjects (runtime_basis map.now S.entry (S.IsGood map.now)) copy.to
+        copy.from copy.size copy.into line scratch r.items) }
+    ensures memcpy { IfOk result (λ r. CopiesObjects (runtime_basis map.now S.entry (S.IsGood map.now)) copy.to
+        copy.from copy.size copy.into line scratch r.items) }
 {
-    let first = judge(alloc, to, size, line, scratch)?;
-    let second = judge(alloc, from, size, line, scratch)?;
-    let act = move_tagged::<S>(alloc, map, to.value, from.value, size, scratch)?;
+    let first = judge(alloc, copy.to, copy.size, line, scratch)?;
+    let second = judge(alloc, copy.from, copy.size, line, scratch)?;
+    let act = move_tagged::<S>(
+        alloc,
+        map,
+        copy.to.value,
+        copy.from.value,
+        copy.size,
+        scratch,
+    )?;
     let rest = joined(alloc, second.as_slice(), act.as_slice())?;
     let whole = joined(alloc, first.as_slice(), rest.as_slice())?;
-    let code = guarded(alloc, size, to, into, whole.as_slice())?;
+    let code = guarded(alloc, copy.size, copy.to, copy.into, whole.as_slice())?;
     Ok(code)
 }
 
@@ -58,28 +88,25 @@ pub fn memmove<S: ShadowForm>(
 pub fn memset<S: ShadowForm>(
     alloc: Global,
     map: &AddrMap,
-    to: Held,
-    byte: u32,
-    size: u32,
-    into: Held,
+    range: FillRegisters,
     line: Line,
     scratch: u32,
 ) -> Result<Vec<FlatInstruction>, AllocError>
     requires map { AreMapped map.now }
-    requires to { AreBelow scratch (held_registers to) }
-    requires byte { byte < scratch }
-    requires size { size < scratch }
-    requires into { AreBelow scratch (held_registers into) }
-    requires distinct { AreDistinct (held_registers into) }
-    requires others { AreNoneOf (held_registers to) (held_registers into) }
+    requires to { AreBelow scratch (held_registers range.to) }
+    requires byte { range.byte < scratch }
+    requires size { range.size < scratch }
+    requires into { AreBelow scratch (held_registers range.into) }
+    requires distinct { AreDistinct (held_registers range.into) }
+    requires others { AreNoneOf (held_registers range.to) (held_registers range.into) }
     requires room { scratch + 8 ≤ 2 ^ 31 }
-    ensures { IfOk result (λ r. SetsObjects (runtime_basis map.now S.entry (S.IsGood map.now)) to byte size into line
-        scratch r.items) }
+    ensures { IfOk result (λ r. SetsObjects (runtime_basis map.now S.entry (S.IsGood map.now)) range.to range.byte
+        range.size range.into line scratch r.items) }
 {
     S::entries_are_local();
-    let first = judge(alloc, to, size, line, scratch)?;
-    let act = fill(alloc, map, to.value, byte, size, scratch)?;
+    let first = judge(alloc, range.to, range.size, line, scratch)?;
+    let act = fill(alloc, map, range.to.value, range.byte, range.size, scratch)?;
     let whole = joined(alloc, first.as_slice(), act.as_slice())?;
-    let code = guarded(alloc, size, to, into, whole.as_slice())?;
+    let code = guarded(alloc, range.size, range.to, range.into, whole.as_slice())?;
     Ok(code)
 }

@@ -7,7 +7,8 @@ ghost use Rattle.c_tree.specs.Format.{pieces};
 ghost use Rattle.source_meaning.specs.Printing.{print_formatted};
 ghost use Rattle.flat_actions.specs.Actions.{IsAction, Word, runtime_basis};
 ghost use Rattle.lib_wrappers.specs.PrintingRoutines.Formats.{byte_code, count_string};
-ghost use Rattle.lib_wrappers.specs.PrintingRoutines.Printed.{pieces_of, holders_of, argument_count, ArePrintable, ScanThese};
+ghost use Rattle.lib_wrappers.specs.PrintingRoutines.Printed.{pieces_of, holders_of, argument_count, ArePrintable};
+ghost use Rattle.lib_wrappers.specs.PrintingRoutines.Printed.{ScanThese};
 ghost use Rattle.lib_wrappers.specs.PrintingRoutines.Printed.{PutThese, ScansNext, PutsNext, index_after};
 
 use crate::printing::numbers::number;
@@ -44,7 +45,15 @@ fn index_after(piece: &Printed, index: u32) -> u32
     }
 }
 
-// Puts the scan of a piece that is a string, whose end comes to the register `scratch + 1 + index`.
+// The registers of a call of `printf`: the one that counts bytes, behind which the ends of strings come, and the first
+// of those that the parts may use.
+#[derive(Clone, Copy)]
+struct PrintRegisters {
+    count: u32,
+    own: u32,
+}
+
+// Puts the scan of a piece that is a string, whose end comes to the register `count + 1 + index`.
 fn put_scan<S: ShadowForm>(
     code: &mut Vec<FlatInstruction>,
     alloc: Global,
@@ -52,18 +61,24 @@ fn put_scan<S: ShadowForm>(
     piece: &Printed,
     index: u32,
     line: Line,
-    scratch: u32,
-    own: u32,
+    registers: PrintRegisters,
 ) -> Result<(), AllocError>
     requires map { AreMapped map.now }
-    requires printable { ArePrintable scratch (piece.now ∷ []) }
-    requires cursor { scratch + 1 + index + argument_count (piece.now ∷ []) ≤ own }
-    requires room { own ≤ 2 ^ 30 }
-    ensures { OnOk result (ScansNext (runtime_basis map.now S.entry (S.IsGood map.now)) line scratch own piece.now index
-        code.old.items code.new.items) }
+    requires printable { ArePrintable registers.count (piece.now ∷ []) }
+    requires cursor { registers.count + 1 + index + argument_count (piece.now ∷ []) ≤ registers.own }
+    requires room { registers.own ≤ 2 ^ 30 }
+    ensures { OnOk result (ScansNext (runtime_basis map.now S.entry (S.IsGood map.now)) line registers.count
+        registers.own piece.now index code.old.items code.new.items) }
 {
     if let Printed::String(string) = piece {
-        let scanned = scan::<S>(alloc, map, *string, scratch + 1 + index, line, own)?;
+        let scanned = scan::<S>(
+            alloc,
+            map,
+            *string,
+            registers.count + 1 + index,
+            line,
+            registers.own,
+        )?;
         code.extend_from_slice(&scanned)?;
     }
     Ok(())
@@ -88,7 +103,11 @@ fn scans<S: ShadowForm>(
     let mut code = Vec::new(alloc);
     let mut index = 0;
     for piece in printed {
-        put_scan::<S>(&mut code, alloc, map, piece, index, line, scratch, own)?;
+        let registers = PrintRegisters {
+            count: scratch,
+            own,
+        };
+        put_scan::<S>(&mut code, alloc, map, piece, index, line, registers)?;
         index = index_after(piece, index);
     }
     Ok(code)

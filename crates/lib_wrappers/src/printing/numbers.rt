@@ -5,7 +5,8 @@ ghost use Rattle.rv_isa.specs.declared.instruction.RegOp.TheVariants.{Add};
 ghost use Rattle.c_tree.specs.declared.format.Directive.TheVariants as directive;
 ghost use Rattle.flat_meaning.specs.declared.instruction.RightOperand.TheVariants.{Number};
 ghost use Rattle.flat_meaning.specs.declared.instruction.FlatInstruction.TheVariants.{Operate};
-ghost use Rattle.lib_wrappers.specs.PrintingRoutines.Numbers.{IsNumberRoutine, number_code, sign_code, low_code, base_code};
+ghost use Rattle.lib_wrappers.specs.PrintingRoutines.Numbers.{IsNumberRoutine, number_code, sign_code, low_code};
+ghost use Rattle.lib_wrappers.specs.PrintingRoutines.Numbers.{base_code};
 
 use crate::printing::digits::base_instructions;
 use addr_map::AddrMap;

@@ -9,12 +9,11 @@ ghost use Rattle.flat_routines.specs.Metadata.{held_registers};
 ghost use Rattle.flat_actions.specs.Actions.{IsAction, Pointer, Word, runtime_basis};
 ghost use Rattle.lib_wrappers.specs.StringRoutines.Copying.{IsFilledUp};
 
-use crate::moving::{fill, move_bytes};
+use crate::moving::{CopyRegisters, fill, move_bytes};
 use crate::strings::scanning::scan_at_most;
 use addr_map::AddrMap;
 use flat_actions::{guarded, joined, judge};
 use flat_meaning::{FlatInstruction, RightOperand};
-use flat_routines::Held;
 use rv_isa::RegOp;
 use sb_base::Line;
 use shadow_space::ShadowForm;
@@ -27,32 +26,36 @@ use std::alloc::{AllocError, Global};
 pub fn strncpy<S: ShadowForm>(
     alloc: Global,
     map: &AddrMap,
-    to: Held,
-    from: Held,
-    size: u32,
-    into: Held,
+    copy: CopyRegisters,
     line: Line,
     scratch: u32,
 ) -> Result<Vec<FlatInstruction>, AllocError>
     requires map { AreMapped map.now }
-    requires to { AreBelow scratch (held_registers to) }
-    requires from { AreBelow scratch (held_registers from) }
-    requires size { size < scratch }
-    requires into { AreBelow scratch (held_registers into) }
-    requires distinct { AreDistinct (held_registers into) }
-    requires others { AreNoneOf (held_registers to) (held_registers into) }
+    requires to { AreBelow scratch (held_registers copy.to) }
+    requires from { AreBelow scratch (held_registers copy.from) }
+    requires size { copy.size < scratch }
+    requires into { AreBelow scratch (held_registers copy.into) }
+    requires distinct { AreDistinct (held_registers copy.into) }
+    requires others { AreNoneOf (held_registers copy.to) (held_registers copy.into) }
     requires room { scratch + 16 ≤ 2 ^ 31 }
     ensures { IfOk result (λ r. IsAction (runtime_basis map.now S.entry (S.IsGood map.now))
         (λ vs. strncpy_of (argument 0 vs) (argument 1 vs) (argument 2 vs) line)
-        (Pointer to ∷ Pointer from ∷ Word size ∷ []) (Pointer into) scratch 60 8 r.items) }
+        (Pointer copy.to ∷ Pointer copy.from ∷ Word copy.size ∷ []) (Pointer copy.into) scratch 60 8 r.items) }
 {
     S::entries_are_local();
-    let scanned = scan_at_most::<S>(alloc, map, from, scratch, line, size, scratch + 1)?;
-    let judging = judge(alloc, to, size, line, scratch + 1)?;
-    let writing = filled_up(alloc, map, to.value, from.value, size, scratch)?;
+    let scanned = scan_at_most::<S>(alloc, map, copy.from, scratch, line, copy.size, scratch + 1)?;
+    let judging = judge(alloc, copy.to, copy.size, line, scratch + 1)?;
+    let writing = filled_up(
+        alloc,
+        map,
+        copy.to.value,
+        copy.from.value,
+        copy.size,
+        scratch,
+    )?;
     let rest = joined(alloc, &judging, &writing)?;
     let act = joined(alloc, &scanned, &rest)?;
-    guarded(alloc, size, to, into, &act)
+    guarded(alloc, copy.size, copy.to, copy.into, &act)
 }
 
 // The bytes from the address in `from` up to the cursor in `scratch` are moved, and zeros follow up to so many bytes.

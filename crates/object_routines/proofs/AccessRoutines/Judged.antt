@@ -37,8 +37,9 @@ use Rattle.flat_actions.specs.Judgement.Judging.{IsSameBut}
 use Rattle.flat_actions.specs.Actions.{IsFor, Holder, Word, Pointer as InPointer, registers_of, AreHeldBy}
 use Rattle.flat_actions.specs.Actions.{Leaves, Basis, context_in, IsAction, IsActionIn, views_of, work_of}
 use Rattle.flat_actions.proofs.Standing.{for_still, held_still, none_of_none, others_trans, shown_still}
-use Rattle.object_routines.specs.AccessRoutines.Testing.{IsTested, spatial_code, temporal_code}
-use Rattle.object_routines.proofs.AccessRoutines.Tests.{spatial_does, temporal_does}
+use Rattle.flat_actions.specs.Judgement.Testing.{IsTested}
+use Rattle.flat_actions.specs.Judgement.Code.{spatial_code, temporal_code}
+use Rattle.flat_actions.proofs.Judgement.Tests.{spatial_does, temporal_does}
 use Rattle.flat_actions.proofs.Standing.{same_then, AreAllBelow}
 
 -- ---- in the source

@@ -50,7 +50,8 @@ use Rattle.object_routines.specs.declared.accesses.held.HeldScalar.TheVariants.{
 use Rattle.object_routines.specs.AccessRoutines.Accessing.{IsLoadRoutine, word_code, no_entry, load_pointer_code}
 use Rattle.object_routines.proofs.AccessRoutines.Places.{of_objects, number_there, word_there, entry_there, none_there}
 use Rattle.object_routines.proofs.AccessRoutines.Places.{access_allowed}
-use Rattle.object_routines.proofs.AccessRoutines.Shown.{ShowsOne, shows_one_then, one_at_work, is_shown, load_is, given_read}
+use Rattle.object_routines.proofs.AccessRoutines.Shown.{ShowsOne, shows_one_then, one_at_work, is_shown, load_is}
+use Rattle.object_routines.proofs.AccessRoutines.Shown.{given_read}
 use Rattle.object_routines.proofs.AccessRoutines.Integers.{address_is}
 
 -- code without jumps leaves words

@@ -21,7 +21,7 @@ use Rattle.flat_actions.specs.Actions.{Basis, IsFor, Nowhere, Pointer, Leaves, I
 use Rattle.flat_actions.specs.Actions.{views_of}
 use Rattle.flat_actions.specs.Actions.{work_of}
 use Rattle.flat_actions.proofs.Standing.{given_still, ended_still}
-use Rattle.object_routines.specs.AccessRoutines.Testing.{IsTested, IsSpatialRoutine, IsTemporalRoutine}
+use Rattle.flat_actions.specs.Judgement.Testing.{IsTested, IsSpatialRoutine, IsTemporalRoutine}
 
 tested_leaves : (g : Views) (k : Keys) (IsGood : Bytes → Type 0) (t : ℕ) (x : Source) (f : State) → IsFor g k IsGood x f
     → (passes : Bool) (e : Ending) (o : Outcome) → IsTested (pass_or_stop passes e x) t f o

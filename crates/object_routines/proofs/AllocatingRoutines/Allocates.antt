@@ -60,16 +60,19 @@ use Rattle.flat_actions.proofs.Standing.{shown_still, given_still, ended_still}
 use Rattle.object_routines.specs.AllocatingRoutines.Zeroing.{HasZeroed, IsZeroRoutine}
 use Rattle.object_routines.specs.AllocatingRoutines.Premises.{AreStanding}
 use Rattle.object_routines.specs.AllocatingRoutines.Births.{with_key, IsBlockMade}
-use Rattle.object_routines.specs.AllocatingRoutines.Allocating.{IsAllocateRoutine, keys_code, untagged, key_test, whole_bounds}
+use Rattle.object_routines.specs.AllocatingRoutines.Allocating.{IsAllocateRoutine, keys_code, untagged, key_test}
+use Rattle.object_routines.specs.AllocatingRoutines.Allocating.{whole_bounds}
 use Rattle.object_routines.specs.AllocatingRoutines.Allocating.{make_code}
 use Rattle.object_routines.specs.AllocatingRoutines.Allocating.{malloc_code}
 use Rattle.flat_routines.proofs.Spaces.Quiet.{shows_worked}
 use Rattle.object_routines.proofs.AllocatingRoutines.Stretches.{IsDone, stretch_on, goes_past, goes_into}
 use Rattle.flat_routines.proofs.Spaces.Quiet.{worked_words}
 use Rattle.object_routines.proofs.AllocatingRoutines.FreeLocks.{free_for_a_block}
-use Rattle.object_routines.proofs.AllocatingRoutines.BlockBirth.{LiesInHeap, place_lies, held_after, keys_keep, block_born}
+use Rattle.object_routines.proofs.AllocatingRoutines.BlockBirth.{LiesInHeap, place_lies, held_after, keys_keep}
+use Rattle.object_routines.proofs.AllocatingRoutines.BlockBirth.{block_born}
 use Rattle.object_routines.proofs.AllocatingRoutines.BlockBirth.{block_elsewhere}
-use Rattle.object_routines.proofs.AllocatingRoutines.BlockMemory.{good_by_table, good_by_locks, locks_by_table, block_made}
+use Rattle.object_routines.proofs.AllocatingRoutines.BlockMemory.{good_by_table, good_by_locks, locks_by_table}
+use Rattle.object_routines.proofs.AllocatingRoutines.BlockMemory.{block_made}
 use Rattle.object_routines.proofs.AllocatingRoutines.SourceBlocks.{sought_in, made_in, no_place, no_key, makes_block}
 use Rattle.object_routines.proofs.AllocatingRoutines.Seeks.{IsSought, seeks}
 

@@ -48,8 +48,10 @@ use Rattle.object_routines.specs.declared.allocating.entering.EntryRegisters.{En
 use Rattle.object_routines.specs.AllocatingRoutines.Zeroing.{IsZeroed, HasZeroed, IsZeroRoutine}
 use Rattle.object_routines.specs.AllocatingRoutines.Allocating.{keys_code, key_test}
 use Rattle.object_routines.specs.AllocatingRoutines.Births.{with_key, IsRangeMade}
-use Rattle.object_routines.specs.AllocatingRoutines.Entering.{block_bytes, CanEnter, registers_in, HasEntered, IsEntered}
-use Rattle.object_routines.specs.AllocatingRoutines.Entering.{IsEnterRoutine, round_code, room_code, room_test, end_of_block}
+use Rattle.object_routines.specs.AllocatingRoutines.Entering.{block_bytes, CanEnter, registers_in, HasEntered}
+use Rattle.object_routines.specs.AllocatingRoutines.Entering.{IsEntered}
+use Rattle.object_routines.specs.AllocatingRoutines.Entering.{IsEnterRoutine, round_code, room_code, room_test}
+use Rattle.object_routines.specs.AllocatingRoutines.Entering.{end_of_block}
 use Rattle.object_routines.specs.AllocatingRoutines.Entering.{enter_code}
 use Rattle.object_routines.proofs.AllocatingRoutines.Stretches.{IsDone, stretch_on, goes_past, goes_into}
 use Rattle.object_routines.proofs.AllocatingRoutines.FreeLocks.{stack_laid_out, free_for_automatics}
@@ -57,7 +59,8 @@ use Rattle.object_routines.proofs.AllocatingRoutines.BlockBirth.{held_after, key
 use Rattle.object_routines.proofs.AllocatingRoutines.BlockMemory.{good_by_locks, range_made}
 use Rattle.object_routines.proofs.AllocatingRoutines.EntryBirths.{stack_in_space, entry_born, entry_of_lock}
 use Rattle.object_routines.proofs.AllocatingRoutines.Seeks.{keys_allowed, found_keys, keys_shown}
-use Rattle.object_routines.proofs.AllocatingRoutines.SourceEntries.{homes_from, entered_in, block_of, no_space, no_more_keys}
+use Rattle.object_routines.proofs.AllocatingRoutines.SourceEntries.{homes_from, entered_in, block_of, no_space}
+use Rattle.object_routines.proofs.AllocatingRoutines.SourceEntries.{no_more_keys}
 use Rattle.object_routines.proofs.AllocatingRoutines.SourceEntries.{enters_block, end_by_bytes, some_bytes, few_bytes}
 
 module _ (map : MapSizes) (mapped : AreMapped map) (entry : View) (IsGood : Bytes → Type 0)

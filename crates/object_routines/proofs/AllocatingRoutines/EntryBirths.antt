@@ -25,10 +25,13 @@ use Rattle.heap_space.specs.Table.{block_rows}
 use Rattle.flat_actions.specs.Actions.{views_of}
 use Rattle.object_routines.specs.AllocatingRoutines.Births.{with_key, IsRangeMade}
 use Rattle.object_routines.specs.AllocatingRoutines.Entering.{block_bytes, AreOfLock}
-use Rattle.object_routines.proofs.AllocatingRoutines.BlockBirth.{own_before, own_after, held_before, held_after, free_is_unused}
-use Rattle.object_routines.proofs.AllocatingRoutines.SourceEntries.{placed_objects, end_by_bytes, ArePlacedFrom, placed_from}
+use Rattle.object_routines.proofs.AllocatingRoutines.BlockBirth.{own_before, own_after, held_before, held_after}
+use Rattle.object_routines.proofs.AllocatingRoutines.BlockBirth.{free_is_unused}
+use Rattle.object_routines.proofs.AllocatingRoutines.SourceEntries.{placed_objects, end_by_bytes, ArePlacedFrom}
+use Rattle.object_routines.proofs.AllocatingRoutines.SourceEntries.{placed_from}
 use Rattle.object_routines.proofs.AllocatingRoutines.SourceEntries.{some_placed, placed_sound, placed_separate}
-use Rattle.object_routines.proofs.AllocatingRoutines.SourceEntries.{homes_from, object_count, placed_count, home_between, between_home}
+use Rattle.object_routines.proofs.AllocatingRoutines.SourceEntries.{homes_from, object_count, placed_count}
+use Rattle.object_routines.proofs.AllocatingRoutines.SourceEntries.{home_between, between_home}
 
 pub stack_in_space : (s : MapSizes) → AreMapped s
     → (objects_begin ≤ region_start s Stack) × (region_end s Stack ≤ region_end s Heap)

@@ -49,7 +49,8 @@ use Rattle.flat_actions.specs.Actions.{runtime_basis}
 use Rattle.object_routines.specs.AllocatingRoutines.Premises.{AreStanding}
 use Rattle.object_routines.specs.AllocatingRoutines.Allocating.{IsAllocateRoutine}
 use Rattle.object_routines.specs.AllocatingRoutines.Freeing.{found_test}
-use Rattle.object_routines.specs.AllocatingRoutines.Reallocating.{IsReallocRoutine, tests_code, replace_code, realloc_code}
+use Rattle.object_routines.specs.AllocatingRoutines.Reallocating.{IsReallocRoutine, tests_code, replace_code}
+use Rattle.object_routines.specs.AllocatingRoutines.Reallocating.{realloc_code}
 use Rattle.object_routines.proofs.AllocatingRoutines.Stretches.{goes_past, goes_into}
 use Rattle.object_routines.proofs.AllocatingRoutines.Stretches.{above_none}
 use Rattle.object_routines.proofs.AllocatingRoutines.Leaving.{leaves_from, either_of}
@@ -57,9 +58,11 @@ use Rattle.object_routines.proofs.AllocatingRoutines.Allocates.{rows_are_blocks}
 use Rattle.object_routines.proofs.AllocatingRoutines.BlockBirth.{LiesInHeap}
 use Rattle.object_routines.proofs.AllocatingRoutines.SourceBlocks.{sought_in, made_in}
 use Rattle.object_routines.proofs.AllocatingRoutines.SourceFrees.{ended_in}
-use Rattle.object_routines.proofs.AllocatingRoutines.SourceReallocs.{new_pointer, lesser_of, moved_in, IsAllocated, NoPlace, NoKey}
+use Rattle.object_routines.proofs.AllocatingRoutines.SourceReallocs.{new_pointer, lesser_of, moved_in, IsAllocated}
+use Rattle.object_routines.proofs.AllocatingRoutines.SourceReallocs.{NoPlace, NoKey}
 use Rattle.object_routines.proofs.AllocatingRoutines.SourceReallocs.{Made}
-use Rattle.object_routines.proofs.AllocatingRoutines.SourceReallocs.{allocated, reallocs_null, reallocs_by, replaced, replaced_by}
+use Rattle.object_routines.proofs.AllocatingRoutines.SourceReallocs.{allocated, reallocs_null, reallocs_by, replaced}
+use Rattle.object_routines.proofs.AllocatingRoutines.SourceReallocs.{replaced_by}
 use Rattle.object_routines.proofs.AllocatingRoutines.FreedTests.{IsFreed, IsTested, AreOutcomes, tested}
 use Rattle.object_routines.proofs.AllocatingRoutines.Replaces.{replaces_reached}
 

@@ -31,7 +31,8 @@ use Rattle.lock_space.proofs.Local.{good_kept as locks_kept}
 use Rattle.heap_space.proofs.Regions.{table_laid_out}
 use Rattle.heap_space.proofs.Local.{good_kept as table_kept}
 use Rattle.flat_actions.specs.Actions.{AreSpacesGood}
-use Rattle.object_routines.specs.AllocatingRoutines.Zeroing.{IsToZero, IsZeroed, HasZeroed, IsZeroRoutine, word_bytes, begin_zero}
+use Rattle.object_routines.specs.AllocatingRoutines.Zeroing.{IsToZero, IsZeroed, HasZeroed, IsZeroRoutine, word_bytes}
+use Rattle.object_routines.specs.AllocatingRoutines.Zeroing.{begin_zero}
 use Rattle.object_routines.specs.AllocatingRoutines.Zeroing.{zero_until, to_the_end, zero_bytes, zero_code}
 use Rattle.object_routines.proofs.AllocatingRoutines.Stretches.{stretch_on, others_below}
 use Rattle.object_routines.proofs.AllocatingRoutines.Zeros.{Filling, fills}

@@ -6,15 +6,15 @@ ghost use Rattle.flat_meaning.specs.declared.instruction.RightOperand.TheVariant
 ghost use Rattle.flat_routines.specs.Registers.{AreBelow};
 ghost use Rattle.flat_routines.specs.Metadata.{held_registers};
 ghost use Rattle.flat_actions.specs.Actions.{registers_of, program_basis};
-ghost use Rattle.object_routines.specs.AccessRoutines.Testing.{spatial_code, temporal_code};
+ghost use Rattle.flat_actions.specs.Judgement.Code.{spatial_code, temporal_code};
 ghost use Rattle.object_routines.specs.AccessRoutines.Holding.{holder_in, IsApartFrom};
 ghost use Rattle.object_routines.specs.AccessRoutines.Accessing.{IsCheckedLoad, IsCheckedStore};
 
 use crate::accesses::held::HeldScalar;
 use crate::accesses::loading::load;
 use crate::accesses::storing::store;
-use crate::accesses::testing::{spatial_instructions, temporal_instructions};
 use addr_map::AddrMap;
+use flat_actions::{spatial_instructions, temporal_instructions};
 use flat_meaning::{FlatInstruction, RightOperand};
 use flat_routines::Held;
 use sb_base::Line;

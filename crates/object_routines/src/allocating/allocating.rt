@@ -4,8 +4,10 @@ ghost use Rattle.std.specs.Prelude.{◌≡◌, ◌+◌, ◌≤◌, ◌<◌, ◌^
 ghost use Rattle.addr_map.specs.Places.{AreMapped};
 ghost use Rattle.flat_routines.specs.Registers.{AreBelow, AreDistinct, AreNoneOf};
 ghost use Rattle.flat_routines.specs.Metadata.{held_registers};
-ghost use Rattle.object_routines.specs.AllocatingRoutines.Allocating.{IsAllocateRoutine, IsMallocRoutine, IsCallocRoutine, keys_code};
-ghost use Rattle.object_routines.specs.AllocatingRoutines.Allocating.{untagged, key_test, whole_bounds, make_code, malloc_code};
+ghost use Rattle.object_routines.specs.AllocatingRoutines.Allocating.{IsAllocateRoutine, IsMallocRoutine};
+ghost use Rattle.object_routines.specs.AllocatingRoutines.Allocating.{IsCallocRoutine, keys_code};
+ghost use Rattle.object_routines.specs.AllocatingRoutines.Allocating.{untagged, key_test, whole_bounds, make_code};
+ghost use Rattle.object_routines.specs.AllocatingRoutines.Allocating.{malloc_code};
 ghost use Rattle.object_routines.specs.AllocatingRoutines.Allocating.{product_code, null_code, calloc_code};
 
 use crate::allocating::zeroing::zero;
@@ -17,6 +19,13 @@ use rv_isa::{BranchOp, LoadOp, RegOp};
 use sb_base::{Ending, Line};
 use shadow_space::ShadowForm;
 use std::alloc::{AllocError, Global};
+
+// What a block is made of: the register with its size, those that get the pointer to it, and the line of the call.
+struct BlockRequest {
+    size: u32,
+    into: Held,
+    line: Line,
+}
 
 /// Gives in `into` a pointer to a new block of as many bytes as `size` holds, all zero, with a key of its own; or null,
 /// where there is no place for it. Where there is one, and no key is left, the run ends at `line`. It may write the
@@ -91,9 +100,7 @@ pub(crate) fn allocate<S: ShadowForm>(
         place.as_slice(),
         fresh.as_slice(),
         zeros.as_slice(),
-        size,
-        into,
-        line,
+        &BlockRequest { size, into, line },
         scratch,
     )?;
     Ok(r)
@@ -105,19 +112,18 @@ fn malloc_list(
     place: &[FlatInstruction],
     fresh: &[FlatInstruction],
     zeros: &[FlatInstruction],
-    size: u32,
-    into: Held,
-    line: Line,
+    request: &BlockRequest,
     scratch: u32,
 ) -> Result<Vec<FlatInstruction>, AllocError>
     requires { scratch + 16 ≤ 2 ^ 31 }
     ensures { IfOk result (λ r. r.items
-        ≡ malloc_code map.now place.now fresh.now zeros.now size into line scratch (scratch + 1) (scratch + 2)) }
+        ≡ malloc_code map.now place.now fresh.now zeros.now request.now.size request.now.into request.now.line scratch
+        (scratch + 1) (scratch + 2)) }
 {
     let address = scratch + 2;
     let keys = keys_list(alloc, map, scratch, scratch + 1)?;
-    let null = untagged_list(alloc, address, into)?;
-    let make = make_list(alloc, map, fresh, zeros, size, into, line, scratch, address)?;
+    let null = untagged_list(alloc, address, request.into)?;
+    let make = make_list(alloc, map, fresh, zeros, request, scratch, address)?;
     let branch = unless(
         alloc,
         BranchOp::Beq,
@@ -198,16 +204,15 @@ fn make_list(
     map: &AddrMap,
     fresh: &[FlatInstruction],
     zeros: &[FlatInstruction],
-    size: u32,
-    into: Held,
-    line: Line,
+    request: &BlockRequest,
     made: u32,
     address: u32,
 ) -> Result<Vec<FlatInstruction>, AllocError>
-    ensures { IfOk result (λ r. r.items ≡ make_code map.now fresh.now zeros.now size into line made address) }
+    ensures { IfOk result (λ r. r.items
+        ≡ make_code map.now fresh.now zeros.now request.now.size request.now.into request.now.line made address) }
 {
-    let test = key_test(alloc, map, made, line)?;
-    let bounds = whole_bounds(alloc, address, size, into)?;
+    let test = key_test(alloc, map, made, request.line)?;
+    let bounds = whole_bounds(alloc, address, request.size, request.into)?;
     let last = joined(alloc, zeros, bounds.as_slice())?;
     let rest = joined(alloc, fresh, last.as_slice())?;
     joined(alloc, test.as_slice(), rest.as_slice())

@@ -5,7 +5,8 @@ ghost use Rattle.std.specs.Prelude.{◌≡◌, ◌+◌, ◌≤◌, ◌<◌, ◌^
 ghost use Rattle.addr_map.specs.Places.{AreMapped};
 ghost use Rattle.flat_routines.specs.Registers.{AreBelow, AreDistinct, AreNoneOf};
 ghost use Rattle.object_routines.specs.AllocatingRoutines.Allocating.{key_test};
-ghost use Rattle.object_routines.specs.AllocatingRoutines.Entering.{registers_in, IsEnterRoutine, IsLeaveRoutine, round_code};
+ghost use Rattle.object_routines.specs.AllocatingRoutines.Entering.{registers_in, IsEnterRoutine, IsLeaveRoutine};
+ghost use Rattle.object_routines.specs.AllocatingRoutines.Entering.{round_code};
 ghost use Rattle.object_routines.specs.AllocatingRoutines.Entering.{room_code};
 ghost use Rattle.object_routines.specs.AllocatingRoutines.Entering.{room_test, end_of_block, enter_code};
 
@@ -30,6 +31,15 @@ pub struct EntryRegisters {
     pub key: u32,
     /// Their lock word.
     pub lock: u32,
+}
+
+// What a block is entered with: the registers with the end of the object stack and the bytes of the objects, those that
+// get what it is entered with, and the line.
+struct Entrance {
+    top: u32,
+    bytes: u32,
+    to: EntryRegisters,
+    line: Line,
 }
 
 /// Enters a block that has objects. `top` holds where the object stack ends, and `bytes` how many bytes the objects of
@@ -62,10 +72,12 @@ pub fn enter<S: ShadowForm>(
         map,
         fresh.as_slice(),
         zeros.as_slice(),
-        top,
-        bytes,
-        to,
-        line,
+        &Entrance {
+            top,
+            bytes,
+            to,
+            line,
+        },
         scratch,
     )?;
     Ok(r)
@@ -93,21 +105,20 @@ fn enter_list(
     map: &AddrMap,
     fresh: &[FlatInstruction],
     zeros: &[FlatInstruction],
-    top: u32,
-    bytes: u32,
-    to: EntryRegisters,
-    line: Line,
+    entrance: &Entrance,
     scratch: u32,
 ) -> Result<Vec<FlatInstruction>, AllocError>
     requires { scratch + 16 ≤ 2 ^ 31 }
     ensures { IfOk result
-        (λ r. r.items ≡ enter_code map.now fresh.now zeros.now top bytes to line scratch (scratch + 1)) }
+        (λ r. r.items ≡ enter_code map.now fresh.now zeros.now entrance.now.top entrance.now.bytes entrance.now.to
+        entrance.now.line scratch (scratch + 1)) }
 {
-    let begin = room_list(alloc, map, top, to.first, scratch)?;
-    let room = room_test(alloc, bytes, scratch, line)?;
+    let to = entrance.to;
+    let begin = room_list(alloc, map, entrance.top, to.first, scratch)?;
+    let room = room_test(alloc, entrance.bytes, scratch, entrance.line)?;
     let keys = keys_list(alloc, map, scratch, scratch + 1)?;
-    let test = key_test(alloc, map, scratch, line)?;
-    let end = end_list(alloc, to.first, bytes, to.end)?;
+    let test = key_test(alloc, map, scratch, entrance.line)?;
+    let end = end_list(alloc, to.first, entrance.bytes, to.end)?;
     let last = joined(alloc, zeros, end.as_slice())?;
     let taken = joined(alloc, fresh, last.as_slice())?;
     let tested = joined(alloc, test.as_slice(), taken.as_slice())?;

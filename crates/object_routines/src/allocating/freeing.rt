@@ -4,7 +4,7 @@ ghost use Rattle.std.specs.Prelude.{◌≡◌, ◌+◌, ◌≤◌, ◌<◌, ◌^
 ghost use Rattle.addr_map.specs.Places.{AreMapped};
 ghost use Rattle.flat_routines.specs.Registers.{AreBelow};
 ghost use Rattle.flat_routines.specs.Metadata.{held_registers};
-ghost use Rattle.object_routines.specs.AllocatingRoutines.Freeing.{IsFreeRoutine, life_test, found_test, end_code, free_code};
+ghost use Rattle.object_routines.specs.AllocatingRoutines.Freeing.{IsFreeRoutine, life_test, found_test, free_code};
 
 use addr_map::AddrMap;
 use flat_actions::{joined, unless};
@@ -63,8 +63,12 @@ fn free_list(
     ensures { IfOk result (λ r. r.items
         ≡ free_code find.now unlist.now unlock.now pointer line scratch (scratch + 2)) }
 {
-    let found = scratch + 2;
-    let body = end_list(alloc, find, unlist, unlock, pointer, line, scratch, found)?;
+    let life = life_test(alloc, pointer, line, scratch)?;
+    let test = found_test(alloc, scratch + 2, line)?;
+    let both = joined(alloc, unlist, unlock)?;
+    let rest = joined(alloc, test.as_slice(), both.as_slice())?;
+    let after = joined(alloc, find, rest.as_slice())?;
+    let body = joined(alloc, life.as_slice(), after.as_slice())?;
     unless(
         alloc,
         BranchOp::Beq,
@@ -72,26 +76,6 @@ fn free_list(
         RightOperand::Number(0),
         body.as_slice(),
     )
-}
-
-fn end_list(
-    alloc: Global,
-    find: &[FlatInstruction],
-    unlist: &[FlatInstruction],
-    unlock: &[FlatInstruction],
-    pointer: Held,
-    line: Line,
-    word: u32,
-    found: u32,
-) -> Result<Vec<FlatInstruction>, AllocError>
-    ensures { IfOk result (λ r. r.items ≡ end_code find.now unlist.now unlock.now pointer line word found) }
-{
-    let life = life_test(alloc, pointer, line, word)?;
-    let test = found_test(alloc, found, line)?;
-    let both = joined(alloc, unlist, unlock)?;
-    let rest = joined(alloc, test.as_slice(), both.as_slice())?;
-    let after = joined(alloc, find, rest.as_slice())?;
-    joined(alloc, life.as_slice(), after.as_slice())
 }
 
 // Whether the pointer has the tag of an object that lives.

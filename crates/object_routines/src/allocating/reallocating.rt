@@ -4,7 +4,8 @@ ghost use Rattle.std.specs.Prelude.{◌≡◌, ◌+◌, ◌≤◌, ◌<◌, ◌^
 ghost use Rattle.addr_map.specs.Places.{AreMapped};
 ghost use Rattle.flat_routines.specs.Registers.{AreBelow, AreDistinct, AreNoneOf};
 ghost use Rattle.flat_routines.specs.Metadata.{held_registers};
-ghost use Rattle.object_routines.specs.AllocatingRoutines.Reallocating.{IsReallocRoutine, tests_code, lesser_code, replace_code};
+ghost use Rattle.object_routines.specs.AllocatingRoutines.Reallocating.{IsReallocRoutine, tests_code, lesser_code};
+ghost use Rattle.object_routines.specs.AllocatingRoutines.Reallocating.{replace_code};
 ghost use Rattle.object_routines.specs.AllocatingRoutines.Reallocating.{reallocating_code};
 
 use crate::allocating::allocating::allocate;
@@ -19,11 +20,17 @@ use sb_base::Line;
 use shadow_space::ShadowForm;
 use std::alloc::{AllocError, Global};
 
+// The old block's pointer, the registers that get the new one's, and the line of the call.
+struct Exchange {
+    old: Held,
+    into: Held,
+    line: Line,
+}
+
 /// Gives in `into` a pointer to a new block of as many bytes as `size` holds, into which what both have room for of the
 /// block in `old` was moved with its tags, and the old block ends; or null, where there is no place for a new block,
-/// and
-/// the old one lives on. For null it is `malloc`. What `free` refuses to end is refused, and ends the run at `line`. It
-/// may write the registers from `scratch` on. The only refusal is that memory fails.
+/// and the old one lives on. For null it is `malloc`. What `free` refuses to end is refused, and ends the run at
+/// `line`. It may write the registers from `scratch` on. The only refusal is that memory fails.
 pub fn realloc<S: ShadowForm>(
     alloc: Global,
     map: &AddrMap,
@@ -64,9 +71,7 @@ pub fn realloc<S: ShadowForm>(
         find.as_slice(),
         block.as_slice(),
         replace.as_slice(),
-        old,
-        into,
-        line,
+        &Exchange { old, into, line },
         scratch,
     )?;
     Ok(r)
@@ -77,16 +82,16 @@ fn realloc_list(
     find: &[FlatInstruction],
     block: &[FlatInstruction],
     replace: &[FlatInstruction],
-    old: Held,
-    into: Held,
-    line: Line,
+    exchange: &Exchange,
     scratch: u32,
 ) -> Result<Vec<FlatInstruction>, AllocError>
     requires { scratch + 16 ≤ 2 ^ 31 }
-    ensures { IfOk result
-        (λ r. r.items ≡ reallocating_code find.now block.now replace.now old into line scratch (scratch + 2)) }
+    ensures { IfOk result (λ r. r.items
+        ≡ reallocating_code find.now block.now replace.now exchange.now.old exchange.now.into exchange.now.line scratch
+        (scratch + 2)) }
 {
-    let tests = tests_list(alloc, find, old, line, scratch, scratch + 2)?;
+    let old = exchange.old;
+    let tests = tests_list(alloc, find, old, exchange.line, scratch, scratch + 2)?;
     let first = unless(
         alloc,
         BranchOp::Beq,
@@ -97,7 +102,7 @@ fn realloc_list(
     let inner = unless(
         alloc,
         BranchOp::Beq,
-        into.value,
+        exchange.into.value,
         RightOperand::Number(0),
         replace,
     )?;

@@ -8,11 +8,12 @@ use Rattle.flat_actions.specs.Actions.{runtime_basis}
 pub returns : goal.returns
 returns g c =
     let a = c.args in
+    let h = a.ranges in
     let entry = g.S.ShadowForm.entry in
     let good = g.S.ShadowForm.IsGood a.map.now in
     let q = c.requires in
     IfOk-weaker _ _ _
-    (λ r e. subst (IsMemcmp (runtime_basis a.map.now entry good) a.left a.right a.size a.into a.line a.scratch) (sym e)
-    (memcmp_does a.map.now entry good a.left a.right a.size a.into a.line a.scratch q.map q.left_apart q.right_apart
+    (λ r e. subst (IsMemcmp (runtime_basis a.map.now entry good) h.left h.right h.size h.into a.line a.scratch) (sym e)
+    (memcmp_does a.map.now entry good h.left h.right h.size h.into a.line a.scratch q.map q.left_apart q.right_apart
     q.left q.right q.results))
     c.memcmp_instructions.ensures

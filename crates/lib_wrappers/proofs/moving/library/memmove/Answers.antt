@@ -9,16 +9,17 @@ use Rattle.flat_actions.specs.Actions.{runtime_basis}
 pub returns : goal.returns
 returns g c =
     let a = c.args in
+    let h = a.copy in
     let entry = g.S.ShadowForm.entry in
     let IsGood = g.S.ShadowForm.IsGood a.map.now in
     let rest = joined_are _ _ _ _ _ c.in_ok-rest.ensures c.as_slice.ensures.value c.as_slice-2.ensures.value in
     let whole = joined_are _ _ _ _ _ c.in_ok-whole.ensures c.as_slice-3.ensures.value
     (c.as_slice-4.ensures.value ∙ rest) in
-    let items = by_body (guarded_code a.size a.to a.into) _ _ _ c.in_ok-code.ensures
+    let items = by_body (guarded_code h.size h.to h.into) _ _ _ c.in_ok-code.ensures
     (c.as_slice-5.ensures.value ∙ whole) in
-    let moves = subst (MovesObjects (runtime_basis a.map.now entry IsGood) a.to a.from a.size a.into a.line a.scratch)
+    let moves = subst (MovesObjects (runtime_basis a.map.now entry IsGood) h.to h.from h.size h.into a.line a.scratch)
     (sym items)
-    (moves_as a.map.now c.requires.map entry IsGood a.to a.from a.size a.into a.line a.scratch c.requires.to
+    (moves_as a.map.now c.requires.map entry IsGood h.to h.from h.size h.into a.line a.scratch c.requires.to
     c.requires.from c.requires.size c.requires.into c.requires.distinct c.requires.others c.in_ok-first.first.items
     c.in_ok-second.second.items c.in_ok-act.act.items c.in_ok-first.ensures c.in_ok-second.ensures
     c.in_ok-act.ensures.does) in

@@ -9,13 +9,14 @@ use Rattle.flat_actions.specs.Actions.{runtime_basis}
 pub returns : goal.returns
 returns g c =
     let a = c.args in
+    let h = a.range in
     let entry = g.S.ShadowForm.entry in
     let IsGood = g.S.ShadowForm.IsGood a.map.now in
     let whole = joined_are _ _ _ _ _ c.in_ok-whole.ensures c.as_slice.ensures.value c.as_slice-2.ensures.value in
-    let items = by_body (guarded_code a.size a.to a.into) _ _ _ c.in_ok-code.ensures
+    let items = by_body (guarded_code h.size h.to h.into) _ _ _ c.in_ok-code.ensures
     (c.as_slice-3.ensures.value ∙ whole) in
-    subst (SetsObjects (runtime_basis a.map.now entry IsGood) a.to a.byte a.size a.into a.line a.scratch) (sym items)
+    subst (SetsObjects (runtime_basis a.map.now entry IsGood) h.to h.byte h.size h.into a.line a.scratch) (sym items)
     (sets_as a.map.now c.requires.map entry IsGood
-    (λ m m' keep good. c.entries_are_local.ensures a.map.now m m' c.requires.map keep good) a.to a.byte a.size a.into
+    (λ m m' keep good. c.entries_are_local.ensures a.map.now m m' c.requires.map keep good) h.to h.byte h.size h.into
     a.line a.scratch c.requires.to c.requires.byte c.requires.size c.requires.into c.requires.distinct
     c.requires.others c.in_ok-first.first.items c.in_ok-act.act.items c.in_ok-first.ensures c.in_ok-act.ensures)

@@ -12,24 +12,25 @@ use Rattle.lib_wrappers.proofs.strings.bounded.strncpy.Goals as goal
 pub returns : goal.returns
 returns g c =
     let a = c.args in
+    let h = a.copy in
     let t = a.scratch in
     let basis = runtime_basis a.map.now g.S.ShadowForm.entry (g.S.ShadowForm.IsGood a.map.now) in
     let q = c.in_ok-writing.ensures in
     let scanned = c.in_ok-scanned.scanned.items in
     let judging = c.in_ok-judging.judging.items in
-    let writing = count_code (t + 1) a.from.value t
-    ++ (q.moving ++ (tail_code a.to.value a.size (t + 1) (t + 2) (t + 3) ++ q.filling)) in
+    let writing = count_code (t + 1) h.from.value t
+    ++ (q.moving ++ (tail_code h.to.value h.size (t + 1) (t + 2) (t + 3) ++ q.filling)) in
     let rest = joined_are _ _ _ judging writing c.in_ok-rest.ensures c.deref.ensures.value
     (c.deref-2.ensures.value ∙ q.items_are) in
     let act = joined_are _ _ _ scanned (judging ++ writing) c.in_ok-act.ensures c.deref-3.ensures.value
     (c.deref-4.ensures.value ∙ rest) in
     IfOk-weaker _ _ _
     (λ r e. subst (IsAction basis (λ vs. strncpy_of (argument 0 vs) (argument 1 vs) (argument 2 vs) a.line)
-    (Pointer a.to ∷ Pointer a.from ∷ Word a.size ∷ []) (Pointer a.into) t 60 8)
-    (sym (e ∙ ap (guarded_code a.size a.to a.into) (c.deref-5.ensures.value ∙ act)))
+    (Pointer h.to ∷ Pointer h.from ∷ Word h.size ∷ []) (Pointer h.into) t 60 8)
+    (sym (e ∙ ap (guarded_code h.size h.to h.into) (c.deref-5.ensures.value ∙ act)))
     (strncpy_acts basis refl c.requires.map (λ m m' keep good. c.entries_are_local.ensures a.map.now m m'
     c.requires.map
-    keep good) a.to a.from a.size a.into a.line t c.requires.to c.requires.from c.requires.size c.requires.into
+    keep good) h.to h.from h.size h.into a.line t c.requires.to c.requires.from c.requires.size c.requires.into
     c.requires.distinct c.requires.others scanned judging q.moving q.filling c.in_ok-scanned.ensures
     c.in_ok-judging.ensures q.moves q.fills))
     c.guarded.ensures

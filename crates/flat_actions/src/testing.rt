@@ -3,8 +3,9 @@
 ghost use Rattle.std.specs.Prelude.{◌≡◌, ◌≤◌, ◌^◌, IfOk};
 ghost use Rattle.flat_routines.specs.Registers.{AreBelow};
 ghost use Rattle.flat_routines.specs.Metadata.{held_registers};
-ghost use Rattle.object_routines.specs.AccessRoutines.Testing.{IsBelow, IsSpatialRoutine, IsTemporalRoutine, spatial_code};
-ghost use Rattle.object_routines.specs.AccessRoutines.Testing.{temporal_code};
+ghost use Rattle.flat_actions.specs.Judgement.Testing.{IsBelow, IsSpatialRoutine, IsTemporalRoutine};
+ghost use Rattle.flat_actions.specs.Judgement.Code.{spatial_code};
+ghost use Rattle.flat_actions.specs.Judgement.Code.{temporal_code};
 
 use flat_meaning::{FlatInstruction, RightOperand};
 use flat_routines::Held;
@@ -46,7 +47,9 @@ pub fn temporal_check(
     temporal_instructions(alloc, pointer, line, scratch)
 }
 
-pub(crate) fn spatial_instructions(
+/// The instructions of that test of the bounds, for routines that are proved over them. The only refusal is that memory
+/// fails.
+pub fn spatial_instructions(
     alloc: Global,
     pointer: Held,
     size: RightOperand,
@@ -88,7 +91,9 @@ pub(crate) fn spatial_instructions(
     Vec::from_slice(alloc, &code)
 }
 
-pub(crate) fn temporal_instructions(
+/// The instructions of that test of the life, for routines that are proved over them. The only refusal is that memory
+/// fails.
+pub fn temporal_instructions(
     alloc: Global,
     pointer: Held,
     line: Line,

@@ -1,10 +1,6 @@
 -- The two tests of an access in flat code, one by one: the bounds, and the life of the object.
-use Rattle.std.specs.Prelude.{◌≡◌, ℕ, ◌<◌, ◌≤◌, Bool, true, List, [], ◌∷◌}
-use Rattle.sb_base.specs.declared.ending.Ending.TheVariants.{Spatial, Temporal}
+use Rattle.std.specs.Prelude.{◌≡◌, ℕ, ◌<◌, ◌≤◌, Bool, true, List}
 use Rattle.addr_map.specs.Places.{AreMapped}
-use Rattle.rv_isa.specs.declared.instruction.BranchOp.TheVariants.{Beq, Bgeu}
-use Rattle.rv_isa.specs.declared.instruction.RegOp.TheVariants.{Sub}
-use Rattle.rv_isa.specs.declared.instruction.LoadOp.TheVariants.{Ld}
 use Rattle.obj_memory.specs.declared.value.Value.{Value}
 use Rattle.obj_memory.specs.Objects.{Objects}
 use Rattle.obj_memory.specs.Sound.{IsSoundTag}
@@ -13,7 +9,6 @@ use Rattle.source_meaning.specs.Judging.{is_within, test_bounds, test_life}
 use Rattle.flat_meaning.specs.declared.instruction.RightOperand.{RightOperand}
 use Rattle.flat_meaning.specs.declared.instruction.RightOperand.TheVariants.{Register, Number}
 use Rattle.flat_meaning.specs.declared.instruction.FlatInstruction.{FlatInstruction}
-use Rattle.flat_meaning.specs.declared.instruction.FlatInstruction.TheVariants.{Operate, Load, Branch, End}
 use Rattle.flat_meaning.specs.State.{State}
 use Rattle.flat_meaning.specs.Meaning.{right_value}
 use Rattle.flat_routines.specs.declared.registers.Held.{Held}
@@ -47,17 +42,6 @@ IsTested (Paused x) t s o = ⊥
 
 -- ---- the bounds
 
-abbrev pub spatial_code : Held → (size : RightOperand) → (line scratch : ℕ) → List FlatInstruction
-spatial_code h size line t =
-    Branch Bgeu h.value (Register h.tag.base) 1
-    ∷ End (Spatial line)
-    ∷ Branch Bgeu h.tag.bound (Register h.value) 1
-    ∷ End (Spatial line)
-    ∷ Operate Sub t h.tag.bound (Register h.value)
-    ∷ Branch Bgeu t size 1
-    ∷ End (Spatial line)
-    ∷ []
-
 -- Of whatever objects, in functions of the program and of the runtime: within 5 steps the bounds are tested, of an
 -- access of at least one byte.
 abbrev pub IsSpatialRoutine : Held → (size : RightOperand) → (line scratch : ℕ) → List FlatInstruction → Type 0
@@ -68,10 +52,6 @@ IsSpatialRoutine h size line t r =
     (λ s. IsTested (test_bounds n v line x) t s)
 
 -- ---- the life of the object
-
-abbrev pub temporal_code : Held → (line scratch : ℕ) → List FlatInstruction
-temporal_code h line t =
-    Load Ld t h.tag.lock 0 ∷ Branch Beq t (Register h.tag.key) 1 ∷ End (Temporal line) ∷ []
 
 -- Within 3 steps, where some bytes from some address on are within the bounds of the tag, as those are whose bounds
 -- were tested: else it need not be that of an object, and there is no lock word to look at.

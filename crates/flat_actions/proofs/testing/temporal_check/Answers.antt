@@ -1,8 +1,8 @@
 use Rattle.std.proofs.Common.{sym, subst}
 use Rattle.std.proofs.lemmas.Result.{IfOk-weaker}
-use Rattle.object_routines.specs.AccessRoutines.Testing.{IsTemporalRoutine}
-use Rattle.object_routines.proofs.AccessRoutines.Tests.{temporal_does}
-use Rattle.object_routines.proofs.accesses.testing.temporal_check.Goals as goal
+use Rattle.flat_actions.specs.Judgement.Testing.{IsTemporalRoutine}
+use Rattle.flat_actions.proofs.Judgement.Tests.{temporal_does}
+use Rattle.flat_actions.proofs.testing.temporal_check.Goals as goal
 
 pub returns : goal.returns
 returns c = IfOk-weaker _ _ _

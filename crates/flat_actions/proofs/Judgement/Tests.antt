@@ -42,8 +42,10 @@ use Rattle.shadow_space.proofs.Entries.{context_of}
 use Rattle.flat_routines.proofs.Spaces.Quiet.{space_allowed, shows_itself}
 use Rattle.lock_space.proofs.Spaces.{locks_laid_out}
 use Rattle.flat_actions.specs.Judgement.Judging.{IsSameBut}
-use Rattle.object_routines.specs.AccessRoutines.Testing.{IsToTest, IsBelow, IsTested, IsSpatialRoutine, spatial_code}
-use Rattle.object_routines.specs.AccessRoutines.Testing.{IsTemporalRoutine, temporal_code}
+use Rattle.flat_actions.specs.Judgement.Testing.{IsToTest, IsBelow, IsTested, IsSpatialRoutine}
+use Rattle.flat_actions.specs.Judgement.Code.{spatial_code}
+use Rattle.flat_actions.specs.Judgement.Testing.{IsTemporalRoutine}
+use Rattle.flat_actions.specs.Judgement.Code.{temporal_code}
 
 -- ---- what the numbers of an entry say of its tag
 

@@ -1,24 +1,11 @@
 -- Reading the directives of a format byte by byte.
-use Rattle.std.specs.Prelude.{ℕ, ◌==◌, if◌then◌else◌, List, [], ◌∷◌, ◌++◌, Option, Some, None}
+use Rattle.std.specs.Prelude.{ℕ, List, [], ◌∷◌, ◌++◌, Option, Some, None}
 use Rattle.c_tree.specs.declared.format.Directive.{Directive}
-use Rattle.c_tree.specs.declared.format.Piece.{Piece}
-use Rattle.c_tree.specs.declared.format.Piece.TheVariants as piece
-use Rattle.c_tree.specs.Format.{piece_of, long_piece_of}
-use Rattle.c_call_rules.specs.declared.format.Place.{Place}
-use Rattle.c_call_rules.specs.declared.format.Place.TheVariants as place
-use Rattle.c_call_rules.specs.declared.format.Next.{Next}
-use Rattle.c_call_rules.specs.declared.format.Next.TheVariants as next
-
-abbrev pub behind_piece : Option Piece → Next
-behind_piece None = next.Wrong
-behind_piece (Some (piece.Byte b)) = next.On place.Text None
-behind_piece (Some (piece.Directive d)) = next.On place.Text (Some d)
-
-abbrev pub next_in : Place → ℕ → Next
-next_in place.Text b =
-    if b == 0 then next.End else if b == 37 then next.On place.Percent None else next.On place.Text None
-next_in place.Percent b = if b == 108 then next.On place.Long None else behind_piece (piece_of b)
-next_in place.Long b = behind_piece (long_piece_of b)
+use Rattle.c_tree.specs.declared.format.Next.{Next}
+use Rattle.c_tree.specs.declared.format.Next.TheVariants as next
+use Rattle.c_tree.specs.declared.format.Place.{Place}
+use Rattle.c_tree.specs.declared.format.Place.TheVariants as place
+use Rattle.c_tree.specs.Scanning.{next_in}
 
 abbrev pub with_directive : List Directive → Option Directive → List Directive
 with_directive found None = found

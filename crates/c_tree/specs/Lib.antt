@@ -4,6 +4,7 @@ pub mod Members
 pub mod Arrays
 pub mod Kinds
 pub mod Format
+pub mod Scanning
 pub mod Tree
 pub mod Statements
 pub mod Programs

@@ -1,40 +1,19 @@
 //! Arguments of `printf` (C99 7.19.6.1).
 
 ghost use Rattle.std.specs.Prelude.{◌≡◌, map, option_map};
-ghost use Rattle.c_tree.specs.Format.{long_piece_of, piece_of, pieces};
+ghost use Rattle.c_tree.specs.Format.{pieces};
 ghost use Rattle.c_tree.specs.declared.format.Directive.TheVariants as directive;
 ghost use Rattle.c_tree.specs.Kinds.{fits_directive};
 ghost use Rattle.c_tree.specs.Tree.{expressions_in, kinds_of};
 ghost use Rattle.c_tree.specs.Valid.{are_printed};
 ghost use Rattle.c_tree.specs.View.{expression_of};
-ghost use Rattle.program_validity.specs.declared.format.Place.TheVariants as place;
-ghost use Rattle.program_validity.specs.Printing.{are_none, behind_directive, behind_piece, ended, fit, next_in};
+ghost use Rattle.c_tree.specs.declared.format.Place.TheVariants as place;
+ghost use Rattle.program_validity.specs.Printing.{are_none, behind_directive, ended, fit};
 
 use crate::kind::{is_integer, is_of_type, is_pointer, size_of};
-use c_tree::{Directive, Expression, Kind, Piece};
+use c_tree::format::{Next, Place, next_in};
+use c_tree::{Directive, Expression, Kind};
 use obj_memory::IntType;
-
-/// Where a format is read.
-#[derive(Clone, Copy)]
-pub enum Place {
-    /// In its text.
-    Text,
-    /// Behind a `%`.
-    Percent,
-    /// Behind `%l`.
-    Long,
-}
-
-/// What comes behind a byte.
-#[derive(Clone, Copy)]
-pub enum Next {
-    /// Nothing: the format ends.
-    End,
-    /// There is no such directive.
-    Wrong,
-    /// The next byte, at this place, behind this directive, if one ends here.
-    On(Place, Option<Directive>),
-}
 
 fn is_number(kind: Kind) -> bool
     ensures { result ≡ fits_directive directive.Int kind }
@@ -52,74 +31,6 @@ fn fits_directive(directive: Directive, kind: Kind) -> bool
         }
         Directive::Long | Directive::UnsignedLong => is_integer(kind) && size_of(kind) == 8,
         Directive::String => is_pointer(kind),
-    }
-}
-
-// What stands for a conversion specifier behind `%`.
-fn piece_of(byte: u8) -> Option<Piece>
-    ensures { result ≡ piece_of byte }
-{
-    if byte == 37 {
-        Some(Piece::Byte(37))
-    } else if byte == 99 {
-        Some(Piece::Directive(Directive::Character))
-    } else if byte == 100 {
-        Some(Piece::Directive(Directive::Int))
-    } else if byte == 115 {
-        Some(Piece::Directive(Directive::String))
-    } else if byte == 117 {
-        Some(Piece::Directive(Directive::UnsignedInt))
-    } else if byte == 120 {
-        Some(Piece::Directive(Directive::Hexadecimal))
-    } else {
-        None
-    }
-}
-
-// The same behind `%l`.
-fn long_piece_of(byte: u8) -> Option<Piece>
-    ensures { result ≡ long_piece_of byte }
-{
-    if byte == 100 {
-        Some(Piece::Directive(Directive::Long))
-    } else if byte == 117 {
-        Some(Piece::Directive(Directive::UnsignedLong))
-    } else {
-        None
-    }
-}
-
-fn behind_piece(piece: Option<Piece>) -> Next
-    ensures { result ≡ behind_piece piece }
-{
-    match piece {
-        None => Next::Wrong,
-        Some(Piece::Byte(_)) => Next::On(Place::Text, None),
-        Some(Piece::Directive(directive)) => Next::On(Place::Text, Some(directive)),
-    }
-}
-
-fn next_in(place: Place, byte: u8) -> Next
-    ensures { result ≡ next_in place byte }
-{
-    match place {
-        Place::Text => {
-            if byte == 0 {
-                Next::End
-            } else if byte == 37 {
-                Next::On(Place::Percent, None)
-            } else {
-                Next::On(Place::Text, None)
-            }
-        }
-        Place::Percent => {
-            if byte == 108 {
-                Next::On(Place::Long, None)
-            } else {
-                behind_piece(piece_of(byte))
-            }
-        }
-        Place::Long => behind_piece(long_piece_of(byte)),
     }
 }
 

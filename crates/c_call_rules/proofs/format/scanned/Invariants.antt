@@ -1,5 +1,5 @@
 use Rattle.std.proofs.Common.{◌≡◌, drop, []}
-use Rattle.c_call_rules.specs.declared.format.Place.TheVariants.{Text}
+use Rattle.c_tree.specs.declared.format.Place.TheVariants.{Text}
 use Rattle.c_call_rules.specs.Scanning.{scanned}
 use Rattle.c_call_rules.proofs.format.scanned.Given as goal
 

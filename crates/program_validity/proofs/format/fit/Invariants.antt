@@ -1,7 +1,7 @@
 use Rattle.std.proofs.Common.{◌≡◌, drop, map}
 use Rattle.c_tree.specs.Tree.{expressions_in, kinds_of}
 use Rattle.c_tree.specs.View.{expression_of}
-use Rattle.program_validity.specs.declared.format.Place.TheVariants.{Text}
+use Rattle.c_tree.specs.declared.format.Place.TheVariants.{Text}
 use Rattle.program_validity.specs.Printing.{fit}
 use Rattle.program_validity.proofs.format.fit.Given as goal
 

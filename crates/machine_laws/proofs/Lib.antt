@@ -2,5 +2,5 @@ pub mod View
 pub mod Blocks
 pub mod Calls
 pub mod Following
-pub mod Layout
+pub mod CodeLayout
 pub mod Segments

@@ -21,20 +21,20 @@ pub record IsReady (p : FlatProgram) (plans : List FunctionPlan) : Type 0 where
   pub bodies : (f : ℕ) (g : FlatFunction) → function_in p f ≡ Some g → length g.body < 2 ^ 32
 
 -- the functions below a number are generated
-pub record AreBelow (m : MapSizes) (p : FlatProgram) (plans : List FunctionPlan) (number : ℕ) (rows : List Instr)
+pub record AreBelow (map : MapSizes) (p : FlatProgram) (plans : List FunctionPlan) (number : ℕ) (rows : List Instr)
     (runtime compiled : List ℕ) : Type 0 where
-  pub rows_are : rows ≡ rows_below m p plans number
-  pub runtime_is : runtime ≡ words_below m p plans true number
-  pub compiled_is : compiled ≡ words_below m p plans false number
-  pub assemblable : (f : ℕ) → f < number → IsAssemblable (items_of m p plans f)
+  pub rows_are : rows ≡ rows_below map p plans number
+  pub runtime_is : runtime ≡ words_below map p plans true number
+  pub compiled_is : compiled ≡ words_below map p plans false number
+  pub assemblable : (f : ℕ) → f < number → IsAssemblable (items_of map p plans f)
 
 -- the code of a program
-pub record IsGenerated (m : MapSizes) (p : FlatProgram) (plans : List FunctionPlan) (start : ℕ) (table compiled : List
+pub record IsGenerated (map : MapSizes) (p : FlatProgram) (plans : List FunctionPlan) (start : ℕ) (table compiled : List
     ℕ) : Type 0 where
   pub start_is : start ≡ start_address p
-  pub table_is : table ≡ table_words m p plans
-  pub compiled_is : compiled ≡ code_words m p plans
-  pub fits : FitsSegments m p plans
+  pub table_is : table ≡ table_words map p plans
+  pub compiled_is : compiled ≡ code_words map p plans
+  pub fits : FitsSegments map p plans
 
 -- when each answer comes that gives no code
 abbrev pub IsCause : MapSizes → FlatProgram → List FunctionPlan → GenerateError → Type 0

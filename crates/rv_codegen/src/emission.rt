@@ -9,5 +9,7 @@ mod local;
 pub mod table;
 mod values;
 
-pub use crate::emission::block::{left_register, put_block, put_entry, right_register};
+pub use crate::emission::block::{
+    PlacedInstruction, PlannedFunction, left_register, put_block, put_entry, right_register,
+};
 pub use crate::emission::table::{put_row, put_start};

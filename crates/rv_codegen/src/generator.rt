@@ -1,5 +1,6 @@
 //! The generator.
 
+ghost use Rattle.std.specs.Prelude as prelude;
 ghost use Rattle.std.specs.Prelude.{◌≡◌, ◌+◌, ◌*◌, ◌<◌, ◌≤◌, ◌^◌, ◌++◌, length, map};
 ghost use Rattle.std.specs.Prelude.{MatchResult, OnOk, IfOk};
 ghost use Rattle.flat_meaning.specs.Calls.{function_in};
@@ -26,7 +27,7 @@ use std::alloc::{AllocError, Global};
 // The words of a function.
 fn function_words(
     alloc: Global,
-    sizes: &AddrMap,
+    map: &AddrMap,
     program: &FlatProgram,
     plans: &[FunctionPlan],
     number: u32,
@@ -34,11 +35,11 @@ fn function_words(
     requires ready { IsReady program.now plans.now }
     requires function { number < length program.now.functions }
     ensures { MatchResult result
-        (λ words. (words.items ≡ function_words sizes.now program.now plans.now number)
-        × IsAssemblable (items_of sizes.now program.now plans.now number))
-        (IsCause sizes.now program.now plans.now) }
+        (λ words. (words.items ≡ function_words map.now program.now plans.now number)
+        × IsAssemblable (items_of map.now program.now plans.now number))
+        (IsCause map.now program.now plans.now) }
 {
-    let list = function_items(alloc, sizes, program, plans, number)?;
+    let list = function_items(alloc, map, program, plans, number)?;
     let items = list.as_slice();
     let able = is_assemblable(alloc, items)?;
     lists_can_be_assembled();
@@ -102,21 +103,21 @@ fn is_of_runtime(function: &FlatFunction) -> bool
 fn put_function(
     segments: &mut Segments,
     alloc: Global,
-    sizes: &AddrMap,
+    map: &AddrMap,
     program: &FlatProgram,
     plans: &[FunctionPlan],
     number: u32,
 ) -> Result<(), GenerateError>
     requires ready { IsReady program.now plans.now }
     requires function { number < length program.now.functions }
-    requires below { AreBelow sizes.now program.now plans.now number segments.old.rows.items
+    requires below { AreBelow map.now program.now plans.now number segments.old.rows.items
         segments.old.runtime.items segments.old.compiled.items }
     ensures { MatchResult result
-        (λ _. AreBelow sizes.now program.now plans.now (number + 1) segments.new.rows.items
+        (λ _. AreBelow map.now program.now plans.now (number + 1) segments.new.rows.items
         segments.new.runtime.items segments.new.compiled.items)
-        (IsCause sizes.now program.now plans.now) }
+        (IsCause map.now program.now plans.now) }
 {
-    let code = function_words(alloc, sizes, program, plans, number)?;
+    let code = function_words(alloc, map, program, plans, number)?;
     let words = code.as_slice();
     let functions = program.functions.as_slice();
     let runtime = is_of_runtime(&functions[number as usize]);
@@ -131,15 +132,15 @@ fn put_function(
 // All functions.
 fn segments_of(
     alloc: Global,
-    sizes: &AddrMap,
+    map: &AddrMap,
     program: &FlatProgram,
     plans: &[FunctionPlan],
 ) -> Result<Segments, GenerateError>
     requires ready { IsReady program.now plans.now }
     ensures { MatchResult result
-        (λ s. AreBelow sizes.now program.now plans.now (length program.now.functions) s.rows.items s.runtime.items
+        (λ s. AreBelow map.now program.now plans.now (length program.now.functions) s.rows.items s.runtime.items
         s.compiled.items)
-        (IsCause sizes.now program.now plans.now) }
+        (IsCause map.now program.now plans.now) }
 {
     let mut segments = Segments {
         rows: Vec::new(alloc),
@@ -147,7 +148,7 @@ fn segments_of(
         compiled: Vec::new(alloc),
     };
     for number in 0..program.functions.as_slice().len() as u32 {
-        put_function(&mut segments, alloc, sizes, program, plans, number)?;
+        put_function(&mut segments, alloc, map, program, plans, number)?;
     }
     Ok(segments)
 }
@@ -165,15 +166,16 @@ fn put_words(words: &mut Vec<u32>, instrs: &[Instr]) -> Result<(), AllocError>
 // The words of the jump table, the start and the functions of the runtime.
 fn table_of(
     alloc: Global,
-    sizes: &AddrMap,
+    map: &AddrMap,
     program: &FlatProgram,
     rows: &mut Vec<Instr>,
     runtime: &[u32],
 ) -> Result<Vec<u32>, AllocError>
     ensures { IfOk result
-        (λ table. table.items ≡ map word_of (rows.old.items ++ start_block sizes.now program.now) ++ runtime.now) }
+        (λ table. table.items
+        ≡ prelude.map word_of (rows.old.items ++ start_block map.now program.now) ++ runtime.now) }
 {
-    put_start(rows, sizes, program)?;
+    put_start(rows, map, program)?;
     let mut table = Vec::new(alloc);
     put_words(&mut table, rows)?;
     table.extend_from_slice(runtime)?;
@@ -186,25 +188,25 @@ fn table_of(
 /// whose longest forms have 2^28 words or more; `Memory` where there is none.
 pub fn generate(
     alloc: Global,
-    sizes: &AddrMap,
+    map: &AddrMap,
     program: &FlatProgram,
     plans: &[FunctionPlan],
 ) -> Result<Code, GenerateError>
     requires { IsReady program.now plans.now }
     ensures { MatchResult result
-        (λ c. IsGenerated sizes.now program.now plans.now c.start c.table.items c.compiled.items)
-        (IsCause sizes.now program.now plans.now) }
+        (λ c. IsGenerated map.now program.now plans.now c.start c.table.items c.compiled.items)
+        (IsCause map.now program.now plans.now) }
 {
     let Segments {
         mut rows,
         runtime,
         compiled,
-    } = segments_of(alloc, sizes, program, plans)?;
+    } = segments_of(alloc, map, program, plans)?;
     let code_bytes = 4 * compiled.len() as u128;
     if code_bytes > 0x80_0000 {
         return Err(GenerateError::TooLarge(code_bytes));
     }
-    let table = table_of(alloc, sizes, program, &mut rows, &runtime)?;
+    let table = table_of(alloc, map, program, &mut rows, &runtime)?;
     let table_bytes = 4 * table.len() as u128;
     if table_bytes > 0xf_0000 {
         return Err(GenerateError::RuntimeTooLarge(table_bytes));

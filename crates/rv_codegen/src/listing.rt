@@ -8,7 +8,9 @@ ghost use Rattle.reg_plan.specs.Saves.Saves.{is_call, saved_at};
 ghost use Rattle.machine_laws.specs.Following.Code.{keeping};
 ghost use Rattle.machine_laws.specs.Layout.Lists.{plain, label_for, tail_of, items_at, items_of};
 
-use crate::emission::{left_register, put_block, put_entry, right_register};
+use crate::emission::{
+    PlacedInstruction, PlannedFunction, left_register, put_block, put_entry, right_register,
+};
 use addr_map::AddrMap;
 use flat_meaning::{FlatInstruction, FlatProgram};
 use reg_plan::FunctionPlan;
@@ -105,22 +107,21 @@ pub(crate) fn label_for(count: u32, place: u64) -> u32
     }
 }
 
-// Puts the jump or the branch behind the block of an instruction.
+// Puts the jump or the branch behind the block of an instruction of a function with so many.
 fn put_tail(
     list: &mut Listing,
-    program: &FlatProgram,
-    plans: &[FunctionPlan],
-    number: u32,
+    planned: &PlannedFunction,
     count: u32,
-    place: u32,
-    instruction: &FlatInstruction,
+    placed: &PlacedInstruction,
 ) -> Result<(), AllocError>
-    requires function { number < length program.now.functions }
-    requires plan { number < length plans.now }
-    ensures { OnOk result
-        (list.new ≡ list.old ++ tail_of (keeping program.now plans.now number) count place instruction.now) }
+    requires function { planned.now.number < length planned.now.program.now.functions }
+    requires plan { planned.now.number < length planned.now.plans.now }
+    ensures { OnOk result (list.new ≡ list.old
+        ++ tail_of (keeping planned.now.program.now planned.now.plans.now planned.now.number) count placed.now.place
+        placed.now.instruction.now) }
 {
-    match *instruction {
+    let place = placed.place;
+    match *placed.instruction {
         FlatInstruction::Branch {
             op,
             left,
@@ -128,8 +129,8 @@ fn put_tail(
             past,
         } => list.put(Item::Branch {
             op,
-            rs1: left_register(program, plans, number, left),
-            rs2: right_register(program, plans, number, right),
+            rs1: left_register(planned.program, planned.plans, planned.number, left),
+            rs2: right_register(planned.program, planned.plans, planned.number, right),
             to: Label::new(label_for(count, u64::from(place) + 1 + u64::from(past))),
         }),
         FlatInstruction::JumpForward { past } => {
@@ -142,45 +143,34 @@ fn put_tail(
     }
 }
 
-// Puts the items of an instruction.
+// Puts the items of an instruction of a function with so many.
 fn put_items(
     list: &mut Listing,
     alloc: Global,
-    sizes: &AddrMap,
-    program: &FlatProgram,
-    plans: &[FunctionPlan],
-    number: u32,
+    map: &AddrMap,
+    planned: &PlannedFunction,
     count: u32,
-    place: u32,
-    instruction: &FlatInstruction,
-    saved: &[u64],
+    placed: &PlacedInstruction,
 ) -> Result<(), AllocError>
-    requires function { number < length program.now.functions }
-    requires plan { number < length plans.now }
-    requires saved { is_call instruction.now ≡ true → saved.now ≡ saved_at program.now plans.now number place }
-    ensures { OnOk result
-        (list.new ≡ list.old ++ items_at sizes.now program.now plans.now number count place instruction.now) }
+    requires function { planned.now.number < length planned.now.program.now.functions }
+    requires plan { planned.now.number < length planned.now.plans.now }
+    requires saved { is_call placed.now.instruction.now ≡ true → placed.now.saved.now
+        ≡ saved_at planned.now.program.now planned.now.plans.now planned.now.number placed.now.place }
+    ensures { OnOk result (list.new ≡ list.old
+        ++ items_at map.now planned.now.program.now planned.now.plans.now planned.now.number count placed.now.place
+        placed.now.instruction.now) }
 {
     let mut block = Vec::new(alloc);
-    put_block(
-        &mut block,
-        sizes,
-        program,
-        plans,
-        number,
-        u64::from(place),
-        instruction,
-        saved,
-    )?;
-    list.put_label(place)?;
+    put_block(&mut block, map, planned, placed)?;
+    list.put_label(placed.place)?;
     list.put_plain(&block)?;
-    put_tail(list, program, plans, number, count, place, instruction)
+    put_tail(list, planned, count, placed)
 }
 
 /// The labelled list of a function.
 pub(crate) fn function_items(
     alloc: Global,
-    sizes: &AddrMap,
+    map: &AddrMap,
     program: &FlatProgram,
     plans: &[FunctionPlan],
     number: u32,
@@ -188,8 +178,13 @@ pub(crate) fn function_items(
     requires function { number < length program.now.functions }
     requires plan { number < length plans.now }
     requires small { length (body_of (function_in program.now number)) < 2 ^ 32 }
-    ensures { IfOk result (λ list. list ≡ items_of sizes.now program.now plans.now number) }
+    ensures { IfOk result (λ list. list ≡ items_of map.now program.now plans.now number) }
 {
+    let planned = PlannedFunction {
+        program,
+        plans,
+        number,
+    };
     let body = program.functions.as_slice()[number as usize]
         .body
         .as_slice();
@@ -200,20 +195,12 @@ pub(crate) fn function_items(
     let mut list = Listing::new(alloc);
     list.put_plain(&entry)?;
     for place in 0..count {
-        let instruction = &body[place as usize];
-        let saved = saves.at(u64::from(place));
-        put_items(
-            &mut list,
-            alloc,
-            sizes,
-            program,
-            plans,
-            number,
-            count,
+        let placed = PlacedInstruction {
             place,
-            instruction,
-            saved,
-        )?;
+            instruction: &body[place as usize],
+            saved: saves.at(u64::from(place)),
+        };
+        put_items(&mut list, alloc, map, &planned, count, &placed)?;
     }
     list.put_label(count)?;
     list.put_instr(Instr::Ebreak)?;

@@ -35,7 +35,7 @@ use Rattle.machine_laws.specs.Following.Matching.{object_bytes, space_bytes}
 use Rattle.elf_image.specs.Layout.{content_of}
 use Rattle.elf_image.proofs.Pages.{length-image_bytes}
 use Rattle.machine_laws.specs.Segments.Segments.{table_words, code_words}
-use Rattle.machine_laws.proofs.Layout.Bytes.{bytes_length}
+use Rattle.machine_laws.proofs.CodeLayout.Bytes.{bytes_length}
 use Rattle.rv_codegen.specs.MachineImages.Image.{written, IsImage, ImageFollows, filled, data_memory}
 use Rattle.image_laws.specs.Images.Images.{HaveFewParameters, sizes_of, IsChecked, DoesWhatIsMeant}
 use Rattle.image_laws.proofs.Images.Instructions.{IsFit}

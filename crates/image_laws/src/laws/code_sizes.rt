@@ -17,8 +17,8 @@ ghost use Rattle.image_laws.specs.CodeSizes.Sizes.{HandsOver};
 /// The code of a function has at most the words of its instructions, each by its kind and its numbers, six for each
 /// value that it takes, and two of its own.
 pub fn functions_have_few_words()
-    ensures { (m : MapSizes) (p : FlatProgram) (plans : List FunctionPlan) (f : ℕ) (g : FlatFunction)
-        → AreAccepted p plans → function_in p f ≡ Some g → length (function_words m p plans f) ≤ most_words p g }
+    ensures { (map : MapSizes) (p : FlatProgram) (plans : List FunctionPlan) (f : ℕ) (g : FlatFunction)
+        → AreAccepted p plans → function_in p f ≡ Some g → length (function_words map p plans f) ≤ most_words p g }
 {}
 
 /// An instruction has at most eighteen words, and six more for each value that it hands over, gets back or returns, 84
@@ -30,17 +30,17 @@ pub fn instructions_have_few_words()
 
 /// The compiled code has at most the bytes of all of them.
 pub fn programs_have_few_bytes()
-    ensures { (m : MapSizes) (p : FlatProgram) (plans : List FunctionPlan) → AreAccepted p plans
-        → code_bytes m p plans ≤ 4 * most_below p (length p.functions) }
+    ensures { (map : MapSizes) (p : FlatProgram) (plans : List FunctionPlan) → AreAccepted p plans
+        → code_bytes map p plans ≤ 4 * most_below p (length p.functions) }
 {}
 
 /// Code is not too large where calls hand over and give back at most so many values, no report takes more words than
 /// such a call, and the instructions and functions are so few: with five values, and so reports of at most 72 bytes,
 /// 12,000 instructions in 4,000 functions.
 pub fn short_programs_are_not_too_large()
-    ensures { (m : MapSizes) (p : FlatProgram) (plans : List FunctionPlan) (values bytes : ℕ) → AreAccepted p plans
+    ensures { (map : MapSizes) (p : FlatProgram) (plans : List FunctionPlan) (values bytes : ℕ) → AreAccepted p plans
         → HandsOver p values
         → 4 * ((102 + 12 * values) * instructions_below p (length p.functions)
         + (4 + 6 * values) * length p.functions) ≤ code_size
-        → IsCause m p plans (TooLarge bytes) → ⊥ }
+        → IsCause map p plans (TooLarge bytes) → ⊥ }
 {}

@@ -55,12 +55,12 @@ pub fn expansions_are_startable()
 /// What stands before compiled code has room there: the jump table of at most 4096 functions, the start, and the
 /// function with which a run begins, under plans that give out registers.
 pub fn runtimes_have_room()
-    ensures { (m : MapSizes) (r : Tac) → AreAllSmall m r → length r.functions ≤ 4096
-        → ArePlannable (program_of operators m r homes) → IsEncodable (program_of operators m r homes)
+    ensures { (map : MapSizes) (r : Tac) → AreAllSmall map r → length r.functions ≤ 4096
+        → ArePlannable (program_of operators map r homes) → IsEncodable (program_of operators map r homes)
         → (plans : List FunctionPlan)
-        → ArePlanned (program_of operators m r homes) plans (length (program_of operators m r homes).functions)
-        (IsPlanOfRegisters (program_of operators m r homes))
-        → functions_begin + table_bytes m (program_of operators m r homes) plans ≤ code_begin }
+        → ArePlanned (program_of operators map r homes) plans (length (program_of operators map r homes).functions)
+        (IsPlanOfRegisters (program_of operators map r homes))
+        → functions_begin + table_bytes map (program_of operators map r homes) plans ≤ code_begin }
 {}
 
 /// An image of a valid program of integers, made of its flat code under accepted plans, with no data at the start, does

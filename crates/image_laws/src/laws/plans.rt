@@ -19,6 +19,6 @@ ghost use Rattle.reg_plan.specs.Planned.{ArePlannable};
 /// record where the value is needed; values that are needed together have different homes; and where a function is
 /// entered none but its parameters are needed.
 pub fn expansions_are_plannable()
-    ensures { (p : Program) (t r : Tac) (m : MapSizes) → is_valid_program p ≡ true → is_integer_program p ≡ true
-        → IsLowered p t → Inserted t r → AreAllSmall m r → ArePlannable (program_of operators m r homes) }
+    ensures { (p : Program) (t r : Tac) (map : MapSizes) → is_valid_program p ≡ true → is_integer_program p ≡ true
+        → IsLowered p t → Inserted t r → AreAllSmall map r → ArePlannable (program_of operators map r homes) }
 {}

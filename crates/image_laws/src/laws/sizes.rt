@@ -27,11 +27,11 @@ use crate::laws::lowering::lowered_integers_are_integer_code;
 /// plan it has: what its text lowers to weighs no more than it allows, the checks are put in, its numbers fit, it
 /// has at most 4096 functions, and its budget `calls` is at most 16 MiB.
 pub fn code_has_few_bytes_for_each_node()
-    ensures { (p : Program) (t : Tac) (r : Tac) (m : MapSizes) (plans : List FunctionPlan)
+    ensures { (p : Program) (t : Tac) (r : Tac) (map : MapSizes) (plans : List FunctionPlan)
         → is_valid_program p ≡ true → is_integer_program p ≡ true → IsLowered p t → IsWeighed p t → Inserted t r
-        → m.budgets.calls ≤ 16777216 → length p.functions ≤ 4096 → AreAllSmall m r
-        → AreAccepted (program_of operators m r homes) plans
-        → code_bytes m (program_of operators m r homes) plans ≤ 1024 * program_nodes p }
+        → map.budgets.calls ≤ 16777216 → length p.functions ≤ 4096 → AreAllSmall map r
+        → AreAccepted (program_of operators map r homes) plans
+        → code_bytes map (program_of operators map r homes) plans ≤ 1024 * program_nodes p }
 {
     programs_have_few_bytes();
     lowered_integers_are_integer_code();
@@ -39,11 +39,11 @@ pub fn code_has_few_bytes_for_each_node()
 
 /// So code is too large only of a text of more than 8192 nodes.
 pub fn code_of_few_nodes_is_not_too_large()
-    ensures { (p : Program) (t : Tac) (r : Tac) (m : MapSizes) (plans : List FunctionPlan) (bytes : ℕ)
+    ensures { (p : Program) (t : Tac) (r : Tac) (map : MapSizes) (plans : List FunctionPlan) (bytes : ℕ)
         → is_valid_program p ≡ true → is_integer_program p ≡ true → IsLowered p t → IsWeighed p t → Inserted t r
-        → m.budgets.calls ≤ 16777216 → length p.functions ≤ 4096 → AreAllSmall m r
-        → AreAccepted (program_of operators m r homes) plans
-        → IsCause m (program_of operators m r homes) plans (TooLarge bytes) → 8192 < program_nodes p }
+        → map.budgets.calls ≤ 16777216 → length p.functions ≤ 4096 → AreAllSmall map r
+        → AreAccepted (program_of operators map r homes) plans
+        → IsCause map (program_of operators map r homes) plans (TooLarge bytes) → 8192 < program_nodes p }
 {
     code_has_few_bytes_for_each_node();
 }

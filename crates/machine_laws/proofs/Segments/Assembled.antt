@@ -19,9 +19,10 @@ use Rattle.reg_plan.specs.declared.plan.FunctionPlan.{FunctionPlan}
 use Rattle.machine_laws.specs.Calls.Calls.{Keeping, entry_block}
 use Rattle.machine_laws.specs.Following.Code.{keeping, block}
 use Rattle.machine_laws.specs.Layout.Lists.{plain, tail_of, items_from, items_of, AreWords32}
-use Rattle.machine_laws.proofs.Layout.Table.{AllOfTable, HasFields, entry_fits, keeping_fits, block_fits, used_field}
-use Rattle.machine_laws.proofs.Layout.Table.{used_right_field}
-use Rattle.machine_laws.proofs.Layout.Placed.{branches_fit}
+use Rattle.machine_laws.proofs.CodeLayout.Table.{AllOfTable, HasFields, entry_fits, keeping_fits, block_fits}
+use Rattle.machine_laws.proofs.CodeLayout.Table.{used_field}
+use Rattle.machine_laws.proofs.CodeLayout.Table.{used_right_field}
+use Rattle.machine_laws.proofs.CodeLayout.Placed.{branches_fit}
 use Rattle.machine_laws.proofs.Segments.Small.{words_small, both_small}
 
 -- the registers and the instruction of an item fit their fields

@@ -4,7 +4,7 @@ use Rattle.std.proofs.Common.{refl, sym, ap, ◌∙◌, length-append, append_as
 use Rattle.std.proofs.lemmas.List.{append-nil, length-map, map-append}
 use Rattle.byteorder.specs.Endian.{little_bytes}
 use Rattle.machine_laws.specs.Layout.Lists.{bytes_of, HasBytes}
-use Rattle.machine_laws.proofs.Layout.Bytes.{bytes_length}
+use Rattle.machine_laws.proofs.CodeLayout.Bytes.{bytes_length}
 
 -- a list stands in another from a place on
 pub record StandsIn {A : Type 0} (whole : List A) (at : ℕ) (part : List A) : Type 0 where

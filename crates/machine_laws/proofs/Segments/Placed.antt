@@ -21,8 +21,8 @@ use Rattle.machine_laws.specs.Calls.Calls.{row}
 use Rattle.machine_laws.specs.Following.Start.{layout_of, start_block}
 use Rattle.machine_laws.proofs.Following.Sound.{get_below}
 use Rattle.machine_laws.specs.Layout.Lists.{bytes_of, items_of, HasWordsAt, ArePlaced}
-use Rattle.machine_laws.proofs.Layout.Bytes.{bytes_length, stand_in_code, stand_in_table}
-use Rattle.machine_laws.proofs.Layout.Table.{AllOfTable}
+use Rattle.machine_laws.proofs.CodeLayout.Bytes.{bytes_length, stand_in_code, stand_in_table}
+use Rattle.machine_laws.proofs.CodeLayout.Table.{AllOfTable}
 use Rattle.machine_laws.specs.Segments.Segments.{is_of, function_words, words_below, start_address, begin_if, begin}
 use Rattle.machine_laws.specs.Segments.Segments.{code_words, table_words, FitsSegments}
 use Rattle.machine_laws.proofs.Segments.Parts.{StandsIn, stands_in_bytes}

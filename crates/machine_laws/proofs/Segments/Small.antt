@@ -25,7 +25,7 @@ use Rattle.rv_isa.specs.declared.instruction.Instr.TheVariants.{Ebreak}
 use Rattle.rv_isa.specs.Table.{branch_code, load_code, store_code, imm_code, shift_code, shift32_code, reg_code}
 use Rattle.rv_isa.specs.Table.{reg32_code, word_of, IsOfTable}
 use Rattle.machine_laws.specs.Layout.Lists.{AreWords32}
-use Rattle.machine_laws.proofs.Layout.Table.{AllOfTable}
+use Rattle.machine_laws.proofs.CodeLayout.Table.{AllOfTable}
 
 branch_small : (op : BranchOp) → branch_code op < 8
 unfolding branch_code

@@ -163,12 +163,12 @@ pub record BranchStands (l : Layout) (op : BranchOp) (a b from next to : ℕ) : 
 -- branches to the addresses of their targets, where these are of the function; before the first instruction the entry
 -- block, to which the function's entry of the jump table leads. What the functions of the program have lies in compiled
 -- code, what those of the runtime have lies before it.
-pub record IsLaid (m : MapSizes) (p : FlatProgram) (plans : List FunctionPlan) (l : Layout)
+pub record IsLaid (map : MapSizes) (p : FlatProgram) (plans : List FunctionPlan) (l : Layout)
     (address : (function pc : ℕ) → ℕ) (entry : (function : ℕ) → ℕ) : Type 0 where
   pub blocks : (f pc : ℕ) (i : FlatInstruction) → instruction_at p f pc ≡ Some i
-      → AllStand l (address f pc) (block m p plans f pc i)
+      → AllStand l (address f pc) (block map p plans f pc i)
   pub next : (f pc : ℕ) (i : FlatInstruction) → instruction_at p f pc ≡ Some i → GoesOn i
-      → address f (pc + 1) ≡ address f pc + 4 * length (block m p plans f pc i)
+      → address f (pc + 1) ≡ address f pc + 4 * length (block map p plans f pc i)
   pub forward : (f pc past : ℕ) → instruction_at p f pc ≡ Some (flat.JumpForward past)
       → JumpStands l (address f pc) (address f (pc + 1 + past))
   pub back : (f pc n : ℕ) → instruction_at p f pc ≡ Some (flat.JumpBack n)
@@ -176,7 +176,7 @@ pub record IsLaid (m : MapSizes) (p : FlatProgram) (plans : List FunctionPlan) (
   pub branch : (f pc : ℕ) (op : BranchOp) (y : ℕ) (z : RightOperand) (past : ℕ)
       → instruction_at p f pc ≡ Some (flat.Branch op y z past) → BranchStands l op
       (used ((keeping p plans f).place y) left_scratch) (used_right (keeping p plans f).place z)
-      (address f pc + 4 * length (block m p plans f pc (flat.Branch op y z past))) (address f (pc + 1))
+      (address f pc + 4 * length (block map p plans f pc (flat.Branch op y z past))) (address f (pc + 1))
       (address f (pc + 1 + past))
   pub entries : (f : ℕ) (g : FlatFunction) → function_in p f ≡ Some g
       → AllStand l (entry f) (entry_block (keeping p plans f) g.parameters)
@@ -190,10 +190,10 @@ pub record IsLaid (m : MapSizes) (p : FlatProgram) (plans : List FunctionPlan) (
   pub of_code : (f pc : ℕ) (i : FlatInstruction) → instruction_at p f pc ≡ Some i
       → is_runtime_function (function_in p f) ≡ false
       → (code_begin ≤ address f pc)
-      × (address f pc + 4 * length (block m p plans f pc i) ≤ code_begin + code_size)
+      × (address f pc + 4 * length (block map p plans f pc i) ≤ code_begin + code_size)
   pub of_runtime : (f pc : ℕ) (i : FlatInstruction) → instruction_at p f pc ≡ Some i
       → is_runtime_function (function_in p f) ≡ true
-      → address f pc + 4 * length (block m p plans f pc i) ≤ code_begin
+      → address f pc + 4 * length (block map p plans f pc i) ≤ code_begin
 
 -- what the meaning of flat code does not ask, and the machine's instructions need: offsets of loads and stores fit
 -- their fields, numbers have 32 bits with their sign, reports and statuses are bytes, each record has room for its

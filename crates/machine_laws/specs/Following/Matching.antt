@@ -42,7 +42,7 @@ record_of m p f frames = top_of m p (is_runtime_function (function_in p f)) fram
 -- does, the
 -- first word of the record of f has the address where f comes back to, and what is live there and no result stands in
 -- its home.
-pub record Waits (m : MapSizes) (p : FlatProgram) (plans : List FunctionPlan) (address : (function pc : ℕ) → ℕ)
+pub record Waits (map : MapSizes) (p : FlatProgram) (plans : List FunctionPlan) (address : (function pc : ℕ) → ℕ)
     (f : ℕ) (x : Frame) (xs : List Frame) (memory : Bytes) : Type 0 where
   pub place : ℕ
   pub next_is : x.next ≡ place + 1
@@ -52,11 +52,11 @@ pub record Waits (m : MapSizes) (p : FlatProgram) (plans : List FunctionPlan) (a
   pub shape_is : shape_of p (keeping p plans x.function) call ≡ Some shape
   pub into_is : shape.into ≡ x.into
   pub results_are : shape.results ≡ results_of (function_in p f)
-  pub returns : load 8 memory (record_of m p f (x ∷ xs))
+  pub returns : load 8 memory (record_of map p f (x ∷ xs))
       ≡ address x.function place + 4 * length (call_part (keeping p plans x.function) place shape)
   pub held : (y : ℕ) → (keeping p plans x.function).live x.next y ≡ true
       → is_among (many shape.into shape.results) y ≡ false
-      → load 8 memory (record_of m p x.function xs + (keeping p plans x.function).home y) ≡ x.values y
+      → load 8 memory (record_of map p x.function xs + (keeping p plans x.function).home y) ≡ x.values y
 
 abbrev pub Wait : MapSizes → FlatProgram → List FunctionPlan → (address : (function pc : ℕ) → ℕ) → (f : ℕ)
     → List Frame → (memory : Bytes) → Type 0
@@ -67,18 +67,18 @@ Wait m p plans address f (x ∷ xs) memory =
 -- Registers and memory are those of a run at an instruction of a function: the back end's registers have their
 -- addresses, the records fit their regions, what is live is kept in its place, and memory that flat code may use is its
 -- memory.
-pub record IsAt (m : MapSizes) (p : FlatProgram) (plans : List FunctionPlan) (address : (function pc : ℕ) → ℕ)
+pub record IsAt (map : MapSizes) (p : FlatProgram) (plans : List FunctionPlan) (address : (function pc : ℕ) → ℕ)
     (f pc : ℕ) (s : State) (frames : List Frame) (v : View) : Type 0 where
   pub zero_is : v.registers 0 ≡ 0
-  pub program_top : v.registers 2 ≡ region_start m Calls + rooms false p frames
-  pub arguments : v.registers 3 ≡ region_start m Arguments
-  pub runtime_top : v.registers 4 ≡ region_start m RuntimeCalls + rooms true p frames
-  pub program_fits : room_if false (function_in p f) + rooms false p frames ≤ m.budgets.calls
-  pub runtime_fits : room_if true (function_in p f) + rooms true p frames ≤ region_size m RuntimeCalls
+  pub program_top : v.registers 2 ≡ region_start map Calls + rooms false p frames
+  pub arguments : v.registers 3 ≡ region_start map Arguments
+  pub runtime_top : v.registers 4 ≡ region_start map RuntimeCalls + rooms true p frames
+  pub program_fits : room_if false (function_in p f) + rooms false p frames ≤ map.budgets.calls
+  pub runtime_fits : room_if true (function_in p f) + rooms true p frames ≤ region_size map RuntimeCalls
   pub held : (y : ℕ) → (keeping p plans f).live pc y ≡ true
-      → kept (record_of m p f frames) v ((keeping p plans f).place y) ≡ s.values y
-  pub same : (a : ℕ) → IsOfFlat m a → v.memory a ≡ s.memory a
-  pub wait : Wait m p plans address f frames v.memory
+      → kept (record_of map p f frames) v ((keeping p plans f).place y) ≡ s.values y
+  pub same : (a : ℕ) → IsOfFlat map a → v.memory a ≡ s.memory a
+  pub wait : Wait map p plans address f frames v.memory
 
 -- what was shown and what is left of the input are the same
 pub record ShowsSame (c : Configuration) (s : State) : Type 0 where
@@ -88,12 +88,12 @@ pub record ShowsSame (c : Configuration) (s : State) : Type 0 where
   pub taken : c.taken ≡ s.taken
 
 -- a configuration of the machine is where the run stands
-pub record Meets (m : MapSizes) (p : FlatProgram) (plans : List FunctionPlan) (l : Layout)
+pub record Meets (map : MapSizes) (p : FlatProgram) (plans : List FunctionPlan) (l : Layout)
     (address : (function pc : ℕ) → ℕ) (f pc : ℕ) (s : State) (frames : List Frame) (c : Configuration) : Type 0 where
   pub view : View
   pub shows : Shows l c view
   pub pc_is : view.pc ≡ address f pc
-  pub is_at : IsAt m p plans address f pc s frames view
+  pub is_at : IsAt map p plans address f pc s frames view
   pub accesses : view.accesses ≡ s.accesses
   pub outside : ShowsSame c s
 

@@ -82,9 +82,9 @@ pub record HasWordsAt (l : Layout) (address : ℕ) (words : List ℕ) : Type 0 w
 
 -- Each function's assembled words stand in memory: those of the program's in compiled code, the runtime's before it;
 -- and the entries of the jump table lead to them.
-pub record ArePlaced (m : MapSizes) (p : FlatProgram) (plans : List FunctionPlan) (l : Layout) (begin : ℕ → ℕ)
+pub record ArePlaced (map : MapSizes) (p : FlatProgram) (plans : List FunctionPlan) (l : Layout) (begin : ℕ → ℕ)
     (words : ℕ → List ℕ) (place : (function item : ℕ) → ℕ) : Type 0 where
-  pub assembled : (f : ℕ) (g : FlatFunction) → function_in p f ≡ Some g → Assembled (items_of m p plans f) (words f)
+  pub assembled : (f : ℕ) (g : FlatFunction) → function_in p f ≡ Some g → Assembled (items_of map p plans f) (words f)
   pub places : (f : ℕ) (g : FlatFunction) (there : function_in p f ≡ Some g) (k : ℕ)
       → (assembled f g there).place k ≡ place f k
   pub placed : (f : ℕ) (g : FlatFunction) → function_in p f ≡ Some g → HasWordsAt l (begin f) (words f)

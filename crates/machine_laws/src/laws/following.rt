@@ -23,12 +23,12 @@ ghost use Rattle.machine_laws.specs.Following.Start.{layout_of, start_block, IsS
 /// same output, report, bytes of the input, ending, and accesses of object space by the functions of the program; with
 /// at most six instructions for each unit of work.
 pub fn the_machine_follows_flat_code()
-    ensures { (m : MapSizes) (p : FlatProgram) (plans : List FunctionPlan) (table code : List ℕ)
+    ensures { (map : MapSizes) (p : FlatProgram) (plans : List FunctionPlan) (table code : List ℕ)
         (address : (function pc : ℕ) → ℕ) (entry : (function : ℕ) → ℕ) (start : ℕ) (objects spaces : List ℕ)
-        (memory : Bytes) (input : List ℕ) → AreMapped m → AreAccepted p plans → IsEncodable p → IsStartable m p
-        → Fits (layout_of m table code) → IsLaid m p plans (layout_of m table code) address entry
-        → AllStand (layout_of m table code) start (start_block m p)
-        → Hold (object_bytes m) (space_bytes m) memory objects spaces → AreBytes memory
-        → ((k : ℕ) → run (step m p) k (started p memory input) ≡ Stuck → ⊥)
-        → Follows 6 (flat_meaning m p memory input) (behaviour (begins start table code objects spaces) input) }
+        (memory : Bytes) (input : List ℕ) → AreMapped map → AreAccepted p plans → IsEncodable p → IsStartable map p
+        → Fits (layout_of map table code) → IsLaid map p plans (layout_of map table code) address entry
+        → AllStand (layout_of map table code) start (start_block map p)
+        → Hold (object_bytes map) (space_bytes map) memory objects spaces → AreBytes memory
+        → ((k : ℕ) → run (step map p) k (started p memory input) ≡ Stuck → ⊥)
+        → Follows 6 (flat_meaning map p memory input) (behaviour (begins start table code objects spaces) input) }
 {}

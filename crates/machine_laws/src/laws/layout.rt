@@ -13,9 +13,9 @@ ghost use Rattle.machine_laws.specs.Layout.Lists.{ArePlaced, HasBytes, HasWordsA
 /// code of the program is laid: each instruction's block at its address, jumps and branches to the addresses of their
 /// targets, the entry block first.
 pub fn assembled_functions_are_laid()
-    ensures { (m : MapSizes) (p : FlatProgram) (plans : List FunctionPlan) (l : Layout) (begin : ℕ → ℕ)
-        (words : ℕ → List ℕ) (place : (function item : ℕ) → ℕ) → ArePlaced m p plans l begin words place
-        → IsLaid m p plans l (address_in m p plans begin place) begin }
+    ensures { (map : MapSizes) (p : FlatProgram) (plans : List FunctionPlan) (l : Layout) (begin : ℕ → ℕ)
+        (words : ℕ → List ℕ) (place : (function item : ℕ) → ℕ) → ArePlaced map p plans l begin words place
+        → IsLaid map p plans l (address_in map p plans begin place) begin }
 {}
 
 /// Words whose bytes stand in one of the two segments of code stand in memory.

@@ -25,16 +25,16 @@ use rv_asm::laws::targets_are_met;
 
 /// The list of a function can be assembled where its longest forms have fewer than 2^28 words together.
 pub fn lists_can_be_assembled()
-    ensures { (m : MapSizes) (p : FlatProgram) (plans : List FunctionPlan) (f : ℕ)
-        → longest_size (items_of m p plans f) < 2 ^ 28 → IsAssemblable (items_of m p plans f) }
+    ensures { (map : MapSizes) (p : FlatProgram) (plans : List FunctionPlan) (f : ℕ)
+        → longest_size (items_of map p plans f) < 2 ^ 28 → IsAssemblable (items_of map p plans f) }
 {}
 
 /// Where the segments have room, the words of each function stand in its segment, and the jump table leads to them.
 pub fn generated_code_is_placed()
-    ensures { (m : MapSizes) (p : FlatProgram) (plans : List FunctionPlan) → FitsSegments m p plans
+    ensures { (map : MapSizes) (p : FlatProgram) (plans : List FunctionPlan) → FitsSegments map p plans
         → (place : (function item : ℕ) → ℕ)
-        × ArePlaced m p plans (layout_of m (bytes_of (table_words m p plans)) (bytes_of (code_words m p plans)))
-        (begin m p plans) (function_words m p plans) place }
+        × ArePlaced map p plans (layout_of map (bytes_of (table_words map p plans)) (bytes_of (code_words map p plans)))
+        (begin map p plans) (function_words map p plans) place }
 {
     targets_are_met();
 }
@@ -43,12 +43,12 @@ pub fn generated_code_is_placed()
 /// the plans are accepted, the segments have room, the data segments' bytes are those of the run's memory, and the run
 /// is never stuck.
 pub fn generated_code_follows()
-    ensures { (m : MapSizes) (p : FlatProgram) (plans : List FunctionPlan) (objects spaces : List ℕ)
-        (memory : Bytes) (input : List ℕ) → AreMapped m → AreAccepted p plans → IsEncodable p → IsStartable m p
-        → FitsSegments m p plans → Hold (object_bytes m) (space_bytes m) memory objects spaces → AreBytes memory
-        → ((k : ℕ) → run (step m p) k (started p memory input) ≡ Stuck → ⊥)
-        → Follows 6 (flat_meaning m p memory input)
-        (behaviour (begins (start_address p) (bytes_of (table_words m p plans)) (bytes_of (code_words m p plans))
+    ensures { (map : MapSizes) (p : FlatProgram) (plans : List FunctionPlan) (objects spaces : List ℕ)
+        (memory : Bytes) (input : List ℕ) → AreMapped map → AreAccepted p plans → IsEncodable p → IsStartable map p
+        → FitsSegments map p plans → Hold (object_bytes map) (space_bytes map) memory objects spaces → AreBytes memory
+        → ((k : ℕ) → run (step map p) k (started p memory input) ≡ Stuck → ⊥)
+        → Follows 6 (flat_meaning map p memory input)
+        (behaviour (begins (start_address p) (bytes_of (table_words map p plans)) (bytes_of (code_words map p plans))
         objects spaces) input) }
 {
     targets_are_met();

@@ -90,56 +90,61 @@ fn write(p: &Lvalue, key: Option<usize>, d: usize, next: usize) -> Instruction
     }
 }
 
-// An update of an lvalue, at the line of its operator, by a right operand.
-fn updated(
+// An operator that updates an object: how, which of both values it gives, its line, and its right operand.
+#[derive(Clone, Copy)]
+struct UpdateOperator {
     update: Update,
-    p: &Lvalue,
     fixity: Fixity,
-    operator_line: Line,
+    line: Line,
+    right: RightOperand,
+}
+
+// An update of an lvalue.
+fn updated(
+    operator: UpdateOperator,
+    p: &Lvalue,
     key: Option<usize>,
     d: usize,
-    right: RightOperand,
     next: usize,
 ) -> Instruction
-    ensures { result ≡ tac.Update update (scalar_of (lvalue_kind (lvalue_of p.now))) fixity
-        (mode_for (is_judged (lvalue_of p.now))) (lvalue_line (lvalue_of p.now)) operator_line key d d right next }
+    ensures { result ≡ tac.Update operator.update (scalar_of (lvalue_kind (lvalue_of p.now))) operator.fixity
+        (mode_for (is_judged (lvalue_of p.now))) (lvalue_line (lvalue_of p.now)) operator.line key d d operator.right
+        next }
 {
     Instruction::Update {
-        update,
+        update: operator.update,
         scalar: scalar_for(p.kind),
-        fixity,
+        fixity: operator.fixity,
         mode: mode(p),
         line: p.line,
-        operator_line,
+        operator_line: operator.line,
         key,
         to: d,
         pointer: d,
-        right,
+        right: operator.right,
         next,
     }
 }
 
 // An update of a plain variable of a kind, in the same way.
 fn changed(
-    update: Update,
+    operator: UpdateOperator,
     variable: usize,
     kind: Kind,
-    fixity: Fixity,
-    line: Line,
     d: usize,
-    right: RightOperand,
     next: usize,
 ) -> Instruction
-    ensures { result ≡ tac.UpdatePlain update (scalar_of kind) fixity line d variable right next }
+    ensures { result ≡ tac.UpdatePlain operator.update (scalar_of kind) operator.fixity operator.line d variable
+        operator.right next }
 {
     Instruction::UpdatePlain {
-        update,
+        update: operator.update,
         scalar: scalar_for(kind),
-        fixity,
-        line,
+        fixity: operator.fixity,
+        line: operator.line,
         to: d,
         variable,
-        right,
+        right: operator.right,
         next,
     }
 }
@@ -246,45 +251,40 @@ pub fn last_in(
             next,
         }),
         Node::Compound(update, p, _) => {
-            let right = RightOperand::Temporary(d + 1);
-            Some(updated(*update, p.get(), Fixity::Prefix, line, key, d, right, next))
+            let operator = UpdateOperator {
+                update: *update,
+                fixity: Fixity::Prefix,
+                line,
+                right: RightOperand::Temporary(d + 1),
+            };
+            Some(updated(operator, p.get(), key, d, next))
         }
         Node::ChangePlain(update, x, _) => {
-            let right = RightOperand::Temporary(d);
-            Some(changed(
-                *update,
-                x.variable,
-                kind,
-                Fixity::Prefix,
+            let operator = UpdateOperator {
+                update: *update,
+                fixity: Fixity::Prefix,
                 line,
-                d,
-                right,
-                next,
-            ))
+                right: RightOperand::Temporary(d),
+            };
+            Some(changed(operator, x.variable, kind, d, next))
         }
         Node::Step(update, fixity, p) => {
-            Some(updated(
-                *update,
-                p.get(),
-                *fixity,
+            let operator = UpdateOperator {
+                update: *update,
+                fixity: *fixity,
                 line,
-                key,
-                d,
-                RightOperand::One,
-                next,
-            ))
+                right: RightOperand::One,
+            };
+            Some(updated(operator, p.get(), key, d, next))
         }
         Node::StepPlain(update, fixity, x) => {
-            Some(changed(
-                *update,
-                x.variable,
-                kind,
-                *fixity,
+            let operator = UpdateOperator {
+                update: *update,
+                fixity: *fixity,
                 line,
-                d,
-                RightOperand::One,
-                next,
-            ))
+                right: RightOperand::One,
+            };
+            Some(changed(operator, x.variable, kind, d, next))
         }
         Node::Call(function, args) => {
             let count = count(args.as_slice());

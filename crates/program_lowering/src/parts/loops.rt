@@ -17,6 +17,15 @@ use sb_base::Line;
 use std::alloc::{AllocError, Global};
 use tac_ir::{CountedLoop, Instruction};
 
+/// What stands in the parentheses of a `for`, with its line: its first part, its condition and its step.
+#[derive(Clone, Copy)]
+pub struct ForClauses<'a> {
+    pub line: Line,
+    pub first: &'a First,
+    pub condition: &'a Option<Expression>,
+    pub step: &'a Option<Expression>,
+}
+
 /// A loop whose condition stands: the node that its turn will have, and where its condition begins.
 #[derive(Clone, Copy)]
 pub struct LoopHead {
@@ -64,20 +73,18 @@ pub fn for_parts(
     code: &mut Emitter,
     variables: &[Variable],
     numbers: &[usize],
-    test: &Option<Expression>,
-    step: &Option<Expression>,
+    clauses: &ForClauses,
     x: Exits,
 ) -> Result<ForHead, AllocError>
-    requires condition { greatest_height (if_any (option_map expression_of test.now)) < 2 ^ 64 }
-    requires step { greatest_height (if_any (option_map expression_of step.now)) < 2 ^ 64 }
+    requires condition { greatest_height (if_any (option_map expression_of clauses.now.condition.now)) < 2 ^ 64 }
+    requires step { greatest_height (if_any (option_map expression_of clauses.now.step.now)) < 2 ^ 64 }
     ensures { IfOk result (λ h. ForHeadCode variables.now code.old code.new numbers.now
-        (option_map expression_of test.now)
-        (option_map expression_of step.now) h x) }
+        (option_map expression_of clauses.now.condition.now) (option_map expression_of clauses.now.step.now) h x) }
 {
     let inside = leave(code, variables, numbers, x)?;
     let turn = code.add(Instruction::Reserved)?;
-    let condition = condition(code, test, turn, inside.next)?;
-    let step = part(code, step, condition)?;
+    let condition = condition(code, clauses.condition, turn, inside.next)?;
+    let step = part(code, clauses.step, condition)?;
     Ok(ForHead {
         inside,
         turn,
@@ -120,18 +127,17 @@ pub fn for_tail(
     code: &mut Emitter,
     variables: &[Variable],
     numbers: &[usize],
-    line: Line,
-    start: &First,
+    clauses: &ForClauses,
     range: Option<Range>,
     h: ForHead,
     body: usize,
 ) -> Result<usize, AllocError>
-    requires height { greatest_height (first_contents (first_of start.now)) < 2 ^ 64 }
+    requires height { greatest_height (first_contents (first_of clauses.now.first.now)) < 2 ^ 64 }
     requires waits { Waits code.old h.turn }
-    ensures { IfOk result (λ n. ForTailCode variables.now code.old code.new numbers.now line (first_of start.now)
-        (parts_with range) h body n) }
+    ensures { IfOk result (λ n. ForTailCode variables.now code.old code.new numbers.now clauses.now.line
+        (first_of clauses.now.first.now) (parts_with range) h body n) }
 {
-    let setting = first(code, start, h.condition)?;
+    let setting = first(code, clauses.first, h.condition)?;
     let counted = add_loop(code, range, setting, h)?;
     fill(
         code,
@@ -141,6 +147,6 @@ pub fn for_tail(
             next: body,
         },
     );
-    let entry = enter(code, variables, numbers, line, setting)?;
+    let entry = enter(code, variables, numbers, clauses.line, setting)?;
     Ok(entry)
 }

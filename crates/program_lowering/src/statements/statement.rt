@@ -15,10 +15,10 @@ use crate::expressions::Emitter;
 use crate::parts::block::{block_variables, enter, first_variables, leave, switch_variables};
 use crate::parts::counted::counted_parts;
 use crate::parts::exits::Exits;
-use crate::parts::loops::{fill, for_parts, for_tail, test_turn};
+use crate::parts::loops::{ForClauses, fill, for_parts, for_tail, test_turn};
 use crate::statements::labels::{default_start, test_items};
 use crate::statements::simple::{branch, declare_all, evaluate, give_back};
-use c_tree::{Expression, First, Statement, SwitchItem, Variable};
+use c_tree::{Expression, Statement, SwitchItem, Variable};
 use sb_base::Line;
 use std::alloc::AllocError;
 use tac_ir::Instruction;
@@ -49,16 +49,13 @@ pub fn statement(
         Statement::While(e, body) => while_do(code, variables, e, body.get(), x),
         Statement::DoWhile(body, e) => do_while(code, variables, body.get(), e, x),
         Statement::For(line, first, condition, step, body) => {
-            for_loop(
-                code,
-                variables,
-                *line,
+            let clauses = ForClauses {
+                line: *line,
                 first,
                 condition,
                 step,
-                body.get(),
-                x,
-            )
+            };
+            for_loop(code, variables, &clauses, body.get(), x)
         }
         Statement::Switch(e, line, items) => {
             switch(code, variables, e, *line, items.as_slice(), x)
@@ -230,27 +227,25 @@ fn do_while(
 fn for_loop(
     code: &mut Emitter,
     variables: &[Variable],
-    line: Line,
-    first: &First,
-    condition: &Option<Expression>,
-    step: &Option<Expression>,
+    clauses: &ForClauses,
     body: &Statement,
     x: Exits,
 ) -> Result<usize, AllocError>
-    requires first { greatest_height (first_contents (first_of first.now)) < 2 ^ 64 }
-    requires condition { greatest_height (if_any (option_map expression_of condition.now)) < 2 ^ 64 }
-    requires step { greatest_height (if_any (option_map expression_of step.now)) < 2 ^ 64 }
+    requires first { greatest_height (first_contents (first_of clauses.now.first.now)) < 2 ^ 64 }
+    requires condition { greatest_height (if_any (option_map expression_of clauses.now.condition.now)) < 2 ^ 64 }
+    requires step { greatest_height (if_any (option_map expression_of clauses.now.step.now)) < 2 ^ 64 }
     requires height { statement_height (statement_of body.now) < 2 ^ 64 }
     requires decided { are_decided (statement_of body.now) ≡ true }
-    ensures { IfOk result (λ n. StatementCode variables.now code.old code.new (for line (first_of first.now)
-        (option_map expression_of condition.now) (option_map expression_of step.now) (statement_of body.now)) n x) }
+    ensures { IfOk result (λ n. StatementCode variables.now code.old code.new
+        (for clauses.now.line (first_of clauses.now.first.now) (option_map expression_of clauses.now.condition.now)
+        (option_map expression_of clauses.now.step.now) (statement_of body.now)) n x) }
 {
-    let declared = first_variables(code.alloc, first)?;
+    let declared = first_variables(code.alloc, clauses.first)?;
     let numbers = declared.as_slice();
-    let head = for_parts(code, variables, numbers, condition, step, x)?;
+    let head = for_parts(code, variables, numbers, clauses, x)?;
     let turn = statement(code, variables, body, head.inside.in_loop(head.step))?;
-    let range = counted_parts(first, condition, step, body);
-    let entry = for_tail(code, variables, numbers, line, first, range, head, turn)?;
+    let range = counted_parts(clauses.first, clauses.condition, clauses.step, body);
+    let entry = for_tail(code, variables, numbers, clauses, range, head, turn)?;
     Ok(entry)
 }
 

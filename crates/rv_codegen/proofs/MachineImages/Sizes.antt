@@ -12,7 +12,7 @@ use Rattle.reg_plan.specs.declared.plan.FunctionPlan.{FunctionPlan}
 use Rattle.machine_laws.specs.Following.Matching.{object_bytes, space_bytes}
 use Rattle.machine_laws.specs.Following.Start.{start_block}
 use Rattle.machine_laws.proofs.Following.Regions.{regions}
-use Rattle.machine_laws.proofs.Layout.Bytes.{bytes_length}
+use Rattle.machine_laws.proofs.CodeLayout.Bytes.{bytes_length}
 use Rattle.machine_laws.specs.Segments.Segments.{rows_below, table_words, code_words, words_below}
 use Rattle.machine_laws.specs.Segments.Segments.{FitsSegments}
 use Rattle.machine_laws.proofs.Segments.Standing.{rows_length}

@@ -1,6 +1,6 @@
 //! The instructions that stand for an instruction of flat code.
 
-ghost use Rattle.std.specs.Prelude.{◌≡◌, ◌+◌, ◌-◌, ◌<◌, ◌^◌, ◌++◌, true, false, length, Some, OnOk};
+ghost use Rattle.std.specs.Prelude.{◌≡◌, ◌+◌, ◌-◌, ◌<◌, ◌++◌, true, false, length, Some, OnOk};
 ghost use Rattle.reg_plan.specs.Saves.Saves.{is_call, saved_below, saved_at};
 ghost use Rattle.addr_map.specs.Places.{region_start};
 ghost use Rattle.addr_map.specs.declared.region.Region.TheVariants.{Calls};
@@ -13,7 +13,7 @@ ghost use Rattle.machine_laws.specs.Calls.Calls.{entry_block};
 ghost use Rattle.rv_codegen.specs.EmittedCode.Kept.{block_of};
 
 use crate::emission::calls::{
-    Arguments, Results, put_call, put_call_address, put_entry_of, put_return,
+    Arguments, CallSite, Results, put_call, put_call_address, put_entry_of, put_return,
 };
 use crate::emission::local::{
     put_charged, put_end, put_exit, put_get, put_load, put_move, put_nothing, put_number,
@@ -25,6 +25,22 @@ use flat_meaning::{FlatFunction, FlatInstruction, FlatProgram, RightOperand};
 use reg_plan::FunctionPlan;
 use rv_isa::{Instr, Reg};
 use std::alloc::AllocError;
+
+/// A function of a program, by its number, under the plans of all functions.
+#[derive(Clone, Copy)]
+pub struct PlannedFunction<'a> {
+    pub program: &'a FlatProgram,
+    pub plans: &'a [FunctionPlan],
+    pub number: u32,
+}
+
+/// An instruction of a function at its place, and the virtual registers that it saves where it is a call.
+#[derive(Clone, Copy)]
+pub struct PlacedInstruction<'a> {
+    pub place: u32,
+    pub instruction: &'a FlatInstruction,
+    pub saved: &'a [u64],
+}
 
 // How many arguments a function takes; 0 where there is no such function.
 fn parameters(program: &FlatProgram, function: u32) -> u32
@@ -47,10 +63,10 @@ fn results(program: &FlatProgram, function: u32) -> u32
 }
 
 // Where the first activation record of the program begins, less what a function is charged.
-fn charged_from(sizes: &AddrMap, function: &FlatFunction) -> u64
-    ensures { result ≡ region_start sizes.now Calls - room_if false (Some function.now) }
+fn charged_from(map: &AddrMap, function: &FlatFunction) -> u64
+    ensures { result ≡ region_start map.now Calls - room_if false (Some function.now) }
 {
-    let begin = sizes.region(Region::Calls).0;
+    let begin = map.region(Region::Calls).0;
     if function.is_runtime {
         begin
     } else {
@@ -118,34 +134,33 @@ fn put_block_in(
     function: &FlatFunction,
     plan: &FunctionPlan,
     begin: u64,
-    place: u64,
-    instruction: &FlatInstruction,
-    saved: &[u64],
+    placed: &PlacedInstruction,
 ) -> Result<(), AllocError>
-    requires place { place < 2 ^ 63 }
-    requires saved { is_call instruction.now ≡ true
-        → saved.now ≡ saved_below function.now plan.now place (length plan.now.live.items) }
+    requires { is_call placed.now.instruction.now ≡ true
+        → placed.now.saved.now ≡ saved_below function.now plan.now placed.now.place (length plan.now.live.items) }
     ensures { OnOk result
         (code.new.items ≡ code.old.items
-        ++ block_of program.now function.now plan.now begin place instruction.now) }
+        ++ block_of program.now function.now plan.now begin placed.now.place placed.now.instruction.now) }
 {
-    match *instruction {
+    match *placed.instruction {
         FlatInstruction::Call {
             function: callee,
             first,
             into,
         } => {
-            let arguments = Arguments {
-                first,
-                count: parameters(program, callee),
+            let site = CallSite {
+                place: u64::from(placed.place),
+                arguments: Arguments {
+                    first,
+                    count: parameters(program, callee),
+                },
+                results: Results {
+                    into,
+                    count: results(program, callee),
+                },
+                saved: placed.saved,
             };
-            let results = Results {
-                into,
-                count: results(program, callee),
-            };
-            put_call(
-                code, function, plan, place, callee, arguments, results, saved,
-            )
+            put_call(code, function, plan, &site, callee)
         }
         FlatInstruction::CallAddress {
             at,
@@ -154,52 +169,43 @@ fn put_block_in(
             into,
             results,
         } => {
-            let arguments = Arguments { first, count };
-            let results = Results {
-                into,
-                count: results,
+            let site = CallSite {
+                place: u64::from(placed.place),
+                arguments: Arguments { first, count },
+                results: Results {
+                    into,
+                    count: results,
+                },
+                saved: placed.saved,
             };
-            put_call_address(code, function, plan, place, at, arguments, results, saved)
+            put_call_address(code, function, plan, &site, at)
         }
         FlatInstruction::Return { from } => put_return(code, function, plan, from),
-        _ => put_local(code, function, plan, begin, instruction),
+        _ => put_local(code, function, plan, begin, placed.instruction),
     }
 }
 
-/// Puts the instructions that stand for an instruction of a function, but for its jump or branch, behind a list. For a
-/// call the virtual registers are given that it saves.
+/// Puts the instructions that stand for an instruction of a function, but for its jump or branch, behind a list.
 #[tactic(auto, unfolding(machine_laws::specs::Following::Code::block, machine_laws::specs::Following::Code::keeping, reg_plan::specs::Saves::Saves::saved_at))]
 pub fn put_block(
     code: &mut Vec<Instr>,
-    sizes: &AddrMap,
-    program: &FlatProgram,
-    plans: &[FunctionPlan],
-    number: u32,
-    place: u64,
-    instruction: &FlatInstruction,
-    saved: &[u64],
+    map: &AddrMap,
+    planned: &PlannedFunction,
+    placed: &PlacedInstruction,
 ) -> Result<(), AllocError>
-    requires function { number < length program.now.functions }
-    requires plan { number < length plans.now }
-    requires place { place < 2 ^ 63 }
-    requires saved { is_call instruction.now ≡ true → saved.now ≡ saved_at program.now plans.now number place }
+    requires function { planned.now.number < length planned.now.program.now.functions }
+    requires plan { planned.now.number < length planned.now.plans.now }
+    requires saved { is_call placed.now.instruction.now ≡ true → placed.now.saved.now
+        ≡ saved_at planned.now.program.now planned.now.plans.now planned.now.number placed.now.place }
     ensures { OnOk result
         (code.new.items ≡ code.old.items
-        ++ block sizes.now program.now plans.now number place instruction.now) }
+        ++ block map.now planned.now.program.now planned.now.plans.now planned.now.number placed.now.place
+        placed.now.instruction.now) }
 {
-    let function = &program.functions.as_slice()[number as usize];
-    let plan = &plans[number as usize];
-    let begin = charged_from(sizes, function);
-    put_block_in(
-        code,
-        program,
-        function,
-        plan,
-        begin,
-        place,
-        instruction,
-        saved,
-    )
+    let function = &planned.program.functions.as_slice()[planned.number as usize];
+    let plan = &planned.plans[planned.number as usize];
+    let begin = charged_from(map, function);
+    put_block_in(code, planned.program, function, plan, begin, placed)
 }
 
 /// Puts the first instructions of a function, before those of its body: its return address and its arguments are

@@ -153,6 +153,16 @@ pub(crate) struct Arguments {
     pub count: u32,
 }
 
+// Where a function is called: the place of the call, its arguments and results, and the virtual registers that it
+// saves.
+#[derive(Clone, Copy)]
+pub(crate) struct CallSite<'a> {
+    pub place: u64,
+    pub arguments: Arguments,
+    pub results: Results,
+    pub saved: &'a [u64],
+}
+
 // The register for the address of a function that is called.
 pub(crate) fn callee_scratch() -> Reg
     ensures { result ≡ callee_scratch }
@@ -292,22 +302,26 @@ fn put_hand_over(
     code: &mut Vec<Instr>,
     function: &FlatFunction,
     plan: &FunctionPlan,
-    place: u64,
-    arguments: Arguments,
-    results: Results,
-    saved: &[u64],
+    site: &CallSite,
 ) -> Result<(), AllocError>
-    requires place { place < 2 ^ 63 }
-    requires saved { saved.now ≡ saved_below function.now plan.now place (length plan.now.live.items) }
+    requires place { site.now.place < 2 ^ 63 }
+    requires saved { site.now.saved.now
+        ≡ saved_below function.now plan.now site.now.place (length plan.now.live.items) }
     ensures { OnOk result
         (code.new.items ≡ code.old.items
         ++ (save (kept_by function.now plan.now)
-        (wanted (kept_by function.now plan.now) place results.into results.count)
+        (wanted (kept_by function.now plan.now) site.now.place site.now.results.into site.now.results.count)
         (kept_by function.now plan.now).count
-        ++ give (kept_by function.now plan.now) arguments.first arguments.count)) }
+        ++ give (kept_by function.now plan.now) site.now.arguments.first site.now.arguments.count)) }
 {
-    put_saves(code, function, plan, place, results, saved)?;
-    put_give(code, function, plan, arguments.first, arguments.count)
+    put_saves(code, function, plan, site.place, site.results, site.saved)?;
+    put_give(
+        code,
+        function,
+        plan,
+        site.arguments.first,
+        site.arguments.count,
+    )
 }
 
 // Puts what stands behind that: the next activation record begins, and the callee is jumped to.
@@ -328,21 +342,27 @@ fn put_back(
     code: &mut Vec<Instr>,
     function: &FlatFunction,
     plan: &FunctionPlan,
-    place: u64,
-    results: Results,
-    saved: &[u64],
+    site: &CallSite,
 ) -> Result<(), AllocError>
-    requires place { place < 2 ^ 63 }
-    requires saved { saved.now ≡ saved_below function.now plan.now place (length plan.now.live.items) }
+    requires place { site.now.place < 2 ^ 63 }
+    requires saved { site.now.saved.now
+        ≡ saved_below function.now plan.now site.now.place (length plan.now.live.items) }
     ensures { OnOk result
         (code.new.items ≡ code.old.items
         ++ back_block (kept_by function.now plan.now)
-        (wanted (kept_by function.now plan.now) place results.into results.count) (place + 1) results.into
-        results.count) }
+        (wanted (kept_by function.now plan.now) site.now.place site.now.results.into site.now.results.count)
+        (site.now.place + 1) site.now.results.into site.now.results.count) }
 {
     put_moves(code, function, RegOp::Sub)?;
-    put_restores(code, function, plan, place, results, saved)?;
-    put_take(code, function, plan, place + 1, results.into, results.count)
+    put_restores(code, function, plan, site.place, site.results, site.saved)?;
+    put_take(
+        code,
+        function,
+        plan,
+        site.place + 1,
+        site.results.into,
+        site.results.count,
+    )
 }
 
 /// Puts a call of the function with a number.
@@ -350,23 +370,22 @@ pub(crate) fn put_call(
     code: &mut Vec<Instr>,
     function: &FlatFunction,
     plan: &FunctionPlan,
-    place: u64,
+    site: &CallSite,
     callee: u32,
-    arguments: Arguments,
-    results: Results,
-    saved: &[u64],
 ) -> Result<(), AllocError>
-    requires place { place < 2 ^ 63 }
-    requires saved { saved.now ≡ saved_below function.now plan.now place (length plan.now.live.items) }
+    requires place { site.now.place < 2 ^ 63 }
+    requires saved { site.now.saved.now
+        ≡ saved_below function.now plan.now site.now.place (length plan.now.live.items) }
     ensures { OnOk result
         (code.new.items ≡ code.old.items
-        ++ call_of (kept_by function.now plan.now) place arguments.first arguments.count results.into results.count
+        ++ call_of (kept_by function.now plan.now) site.now.place site.now.arguments.first site.now.arguments.count
+        site.now.results.into site.now.results.count
         (constant callee_scratch (function_address callee)) callee_scratch) }
 {
-    put_hand_over(code, function, plan, place, arguments, results, saved)?;
+    put_hand_over(code, function, plan, site)?;
     put_constant(code, callee_scratch(), entry_address(callee))?;
     put_jump(code, function, callee_scratch())?;
-    put_back(code, function, plan, place, results, saved)
+    put_back(code, function, plan, site)
 }
 
 /// Puts a call of the function whose address a virtual register has.
@@ -374,28 +393,27 @@ pub(crate) fn put_call_address(
     code: &mut Vec<Instr>,
     function: &FlatFunction,
     plan: &FunctionPlan,
-    place: u64,
+    site: &CallSite,
     address: u32,
-    arguments: Arguments,
-    results: Results,
-    saved: &[u64],
 ) -> Result<(), AllocError>
-    requires place { place < 2 ^ 63 }
-    requires saved { saved.now ≡ saved_below function.now plan.now place (length plan.now.live.items) }
+    requires place { site.now.place < 2 ^ 63 }
+    requires saved { site.now.saved.now
+        ≡ saved_below function.now plan.now site.now.place (length plan.now.live.items) }
     ensures { OnOk result
         (code.new.items ≡ code.old.items
-        ++ call_of (kept_by function.now plan.now) place arguments.first arguments.count results.into results.count
+        ++ call_of (kept_by function.now plan.now) site.now.place site.now.arguments.first site.now.arguments.count
+        site.now.results.into site.now.results.count
         (fetch (location function.now plan.now address) (frame_register function.now) callee_scratch)
         (used (location function.now plan.now address) callee_scratch)) }
 {
-    put_hand_over(code, function, plan, place, arguments, results, saved)?;
+    put_hand_over(code, function, plan, site)?;
     put_fetch(code, function, plan, u64::from(address), callee_scratch())?;
     put_jump(
         code,
         function,
         used(function, plan, u64::from(address), callee_scratch()),
     )?;
-    put_back(code, function, plan, place, results, saved)
+    put_back(code, function, plan, site)
 }
 
 /// Puts a return of so many results from one on, and the jump back.

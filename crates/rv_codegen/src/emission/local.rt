@@ -88,31 +88,43 @@ fn put_kept(
     put_keep(code, function, plan, u64::from(into), left_scratch())
 }
 
+// What an operator works on: where its result goes, and its operands.
+#[derive(Clone, Copy)]
+struct Operation {
+    into: u32,
+    left: u32,
+    right: RightOperand,
+}
+
 // Puts an operator: by an instruction that has its right operand in itself, where there is one, else by one on two
 // registers.
 fn put_operator(
     code: &mut Vec<Instr>,
     function: &FlatFunction,
     plan: &FunctionPlan,
-    into: u32,
-    left: u32,
-    right: RightOperand,
+    operation: Operation,
     immediate: Option<Instr>,
     plain: Instr,
 ) -> Result<(), AllocError>
     ensures { OnOk result
         (code.new.items ≡ code.old.items
         ++ operator_block (location function.now plan.now) (frame_register function.now)
-        (location function.now plan.now into) left right immediate plain) }
+        (location function.now plan.now operation.into) operation.left operation.right immediate plain) }
 {
     match immediate {
         Some(instruction) => {
-            put_fetch(code, function, plan, u64::from(left), left_scratch())?;
-            put_kept(code, function, plan, into, instruction)
+            put_fetch(
+                code,
+                function,
+                plan,
+                u64::from(operation.left),
+                left_scratch(),
+            )?;
+            put_kept(code, function, plan, operation.into, instruction)
         }
         None => {
-            put_operands(code, function, plan, left, right)?;
-            put_kept(code, function, plan, into, plain)
+            put_operands(code, function, plan, operation.left, operation.right)?;
+            put_kept(code, function, plan, operation.into, plain)
         }
     }
 }
@@ -137,7 +149,8 @@ pub(crate) fn put_operate(
     let rs2 = used_right(function, plan, right);
     let plain = Instr::Op { op, rd, rs1, rs2 };
     let immediate = immediate_of(op, rd, rs1, right);
-    put_operator(code, function, plan, into, left, right, immediate, plain)
+    let operation = Operation { into, left, right };
+    put_operator(code, function, plan, operation, immediate, plain)
 }
 
 /// Puts an operator of the low 32 bits.
@@ -160,7 +173,8 @@ pub(crate) fn put_operate32(
     let rs2 = used_right(function, plan, right);
     let plain = Instr::Op32 { op, rd, rs1, rs2 };
     let immediate = immediate32_of(op, rd, rs1, right);
-    put_operator(code, function, plan, into, left, right, immediate, plain)
+    let operation = Operation { into, left, right };
+    put_operator(code, function, plan, operation, immediate, plain)
 }
 
 // The low 12 bits of an offset.

@@ -28,21 +28,21 @@ pub fn put_row(code: &mut Vec<Instr>, address: u128) -> Result<(), AllocError>
 /// called.
 pub fn put_start(
     code: &mut Vec<Instr>,
-    sizes: &AddrMap,
+    map: &AddrMap,
     program: &FlatProgram,
 ) -> Result<(), AllocError>
-    ensures { OnOk result (code.new.items ≡ code.old.items ++ start_block sizes.now program.now) }
+    ensures { OnOk result (code.new.items ≡ code.old.items ++ start_block map.now program.now) }
 {
-    put_wide(code, Reg::SP, u128::from(sizes.region(Region::Calls).0))?;
+    put_wide(code, Reg::SP, u128::from(map.region(Region::Calls).0))?;
     put_wide(
         code,
         argument_words(),
-        u128::from(sizes.region(Region::Arguments).0),
+        u128::from(map.region(Region::Arguments).0),
     )?;
     put_wide(
         code,
         Reg::new(4),
-        u128::from(sizes.region(Region::RuntimeCalls).0),
+        u128::from(map.region(Region::RuntimeCalls).0),
     )?;
     put_wide(
         code,

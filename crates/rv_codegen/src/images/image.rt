@@ -51,36 +51,36 @@ fn code_part(alloc: Global, address: u64, words: &[u32]) -> Result<NewSegment, A
 }
 
 // The bytes of object space.
-fn object_bytes(sizes: &AddrMap) -> u64
-    ensures { result ≡ object_bytes sizes.now }
+fn object_bytes(map: &AddrMap) -> u64
+    ensures { result ≡ object_bytes map.now }
 {
-    sizes_are_in_range(sizes);
+    sizes_are_in_range(map);
     regions_stand_in_order();
     objects_stand_in_object_space();
-    let (_, last) = sizes.region(Region::Heap);
+    let (_, last) = map.region(Region::Heap);
     last + 1 - OBJECTS
 }
 
 // The bytes of the runtime's spaces, with the words of arguments and the activation records.
-fn space_bytes(sizes: &AddrMap) -> u64
-    ensures { result ≡ space_bytes sizes.now }
+fn space_bytes(map: &AddrMap) -> u64
+    ensures { result ≡ space_bytes map.now }
 {
-    sizes_are_in_range(sizes);
+    sizes_are_in_range(map);
     regions_stand_in_order();
     objects_stand_in_object_space();
-    let (_, last) = sizes.region(Region::RuntimeCalls);
+    let (_, last) = map.region(Region::RuntimeCalls);
     last + 1 - SPACES
 }
 
 // The four segments.
 fn parts_of(
     alloc: Global,
-    sizes: &AddrMap,
+    map: &AddrMap,
     code: &Code,
     objects: Vec<u8>,
     spaces: Vec<u8>,
 ) -> Result<NewImage, AllocError>
-    ensures { IfOk result (λ parts. parts ≡ image_with sizes.now code.now.start code.now.table.items
+    ensures { IfOk result (λ parts. parts ≡ image_with map.now code.now.start code.now.table.items
         code.now.compiled.items objects.items spaces.items) }
 {
     let jump_table = code_part(alloc, FUNCTIONS, &code.table)?;
@@ -92,12 +92,12 @@ fn parts_of(
         objects: NewSegment {
             address: OBJECTS,
             bytes: objects,
-            size: object_bytes(sizes),
+            size: object_bytes(map),
         },
         runtime: NewSegment {
             address: SPACES,
             bytes: spaces,
-            size: space_bytes(sizes),
+            size: space_bytes(map),
         },
     })
 }
@@ -107,26 +107,26 @@ fn parts_of(
 /// The machine that begins it follows the program, for every input. An error is a cause that `generate` names.
 pub fn image_of(
     alloc: Global,
-    sizes: &AddrMap,
+    map: &AddrMap,
     program: &FlatProgram,
     plans: &[FunctionPlan],
     objects: Vec<u8>,
     spaces: Vec<u8>,
 ) -> Result<Vec<u8>, GenerateError>
     requires ready { IsReady program.now plans.now }
-    requires objects { length objects.items ≤ object_bytes sizes.now }
-    requires spaces { length spaces.items ≤ space_bytes sizes.now }
+    requires objects { length objects.items ≤ object_bytes map.now }
+    requires spaces { length spaces.items ≤ space_bytes map.now }
     ensures image { MatchResult result
-        (λ file. IsImage sizes.now program.now plans.now objects.items spaces.items file.items)
-        (IsCause sizes.now program.now plans.now) }
+        (λ file. IsImage map.now program.now plans.now objects.items spaces.items file.items)
+        (IsCause map.now program.now plans.now) }
     ensures follows { IfOk result
-        (λ file. ImageFollows sizes.now program.now plans.now objects.items spaces.items file.items) }
+        (λ file. ImageFollows map.now program.now plans.now objects.items spaces.items file.items) }
 {
-    let code = generate(alloc, sizes, program, plans)?;
-    sizes_are_in_range(sizes);
+    let code = generate(alloc, map, program, plans)?;
+    sizes_are_in_range(map);
     segments_in_order_fit();
     images_follow();
-    let parts = parts_of(alloc, sizes, &code, objects, spaces)?;
+    let parts = parts_of(alloc, map, &code, objects, spaces)?;
     let file = Image::write(alloc, &parts)?;
     Ok(file)
 }

@@ -16,26 +16,26 @@ use machine_laws::laws::segments::generated_code_follows;
 
 /// The machine that begins an image follows the program of which it is one.
 pub fn images_follow()
-    ensures { (m : MapSizes) (p : FlatProgram) (plans : List FunctionPlan) (objects spaces file : List ℕ)
-        → AreMapped m → IsImage m p plans objects spaces file → ImageFollows m p plans objects spaces file }
+    ensures { (map : MapSizes) (p : FlatProgram) (plans : List FunctionPlan) (objects spaces file : List ℕ)
+        → AreMapped map → IsImage map p plans objects spaces file → ImageFollows map p plans objects spaces file }
 {
     generated_code_follows();
 }
 
 /// A program whose code fits its segments has an image: the file with these bytes.
 pub fn programs_have_images()
-    ensures { (m : MapSizes) (p : FlatProgram) (plans : List FunctionPlan) (objects spaces : List ℕ) → AreMapped m
-        → FitsSegments m p plans → length objects ≤ object_bytes m → length spaces ≤ space_bytes m
-        → IsImage m p plans objects spaces (image_bytes (written m p plans objects spaces)) }
+    ensures { (map : MapSizes) (p : FlatProgram) (plans : List FunctionPlan) (objects spaces : List ℕ) → AreMapped map
+        → FitsSegments map p plans → length objects ≤ object_bytes map → length spaces ≤ space_bytes map
+        → IsImage map p plans objects spaces (image_bytes (written map p plans objects spaces)) }
 {}
 
 /// There is a memory that has the data of an image, and is of bytes where the data is.
 pub fn data_is_held()
-    ensures held { (m : MapSizes) (objects spaces : List ℕ) → AreMapped m → length objects ≤ object_bytes m
-        → length spaces ≤ space_bytes m
-        → Hold (object_bytes m) (space_bytes m)
-        (data_memory (filled (object_bytes m) objects) (filled (space_bytes m) spaces))
-        (filled (object_bytes m) objects) (filled (space_bytes m) spaces) }
+    ensures held { (map : MapSizes) (objects spaces : List ℕ) → AreMapped map → length objects ≤ object_bytes map
+        → length spaces ≤ space_bytes map
+        → Hold (object_bytes map) (space_bytes map)
+        (data_memory (filled (object_bytes map) objects) (filled (space_bytes map) spaces))
+        (filled (object_bytes map) objects) (filled (space_bytes map) spaces) }
     ensures bytes { (objects spaces : List ℕ) (m n : ℕ) → All (λ b. b < 256) objects → All (λ b. b < 256) spaces
         → AreBytes (data_memory (filled m objects) (filled n spaces)) }
 {}

@@ -4,7 +4,7 @@ use Rattle.rv_codegen.proofs.generator.put_function.Goals as goal
 
 pub returns-then-runtime : goal.returns-then-runtime
 returns-then-runtime c =
-    runtime_below c.args.sizes.now c.args.program.now c.args.plans.now c.args.number c.index-functions-number.result
+    runtime_below c.args.map.now c.args.program.now c.args.plans.now c.args.number c.index-functions-number.result
     c.as_slice-functions.result.now c.as_slice-functions.ensures c.requires.function c.index-functions-number.is
     _ _ _ _ _ _ c.as_slice-words.result.now c.requires.below
     (c.as_slice-words.ensures.value ∙ c.in_ok-code.ensures.0) c.in_ok-code.ensures.1
@@ -13,7 +13,7 @@ returns-then-runtime c =
 
 pub returns : goal.returns
 returns c =
-    compiled_below c.args.sizes.now c.args.program.now c.args.plans.now c.args.number c.index-functions-number.result
+    compiled_below c.args.map.now c.args.program.now c.args.plans.now c.args.number c.index-functions-number.result
     c.as_slice-functions.result.now c.as_slice-functions.ensures c.requires.function c.index-functions-number.is
     _ _ _ _ _ _ c.as_slice-words.result.now c.requires.below
     (c.as_slice-words.ensures.value ∙ c.in_ok-code.ensures.0) c.in_ok-code.ensures.1

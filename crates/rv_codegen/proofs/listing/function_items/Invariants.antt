@@ -4,5 +4,5 @@ use Rattle.rv_codegen.proofs.listing.function_items.Given as goal
 
 abbrev pub invariant-loop-place : goal.invariant-loop-place
 invariant-loop-place l =
-    l.list ++ items_from l.sizes l.program l.plans l.number l.count l.place (drop l.place l.body)
-    ≡ items_of l.sizes l.program l.plans l.number
+    l.list ++ items_from l.map l.program l.plans l.number l.count l.place (drop l.place l.body)
+    ≡ items_of l.map l.program l.plans l.number

@@ -1,4 +1,4 @@
-use Rattle.machine_laws.proofs.Layout.Bytes.{stand_in_code, stand_in_table}
+use Rattle.machine_laws.proofs.CodeLayout.Bytes.{stand_in_code, stand_in_table}
 use Rattle.machine_laws.proofs.laws.layout.words_stand_in_their_segments.Goals as goal
 
 pub returns-clause-code : goal.returns-clause-code

@@ -47,8 +47,9 @@ decreases-do_while l = 3 * statement_count (do_while (statement_of l.body.now) (
 
 abbrev pub decreases-for_loop : goal.decreases-for_loop
 decreases-for_loop l =
-    3 * statement_count (for l.line (first_of l.first.now) (option_map expression_of l.condition.now)
-    (option_map expression_of l.step.now) (statement_of l.body.now))
+    3 * statement_count (for l.clauses.now.line (first_of l.clauses.now.first.now)
+    (option_map expression_of l.clauses.now.condition.now) (option_map expression_of l.clauses.now.step.now)
+    (statement_of l.body.now))
 
 abbrev pub decreases-switch : goal.decreases-switch
 decreases-switch l = 3 * statement_count (switch (expression_of l.e.now) l.line (items_in (map item_of l.items.now)))

@@ -7,7 +7,7 @@ use Rattle.rv_codegen.proofs.images.image.image_of.Goals as goal
 
 pub write-requires : goal.write-requires
 write-requires c =
-    let m = c.args.sizes.now in
+    let m = c.args.map.now in
     let p = c.args.program.now in
     let plans = c.args.plans.now in
     let g = c.in_ok-code.ensures in
@@ -21,7 +21,7 @@ write-requires c =
 
 pub returns-clause-image : goal.returns-clause-image
 returns-clause-image c =
-    let m = c.args.sizes.now in
+    let m = c.args.map.now in
     let p = c.args.program.now in
     let plans = c.args.plans.now in
     let g = c.in_ok-code.ensures in
@@ -33,6 +33,6 @@ returns-clause-image c =
     (c.in_ok-file.ensures.content ∙ ap content is)
 
 pub returns-clause-follows : goal.returns-clause-follows
-returns-clause-follows c = c.images_follow.ensures c.args.sizes.now c.args.program.now c.args.plans.now
+returns-clause-follows c = c.images_follow.ensures c.args.map.now c.args.program.now c.args.plans.now
     c.args.objects.items c.args.spaces.items c.in_ok-file.file.items c.sizes_are_in_range.ensures
     (returns-clause-image c)

@@ -15,9 +15,9 @@ use Rattle.machine_laws.specs.Calls.Calls.{entry_block}
 use Rattle.machine_laws.specs.Following.Code.{keeping, block, JumpStands, BranchStands, IsLaid}
 use Rattle.machine_laws.proofs.Following.Standing.{function_there}
 use Rattle.machine_laws.specs.Layout.Lists.{tail_of, items_of, index_of, ArePlaced, address_in}
-use Rattle.machine_laws.proofs.Layout.Table.{entry_fits, keeping_fits}
-use Rattle.machine_laws.proofs.Layout.Placed.{all_stand, Block, block_at, jump_stands, branch_stands, entry_stands}
-use Rattle.machine_laws.proofs.Layout.Placed.{first_index, tail_none, place_within}
+use Rattle.machine_laws.proofs.CodeLayout.Table.{entry_fits, keeping_fits}
+use Rattle.machine_laws.proofs.CodeLayout.Placed.{all_stand, Block, block_at, jump_stands, branch_stands, entry_stands}
+use Rattle.machine_laws.proofs.CodeLayout.Placed.{first_index, tail_none, place_within}
 
 -- a jump's block is empty
 forward_none : (m : MapSizes) (p : FlatProgram) (plans : List FunctionPlan) (f pc past : ℕ)

@@ -29,7 +29,7 @@ use Rattle.machine_laws.specs.Following.Code.{keeping, block, GoesOn, JumpStands
 use Rattle.machine_laws.proofs.Following.Sound.{get_below, get_some}
 use Rattle.machine_laws.specs.Layout.Lists.{plain, label_for, tail_of, items_at, items_from, index_from, items_of, index_of}
 use Rattle.machine_laws.specs.Layout.Lists.{ArePlaced}
-use Rattle.machine_laws.proofs.Layout.Table.{AllOfTable, block_fits, keeping_fits, used_field, used_right_field}
+use Rattle.machine_laws.proofs.CodeLayout.Table.{AllOfTable, block_fits, keeping_fits, used_field, used_right_field}
 
 -- ---- lists
 

@@ -2,7 +2,6 @@
 #![tactic(auto)]
 
 pub mod access;
-pub mod copies;
 pub mod count;
 pub mod insertion;
 pub mod laws;

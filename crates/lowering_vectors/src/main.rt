@@ -82,7 +82,7 @@ fn put_row(rt: &HostRuntime, row: &Row, done: &mut [bool]) -> Result<()> {
 fn put_program(rt: &HostRuntime, row: &Row, program: &Program, done: &mut [bool]) -> Result<()> {
     let alloc = rt.alloc();
     let code = lowered(alloc, program)?;
-    let checked = insert(alloc, &code)?;
+    let checked = insert(alloc, lowered(alloc, program)?)?;
     let spatial = count_checks(&checked, Test::Spatial);
     let temporal = count_checks(&checked, Test::Temporal);
     println!(rt;
@@ -120,7 +120,7 @@ fn put_phase(rt: &HostRuntime, phase: &str, text: &[u8]) -> Result<()> {
     let code = lowered(alloc, &program)?;
     match phase {
         "lower" => println!(rt; "{} nodes", nodes_of(&code))?,
-        "insert" => println!(rt; "{} nodes", nodes_of(&insert(alloc, &code)?))?,
+        "insert" => println!(rt; "{} nodes", nodes_of(&insert(alloc, code)?))?,
         _ => bail!("no phase"),
     }
     Ok(())

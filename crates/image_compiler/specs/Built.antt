@@ -27,30 +27,30 @@ abbrev pub flat_code : MapSizes → Tac → FlatProgram
 flat_code m r = program_of operators m r homes
 
 -- what is asked of checked code: its flat code can be planned, and is of instructions that the machine has
-pub record IsExpandable (m : MapSizes) (r : Tac) : Type 0 where
-  pub plannable : AreAllSmall m r → ArePlannable (flat_code m r)
-  pub encodable : AreAllSmall m r → IsEncodable (flat_code m r)
+pub record IsExpandable (map : MapSizes) (r : Tac) : Type 0 where
+  pub plannable : AreAllSmall map r → ArePlannable (flat_code map r)
+  pub encodable : AreAllSmall map r → IsEncodable (flat_code map r)
 
 -- the plans that give out registers, for all functions of a program
 abbrev pub ArePlans : FlatProgram → List FunctionPlan → Type 0
 ArePlans code plans = ArePlanned code plans (length code.functions) (IsPlanOfRegisters code)
 
 -- the image of flat code under such plans, with no data at the start
-pub record IsPlannedImage (m : MapSizes) (code : FlatProgram) (file : List ℕ) : Type 0 where
+pub record IsPlannedImage (map : MapSizes) (code : FlatProgram) (file : List ℕ) : Type 0 where
   pub plans : List FunctionPlan
   pub planned : ArePlans code plans
-  pub image : IsImage m code plans [] [] file
+  pub image : IsImage map code plans [] [] file
 
 -- that of checked code
-pub record IsImageOf (m : MapSizes) (r : Tac) (file : List ℕ) : Type 0 where
-  pub small : AreAllSmall m r
-  pub image : IsPlannedImage m (flat_code m r) file
+pub record IsImageOf (map : MapSizes) (r : Tac) (file : List ℕ) : Type 0 where
+  pub small : AreAllSmall map r
+  pub image : IsPlannedImage map (flat_code map r) file
 
 -- no machine code is generated for flat code under such plans, for a cause
-pub record HasCause (m : MapSizes) (code : FlatProgram) (e : GenerateError) : Type 0 where
+pub record HasCause (map : MapSizes) (code : FlatProgram) (e : GenerateError) : Type 0 where
   pub plans : List FunctionPlan
   pub planned : ArePlans code plans
-  pub cause : IsCause m code plans e
+  pub cause : IsCause map code plans e
 
 -- memory may be wanting before there are plans
 abbrev pub IsNotGenerated : MapSizes → FlatProgram → GenerateError → Type 0
@@ -58,9 +58,9 @@ IsNotGenerated m code generate.Memory = Unit {0}
 IsNotGenerated m code e = HasCause m code e
 
 -- none is generated for checked code
-pub record HasNoCode (m : MapSizes) (r : Tac) (e : GenerateError) : Type 0 where
-  pub small : AreAllSmall m r
-  pub cause : HasCause m (flat_code m r) e
+pub record HasNoCode (map : MapSizes) (r : Tac) (e : GenerateError) : Type 0 where
+  pub small : AreAllSmall map r
+  pub cause : HasCause map (flat_code map r) e
 
 -- when each error comes of checked code
 abbrev pub Refuses : MapSizes → Tac → CompileError → Type 0
@@ -82,17 +82,17 @@ IsCompiled (Err g) (Err e) = IsErrorOf g e
 IsCompiled _ _ = ⊥
 
 -- what is built of some checked code
-pub record IsBuilt (Is : Tac → Type 0) (m : MapSizes) (built : Built) : Type 0 where
+pub record IsBuilt (Is : Tac → Type 0) (map : MapSizes) (built : Built) : Type 0 where
   pub checked : Tac
   pub is : Is checked
-  pub image : IsImageOf m checked built.image.items
+  pub image : IsImageOf map checked built.image.items
   pub checks_are : built.checks ≡ min (2 ^ 64 - 1) (checks checked)
 
 -- or why nothing is
-pub record IsRefused (Is : Tac → Type 0) (m : MapSizes) (e : CompileError) : Type 0 where
+pub record IsRefused (Is : Tac → Type 0) (map : MapSizes) (e : CompileError) : Type 0 where
   pub checked : Tac
   pub is : Is checked
-  pub refuses : Refuses m checked e
+  pub refuses : Refuses map checked e
 
 -- code is too large only of a text with so many nodes
 abbrev pub NeedsNodes : CompileError → Program → Type 0

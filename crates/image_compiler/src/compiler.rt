@@ -49,15 +49,15 @@ fn with_checks(image: Result<Vec<u8>, CompileError>, checks: u64) -> Result<Buil
 }
 
 // What is built of lowered code, in which the checks are put in; or why nothing is.
-fn built_of(alloc: Global, sizes: &AddrMap, lowered: &Tac) -> Result<Built, CompileError>
-    requires count { length lowered.now.functions ≤ 4096 }
-    requires expandable { (r : Tac) → Inserted lowered.now r → IsExpandable sizes.now r }
-    ensures built { IfOk result (λ built. IsBuilt (Inserted lowered.now) sizes.now built) }
-    ensures refused { IfErr result (λ e. UnlessMemory e (IsRefused (Inserted lowered.now) sizes.now e)) }
+fn built_of(alloc: Global, map: &AddrMap, lowered: Tac) -> Result<Built, CompileError>
+    requires count { length lowered.functions ≤ 4096 }
+    requires expandable { (r : Tac) → Inserted lowered r → IsExpandable map.now r }
+    ensures built { IfOk result (λ built. IsBuilt (Inserted lowered) map.now built) }
+    ensures refused { IfErr result (λ e. UnlessMemory e (IsRefused (Inserted lowered) map.now e)) }
 {
     let checked = insert(alloc, lowered)?;
     let count = checks(&checked);
-    with_checks(image_of_checked(alloc, sizes, &checked), count)
+    with_checks(image_of_checked(alloc, map, &checked), count)
 }
 
 // The code of a program without static objects, lowered.
@@ -81,7 +81,7 @@ fn map_of(budgets: &Budgets) -> AddrMap
     ensures { result ≡ record { budgets = budgets.now; global_bytes = 0 } }
 {
     match AddrMap::new(budgets, 0) {
-        Ok(sizes) => sizes,
+        Ok(map) => map,
         Err(_) => unreachable!(),
     }
 }
@@ -106,8 +106,8 @@ pub fn compile(alloc: Global, budgets: &Budgets, program: &Program) -> Result<Bu
     expansions_are_plannable();
     expansions_are_encodable();
     images_do_what_is_meant();
-    let sizes = map_of(budgets);
-    sizes_are_in_range(&sizes);
+    let map = map_of(budgets);
+    sizes_are_in_range(&map);
     let lowered = lowered_code(alloc, program)?;
-    built_of(alloc, &sizes, &lowered)
+    built_of(alloc, &map, lowered)
 }

@@ -20,18 +20,18 @@ use tac_ir::Tac;
 /// The image of flat code under the plans that give out registers, with no data at the start; or why there is none.
 pub fn image_of_flat(
     alloc: Global,
-    sizes: &AddrMap,
+    map: &AddrMap,
     code: &FlatProgram,
 ) -> Result<Vec<u8>, GenerateError>
     requires count { length code.now.functions < 2 ^ 32 }
     requires plannable { ArePlannable code.now }
-    ensures { MatchResult result (λ file. IsPlannedImage sizes.now code.now file.items)
-        (IsNotGenerated sizes.now code.now) }
+    ensures { MatchResult result (λ file. IsPlannedImage map.now code.now file.items)
+        (IsNotGenerated map.now code.now) }
 {
     let plan = registers(alloc, code)?;
     image_of(
         alloc,
-        sizes,
+        map,
         code,
         &plan.functions,
         Vec::new(alloc),
@@ -56,18 +56,18 @@ fn compiled(generated: Result<Vec<u8>, GenerateError>) -> Result<Vec<u8>, Compil
 /// The image of checked code, whose expansion can be planned and encoded; or why there is none.
 pub fn image_of_checked(
     alloc: Global,
-    sizes: &AddrMap,
+    map: &AddrMap,
     checked: &Tac,
 ) -> Result<Vec<u8>, CompileError>
     requires count { length checked.now.functions ≤ 4096 }
-    requires expandable { IsExpandable sizes.now checked.now }
-    ensures { MatchResult result (λ file. IsImageOf sizes.now checked.now file.items)
-        (Refuses sizes.now checked.now) }
+    requires expandable { IsExpandable map.now checked.now }
+    ensures { MatchResult result (λ file. IsImageOf map.now checked.now file.items)
+        (Refuses map.now checked.now) }
 {
     runtimes_have_room();
-    if !fits(alloc, sizes, checked)? {
+    if !fits(alloc, map, checked)? {
         return Err(CompileError::NumbersTooLarge);
     }
-    let code = expand(alloc, sizes, checked)?;
-    compiled(image_of_flat(alloc, sizes, &code))
+    let code = expand(alloc, map, checked)?;
+    compiled(image_of_flat(alloc, map, &code))
 }

@@ -11,9 +11,9 @@ pub built_of-requires-clause-expandable : goal.built_of-requires-clause-expandab
 built_of-requires-clause-expandable c =
     let p = program_of c.args.program.now in
     let budgets = c.args.budgets.now in
-    let m = c.map_of-sizes.result in
+    let m = c.map_of-map.result in
     let t = c.in_ok-lowered.lowered in
-    let same = sizes_are p budgets m c.requires.integers c.map_of-sizes.ensures in
+    let same = sizes_are p budgets m c.requires.integers c.map_of-map.ensures in
     let mapped = subst AreMapped same c.sizes_are_in_range.ensures in
     expandable p budgets t m same c.in_ok-lowered.ensures.code
     (λ r inserted small. c.expansions_are_plannable.ensures p t r m c.requires.valid c.requires.integers
@@ -23,36 +23,36 @@ built_of-requires-clause-expandable c =
 pub returns-clause-built : goal.returns-clause-built
 returns-clause-built c =
     let p = program_of c.args.program.now in
-    built_result p c.in_ok-lowered.lowered c.map_of-sizes.result (sizes_of p c.args.budgets.now) c.built_of.result
+    built_result p c.in_ok-lowered.lowered c.map_of-map.result (sizes_of p c.args.budgets.now) c.built_of.result
     c.in_ok-lowered.ensures.code
-    (sizes_are p c.args.budgets.now c.map_of-sizes.result c.requires.integers c.map_of-sizes.ensures)
+    (sizes_are p c.args.budgets.now c.map_of-map.result c.requires.integers c.map_of-map.ensures)
     c.built_of.ensures.built
 
 pub returns-clause-does : goal.returns-clause-does
 returns-clause-does c =
     let p = program_of c.args.program.now in
     let budgets = c.args.budgets.now in
-    let same = sizes_are p budgets c.map_of-sizes.result c.requires.integers c.map_of-sizes.ensures in
+    let same = sizes_are p budgets c.map_of-map.result c.requires.integers c.map_of-map.ensures in
     let range : AreInRange budgets = subst (λ (m : MapSizes). AreInRange m.budgets) same
     c.sizes_are_in_range.ensures.budgets in
     does_result p budgets c.built_of.result
     (c.images_do_what_is_meant.ensures p budgets c.requires.valid c.requires.integers c.requires.parameters range)
-    (built_result p c.in_ok-lowered.lowered c.map_of-sizes.result (sizes_of p budgets) c.built_of.result
+    (built_result p c.in_ok-lowered.lowered c.map_of-map.result (sizes_of p budgets) c.built_of.result
     c.in_ok-lowered.ensures.code same c.built_of.ensures.built)
 
 pub returns-clause-refused : goal.returns-clause-refused
 returns-clause-refused c =
     let p = program_of c.args.program.now in
-    refused_result p c.in_ok-lowered.lowered c.map_of-sizes.result (sizes_of p c.args.budgets.now) c.built_of.result
+    refused_result p c.in_ok-lowered.lowered c.map_of-map.result (sizes_of p c.args.budgets.now) c.built_of.result
     c.in_ok-lowered.ensures.code
-    (sizes_are p c.args.budgets.now c.map_of-sizes.result c.requires.integers c.map_of-sizes.ensures)
+    (sizes_are p c.args.budgets.now c.map_of-map.result c.requires.integers c.map_of-map.ensures)
     c.built_of.ensures.refused
 
 pub returns-clause-nodes : goal.returns-clause-nodes
 returns-clause-nodes c =
     let p = program_of c.args.program.now in
     let t = c.in_ok-lowered.lowered in
-    let m = c.map_of-sizes.result in
+    let m = c.map_of-map.result in
     nodes_result p t m c.built_of.result
     (λ r plans bytes inserted small ok cause. c.code_of_few_nodes_is_not_too_large.ensures p t r m plans bytes
     c.requires.valid c.requires.integers c.in_ok-lowered.ensures.code c.in_ok-lowered.ensures.weighed inserted

@@ -8,7 +8,7 @@ use Rattle.image_compiler.proofs.image.image_of_checked.Goals as goal
 pub image_of_flat-requires-clause-count : goal.image_of_flat-requires-clause-count
 image_of_flat-requires-clause-count c =
     let same = ap (λ (k : FlatProgram). length k.functions) c.in_ok-code.ensures in
-    let count = code_count c.args.sizes.now c.args.checked.now in
+    let count = code_count c.args.map.now c.args.checked.now in
     let few = c.requires.count in
     omega (arith, same, count, few)
 
@@ -20,13 +20,13 @@ image_of_flat-requires-clause-plannable c =
 pub compiled-requires : goal.compiled-requires
 compiled-requires c = λ bytes.
     let small = c.in_ok-fits.ensures.0 c.if-not-branch.false in
-    never_runtime c.args.sizes.now c.args.checked.now small c.in_ok-code.code c.image_of_flat.result bytes
-    (c.runtimes_have_room.ensures c.args.sizes.now c.args.checked.now small c.requires.count
+    never_runtime c.args.map.now c.args.checked.now small c.in_ok-code.code c.image_of_flat.result bytes
+    (c.runtimes_have_room.ensures c.args.map.now c.args.checked.now small c.requires.count
     (c.requires.expandable.plannable small) (c.requires.expandable.encodable small))
     c.in_ok-code.ensures c.image_of_flat.ensures
 
 pub returns : goal.returns
 returns c =
-    compiled_result c.args.sizes.now c.args.checked.now (c.in_ok-fits.ensures.0 c.if-not-branch.false)
+    compiled_result c.args.map.now c.args.checked.now (c.in_ok-fits.ensures.0 c.if-not-branch.false)
     c.in_ok-code.code c.image_of_flat.result c.compiled.result c.in_ok-code.ensures c.compiled.ensures
     c.image_of_flat.ensures

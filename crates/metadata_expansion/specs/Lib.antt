@@ -5,3 +5,4 @@ pub mod Joins
 pub mod Tables
 pub mod Numbering
 pub mod Layout
+pub mod Contexts

@@ -3,14 +3,14 @@
 ghost use Rattle.std.specs.Prelude.{◌≡◌, ℕ, ◌+◌, ◌<◌, ◌≤◌, ◌^◌, ◌++◌, ◌∷◌, [], OnOk};
 ghost use Rattle.flat_meaning.specs.declared.instruction.FlatInstruction.TheVariants.{Branch as Choice};
 ghost use Rattle.metadata_plan.specs.Blocks.{block, conversion, library_code};
-ghost use Rattle.metadata_expansion.specs.Numbering.{AreRegisters, IsAmong};
+ghost use Rattle.metadata_expansion.specs.Numbering.{IsAmong};
+ghost use Rattle.metadata_expansion.specs.Contexts.{HasRegisters, block_in};
 ghost use Rattle.metadata_plan.specs.OperatorLists.Operators.{operators};
 
 use crate::calls::put_call;
+use crate::context::FunctionContext;
 use crate::list::put;
-use crate::registers::Registers;
-use crate::updates::put_update;
-use addr_map::AddrMap;
+use crate::updates::{PlainUpdate, put_update};
 use c_tree::{Kind, Routine};
 use flat_meaning::{FlatInstruction, RightOperand};
 use flat_operators::binary;
@@ -22,7 +22,7 @@ use obj_memory::{IntType, Scalar};
 use rv_isa::BranchOp;
 use sb_base::{Ending, Line};
 use std::alloc::AllocError;
-use tac_ir::{CodeFunction, Instruction, Tac};
+use tac_ir::Instruction;
 
 // Puts a conversion to a kind behind a list.
 fn put_kind(
@@ -87,30 +87,26 @@ fn put_branch(
 /// Puts the block of an instruction behind a list. It fails only for want of memory.
 pub fn put_block(
     code: &mut Vec<FlatInstruction>,
-    sizes: &AddrMap,
-    program: &Tac,
-    function: &CodeFunction,
-    registers: &Registers,
+    context: &FunctionContext,
     instruction: &Instruction,
 ) -> Result<(), AllocError>
-    requires registers { AreRegisters registers.now function.now }
-    requires among { IsAmong function.now instruction.now }
-    ensures { OnOk result (code.new.items ≡ code.old.items
-        ++ block operators sizes.now program.now function.now instruction.now) }
+    requires registers { HasRegisters context.now }
+    requires among { IsAmong context.now.function.now instruction.now }
+    ensures { OnOk result (code.new.items ≡ code.old.items ++ block_in context.now instruction.now) }
 {
     match instruction {
         Instruction::Constant { to, word, .. } => {
-            let into = registers.temporary(function, *to);
+            let into = context.temporary(*to);
             put_constant(code, into, *word)
         }
         Instruction::GetPlain { to, variable, .. } => {
-            let into = registers.temporary(function, *to);
-            let from = registers.variable(function, *variable);
+            let into = context.temporary(*to);
+            let from = context.variable(*variable);
             put(code, FlatInstruction::Move { into, from })
         }
         Instruction::SetPlain { variable, from, .. } => {
-            let into = registers.variable(function, *variable);
-            let from = registers.temporary(function, *from);
+            let into = context.variable(*variable);
+            let from = context.temporary(*from);
             put(code, FlatInstruction::Move { into, from })
         }
         Instruction::UpdatePlain {
@@ -122,16 +118,23 @@ pub fn put_block(
             variable,
             right,
             ..
-        } => put_update(
-            code, function, registers, *update, *scalar, *fixity, *line, *to, *variable, *right,
-        ),
+        } => {
+            let plain = PlainUpdate {
+                fixity: *fixity,
+                line: *line,
+                to: *to,
+                variable: *variable,
+                right: *right,
+            };
+            put_update(code, context, *update, *scalar, plain)
+        }
         Instruction::ZeroOf { to, .. } => {
-            let into = registers.temporary(function, *to);
+            let into = context.temporary(*to);
             put(code, FlatInstruction::Constant { into, value: 0 })
         }
         Instruction::Convert { kind, to, from, .. } => {
-            let into = registers.temporary(function, *to);
-            let from = registers.temporary(function, *from);
+            let into = context.temporary(*to);
+            let from = context.temporary(*from);
             put_kind(code, *kind, into, from)
         }
         Instruction::Unary {
@@ -141,9 +144,16 @@ pub fn put_block(
             from,
             ..
         } => {
-            let into = registers.temporary(function, *to);
-            let from = registers.temporary(function, *from);
-            put_unary(code, *operator, *int_type, into, from, registers.free)
+            let into = context.temporary(*to);
+            let from = context.temporary(*from);
+            put_unary(
+                code,
+                *operator,
+                *int_type,
+                into,
+                from,
+                context.registers.free,
+            )
         }
         Instruction::Binary {
             operator,
@@ -155,25 +165,25 @@ pub fn put_block(
             ..
         } => {
             let operands = binary::Registers {
-                into: registers.temporary(function, *to),
-                left: registers.temporary(function, *left),
-                right: registers.temporary(function, *right),
-                scratch: registers.free,
+                into: context.temporary(*to),
+                left: context.temporary(*left),
+                right: context.temporary(*right),
+                scratch: context.registers.free,
             };
             put_binary(code, *operator, *int_type, *line, operands)
         }
         Instruction::Branch { from, .. } => {
-            let left = registers.temporary(function, *from);
+            let left = context.temporary(*from);
             put_branch(code, BranchOp::Bne, left, RightOperand::Number(0))
         }
         Instruction::Case { from, word, .. } => {
-            let left = registers.temporary(function, *from);
-            put_constant(code, registers.free, *word)?;
+            let left = context.temporary(*from);
+            put_constant(code, context.registers.free, *word)?;
             put_branch(
                 code,
                 BranchOp::Beq,
                 left,
-                RightOperand::Register(registers.free),
+                RightOperand::Register(context.registers.free),
             )
         }
         Instruction::Turn { .. } => put(code, FlatInstruction::Turn),
@@ -183,7 +193,7 @@ pub fn put_block(
             first,
             ..
         } => {
-            let register = registers.temporary(function, *first);
+            let register = context.temporary(*first);
             put_library(code, *routine, *line, register)
         }
         Instruction::Call {
@@ -192,11 +202,9 @@ pub fn put_block(
             first,
             count,
             ..
-        } => put_call(
-            code, sizes, program, function, registers, *called, *line, *first, *count,
-        ),
+        } => put_call(code, context, *called, *line, *first, *count),
         Instruction::Return { from } => {
-            let from = registers.temporary(function, *from);
+            let from = context.temporary(*from);
             put(code, FlatInstruction::Return { from })
         }
         _ => put(code, FlatInstruction::End(Ending::Abort(Line::first()))),

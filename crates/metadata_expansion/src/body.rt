@@ -4,26 +4,25 @@ ghost use Rattle.std.specs.Prelude.{◌≡◌, ◌+◌, ◌<◌, ◌≤◌, ◌^
 ghost use Rattle.std.specs.Prelude.{[], length, true, OnOk, IfOk};
 ghost use Rattle.tac_ir.specs.Edges.{successors};
 ghost use Rattle.metadata_plan.specs.Registers.{words_of, words_in};
-ghost use Rattle.metadata_plan.specs.Blocks.{block, prologue, zero_variables, zeros};
-ghost use Rattle.metadata_plan.specs.Laid.{begin_code, body_of, jumps, laid_from, place_of};
-ghost use Rattle.metadata_expansion.specs.Numbering.{AreRegisters, IsAmong};
+ghost use Rattle.metadata_plan.specs.Blocks.{prologue, zero_variables, zeros};
+ghost use Rattle.metadata_plan.specs.Laid.{begin_code, body_of, laid_from};
+ghost use Rattle.metadata_expansion.specs.Numbering.{IsAmong};
 ghost use Rattle.metadata_expansion.specs.Numbers.{AreSmall};
 ghost use Rattle.metadata_plan.specs.OperatorLists.Operators.{operators};
-ghost use Rattle.metadata_expansion.specs.Joins.{AreJoins};
-ghost use Rattle.metadata_expansion.specs.Layout.{ArePlaces};
+ghost use Rattle.metadata_expansion.specs.Contexts.{HasRegisters, IsLaid, block_in, jumps_in, place_in};
 ghost use Rattle.metadata_expansion.specs.Ways.{nodes_of};
 
 use crate::blocks::put_block;
+use crate::context::FunctionContext;
 use crate::joins::Joins;
 use crate::jumps::{Ways, follows, jump, put_jump, ways_of};
-use crate::layout::{Places, instruction_at, placed};
+use crate::layout::{Layout, instruction_at, placed};
 use crate::list::put;
-use crate::registers::{Registers, words_in, words_of};
-use addr_map::AddrMap;
+use crate::registers::{words_in, words_of};
 use c_tree::Variable;
 use flat_meaning::FlatInstruction;
 use std::alloc::{AllocError, Global};
-use tac_ir::{CodeFunction, Instruction, Tac};
+use tac_ir::{CodeFunction, Instruction};
 
 // Puts what makes so many registers 0 behind a list.
 fn put_zeros(code: &mut Vec<FlatInstruction>, register: u32, count: u32) -> Result<(), AllocError>
@@ -93,33 +92,27 @@ pub(crate) fn prologue_size(alloc: Global, function: &CodeFunction) -> Result<us
 // Puts the jumps behind the block of a node, which ends at a place.
 fn put_jumps(
     code: &mut Vec<FlatInstruction>,
-    sizes: &AddrMap,
-    program: &Tac,
-    function: &CodeFunction,
-    places: &Places,
-    joins: &Joins,
+    layout: &Layout,
     node: usize,
     ways: Ways,
     place: u32,
 ) -> Result<(), AllocError>
-    requires places { ArePlaces places.now sizes.now program.now function.now }
-    requires joins { AreJoins joins.now function.now }
-    requires inside { node ≤ length function.now.code }
+    requires laid { IsLaid layout.now }
+    requires inside { node ≤ length layout.now.context.function.now.code }
     requires small { place + 1 < 2 ^ 32 }
-    ensures { OnOk result (code.new.items ≡ code.old.items
-        ++ jumps function.now (place_of operators sizes.now program.now function.now) node place (nodes_of ways)) }
+    ensures { OnOk result (code.new.items ≡ code.old.items ++ jumps_in layout.now node place (nodes_of ways)) }
 {
     match ways {
         Ways::Nowhere => Ok(()),
-        Ways::To(next) => {
-            let to = places.of(sizes, program, function, next);
-            put_jump(code, joins.falls(function, node, next), place, to)
-        }
+        Ways::To(next) => put_jump(code, layout.falls(node, next), place, layout.place(next)),
         Ways::Either(first, second) => {
-            let to = places.of(sizes, program, function, second);
-            put(code, jump(place, to))?;
-            let to = places.of(sizes, program, function, first);
-            put_jump(code, joins.falls(function, node, first), place + 1, to)
+            put(code, jump(place, layout.place(second)))?;
+            put_jump(
+                code,
+                layout.falls(node, first),
+                place + 1,
+                layout.place(first),
+            )
         }
     }
 }
@@ -127,78 +120,41 @@ fn put_jumps(
 // Puts the block of a node, and the jumps behind it.
 fn put_node(
     code: &mut Vec<FlatInstruction>,
-    sizes: &AddrMap,
-    program: &Tac,
-    function: &CodeFunction,
-    registers: &Registers,
-    places: &Places,
-    joins: &Joins,
+    layout: &Layout,
     node: usize,
     instruction: &Instruction,
 ) -> Result<(), AllocError>
-    requires registers { AreRegisters registers.now function.now }
-    requires among { IsAmong function.now instruction.now }
-    requires places { ArePlaces places.now sizes.now program.now function.now }
-    requires joins { AreJoins joins.now function.now }
-    requires inside { node ≤ length function.now.code }
-    requires small { place_of operators sizes.now program.now function.now node
-        + length (block operators sizes.now program.now function.now instruction.now) < 2 ^ 31 }
+    requires laid { IsLaid layout.now }
+    requires among { IsAmong layout.now.context.function.now instruction.now }
+    requires inside { node ≤ length layout.now.context.function.now.code }
+    requires small { place_in layout.now node + length (block_in layout.now.context instruction.now) < 2 ^ 31 }
     ensures { OnOk result (code.new.items ≡ code.old.items
-        ++ (block operators sizes.now program.now function.now instruction.now
-        ++ jumps function.now (place_of operators sizes.now program.now function.now) node
-        (place_of operators sizes.now program.now function.now node
-        + length (block operators sizes.now program.now function.now instruction.now))
+        ++ (block_in layout.now.context instruction.now ++ jumps_in layout.now node
+        (place_in layout.now node + length (block_in layout.now.context instruction.now))
         (successors instruction.now))) }
 {
     let before = code.len();
-    put_block(code, sizes, program, function, registers, instruction)?;
+    put_block(code, &layout.context, instruction)?;
     let size = code.len() - before;
-    let place = places.of(sizes, program, function, node) + size as u32;
-    put_jumps(
-        code,
-        sizes,
-        program,
-        function,
-        places,
-        joins,
-        node,
-        ways_of(instruction),
-        place,
-    )
+    let place = layout.place(node) + size as u32;
+    put_jumps(code, layout, node, ways_of(instruction), place)
 }
 
 // Puts all nodes, the last first.
-fn put_nodes(
-    code: &mut Vec<FlatInstruction>,
-    sizes: &AddrMap,
-    program: &Tac,
-    function: &CodeFunction,
-    registers: &Registers,
-    places: &Places,
-    joins: &Joins,
-) -> Result<(), AllocError>
-    requires registers { AreRegisters registers.now function.now }
-    requires small { AreSmall sizes.now program.now function.now }
-    requires joins { AreJoins joins.now function.now }
-    requires places { ArePlaces places.now sizes.now program.now function.now }
+fn put_nodes(code: &mut Vec<FlatInstruction>, layout: &Layout) -> Result<(), AllocError>
+    requires laid { IsLaid layout.now }
+    requires small { AreSmall layout.now.context.map.now layout.now.context.program.now
+        layout.now.context.function.now }
     ensures { OnOk result (code.new.items ≡ code.old.items
-        ++ laid_from operators sizes.now program.now function.now 0 function.now.code) }
+        ++ laid_from operators layout.now.context.map.now layout.now.context.program.now
+        layout.now.context.function.now 0 layout.now.context.function.now.code) }
 {
+    let function = layout.context.function;
     let count = function.code.as_slice().len();
     for behind in 0..count {
         let node = count - 1 - behind;
         let instruction = instruction_at(function, node);
-        put_node(
-            code,
-            sizes,
-            program,
-            function,
-            registers,
-            places,
-            joins,
-            node,
-            instruction,
-        )?;
+        put_node(code, layout, node, instruction)?;
     }
     Ok(())
 }
@@ -206,51 +162,46 @@ fn put_nodes(
 // Puts the prologue, and the jump to the entry.
 fn put_begin(
     code: &mut Vec<FlatInstruction>,
-    sizes: &AddrMap,
-    program: &Tac,
-    function: &CodeFunction,
-    places: &Places,
+    layout: &Layout,
     behind: u32,
 ) -> Result<(), AllocError>
-    requires places { ArePlaces places.now sizes.now program.now function.now }
-    requires words { words_in function.now.parameters + words_in function.now.variables < 2 ^ 32 }
-    requires behind { behind ≡ length (prologue function.now) }
+    requires laid { IsLaid layout.now }
+    requires words { words_in layout.now.context.function.now.parameters
+        + words_in layout.now.context.function.now.variables < 2 ^ 32 }
+    requires behind { behind ≡ length (prologue layout.now.context.function.now) }
     ensures { OnOk result (code.new.items ≡ code.old.items
-        ++ begin_code operators sizes.now program.now function.now) }
+        ++ begin_code operators layout.now.context.map.now layout.now.context.program.now
+        layout.now.context.function.now) }
 {
+    let function = layout.context.function;
     put_prologue(code, function)?;
     let count = function.code.as_slice().len();
-    let to = places.of(sizes, program, function, function.entry);
-    put_jump(code, follows(count, function.entry), behind, to)
+    let fallen = follows(count, function.entry);
+    put_jump(code, fallen, behind, layout.place(function.entry))
 }
 
 /// Puts the body of a function behind a list. It fails only for want of memory.
 pub fn put_body(
     code: &mut Vec<FlatInstruction>,
     alloc: Global,
-    sizes: &AddrMap,
-    program: &Tac,
-    function: &CodeFunction,
-    registers: &Registers,
+    context: &FunctionContext,
 ) -> Result<(), AllocError>
-    requires registers { AreRegisters registers.now function.now }
-    requires small { AreSmall sizes.now program.now function.now }
+    requires registers { HasRegisters context.now }
+    requires small { AreSmall context.now.map.now context.now.program.now context.now.function.now }
     ensures { OnOk result (code.new.items ≡ code.old.items
-        ++ body_of operators sizes.now program.now function.now) }
+        ++ body_of operators context.now.map.now context.now.program.now context.now.function.now) }
 {
+    let function = context.function;
     let joins = Joins::new(alloc, function)?;
     let behind = prologue_size(alloc, function)? as u32;
     let count = function.code.as_slice().len();
     let jumps = if follows(count, function.entry) { 0 } else { 1 };
-    let places = placed(
-        alloc,
-        sizes,
-        program,
-        function,
-        registers,
-        &joins,
-        behind + jumps,
-    )?;
-    put_begin(code, sizes, program, function, &places, behind)?;
-    put_nodes(code, sizes, program, function, registers, &places, &joins)
+    let places = placed(alloc, context, &joins, behind + jumps)?;
+    let layout = Layout {
+        context: *context,
+        joins: &joins,
+        places: &places,
+    };
+    put_begin(code, &layout, behind)?;
+    put_nodes(code, &layout)
 }

@@ -9,16 +9,16 @@ ghost use Rattle.metadata_plan.specs.Registers.{most_temporaries};
 ghost use Rattle.metadata_plan.specs.Part.{takes};
 ghost use Rattle.metadata_plan.specs.Blocks.{argument_moves, call_code, call_tests, room_in};
 ghost use Rattle.metadata_expansion.specs.Homes.{free_count};
-ghost use Rattle.metadata_expansion.specs.Numbering.{AreRegisters};
+ghost use Rattle.metadata_expansion.specs.Contexts.{HasRegisters};
 
+use crate::context::FunctionContext;
 use crate::list::put;
-use crate::registers::Registers;
 use addr_map::AddrMap;
 use flat_meaning::{FlatInstruction, RightOperand};
 use rv_isa::BranchOp;
 use sb_base::{Ending, Line};
 use std::alloc::AllocError;
-use tac_ir::{CodeFunction, Tac};
+use tac_ir::Tac;
 
 /// The activation record's bytes of a function by its number.
 pub fn room_of(program: &Tac, function: usize) -> u64
@@ -34,14 +34,14 @@ pub fn room_of(program: &Tac, function: usize) -> u64
 /// test of the charge, at a line.
 pub fn put_tests(
     code: &mut Vec<FlatInstruction>,
-    sizes: &AddrMap,
+    map: &AddrMap,
     room: u64,
     line: Line,
     scratch: u32,
 ) -> Result<(), AllocError>
-    ensures { OnOk result (code.new.items ≡ code.old.items ++ call_tests sizes.now room line scratch) }
+    ensures { OnOk result (code.new.items ≡ code.old.items ++ call_tests map.now room line scratch) }
 {
-    let most = (sizes.budgets().calls() + 1).saturating_sub(room);
+    let most = (map.budgets().calls() + 1).saturating_sub(room);
     put(code, FlatInstruction::Turn)?;
     put(code, FlatInstruction::Charged { into: scratch })?;
     put(
@@ -59,20 +59,19 @@ pub fn put_tests(
 /// Puts what brings so many arguments, from a temporary on, to the registers behind those of the temporaries.
 pub fn put_arguments(
     code: &mut Vec<FlatInstruction>,
-    function: &CodeFunction,
-    registers: &Registers,
+    context: &FunctionContext,
     first: usize,
     count: usize,
 ) -> Result<(), AllocError>
-    requires registers { AreRegisters registers.now function.now }
-    requires temporaries { first + count ≤ most_temporaries function.now.code }
-    requires arguments { count ≤ free_count function.now }
-    ensures { OnOk result
-        (code.new.items ≡ code.old.items ++ argument_moves function.now registers.now.free first count) }
+    requires registers { HasRegisters context.now }
+    requires temporaries { first + count ≤ most_temporaries context.now.function.now.code }
+    requires arguments { count ≤ free_count context.now.function.now }
+    ensures { OnOk result (code.new.items ≡ code.old.items
+        ++ argument_moves context.now.function.now context.now.registers.now.free first count) }
 {
     for i in 0..count {
-        let into = registers.free + i as u32;
-        let from = registers.temporary(function, first + i);
+        let into = context.registers.free + i as u32;
+        let from = context.temporary(first + i);
         put(code, FlatInstruction::Move { into, from })?;
     }
     Ok(())
@@ -92,36 +91,35 @@ fn takes(program: &Tac, function: usize, count: usize) -> bool
 /// run.
 pub fn put_call(
     code: &mut Vec<FlatInstruction>,
-    sizes: &AddrMap,
-    program: &Tac,
-    function: &CodeFunction,
-    registers: &Registers,
+    context: &FunctionContext,
     called: usize,
     line: Line,
     first: usize,
     count: usize,
 ) -> Result<(), AllocError>
-    requires registers { AreRegisters registers.now function.now }
-    requires into { first < most_temporaries function.now.code }
-    requires temporaries { first + count ≤ most_temporaries function.now.code }
-    requires arguments { count ≤ free_count function.now }
+    requires registers { HasRegisters context.now }
+    requires into { first < most_temporaries context.now.function.now.code }
+    requires temporaries { first + count ≤ most_temporaries context.now.function.now.code }
+    requires arguments { count ≤ free_count context.now.function.now }
     requires callee { called < 2 ^ 32 }
     ensures { OnOk result (code.new.items ≡ code.old.items
-        ++ (if takes (function_in program.now called) count
-        then call_code sizes.now program.now function.now called line first count
+        ++ (if takes (function_in context.now.program.now called) count
+        then call_code context.now.map.now context.now.program.now context.now.function.now called line first count
         else End (Abort line) ∷ [])) }
 {
+    let FunctionContext { map, program, .. } = *context;
     if !takes(program, called, count) {
         return put(code, FlatInstruction::End(Ending::Abort(line)));
     }
-    put_tests(code, sizes, room_of(program, called), line, registers.free)?;
-    put_arguments(code, function, registers, first, count)?;
-    let into = registers.temporary(function, first);
+    let free = context.registers.free;
+    put_tests(code, map, room_of(program, called), line, free)?;
+    put_arguments(code, context, first, count)?;
+    let into = context.temporary(first);
     put(
         code,
         FlatInstruction::Call {
             function: called as u32,
-            first: registers.free,
+            first: free,
             into,
         },
     )

@@ -7,6 +7,7 @@
 pub mod blocks;
 pub mod body;
 pub mod calls;
+pub mod context;
 pub mod homes;
 pub mod joins;
 pub mod jumps;

@@ -8,6 +8,7 @@ ghost use Rattle.metadata_expansion.specs.Numbers.{AreAllSmall, AreSmall, body_s
 ghost use Rattle.metadata_expansion.specs.Numbers.{greatest_line, greatest_word, line_in, register_count, word_in};
 
 use crate::body::prologue_size;
+use crate::context::FunctionContext;
 use crate::homes::{free_count, greater};
 use crate::joins::Joins;
 use crate::jumps::follows;
@@ -59,6 +60,7 @@ fn callee(instruction: &Instruction) -> usize
     ensures word { word_in instruction.now < 2 ^ 64 }
     ensures line { line_in instruction.now < 2 ^ 32 }
 {
+    // A number that is read is known to be in the range of its type: so the reads of words and lines bring both bounds.
     match instruction {
         Instruction::Call { function, line, .. } => {
             let _line = line.number();
@@ -98,16 +100,22 @@ fn greatest_callee(instructions: &[Instruction]) -> usize
 // Whether the body of a function has fewer than 2^31 instructions.
 fn is_short(
     alloc: Global,
-    sizes: &AddrMap,
+    map: &AddrMap,
     program: &Tac,
     function: &CodeFunction,
 ) -> Result<bool, AllocError>
     requires registers { register_count function.now < 2 ^ 32 }
     requires callees { greatest_callee function.now.code < 2 ^ 32 }
     ensures { IfOk result
-        (λ short. IsTrue short ↔ (body_size sizes.now program.now function.now < 2 ^ 31)) }
+        (λ short. IsTrue short ↔ (body_size map.now program.now function.now < 2 ^ 31)) }
 {
     let registers = Registers::new(alloc, function)?;
+    let context = FunctionContext {
+        map,
+        program,
+        function,
+        registers: &registers,
+    };
     let joins = Joins::new(alloc, function)?;
     let count = function.code.as_slice().len();
     let mut size = prologue_size(alloc, function)? as u128;
@@ -119,16 +127,7 @@ fn is_short(
             return Ok(false);
         }
         let instruction = instruction_at(function, node);
-        size += node_size(
-            alloc,
-            sizes,
-            program,
-            function,
-            &registers,
-            &joins,
-            node,
-            instruction,
-        )?;
+        size += node_size(alloc, &context, &joins, node, instruction)?;
     }
     Ok(size < 1 << 31)
 }
@@ -136,15 +135,15 @@ fn is_short(
 // Whether the numbers of a function fit.
 fn is_small(
     alloc: Global,
-    sizes: &AddrMap,
+    map: &AddrMap,
     program: &Tac,
     function: &CodeFunction,
 ) -> Result<bool, AllocError>
-    ensures { IfOk result (λ small. IsTrue small ↔ AreSmall sizes.now program.now function.now) }
+    ensures { IfOk result (λ small. IsTrue small ↔ AreSmall map.now program.now function.now) }
 {
     let greatest = greatest_callee(function.code.as_slice());
     if function.room < 1 << 32 && greatest < 1 << 32 && has_few_registers(function) {
-        return is_short(alloc, sizes, program, function);
+        return is_short(alloc, map, program, function);
     }
     Ok(false)
 }
@@ -158,15 +157,15 @@ fn function_at(program: &Tac, number: usize) -> &CodeFunction
 }
 
 /// Whether the numbers of a program's expansion fit the instructions of flat code. It fails only for want of memory.
-pub fn fits(alloc: Global, sizes: &AddrMap, program: &Tac) -> Result<bool, AllocError>
-    ensures { IfOk result (λ fit. IsTrue fit ↔ AreAllSmall sizes.now program.now) }
+pub fn fits(alloc: Global, map: &AddrMap, program: &Tac) -> Result<bool, AllocError>
+    ensures { IfOk result (λ fit. IsTrue fit ↔ AreAllSmall map.now program.now) }
 {
     let functions = program.functions.as_slice();
     if functions.len() >= 1 << 32 || program.main >= functions.len() {
         return Ok(false);
     }
     for number in 0..functions.len() {
-        if !is_small(alloc, sizes, program, function_at(program, number))? {
+        if !is_small(alloc, map, program, function_at(program, number))? {
             return Ok(false);
         }
     }

@@ -10,6 +10,7 @@ ghost use Rattle.metadata_plan.specs.OperatorLists.Operators.{operators};
 
 use crate::body::put_body;
 use crate::calls::{put_tests, room_of};
+use crate::context::FunctionContext;
 use crate::homes::homes;
 use crate::list::{push, put};
 use crate::registers::{Registers, words_in};
@@ -23,18 +24,24 @@ use tree_containers::Items;
 // The expansion of a function.
 fn expand_function(
     alloc: Global,
-    sizes: &AddrMap,
+    map: &AddrMap,
     program: &Tac,
     function: &CodeFunction,
 ) -> Result<FlatFunction, AllocError>
-    requires { AreSmall sizes.now program.now function.now }
+    requires { AreSmall map.now program.now function.now }
     ensures { IfOk result
-        (λ f. f ≡ function_of operators sizes.now program.now function.now (homes function.now)) }
+        (λ f. f ≡ function_of operators map.now program.now function.now (homes function.now)) }
 {
     let registers = Registers::new(alloc, function)?;
     let homes = homes(alloc, function, &registers)?;
+    let context = FunctionContext {
+        map,
+        program,
+        function,
+        registers: &registers,
+    };
     let mut body = Vec::new(alloc);
-    put_body(&mut body, alloc, sizes, program, function, &registers)?;
+    put_body(&mut body, alloc, &context)?;
     Ok(FlatFunction {
         parameters: words_in(function.parameters.as_slice()),
         results: 1,
@@ -56,23 +63,17 @@ fn line_of(program: &Tac, number: usize) -> Line
 // Puts what a run begins with behind a list: a call of `main`, whose result is the status.
 fn put_entry(
     code: &mut Vec<FlatInstruction>,
-    sizes: &AddrMap,
+    map: &AddrMap,
     program: &Tac,
 ) -> Result<(), AllocError>
     requires main { program.now.main < length program.now.functions }
     requires small { program.now.main < 2 ^ 32 }
-    ensures { OnOk result (code.new.items ≡ code.old.items ++ entry_code sizes.now program.now) }
+    ensures { OnOk result (code.new.items ≡ code.old.items ++ entry_code map.now program.now) }
 {
     let main = program.main;
     put(code, FlatInstruction::Turn)?;
     put(code, FlatInstruction::Turn)?;
-    put_tests(
-        code,
-        sizes,
-        room_of(program, main),
-        line_of(program, main),
-        0,
-    )?;
+    put_tests(code, map, room_of(program, main), line_of(program, main), 0)?;
     put(
         code,
         FlatInstruction::Call {
@@ -85,15 +86,15 @@ fn put_entry(
 }
 
 // The function with which a run begins.
-fn entry_function(alloc: Global, sizes: &AddrMap, program: &Tac) -> Result<FlatFunction, AllocError>
+fn entry_function(alloc: Global, map: &AddrMap, program: &Tac) -> Result<FlatFunction, AllocError>
     requires main { program.now.main < length program.now.functions }
     requires small { program.now.main < 2 ^ 32 }
-    ensures { IfOk result (λ f. f ≡ entry_of sizes.now program.now) }
+    ensures { IfOk result (λ f. f ≡ entry_of map.now program.now) }
 {
     let mut homes = Vec::new(alloc);
     homes.push(0)?;
     let mut body = Vec::new(alloc);
-    put_entry(&mut body, sizes, program)?;
+    put_entry(&mut body, map, program)?;
     Ok(FlatFunction {
         parameters: 0,
         results: 0,
@@ -108,28 +109,28 @@ fn entry_function(alloc: Global, sizes: &AddrMap, program: &Tac) -> Result<FlatF
 fn put_functions(
     list: &mut Vec<FlatFunction>,
     alloc: Global,
-    sizes: &AddrMap,
+    map: &AddrMap,
     program: &Tac,
 ) -> Result<(), AllocError>
-    requires { AreAllSmall sizes.now program.now }
+    requires { AreAllSmall map.now program.now }
     ensures { OnOk result (list.new.items ≡ list.old.items
-        ++ functions_of operators sizes.now program.now homes program.now.functions) }
+        ++ functions_of operators map.now program.now homes program.now.functions) }
 {
     for function in program.functions.as_slice() {
-        push(list, expand_function(alloc, sizes, program, function)?)?;
+        push(list, expand_function(alloc, map, program, function)?)?;
     }
     Ok(())
 }
 
 /// The expansion of a program in three-address code that has integers alone: its functions with their numbers, and
 /// behind them the one with which a run begins. Whether its numbers fit tells `fits`. It fails only for want of memory.
-pub fn expand(alloc: Global, sizes: &AddrMap, program: &Tac) -> Result<FlatProgram, AllocError>
-    requires { AreAllSmall sizes.now program.now }
-    ensures { IfOk result (λ p. p ≡ program_of operators sizes.now program.now homes) }
+pub fn expand(alloc: Global, map: &AddrMap, program: &Tac) -> Result<FlatProgram, AllocError>
+    requires { AreAllSmall map.now program.now }
+    ensures { IfOk result (λ p. p ≡ program_of operators map.now program.now homes) }
 {
     let mut functions = Vec::new(alloc);
-    put_functions(&mut functions, alloc, sizes, program)?;
-    push(&mut functions, entry_function(alloc, sizes, program)?)?;
+    put_functions(&mut functions, alloc, map, program)?;
+    push(&mut functions, entry_function(alloc, map, program)?)?;
     Ok(FlatProgram {
         functions: Items::from_vec(functions),
         entry: program.functions.as_slice().len() as u32,

@@ -6,11 +6,11 @@ ghost use Rattle.c_tree.specs.declared.expression.Update.TheVariants.{Arithmetic
 ghost use Rattle.tac_ir.specs.Temporaries.{right_count};
 ghost use Rattle.metadata_plan.specs.Registers.{most_temporaries};
 ghost use Rattle.metadata_plan.specs.Blocks.{kept_by, right_code, right_register, update_code};
-ghost use Rattle.metadata_expansion.specs.Numbering.{AreRegisters};
+ghost use Rattle.metadata_expansion.specs.Contexts.{HasRegisters};
 ghost use Rattle.metadata_plan.specs.OperatorLists.Operators.{operators};
 
+use crate::context::FunctionContext;
 use crate::list::put;
-use crate::registers::Registers;
 use c_tree::{Fixity, Update};
 use flat_meaning::FlatInstruction;
 use flat_operators::binary;
@@ -19,7 +19,7 @@ use flat_operators::conversion::put_conversion;
 use obj_memory::{BinaryOperator, IntType, Scalar};
 use sb_base::Line;
 use std::alloc::AllocError;
-use tac_ir::{CodeFunction, RightOperand};
+use tac_ir::RightOperand;
 
 // Puts the 1 of `++` and `--` into a register.
 fn put_right(
@@ -42,18 +42,13 @@ fn put_right(
 }
 
 // The register of a right operand, which is the given one for a 1.
-fn right_register(
-    function: &CodeFunction,
-    registers: &Registers,
-    right: RightOperand,
-    register: u32,
-) -> u32
-    requires registers { AreRegisters registers.now function.now }
-    requires there { right_count right ≤ most_temporaries function.now.code }
-    ensures { result ≡ right_register function.now right register }
+fn right_register(context: &FunctionContext, right: RightOperand, register: u32) -> u32
+    requires registers { HasRegisters context.now }
+    requires there { right_count right ≤ most_temporaries context.now.function.now.code }
+    ensures { result ≡ right_register context.now.function.now right register }
 {
     match right {
-        RightOperand::Temporary(number) => registers.temporary(function, number),
+        RightOperand::Temporary(number) => context.temporary(number),
         RightOperand::One => register,
     }
 }
@@ -87,88 +82,86 @@ fn put_kept(
     }
 }
 
-// An operator on integers of a type, at a line.
+// An operator on integers of a type.
 #[derive(Clone, Copy)]
 struct Operation {
     operator: BinaryOperator,
     operands: IntType,
-    line: Line,
+}
+
+/// An update of a plain variable, all but its operator and the variable's type.
+#[derive(Clone, Copy)]
+pub struct PlainUpdate {
+    /// Whether its value is the new or the old one.
+    pub fixity: Fixity,
+    /// The line of the operator, which a report names.
+    pub line: Line,
+    /// The temporary that gets its value.
+    pub to: usize,
+    /// The variable, by number.
+    pub variable: usize,
+    /// The right operand.
+    pub right: RightOperand,
 }
 
 // Puts an update of a plain variable of an integer type by an operator on integers.
 fn put_arithmetic(
     code: &mut Vec<FlatInstruction>,
-    function: &CodeFunction,
-    registers: &Registers,
+    context: &FunctionContext,
     operation: Operation,
     int_type: IntType,
-    fixity: Fixity,
-    to: usize,
-    variable: usize,
-    right: RightOperand,
+    plain: PlainUpdate,
 ) -> Result<(), AllocError>
-    requires registers { AreRegisters registers.now function.now }
-    requires into { to < most_temporaries function.now.code }
-    requires right { right_count right ≤ most_temporaries function.now.code }
+    requires registers { HasRegisters context.now }
+    requires into { plain.to < most_temporaries context.now.function.now.code }
+    requires right { right_count plain.right ≤ most_temporaries context.now.function.now.code }
     ensures { OnOk result (code.new.items ≡ code.old.items
-        ++ update_code operators function.now (Arithmetic operation.operator operation.operands)
-        (Integer int_type) fixity operation.line to variable right) }
+        ++ update_code operators context.now.function.now (Arithmetic operation.operator operation.operands)
+        (Integer int_type) plain.fixity plain.line plain.to plain.variable plain.right) }
 {
-    let Operation {
-        operator,
-        operands,
-        line,
-    } = operation;
-    let scratch = registers.free;
-    let from = registers.variable(function, variable);
-    let into = registers.temporary(function, to);
+    let Operation { operator, operands } = operation;
+    let scratch = context.registers.free;
+    let from = context.variable(plain.variable);
+    let into = context.temporary(plain.to);
     put_conversion(code, operands, scratch, from)?;
-    put_right(code, right, scratch + 1)?;
-    let right = right_register(function, registers, right, scratch + 1);
-    put_binary(
+    put_right(code, plain.right, scratch + 1)?;
+    let registers = binary::Registers {
+        into: scratch,
+        left: scratch,
+        right: right_register(context, plain.right, scratch + 1),
+        scratch: scratch + 2,
+    };
+    put_binary(code, operator, operands, plain.line, registers)?;
+    put_kept(
         code,
-        operator,
-        operands,
-        line,
-        binary::Registers {
-            into: scratch,
-            left: scratch,
-            right,
-            scratch: scratch + 2,
-        },
-    )?;
-    put_kept(code, fixity, int_type, from, into, scratch, scratch + 2)
+        plain.fixity,
+        int_type,
+        from,
+        into,
+        scratch,
+        scratch + 2,
+    )
 }
 
 /// Puts an update of a plain variable behind a list: one by an operator on integers, of a variable of an integer type.
 pub fn put_update(
     code: &mut Vec<FlatInstruction>,
-    function: &CodeFunction,
-    registers: &Registers,
+    context: &FunctionContext,
     update: Update,
     scalar: Scalar,
-    fixity: Fixity,
-    line: Line,
-    to: usize,
-    variable: usize,
-    right: RightOperand,
+    plain: PlainUpdate,
 ) -> Result<(), AllocError>
-    requires registers { AreRegisters registers.now function.now }
-    requires into { to < most_temporaries function.now.code }
-    requires right { right_count right ≤ most_temporaries function.now.code }
+    requires registers { HasRegisters context.now }
+    requires into { plain.to < most_temporaries context.now.function.now.code }
+    requires right { right_count plain.right ≤ most_temporaries context.now.function.now.code }
     ensures { OnOk result (code.new.items ≡ code.old.items
-        ++ update_code operators function.now update scalar fixity line to variable right) }
+        ++ update_code operators context.now.function.now update scalar
+        plain.fixity plain.line plain.to plain.variable plain.right) }
 {
     match (update, scalar) {
         (Update::Arithmetic(operator, operands), Scalar::Integer(int_type)) => {
-            let operation = Operation {
-                operator,
-                operands,
-                line,
-            };
-            put_arithmetic(
-                code, function, registers, operation, int_type, fixity, to, variable, right,
-            )
+            let operation = Operation { operator, operands };
+            put_arithmetic(code, context, operation, int_type, plain)
         }
         (Update::Forward(_) | Update::Back(_), _) | (_, Scalar::Pointer) => Ok(()),
     }

@@ -4,24 +4,26 @@ use Rattle.metadata_expansion.proofs.body.put_nodes.Goals as goal
 
 pub put_node-requires-clause-among : goal.put_node-requires-clause-among
 put_node-requires-clause-among c =
-    is_among c.args.function.now (length c.as_slice-count.result.now - 1 - c.loop-behind.behind)
+    is_among c.args.layout.now.context.function.now (length c.as_slice-count.result.now - 1 - c.loop-behind.behind)
     c.instruction_at-instruction.result.now c.requires.small.callees c.instruction_at-instruction.ensures
 
 pub put_node-requires-clause-small : goal.put_node-requires-clause-small
 put_node-requires-clause-small c =
-    let fit = node_fits c.args.sizes.now c.args.program.now c.args.function.now
+    let x = c.args.layout.now.context in
+    let fit = node_fits x.map.now x.program.now x.function.now
     (length c.as_slice-count.result.now - 1 - c.loop-behind.behind)
     c.instruction_at-instruction.result.now c.requires.small c.instruction_at-instruction.ensures in
     omega (arith, fit)
 
 pub loop-behind-preserved : goal.loop-behind-preserved
 loop-behind-preserved c =
-    let same : length c.as_slice-count.result.now ≡ length c.args.function.now.code =
+    let x = c.args.layout.now.context in
+    let same : length c.as_slice-count.result.now ≡ length x.function.now.code =
     ap (λ is. length is) c.as_slice-count.ensures in
     let below = c.loop-behind-test.true in
-    let at : length c.args.function.now.code - c.loop-behind.behind
+    let at : length x.function.now.code - c.loop-behind.behind
     ≡ suc (length c.as_slice-count.result.now - 1 - c.loop-behind.behind) = omega (arith, same, below) in
-    one_put c.args.sizes.now c.args.program.now c.args.function.now c.args.code.now.items c.loop-behind.code.items
+    one_put x.map.now x.program.now x.function.now c.args.code.now.items c.loop-behind.code.items
     c.put_node.new.code.items c.loop-behind.behind
     (length c.as_slice-count.result.now - 1 - c.loop-behind.behind) c.instruction_at-instruction.result.now at
     c.instruction_at-instruction.ensures c.loop-behind.invariant c.in_ok-put_node.ensures

@@ -5,8 +5,8 @@ use Rattle.metadata_expansion.proofs.calls.put_arguments.Goals as goal
 
 pub loop-i-preserved : goal.loop-i-preserved
 loop-i-preserved c =
-    moves_put c.args.function.now c.args.code.now.items c.loop-i.code.items c.put.new.code.items
-    c.args.registers.now.free c.args.first c.loop-i.i c.loop-i.invariant
+    moves_put c.args.context.now.function.now c.args.code.now.items c.loop-i.code.items c.put.new.code.items
+    c.args.context.now.registers.now.free c.args.first c.loop-i.i c.loop-i.invariant
     (c.in_ok-put.ensures
-    ∙ ap (λ x. c.loop-i.code.items ++ (Move (c.args.registers.now.free + c.loop-i.i) x ∷ []))
+    ∙ ap (λ x. c.loop-i.code.items ++ (Move (c.args.context.now.registers.now.free + c.loop-i.i) x ∷ []))
     c.temporary-from.ensures)

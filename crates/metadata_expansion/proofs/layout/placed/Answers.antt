@@ -4,12 +4,14 @@ use Rattle.metadata_expansion.proofs.layout.placed.Goals as goal
 
 pub node_size-requires-clause-among : goal.node_size-requires-clause-among
 node_size-requires-clause-among c =
-    is_among c.args.function.now (length c.as_slice-count.result.now - 1 - c.loop-behind.behind)
+    let x = c.args.context.now in
+    is_among x.function.now (length c.as_slice-count.result.now - 1 - c.loop-behind.behind)
     c.instruction_at-instruction.result.now c.requires.small.callees c.instruction_at-instruction.ensures
 
 pub overflow_cast-place : goal.overflow_cast-place
 overflow_cast-place c =
-    let fit = node_fits c.args.sizes.now c.args.program.now c.args.function.now
+    let x = c.args.context.now in
+    let fit = node_fits x.map.now x.program.now x.function.now
     (length c.as_slice-count.result.now - 1 - c.loop-behind.behind)
     c.instruction_at-instruction.result.now c.requires.small c.instruction_at-instruction.ensures in
     let sized = c.in_ok-size.ensures.value in
@@ -17,12 +19,13 @@ overflow_cast-place c =
 
 pub overflow_add-place : goal.overflow_add-place
 overflow_add-place c =
-    let same : length c.as_slice-count.result.now ≡ length c.args.function.now.code =
+    let x = c.args.context.now in
+    let same : length c.as_slice-count.result.now ≡ length x.function.now.code =
     ap (λ is. length is) c.as_slice-count.ensures in
     let below = c.loop-behind-test.true in
-    let at : length c.args.function.now.code - c.loop-behind.behind
+    let at : length x.function.now.code - c.loop-behind.behind
     ≡ suc (length c.as_slice-count.result.now - 1 - c.loop-behind.behind) = omega (arith, same, below) in
-    let fit = next_fits c.args.sizes.now c.args.program.now c.args.function.now c.loop-behind.descending.items
+    let fit = next_fits x.map.now x.program.now x.function.now c.loop-behind.descending.items
     c.loop-behind.place c.loop-behind.behind
     (length c.as_slice-count.result.now - 1 - c.loop-behind.behind)
     c.instruction_at-instruction.result.now at c.instruction_at-instruction.ensures c.requires.small
@@ -32,12 +35,13 @@ overflow_add-place c =
 
 pub loop-behind-preserved : goal.loop-behind-preserved
 loop-behind-preserved c =
-    let same : length c.as_slice-count.result.now ≡ length c.args.function.now.code =
+    let x = c.args.context.now in
+    let same : length c.as_slice-count.result.now ≡ length x.function.now.code =
     ap (λ is. length is) c.as_slice-count.ensures in
     let below = c.loop-behind-test.true in
-    let at : length c.args.function.now.code - c.loop-behind.behind
+    let at : length x.function.now.code - c.loop-behind.behind
     ≡ suc (length c.as_slice-count.result.now - 1 - c.loop-behind.behind) = omega (arith, same, below) in
-    one_placed_as c.args.sizes.now c.args.program.now c.args.function.now c.loop-behind.descending.items
+    one_placed_as x.map.now x.program.now x.function.now c.loop-behind.descending.items
     c.push.new.self.items c.loop-behind.place c.loop-behind.behind
     (length c.as_slice-count.result.now - 1 - c.loop-behind.behind) c.in_ok-size.size
     c.instruction_at-instruction.result.now at c.instruction_at-instruction.ensures c.loop-behind.invariant
@@ -45,9 +49,10 @@ loop-behind-preserved c =
 
 pub returns : goal.returns
 returns c =
-    let same : length c.as_slice-count.result.now ≡ length c.args.function.now.code =
+    let x = c.args.context.now in
+    let same : length c.as_slice-count.result.now ≡ length x.function.now.code =
     ap (λ is. length is) c.as_slice-count.ensures in
     let past = c.loop-behind-test.false in
-    let all : length c.args.function.now.code ≤ c.loop-behind.behind = omega (arith, same, past) in
-    all_placed c.args.sizes.now c.args.program.now c.args.function.now c.loop-behind.descending.items
+    let all : length x.function.now.code ≤ c.loop-behind.behind = omega (arith, same, past) in
+    all_placed x.map.now x.program.now x.function.now c.loop-behind.descending.items
     c.loop-behind.place c.loop-behind.behind _ all c.loop-behind.invariant c.from_vec.ensures c.requires.begin

@@ -6,4 +6,4 @@ use Rattle.metadata_expansion.proofs.numbers.fits.Given as goal
 abbrev pub invariant-loop-number : goal.invariant-loop-number
 invariant-loop-number l =
     (u : ℕ) (c : CodeFunction) → u < l.number → slice_get l.program.functions u ≡ Some c
-    → AreSmall l.sizes l.program c
+    → AreSmall l.map l.program c

@@ -17,7 +17,7 @@ node_size-requires-clause-among c =
 
 pub loop-node-preserved : goal.loop-node-preserved
 loop-node-preserved c =
-    one_counted c.args.sizes.now c.args.program.now c.args.function.now c.loop-node.size c.in_ok-size-2.field-0
-    (body_size c.args.sizes.now c.args.program.now c.args.function.now) c.loop-node.node
+    one_counted c.args.map.now c.args.program.now c.args.function.now c.loop-node.size c.in_ok-size-2.field-0
+    (body_size c.args.map.now c.args.program.now c.args.function.now) c.loop-node.node
     c.instruction_at-instruction.result.now c.instruction_at-instruction.ensures c.in_ok-size-2.ensures.value
     c.loop-node.invariant

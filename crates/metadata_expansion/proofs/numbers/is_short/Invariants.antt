@@ -6,5 +6,5 @@ use Rattle.metadata_expansion.proofs.numbers.is_short.Given as goal
 
 abbrev pub invariant-loop-node : goal.invariant-loop-node
 invariant-loop-node l =
-    l.size + size_from operators l.sizes l.program l.function l.node (drop l.node l.function.code)
-    ≡ body_size l.sizes l.program l.function
+    l.size + size_from operators l.map l.program l.function l.node (drop l.node l.function.code)
+    ≡ body_size l.map l.program l.function

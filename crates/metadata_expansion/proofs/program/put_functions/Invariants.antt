@@ -6,5 +6,5 @@ use Rattle.metadata_expansion.proofs.program.put_functions.Given as goal
 
 abbrev pub invariant-loop-function : goal.invariant-loop-function
 invariant-loop-function l =
-    l.list.items ++ functions_of operators l.sizes l.program homes (drop l.function-index l.program.functions)
-    ≡ l.initial.list.items ++ functions_of operators l.sizes l.program homes l.program.functions
+    l.list.items ++ functions_of operators l.map l.program homes (drop l.function-index l.program.functions)
+    ≡ l.initial.list.items ++ functions_of operators l.map l.program homes l.program.functions

@@ -1,0 +1,36 @@
+-- What the code of a function is made from, and that code.
+use Rattle.std.specs.Prelude.{ℕ, List}
+use Rattle.tac_ir.specs.declared.instruction.Instruction.{Instruction}
+use Rattle.flat_meaning.specs.declared.instruction.FlatInstruction.{FlatInstruction}
+use Rattle.metadata_plan.specs.Blocks.{block}
+use Rattle.metadata_plan.specs.Laid.{jumps, place_of}
+use Rattle.metadata_plan.specs.OperatorLists.Operators.{operators}
+use Rattle.metadata_expansion.specs.declared.context.FunctionContext.{FunctionContext}
+use Rattle.metadata_expansion.specs.declared.layout.Layout.{Layout}
+use Rattle.metadata_expansion.specs.Numbering.{AreRegisters}
+use Rattle.metadata_expansion.specs.Joins.{AreJoins}
+use Rattle.metadata_expansion.specs.Layout.{ArePlaces}
+
+-- the numbers of the registers are those of the function
+abbrev pub HasRegisters : FunctionContext → Type 0
+HasRegisters x = AreRegisters x.registers.now x.function.now
+
+-- the block of an instruction
+abbrev pub block_in : FunctionContext → Instruction → List FlatInstruction
+block_in x i = block operators x.map.now x.program.now x.function.now i
+
+-- the registers, joins and places are those of the function
+pub record IsLaid (l : Layout) : Type 0 where
+  pub registers : HasRegisters l.context
+  pub joins : AreJoins l.joins.now l.context.function.now
+  pub places : ArePlaces l.places.now l.context.map.now l.context.program.now l.context.function.now
+
+-- the place of a node
+abbrev pub place_in : Layout → (node : ℕ) → ℕ
+place_in l n = place_of operators l.context.map.now l.context.program.now l.context.function.now n
+
+-- the jumps behind the block of a node, which ends at a place
+abbrev pub jumps_in : Layout → (node place : ℕ) → List ℕ → List FlatInstruction
+jumps_in l n p ns =
+    jumps l.context.function.now
+    (place_of operators l.context.map.now l.context.program.now l.context.function.now) n p ns

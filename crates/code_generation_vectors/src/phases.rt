@@ -51,9 +51,9 @@ fn put_length(rt: &HostRuntime, given: &Given, program: &FlatProgram) -> Result<
     requires small { IsSmall program.now }
     requires plannable { ArePlannable program.now }
 {
-    let sizes = map_of(given)?;
+    let map = map_of(given)?;
     let plan = registers(rt.alloc(), program)?;
-    let file = image(rt.alloc(), &sizes, program, &plan)?;
+    let file = image(rt.alloc(), &map, program, &plan)?;
     println!(rt; "{} bytes", file.len())?;
     Ok(())
 }
@@ -64,9 +64,9 @@ fn put_images(rt: &HostRuntime, given: &Given, program: &FlatProgram) -> Result<
     requires plannable { ArePlannable program.now }
 {
     let alloc = rt.alloc();
-    let sizes = map_of(given)?;
-    let at_home = image(alloc, &sizes, program, &slots(alloc, program)?)?;
-    let placed = image(alloc, &sizes, program, &registers(alloc, program)?)?;
+    let map = map_of(given)?;
+    let at_home = image(alloc, &map, program, &slots(alloc, program)?)?;
+    let placed = image(alloc, &map, program, &registers(alloc, program)?)?;
     print!(rt; "{} ", hex::encode(alloc, &at_home)?)?;
     println!(rt; "{}", hex::encode(alloc, &placed)?)?;
     Ok(())

@@ -69,21 +69,21 @@ pub fn map_of(given: &Given) -> Result<AddrMap> {
     let Ok(budgets) = Budgets::new(4096, 4096, given.calls, 1, 1) else {
         bail!("no budgets")
     };
-    let Ok(sizes) = AddrMap::new(&budgets, 0) else {
+    let Ok(map) = AddrMap::new(&budgets, 0) else {
         bail!("no map")
     };
-    Ok(sizes)
+    Ok(map)
 }
 
 /// The image of a program under a plan.
-pub fn image(alloc: Global, sizes: &AddrMap, program: &FlatProgram, plan: &Plan) -> Result<Vec<u8>>
+pub fn image(alloc: Global, map: &AddrMap, program: &FlatProgram, plan: &Plan) -> Result<Vec<u8>>
     requires { IsReady program.now plan.now.functions.items }
     ensures { IfOk result (λ file. image_fault file.items ≡ None) }
 {
     let nothing = Vec::new(alloc);
     match image_of(
         alloc,
-        sizes,
+        map,
         program,
         &plan.functions,
         nothing,
@@ -131,10 +131,10 @@ pub fn put_runs(rt: &HostRuntime, given: &Given, program: &FlatProgram) -> Resul
     requires plannable { ArePlannable program.now }
 {
     let alloc = rt.alloc();
-    let sizes = map_of(given)?;
-    let file = image(alloc, &sizes, program, &slots(alloc, program)?)?;
+    let map = map_of(given)?;
+    let file = image(alloc, &map, program, &slots(alloc, program)?)?;
     let at_home = run_image(alloc, &file, &given.input)?;
-    let file = image(alloc, &sizes, program, &registers(alloc, program)?)?;
+    let file = image(alloc, &map, program, &registers(alloc, program)?)?;
     let placed = run_image(alloc, &file, &given.input)?;
     put_shown(rt, &at_home)?;
     if !are_same(&at_home, &placed) {

@@ -31,13 +31,13 @@ LeadOn body address pc (n ∷ []) = Leads body pc (address n)
 LeadOn body address pc (x ∷ y ∷ ns) = Leads body pc (address y) × Leads body (pc + 1) (address x)
 
 -- the block of an instruction stands at a place
-pub record IsPut (o : OperatorCode) (m : MapSizes) (t : Tac) (c : CodeFunction) (body : List FlatInstruction)
+pub record IsPut (o : OperatorCode) (map : MapSizes) (t : Tac) (c : CodeFunction) (body : List FlatInstruction)
     (address : ℕ → ℕ) (place : ℕ) (i : Instruction) : Type 0 where
-  pub has : HasAt body place (block o m t c i)
-  pub leads : LeadOn body address (place + length (block o m t c i)) (successors i)
+  pub has : HasAt body place (block o map t c i)
+  pub leads : LeadOn body address (place + length (block o map t c i)) (successors i)
 
 -- a function and its expansion, with the place of each node's block
-pub record IsExpandedFunction (o : OperatorCode) (m : MapSizes) (t : Tac) (c : CodeFunction) (address : ℕ → ℕ)
+pub record IsExpandedFunction (o : OperatorCode) (map : MapSizes) (t : Tac) (c : CodeFunction) (address : ℕ → ℕ)
     (f : FlatFunction) : Type 0 where
   pub parameters : f.parameters ≡ words_in c.parameters
   pub results : f.results ≡ 1
@@ -45,26 +45,26 @@ pub record IsExpandedFunction (o : OperatorCode) (m : MapSizes) (t : Tac) (c : C
   pub of_program : f.is_runtime ≡ false
   pub zeroed : HasAt f.body 0 (prologue c)
   pub begins : Leads f.body (length (prologue c)) (address c.entry)
-  pub blocks : (n : ℕ) (i : Instruction) → slice_get c.code n ≡ Some i → IsPut o m t c f.body address (address n) i
+  pub blocks : (n : ℕ) (i : Instruction) → slice_get c.code n ≡ Some i → IsPut o map t c f.body address (address n) i
 
 abbrev pub ExpandsAt : OperatorCode → MapSizes → Tac → CodeFunction → (address : ℕ → ℕ) → Option FlatFunction → Type 0
 ExpandsAt o m t c address None = ⊥
 ExpandsAt o m t c address (Some f) = IsExpandedFunction o m t c address f
 
 -- the function with which a run begins is one of the runtime
-pub record IsEntry (m : MapSizes) (t : Tac) (f : FlatFunction) : Type 0 where
+pub record IsEntry (map : MapSizes) (t : Tac) (f : FlatFunction) : Type 0 where
   pub parameters : f.parameters ≡ 0
   pub of_runtime : f.is_runtime ≡ true
-  pub room : f.room ≤ region_size m RuntimeCalls
-  pub body : f.body ≡ entry_code m t
+  pub room : f.room ≤ region_size map RuntimeCalls
+  pub body : f.body ≡ entry_code map t
 
 abbrev pub EntersAt : MapSizes → Tac → Option FlatFunction → Type 0
 EntersAt m t None = ⊥
 EntersAt m t (Some f) = IsEntry m t f
 
 -- The functions of the text have their numbers. The address is the place of each node's block in its function.
-pub record IsExpanded (o : OperatorCode) (m : MapSizes) (t : Tac) (address : (function node : ℕ) → ℕ)
+pub record IsExpanded (o : OperatorCode) (map : MapSizes) (t : Tac) (address : (function node : ℕ) → ℕ)
     (p : FlatProgram) : Type 0 where
   pub functions : (u : ℕ) (c : CodeFunction) → slice_get t.functions u ≡ Some c
-      → ExpandsAt o m t c (address u) (function_in p u)
-  pub entry : EntersAt m t (function_in p p.entry)
+      → ExpandsAt o map t c (address u) (function_in p u)
+  pub entry : EntersAt map t (function_in p p.entry)

@@ -53,10 +53,10 @@ jump_count c n [] = 0
 jump_count c n (m ∷ []) = if falls c n m then 0 else 1
 jump_count c n (x ∷ y ∷ ms) = 1 + (if falls c n x then 0 else 1)
 
-module _ (o : OperatorCode) (m : MapSizes) (t : Tac) (c : CodeFunction) where
+module _ (o : OperatorCode) (map : MapSizes) (t : Tac) (c : CodeFunction) where
   -- how many instructions a node has, and the nodes from one on
   abbrev pub size_at : (node : ℕ) → Instruction → ℕ
-  size_at n i = length (block o m t c i) + jump_count c n (successors i)
+  size_at n i = length (block o map t c i) + jump_count c n (successors i)
 
   abbrev pub size_from : (node : ℕ) → List Instruction → ℕ
   size_from n [] = 0
@@ -74,7 +74,7 @@ module _ (o : OperatorCode) (m : MapSizes) (t : Tac) (c : CodeFunction) where
   laid_from n [] = []
   laid_from n (i ∷ is) =
       laid_from (suc n) is
-      ++ (block o m t c i ++ jumps c place_of n (place_of n + length (block o m t c i)) (successors i))
+      ++ (block o map t c i ++ jumps c place_of n (place_of n + length (block o map t c i)) (successors i))
 
   abbrev pub begin_code : List FlatInstruction
   begin_code =

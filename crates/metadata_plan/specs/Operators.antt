@@ -36,23 +36,23 @@ pub record Position : Type 0 where
 
 -- The run comes to a place of its function with at most so many instructions' weight of work, and nothing but registers
 -- changes: one gets a value, and all others below scratch stay.
-pub record Computes (m : MapSizes) (p : FlatProgram) (x : Position) (place into value scratch most : ℕ) : Type 0 where
+pub record Computes (map : MapSizes) (p : FlatProgram) (x : Position) (place into value scratch most : ℕ) : Type 0 where
   pub steps : ℕ
   pub after : Values
   pub work : ℕ
   pub few : work ≤ most * weight_of (function_in p x.function)
-  pub comes : run (step m p) steps (Stands x.function x.place x.state x.frames)
+  pub comes : run (step map p) steps (Stands x.function x.place x.state x.frames)
       ≡ Stands x.function place (record x.state { values = after; work = x.state.work + work }) x.frames
   pub gives : after into ≡ value
   pub others : (y : ℕ) → y < scratch → y ≢ into → after y ≡ x.state.values y
 
 -- the run ends, with the same of its work, and once more for each byte of the report
-pub record EndsBy (m : MapSizes) (p : FlatProgram) (x : Position) (e : Ending) (most : ℕ) : Type 0 where
+pub record EndsBy (map : MapSizes) (p : FlatProgram) (x : Position) (e : Ending) (most : ℕ) : Type 0 where
   pub steps : ℕ
   pub after : Values
   pub work : ℕ
   pub few : work ≤ (most + length (report_of e)) * weight_of (function_in p x.function)
-  pub comes : run (step m p) steps (Stands x.function x.place x.state x.frames)
+  pub comes : run (step map p) steps (Stands x.function x.place x.state x.frames)
       ≡ Over (code_of e) (report_of e) (record x.state { values = after; work = x.state.work + work })
 
 -- how many instructions a binary operator takes at most: of those by which an update adds 1, fewer
@@ -68,24 +68,24 @@ pub record IsHere (p : FlatProgram) (x : Position) (code : List FlatInstruction)
 
 -- Wherever it stands, the code of an operator comes to its end with the operator's value.
 pub record AreOperators (o : OperatorCode) : Type 0 where
-  pub constant : (m : MapSizes) (p : FlatProgram) (x : Position) (into word scratch : ℕ) → into < scratch
+  pub constant : (map : MapSizes) (p : FlatProgram) (x : Position) (into word scratch : ℕ) → into < scratch
       → word < 2 ^ 64 → IsHere p x (o.constant into word scratch)
-      → Computes m p x (x.place + length (o.constant into word scratch)) into word scratch 5
-  pub unary : (m : MapSizes) (p : FlatProgram) (x : Position) (op : UnaryOperator) (t : IntType) (into from scratch : ℕ)
-      → into < scratch → from < scratch → IsHere p x (o.unary op t into from scratch)
-      → Computes m p x (x.place + length (o.unary op t into from scratch)) into
+      → Computes map p x (x.place + length (o.constant into word scratch)) into word scratch 5
+  pub unary : (map : MapSizes) (p : FlatProgram) (x : Position) (op : UnaryOperator) (t : IntType)
+      (into from scratch : ℕ) → into < scratch → from < scratch → IsHere p x (o.unary op t into from scratch)
+      → Computes map p x (x.place + length (o.unary op t into from scratch)) into
       (unary_value op t (x.state.values from)) scratch 6
-  pub binary : (m : MapSizes) (p : FlatProgram) (x : Position) (op : BinaryOperator) (t : IntType)
+  pub binary : (map : MapSizes) (p : FlatProgram) (x : Position) (op : BinaryOperator) (t : IntType)
       (into left right scratch line value : ℕ) → into < scratch → left < scratch → right < scratch
       → IsHere p x (o.binary op t into left right scratch line)
       → binary_value op t (x.state.values left) (x.state.values right) ≡ Some value
-      → Computes m p x (x.place + length (o.binary op t into left right scratch line)) into value scratch
+      → Computes map p x (x.place + length (o.binary op t into left right scratch line)) into value scratch
       (binary_most op)
-  pub divides : (m : MapSizes) (p : FlatProgram) (x : Position) (op : BinaryOperator) (t : IntType)
+  pub divides : (map : MapSizes) (p : FlatProgram) (x : Position) (op : BinaryOperator) (t : IntType)
       (into left right scratch line : ℕ) → into < scratch → left < scratch → right < scratch
       → IsHere p x (o.binary op t into left right scratch line)
       → binary_value op t (x.state.values left) (x.state.values right) ≡ None
-      → EndsBy m p x (Divide line) (binary_most op)
-  pub convert : (m : MapSizes) (p : FlatProgram) (x : Position) (t : IntType) (into from scratch : ℕ)
+      → EndsBy map p x (Divide line) (binary_most op)
+  pub convert : (map : MapSizes) (p : FlatProgram) (x : Position) (t : IntType) (into from scratch : ℕ)
       → into < scratch → from < scratch → IsHere p x (o.convert t into from scratch)
-      → Computes m p x (x.place + length (o.convert t into from scratch)) into (fit t (x.state.values from)) scratch 2
+      → Computes map p x (x.place + length (o.convert t into from scratch)) into (fit t (x.state.values from)) scratch 2

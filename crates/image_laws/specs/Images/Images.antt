@@ -37,11 +37,11 @@ pub record IsChecked (p : Program) (r : Tac) : Type 0 where
   pub inserted : Inserted lowered r
 
 -- its flat code, which checked code with numbers that fit expands to
-pub record IsFlat (p : Program) (m : MapSizes) (code : FlatProgram) : Type 0 where
+pub record IsFlat (p : Program) (map : MapSizes) (code : FlatProgram) : Type 0 where
   pub checked : Tac
   pub is_checked : IsChecked p checked
-  pub small : AreAllSmall m checked
-  pub expanded : code ≡ program_of operators m checked homes
+  pub small : AreAllSmall map checked
+  pub expanded : code ≡ program_of operators map checked homes
 
 -- how many instructions the image takes at most for one unit of the program's work: 8 of three-address code, none more
 -- for checks, 21 times as many of flat code, and 6 for each of these

@@ -17,10 +17,10 @@ use Rattle.c_scope.specs.Declaring.{Declaration}
 use Rattle.c_scope.specs.Environment.{declared_in, with_block}
 use Rattle.c_scope.specs.Names.{Name}
 use Rattle.c_scope.specs.Parameters.{ParameterScope, parameters_in, scope_of, without_parameters}
-use Rattle.c_typing.specs.declared.shape.LocatedName as code_name
-use Rattle.c_typing.specs.declared.shape.Shape as code_shape
-use Rattle.c_typing.specs.Specifications.{Specification}
-use Rattle.c_typing.specs.State.{State, Typing, extents, judged}
+use Rattle.c_declarator_typing.specs.declared.shape.LocatedName as code_name
+use Rattle.c_declarator_typing.specs.declared.shape.Shape as code_shape
+use Rattle.c_declarator_typing.specs.Specifications.{Specification}
+use Rattle.c_typing_state.specs.State.{State, Typing, extents, judged}
 
 -- What a declarator says: its name with the line, if it has one; what it derives the type from, from the name outward;
 -- and, where `(..)` directly follows the name, the scope of these parameters.

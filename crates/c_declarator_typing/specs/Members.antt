@@ -15,11 +15,11 @@ use Rattle.c_scope.specs.declared.meaning.Tag.{Tag}
 use Rattle.c_scope.specs.declared.meaning.Tag.TheVariants as tag
 use Rattle.c_scope.specs.Names.{Name, Names, bound, declared, names_of}
 use Rattle.c_scope.specs.Structures.{completed}
-use Rattle.c_typing.specs.declared.members.Entries as code_entries
-use Rattle.c_typing.specs.declared.members.Entry as code_entry
-use Rattle.c_typing.specs.Declarators.{Shape, built_in, has_storage, unless}
-use Rattle.c_typing.specs.Specifications.{Specification}
-use Rattle.c_typing.specs.State.{State, Typing, extents, with_const}
+use Rattle.c_declarator_typing.specs.declared.members.Entries as code_entries
+use Rattle.c_declarator_typing.specs.declared.members.Entry as code_entry
+use Rattle.c_declarator_typing.specs.Declarators.{Shape, built_in, has_storage, unless}
+use Rattle.c_declarator_typing.specs.Specifications.{Specification}
+use Rattle.c_typing_state.specs.State.{State, Typing, extents, with_const}
 
 -- a member: its name, its type, and its size and alignment
 pub record Entry : Type 0 where

@@ -18,9 +18,9 @@ use Rattle.c_scope.specs.Names.{Name}
 use Rattle.c_scope.specs.Names as names
 use Rattle.c_specifiers.specs.declared.specified.Specified.{Specified}
 use Rattle.c_specifiers.specs.Specified.{basic_type, nothing, with}
-use Rattle.c_typing.specs.declared.specification.Gathered as code_gathered
-use Rattle.c_typing.specs.declared.specification.Specification as code
-use Rattle.c_typing.specs.State.{State}
+use Rattle.c_declarator_typing.specs.declared.specification.Gathered as code_gathered
+use Rattle.c_declarator_typing.specs.declared.specification.Specification as code
+use Rattle.c_typing_state.specs.State.{State}
 
 -- what the specifiers so far say: their keywords, and the type that another one names
 pub record Gathered : Type 0 where

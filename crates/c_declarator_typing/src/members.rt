@@ -2,12 +2,16 @@
 
 ghost use Rattle.std.specs.Prelude.{◌≡◌, [], map, IfOk};
 ghost use Rattle.c_scope.specs.Names.{names_of};
-ghost use Rattle.c_typing.specs.Members.{any_const, entry_of, extent_in, extent_with, members_at, no_offset};
-ghost use Rattle.c_typing.specs.Members.{offsets_in};
+ghost use Rattle.c_declarator_typing.specs.Members.{any_const, entry_of, extent_in, extent_with, members_at, no_offset};
+ghost use Rattle.c_declarator_typing.specs.Members.{offsets_in, entries_of, member_added, structure_completed};
+ghost use Rattle.c_declarator_typing.specs.Members.{tag_completed};
+ghost use Rattle.c_faults.specs.Answer.{Gives};
+ghost use Rattle.c_declarator_typing.specs.Declarators.{shape_of};
+ghost use Rattle.c_declarator_typing.specs.Specifications.{specification_of};
+ghost use Rattle.c_typing_state.specs.State.{Becomes, Types, state_of};
 
-use crate::shape::{LocatedName, Shape, refusal};
+use crate::shape::{LocatedName, Shape, built_in, refusal};
 use crate::specification::Specification;
-use crate::typer::Typer;
 use c_assignment_rules::has_const;
 use c_declarators::BuiltType;
 use c_declarators::derivation::element_faults;
@@ -17,6 +21,7 @@ use c_scope::meaning::Tag;
 use c_scope::names::Names;
 use c_tree::layout::{member_offsets, structure_of, union_of};
 use c_tree::{CType, Extent, MAX_SIZE, Member};
+use c_typing_state::Typer;
 use sb_base::Line;
 use std::alloc::{AllocError, Global};
 
@@ -45,9 +50,10 @@ impl<'a> Entries<'a> {
     ghost use Rattle.c_faults.specs.Answer.{Gives};
     ghost use Rattle.c_tree.specs.Extents.{extent_of};
     ghost use Rattle.c_declarators.specs.Derivations.{built_of};
-    ghost use Rattle.c_typing.specs.Declarators.{located};
-    ghost use Rattle.c_typing.specs.Members.{entries_of, entry_of, member_built, member_named, member_rule, no_entries};
-    ghost use Rattle.c_typing.specs.Members.{sized_entry, with_entry};
+    ghost use Rattle.c_declarator_typing.specs.Declarators.{located};
+    ghost use Rattle.c_declarator_typing.specs.Members.{entries_of, entry_of, member_built, member_named, member_rule};
+    ghost use Rattle.c_declarator_typing.specs.Members.{no_entries};
+    ghost use Rattle.c_declarator_typing.specs.Members.{sized_entry, with_entry};
 
     /// No members.
     pub fn new(alloc: Global) -> Self
@@ -223,8 +229,8 @@ fn members_at<'a>(
 impl Specification {
     ghost use Rattle.std.specs.Prelude.{◌≡◌};
     ghost use Rattle.c_faults.specs.Answer.{Gives};
-    ghost use Rattle.c_typing.specs.Members.{member_specified};
-    ghost use Rattle.c_typing.specs.Specifications.{specification_of};
+    ghost use Rattle.c_declarator_typing.specs.Members.{member_specified};
+    ghost use Rattle.c_declarator_typing.specs.Specifications.{specification_of};
 
     /// The specifiers of members. The rule on storage-class specifiers is violated by one of them, at the first token.
     pub fn for_members(self) -> Result<Specification, Refusal>
@@ -238,69 +244,61 @@ impl Specification {
     }
 }
 
-impl<'a> Typer<'a> {
-    ghost use Rattle.std.specs.Prelude.{◌≡◌, map};
-    ghost use Rattle.c_faults.specs.Answer.{Gives};
-    ghost use Rattle.c_typing.specs.Declarators.{shape_of};
-    ghost use Rattle.c_typing.specs.Members.{entries_of, entry_of, member_added, structure_completed, tag_completed};
-    ghost use Rattle.c_typing.specs.Specifications.{specification_of};
-    ghost use Rattle.c_typing.specs.State.{Becomes, Types, state_of};
+/// The members so far and what a declarator adds, by `Entries::with`.
+pub fn member_added<'a>(
+    typer: &Typer<'a>,
+    specification: &Specification,
+    shape: &Shape<'a>,
+    entries: Entries<'a>,
+) -> Result<Entries<'a>, Refusal>
+    ensures { Gives entries_of result (member_added (specification_of specification.now)
+        (shape_of shape.now) (entries_of entries.entry) (state_of typer.now)) }
+{
+    let built = built_in(typer, specification, shape);
+    let (entries, built) = beside(entries, built)?;
+    entries.with(typer.extents(), built, shape.name.as_ref())
+}
 
-    /// The members so far and what a declarator adds, by `Entries::with`.
-    pub fn member_added(
-        &self,
-        specification: &Specification,
-        shape: &Shape<'a>,
-        entries: Entries<'a>,
-    ) -> Result<Entries<'a>, Refusal>
-        ensures { Gives entries_of result (member_added (specification_of specification.now)
-            (shape_of shape.now) (entries_of entries.entry) (state_of self.now)) }
-    {
-        let built = self.built_in(specification, shape);
-        let (entries, built) = beside(entries, built)?;
-        entries.with(self.extents(), built, shape.name.as_ref())
+/// The structure or union of a tag is complete with its members. The rule on large types is violated on a line by
+/// one of more than 2^32 bytes.
+pub fn tag_completed<'a>(
+    typer: &mut Typer<'a>,
+    line: Line,
+    tag: Tag,
+    entries: Entries<'a>,
+) -> Result<Tag, Refusal>
+    ensures { Types (λ t. t) (state_of typer.new) result
+        (tag_completed line tag (entries_of entries.entry) (state_of typer.old)) }
+{
+    match tag {
+        Tag::Structure(number) => completed(typer, false, line, number, &entries.entries)?,
+        Tag::Union(number) => completed(typer, true, line, number, &entries.entries)?,
+        Tag::Enumeration(_) => (),
     }
+    Ok(tag)
+}
 
-    /// The structure or union of a tag is complete with its members. The rule on large types is violated on a line by
-    /// one of more than 2^32 bytes.
-    pub fn tag_completed(
-        &mut self,
-        line: Line,
-        tag: Tag,
-        entries: Entries<'a>,
-    ) -> Result<Tag, Refusal>
-        ensures { Types (λ t. t) (state_of self.new) result
-            (tag_completed line tag (entries_of entries.entry) (state_of self.old)) }
-    {
-        match tag {
-            Tag::Structure(number) => self.completed(false, line, number, &entries.entries)?,
-            Tag::Union(number) => self.completed(true, line, number, &entries.entries)?,
-            Tag::Enumeration(_) => (),
-        }
-        Ok(tag)
+fn completed<'a>(
+    typer: &mut Typer<'a>,
+    is_union: bool,
+    line: Line,
+    number: usize,
+    entries: &[Entry<'a>],
+) -> Result<(), Refusal>
+    ensures { Becomes (state_of typer.new) result
+        (structure_completed is_union line number (map entry_of entries.now) (state_of typer.old)) }
+{
+    let extent = extent_with(typer.alloc, is_union, entries)?;
+    if extent.size() > MAX_SIZE {
+        let rule = Rule::LargeType;
+        return Err(Refusal::Fault(Fault { rule, line }));
     }
-
-    fn completed(
-        &mut self,
-        is_union: bool,
-        line: Line,
-        number: usize,
-        entries: &[Entry<'a>],
-    ) -> Result<(), Refusal>
-        ensures { Becomes (state_of self.new) result
-            (structure_completed is_union line number (map entry_of entries.now) (state_of self.old)) }
-    {
-        let extent = extent_with(self.alloc, is_union, entries)?;
-        if extent.size() > MAX_SIZE {
-            let rule = Rule::LargeType;
-            return Err(Refusal::Fault(Fault { rule, line }));
-        }
-        let offsets = offsets_in(self.alloc, is_union, entries)?;
-        let members = members_at(self.alloc, &offsets, entries)?;
-        let has_const = any_const(self.with_const(), entries);
-        self.environment
-            .structures
-            .complete(number, extent, has_const, members);
-        Ok(())
-    }
+    let offsets = offsets_in(typer.alloc, is_union, entries)?;
+    let members = members_at(typer.alloc, &offsets, entries)?;
+    let has_const = any_const(typer.with_const(), entries);
+    typer
+        .environment
+        .structures
+        .complete(number, extent, has_const, members);
+    Ok(())
 }

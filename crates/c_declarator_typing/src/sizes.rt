@@ -3,7 +3,8 @@
 ghost use Rattle.std.specs.Prelude.{◌≡◌};
 ghost use Rattle.c_tree.specs.View.{expression_of};
 ghost use Rattle.c_rules.specs.Values.{value_of};
-ghost use Rattle.c_typing.specs.Sizes.{count_in, enumeration_value, has_sign, is_count, is_int, next_value, successor};
+ghost use Rattle.c_declarator_typing.specs.Sizes.{count_in, enumeration_value, has_sign, is_count, is_int, next_value};
+ghost use Rattle.c_declarator_typing.specs.Sizes.{successor};
 
 use c_const::constant_word;
 use c_rules::TypedValue;

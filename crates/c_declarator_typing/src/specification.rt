@@ -2,10 +2,10 @@
 
 ghost use Rattle.std.specs.Prelude.{◌≡◌, IfOk};
 ghost use Rattle.c_faults.specs.Answer.{Gives};
-ghost use Rattle.c_typing.specs.Specifications.{gathered_of, nothing_gathered, specification_of, specified, tag_kind};
-ghost use Rattle.c_typing.specs.Specifications.{tag_type, with_keyword, with_named};
+ghost use Rattle.c_declarator_typing.specs.Specifications.{gathered_of, nothing_gathered, specification_of, specified};
+ghost use Rattle.c_declarator_typing.specs.Specifications.{tag_kind, tag_type, with_keyword, with_named, typedef_type};
+ghost use Rattle.c_typing_state.specs.State.{state_of};
 
-use crate::typer::Typer;
 use c_faults::{Fault, Refusal, Rule};
 use c_lexer::Keyword;
 use c_place_rules::target::qualified;
@@ -13,6 +13,7 @@ use c_scope::meaning::{Meaning, Storage, Tag};
 use c_scope::tags::TagKind;
 use c_specifiers::Specified;
 use c_tree::{CType, TypeWord};
+use c_typing_state::Typer;
 use sb_base::Line;
 use std::alloc::{AllocError, Global};
 
@@ -40,8 +41,9 @@ pub struct Specification {
 
 impl Gathered {
     ghost use Rattle.std.specs.Prelude.{◌≡◌, IfOk};
-    ghost use Rattle.c_typing.specs.Specifications.{gathered_of, nothing_gathered, specification_of, specified};
-    ghost use Rattle.c_typing.specs.Specifications.{with_keyword, with_named};
+    ghost use Rattle.c_declarator_typing.specs.Specifications.{gathered_of, nothing_gathered, specification_of};
+    ghost use Rattle.c_declarator_typing.specs.Specifications.{specified};
+    ghost use Rattle.c_declarator_typing.specs.Specifications.{with_keyword, with_named};
 
     /// No specifiers.
     pub fn nothing() -> Self
@@ -114,25 +116,18 @@ pub fn tag_type(alloc: Global, tag: Tag) -> Result<CType, AllocError>
     Ok(CType::new(vec![in alloc; word]?))
 }
 
-impl<'a> Typer<'a> {
-    ghost use Rattle.std.specs.Prelude.{◌≡◌};
-    ghost use Rattle.c_faults.specs.Answer.{Gives};
-    ghost use Rattle.c_typing.specs.Specifications.{typedef_type};
-    ghost use Rattle.c_typing.specs.State.{state_of};
-
-    /// The type that a typedef name stands for. The rule on undeclared names is violated by a name that is none.
-    pub fn typedef_type(&self, name: &[u8], line: Line) -> Result<CType, Refusal>
-        ensures { Gives (λ c_type. c_type) result (typedef_type name.now line (state_of self.now)) }
-    {
-        match self.environment.names.get(name) {
-            Some(Meaning::Typedef(c_type)) => {
-                let words = c_type.words().to_vec(self.alloc)?;
-                Ok(CType::new(words))
-            }
-            _ => {
-                let rule = Rule::Undeclared;
-                Err(Refusal::Fault(Fault { rule, line }))
-            }
+/// The type that a typedef name stands for. The rule on undeclared names is violated by a name that is none.
+pub fn typedef_type(typer: &Typer, name: &[u8], line: Line) -> Result<CType, Refusal>
+    ensures { Gives (λ c_type. c_type) result (typedef_type name.now line (state_of typer.now)) }
+{
+    match typer.environment.names.get(name) {
+        Some(Meaning::Typedef(c_type)) => {
+            let words = c_type.words().to_vec(typer.alloc)?;
+            Ok(CType::new(words))
+        }
+        _ => {
+            let rule = Rule::Undeclared;
+            Err(Refusal::Fault(Fault { rule, line }))
         }
     }
 }

@@ -1,7 +1,7 @@
 -- Marks that are lengthened one by one.
 use Rattle.std.proofs.Common.{◌≡◌, ℕ, ◌+◌, ◌-◌, ◌≤◌, suc, Bool, false, List, [], ◌∷◌, ◌++◌, length, ap, ◌∙◌, arith}
 use Rattle.std.proofs.Common.{append_assoc, length-append}
-use Rattle.c_typing.specs.Operators.{unmarked}
+use Rattle.c_operand_typing.specs.Operators.{unmarked}
 
 pub one_more : (xs ys : List Bool) (n : ℕ) → length xs ≤ n → ys ≡ xs ++ false ∷ []
     → ys ++ unmarked (n + 1 - length ys) ≡ xs ++ unmarked (n + 1 - length xs)

@@ -18,10 +18,10 @@ use Rattle.c_scope.specs.declared.meaning.Meaning.{Meaning}
 use Rattle.c_scope.specs.declared.meaning.Meaning.TheVariants as meaning
 use Rattle.c_scope.specs.Names.{Name}
 use Rattle.c_scope.specs.Names as names
-use Rattle.c_typing.specs.declared.callee.Called as code
-use Rattle.c_typing.specs.Operators.{as_operand, value_among}
-use Rattle.c_typing.specs.Primaries.{meant, used_as}
-use Rattle.c_typing.specs.State.{State, Typing, extents, judged}
+use Rattle.c_operand_typing.specs.declared.callee.Called as code
+use Rattle.c_operand_typing.specs.Operators.{as_operand, value_among}
+use Rattle.c_operand_typing.specs.Primaries.{meant, used_as}
+use Rattle.c_typing_state.specs.State.{State, Typing, extents, judged}
 
 -- what is called: a function of the source with its type, a routine of the library, `printf`, or what a value points to
 pub data Called : Type 0 where

@@ -24,13 +24,13 @@ use Rattle.c_assignment_rules.specs.declared.operators.StepOperator.TheVariants 
 use Rattle.c_assignment_rules.specs.Assignments.{assignment, compound, stepped}
 use Rattle.c_scope.specs.Names.{Name}
 use Rattle.c_scope.specs.Structures.{member_of}
-use Rattle.c_typing.specs.declared.forms.AssignmentForm.{AssignmentForm}
-use Rattle.c_typing.specs.declared.forms.AssignmentForm.TheVariants as assignment_form
-use Rattle.c_typing.specs.declared.forms.BinaryForm.{BinaryForm}
-use Rattle.c_typing.specs.declared.forms.BinaryForm.TheVariants as binary_form
-use Rattle.c_typing.specs.declared.forms.PrefixForm.{PrefixForm}
-use Rattle.c_typing.specs.declared.forms.PrefixForm.TheVariants as prefix_form
-use Rattle.c_typing.specs.State.{State, Typing, extents, judged, with_const}
+use Rattle.c_operand_typing.specs.declared.forms.AssignmentForm.{AssignmentForm}
+use Rattle.c_operand_typing.specs.declared.forms.AssignmentForm.TheVariants as assignment_form
+use Rattle.c_operand_typing.specs.declared.forms.BinaryForm.{BinaryForm}
+use Rattle.c_operand_typing.specs.declared.forms.BinaryForm.TheVariants as binary_form
+use Rattle.c_operand_typing.specs.declared.forms.PrefixForm.{PrefixForm}
+use Rattle.c_operand_typing.specs.declared.forms.PrefixForm.TheVariants as prefix_form
+use Rattle.c_typing_state.specs.State.{State, Typing, extents, judged, with_const}
 
 -- which operator a punctuator is
 

@@ -27,7 +27,7 @@ use Rattle.c_scope.specs.declared.meaning.Meaning.TheVariants as meaning
 use Rattle.c_scope.specs.Names.{Name}
 use Rattle.c_scope.specs.Names as names
 use Rattle.c_scope.specs.Tags.{is_true}
-use Rattle.c_typing.specs.State.{State, Typing, extents}
+use Rattle.c_typing_state.specs.State.{State, Typing, extents}
 
 -- constants (6.4.4)
 

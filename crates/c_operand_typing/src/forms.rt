@@ -1,7 +1,7 @@
 //! Which operator a punctuator is (C99 6.5).
 
 ghost use Rattle.std.specs.Prelude.{◌≡◌};
-ghost use Rattle.c_typing.specs.Operators.{assignment_form_of, binary_form_of, prefix_form_of, step_form};
+ghost use Rattle.c_operand_typing.specs.Operators.{assignment_form_of, binary_form_of, prefix_form_of, step_form};
 
 use c_assignment_rules::StepOperator;
 use c_lexer::Punctuator;

@@ -1,26 +1,28 @@
 //! The operators of the syntax, on operands that are typed (C99 6.5.2 to 6.5.17).
 
-ghost use Rattle.std.specs.Prelude.{◌≡◌, ◌+◌, ◌<◌, length, OnOk};
+ghost use Rattle.std.specs.Prelude.{◌≡◌, ◌+◌, ◌<◌, length, OnOk, option_copied, option_map};
 ghost use Rattle.c_faults.specs.Answer.{Gives};
 ghost use Rattle.c_rules.specs.Values.{value_of};
 ghost use Rattle.c_place_rules.specs.Operands.{operand_of};
 ghost use Rattle.c_tree.specs.View.{lvalue_of};
-ghost use Rattle.c_typing.specs.Operators.{is_array_type, is_readable, lengthened, marked, structure_behind};
-ghost use Rattle.c_typing.specs.Operators.{unreadable, value_among, variable_named};
+ghost use Rattle.c_operand_typing.specs.Operators.{is_array_type, is_readable, lengthened, marked, structure_behind};
+ghost use Rattle.c_operand_typing.specs.Operators.{unreadable, value_among, variable_named, addressed, arrowed};
+ghost use Rattle.c_operand_typing.specs.Operators.{assigned_by, combined, dotted, indexed, member_in, object_taken};
+ghost use Rattle.c_operand_typing.specs.Operators.{stepped_by, unary_value};
+ghost use Rattle.c_place_rules.specs.Places.{member_view};
+ghost use Rattle.c_typing_state.specs.State.{Types, extents, state_of};
 
 use crate::forms::{AssignmentForm, BinaryForm, PrefixForm};
-use crate::typer::Typer;
 use c_assignment_rules::{assignment, compound, stepped};
 use c_faults::{Refusal, Rule};
 use c_place_rules::operand::{Operand, value_in};
-use c_place_rules::place::{
-    address, arrow, dereferenced, indexed, selected, structure_number, type_in,
-};
+use c_place_rules::place::{address, arrow, dereferenced, selected, structure_number, type_in};
 use c_place_rules::refusal::refused;
 use c_rules::unary::unary;
 use c_rules::value::unqualified;
 use c_rules::{TypedValue, binary, comma, logical};
 use c_tree::{Extent, Fixity, Lvalue, LvalueNode, Member, TypeWord};
+use c_typing_state::Typer;
 use sb_base::Line;
 use std::alloc::{AllocError, Global};
 
@@ -94,181 +96,179 @@ fn mark(marks: &mut Vec<bool>, number: usize) -> Result<(), AllocError>
     Ok(())
 }
 
-impl<'a> Typer<'a> {
-    ghost use Rattle.std.specs.Prelude.{◌≡◌, option_copied, option_map, OnOk};
-    ghost use Rattle.c_faults.specs.Answer.{Gives};
-    ghost use Rattle.c_rules.specs.Values.{value_of};
-    ghost use Rattle.c_place_rules.specs.Operands.{operand_of};
-    ghost use Rattle.c_place_rules.specs.Places.{member_view};
-    ghost use Rattle.c_typing.specs.Operators.{addressed, arrowed, assigned_by, combined, dotted, indexed, member_in};
-    ghost use Rattle.c_typing.specs.Operators.{object_taken, stepped_by, unary_value, value_among};
-    ghost use Rattle.c_typing.specs.State.{Types, extents, state_of};
+/// The value of an operand, by `value_among`.
+pub fn value(typer: &Typer, operand: Operand) -> Result<TypedValue, Refusal>
+    ensures { Gives value_of result (value_among (extents (state_of typer.now)) (operand_of operand)) }
+{
+    value_among(typer.alloc, typer.extents(), operand)
+}
 
-    /// The value of an operand, by `value_among`.
-    pub fn value(&self, operand: Operand) -> Result<TypedValue, Refusal>
-        ensures { Gives value_of result (value_among (extents (state_of self.now)) (operand_of operand)) }
-    {
-        value_among(self.alloc, self.extents(), operand)
+/// `&` of an operand. The rule is that of `address`.
+pub fn addressed(
+    typer: &mut Typer,
+    is_evaluated: bool,
+    line: Line,
+    operand: Operand,
+) -> Result<TypedValue, Refusal>
+    ensures { Types value_of (state_of typer.new) result
+        (addressed is_evaluated line (operand_of operand) (state_of typer.old)) }
+{
+    if is_evaluated {
+        take(typer, &operand)?;
     }
+    address(typer.alloc, line, operand)
+}
 
-    /// `&` of an operand. The rule is that of `address`.
-    pub fn addressed(
-        &mut self,
-        is_evaluated: bool,
-        line: Line,
-        operand: Operand,
-    ) -> Result<TypedValue, Refusal>
-        ensures { Types value_of (state_of self.new) result
-            (addressed is_evaluated line (operand_of operand) (state_of self.old)) }
-    {
-        if is_evaluated {
-            self.take(&operand)?;
+// The text takes the address of an operand.
+fn take(typer: &mut Typer, operand: &Operand) -> Result<(), AllocError>
+    ensures { OnOk result (state_of typer.new ≡ object_taken (operand_of operand.now) (state_of typer.old)) }
+{
+    match operand {
+        Operand::Place(place) => match variable_named(&place.tree) {
+            Some(number) => mark(&mut typer.taken, number),
+            None => Ok(()),
+        },
+        _ => Ok(()),
+    }
+}
+
+/// `*`, `+`, `-`, `~` or `!` of a value. The rules are those of `dereferenced` and `unary`.
+pub fn unary_value(
+    typer: &Typer,
+    form: PrefixForm,
+    line: Line,
+    value: TypedValue,
+) -> Result<Operand, Refusal>
+    ensures { Gives operand_of result (unary_value form line (value_of value) (state_of typer.now)) }
+{
+    match form {
+        PrefixForm::Value(operator) => {
+            let value = unary(typer.alloc, typer.extents(), operator, line, value)?;
+            Ok(Operand::Value(value))
         }
-        address(self.alloc, line, operand)
+        PrefixForm::Dereference => dereferenced(typer.alloc, typer.extents(), line, value),
+        _ => refused(value, Rule::Operands, line),
     }
+}
 
-    // The text takes the address of an operand.
-    fn take(&mut self, operand: &Operand) -> Result<(), AllocError>
-        ensures { OnOk result (state_of self.new ≡ object_taken (operand_of operand.now) (state_of self.old)) }
-    {
-        match operand {
-            Operand::Place(place) => match variable_named(&place.tree) {
-                Some(number) => mark(&mut self.taken, number),
-                None => Ok(()),
-            },
-            _ => Ok(()),
+/// `++` or `--` of an operand. The rules are those of `stepped`.
+pub fn stepped_by(
+    typer: &Typer,
+    form: PrefixForm,
+    fixity: Fixity,
+    line: Line,
+    operand: Operand,
+) -> Result<Operand, Refusal>
+    ensures { Gives operand_of result
+        (stepped_by form fixity line (operand_of operand) (state_of typer.now)) }
+{
+    let PrefixForm::Step(operator) = form else {
+        return refused(operand, Rule::Operands, line);
+    };
+    let (extents, with_const) = (typer.extents(), typer.with_const());
+    let value = stepped(
+        typer.alloc,
+        extents,
+        with_const,
+        operator,
+        fixity,
+        line,
+        operand,
+    )?;
+    Ok(Operand::Value(value))
+}
+
+/// `[]` of two values. The rule is that of `indexed`.
+pub fn indexed(
+    typer: &Typer,
+    line: Line,
+    left: TypedValue,
+    right: TypedValue,
+) -> Result<Operand, Refusal>
+    ensures { Gives operand_of result
+        (indexed line (value_of left) (value_of right) (state_of typer.now)) }
+{
+    let place = c_place_rules::place::indexed(typer.alloc, typer.extents(), line, left, right)?;
+    Ok(Operand::Place(place))
+}
+
+// The member of this name of a structure or union.
+fn member_in<'t>(typer: &'t Typer, number: Option<usize>, name: &[u8]) -> Option<&'t Member>
+    ensures { option_map member_view (option_copied result) ≡ member_in number name.now (state_of typer.now) }
+{
+    match number {
+        None => None,
+        Some(number) => typer.environment.structures.member(number, name),
+    }
+}
+
+/// `.` of an operand. The rule is that of `selected`.
+pub fn dotted(typer: &Typer, line: Line, name: &[u8], operand: Operand) -> Result<Operand, Refusal>
+    ensures { Gives operand_of result (dotted line name.now (operand_of operand) (state_of typer.now)) }
+{
+    let found = member_in(typer, structure_number(type_in(&operand)), name);
+    let place = selected(typer.alloc, line, found, operand)?;
+    Ok(Operand::Place(place))
+}
+
+/// `->` of a value. The rule is that of `arrow`; none but a pointer has a member.
+pub fn arrowed(
+    typer: &Typer,
+    line: Line,
+    name: &[u8],
+    value: TypedValue,
+) -> Result<Operand, Refusal>
+    ensures { Gives operand_of result (arrowed line name.now (value_of value) (state_of typer.now)) }
+{
+    let number = structure_behind(unqualified(value.c_type.words()));
+    let found = member_in(typer, number, name);
+    let place = arrow(typer.alloc, line, found, value)?;
+    Ok(Operand::Place(place))
+}
+
+/// An operator between two values. The rules are those of `comma`, `logical` and `binary`.
+pub fn combined(
+    typer: &Typer,
+    form: BinaryForm,
+    line: Line,
+    left: TypedValue,
+    right: TypedValue,
+) -> Result<Operand, Refusal>
+    ensures { Gives operand_of result
+        (combined form line (value_of left) (value_of right) (state_of typer.now)) }
+{
+    let alloc = typer.alloc;
+    let extents = typer.extents();
+    let value = match form {
+        BinaryForm::Comma => comma(alloc, line, left, right)?,
+        BinaryForm::Logical(operator) => { logical(alloc, extents, operator, line, left, right)? }
+        BinaryForm::Value(operator) => binary(alloc, extents, operator, line, left, right)?,
+        BinaryForm::Nothing => return refused((left, right), Rule::Operands, line),
+    };
+    Ok(Operand::Value(value))
+}
+
+/// An assignment of a value to an operand. The rules are those of `assignment` and `compound`.
+pub fn assigned_by(
+    typer: &Typer,
+    form: AssignmentForm,
+    line: Line,
+    left: Operand,
+    right: TypedValue,
+) -> Result<Operand, Refusal>
+    ensures { Gives operand_of result
+        (assigned_by form line (operand_of left) (value_of right) (state_of typer.now)) }
+{
+    let alloc = typer.alloc;
+    let (extents, marks) = (typer.extents(), typer.with_const());
+    let value = match form {
+        AssignmentForm::Simple => assignment(alloc, extents, marks, line, left, right)?,
+        AssignmentForm::Compound(operator) => {
+            compound(alloc, extents, marks, operator, line, left, right)?
         }
-    }
-
-    /// `*`, `+`, `-`, `~` or `!` of a value. The rules are those of `dereferenced` and `unary`.
-    pub fn unary_value(
-        &self,
-        form: PrefixForm,
-        line: Line,
-        value: TypedValue,
-    ) -> Result<Operand, Refusal>
-        ensures { Gives operand_of result (unary_value form line (value_of value) (state_of self.now)) }
-    {
-        match form {
-            PrefixForm::Value(operator) => {
-                let value = unary(self.alloc, self.extents(), operator, line, value)?;
-                Ok(Operand::Value(value))
-            }
-            PrefixForm::Dereference => dereferenced(self.alloc, self.extents(), line, value),
-            _ => refused(value, Rule::Operands, line),
-        }
-    }
-
-    /// `++` or `--` of an operand. The rules are those of `stepped`.
-    pub fn stepped_by(
-        &self,
-        form: PrefixForm,
-        fixity: Fixity,
-        line: Line,
-        operand: Operand,
-    ) -> Result<Operand, Refusal>
-        ensures { Gives operand_of result
-            (stepped_by form fixity line (operand_of operand) (state_of self.now)) }
-    {
-        let PrefixForm::Step(operator) = form else {
-            return refused(operand, Rule::Operands, line);
-        };
-        let (extents, with_const) = (self.extents(), self.with_const());
-        let value = stepped(
-            self.alloc, extents, with_const, operator, fixity, line, operand,
-        )?;
-        Ok(Operand::Value(value))
-    }
-
-    /// `[]` of two values. The rule is that of `indexed`.
-    pub fn indexed(
-        &self,
-        line: Line,
-        left: TypedValue,
-        right: TypedValue,
-    ) -> Result<Operand, Refusal>
-        ensures { Gives operand_of result
-            (indexed line (value_of left) (value_of right) (state_of self.now)) }
-    {
-        let place = indexed(self.alloc, self.extents(), line, left, right)?;
-        Ok(Operand::Place(place))
-    }
-
-    // The member of this name of a structure or union.
-    fn member_in(&self, number: Option<usize>, name: &[u8]) -> Option<&Member>
-        ensures { option_map member_view (option_copied result) ≡ member_in number name.now (state_of self.now) }
-    {
-        match number {
-            None => None,
-            Some(number) => self.environment.structures.member(number, name),
-        }
-    }
-
-    /// `.` of an operand. The rule is that of `selected`.
-    pub fn dotted(&self, line: Line, name: &[u8], operand: Operand) -> Result<Operand, Refusal>
-        ensures { Gives operand_of result (dotted line name.now (operand_of operand) (state_of self.now)) }
-    {
-        let found = self.member_in(structure_number(type_in(&operand)), name);
-        let place = selected(self.alloc, line, found, operand)?;
-        Ok(Operand::Place(place))
-    }
-
-    /// `->` of a value. The rule is that of `arrow`; none but a pointer has a member.
-    pub fn arrowed(&self, line: Line, name: &[u8], value: TypedValue) -> Result<Operand, Refusal>
-        ensures { Gives operand_of result (arrowed line name.now (value_of value) (state_of self.now)) }
-    {
-        let number = structure_behind(unqualified(value.c_type.words()));
-        let found = self.member_in(number, name);
-        let place = arrow(self.alloc, line, found, value)?;
-        Ok(Operand::Place(place))
-    }
-
-    /// An operator between two values. The rules are those of `comma`, `logical` and `binary`.
-    pub fn combined(
-        &self,
-        form: BinaryForm,
-        line: Line,
-        left: TypedValue,
-        right: TypedValue,
-    ) -> Result<Operand, Refusal>
-        ensures { Gives operand_of result
-            (combined form line (value_of left) (value_of right) (state_of self.now)) }
-    {
-        let alloc = self.alloc;
-        let extents = self.extents();
-        let value = match form {
-            BinaryForm::Comma => comma(alloc, line, left, right)?,
-            BinaryForm::Logical(operator) => {
-                logical(alloc, extents, operator, line, left, right)?
-            }
-            BinaryForm::Value(operator) => binary(alloc, extents, operator, line, left, right)?,
-            BinaryForm::Nothing => return refused((left, right), Rule::Operands, line),
-        };
-        Ok(Operand::Value(value))
-    }
-
-    /// An assignment of a value to an operand. The rules are those of `assignment` and `compound`.
-    pub fn assigned_by(
-        &self,
-        form: AssignmentForm,
-        line: Line,
-        left: Operand,
-        right: TypedValue,
-    ) -> Result<Operand, Refusal>
-        ensures { Gives operand_of result
-            (assigned_by form line (operand_of left) (value_of right) (state_of self.now)) }
-    {
-        let alloc = self.alloc;
-        let (extents, marks) = (self.extents(), self.with_const());
-        let value = match form {
-            AssignmentForm::Simple => assignment(alloc, extents, marks, line, left, right)?,
-            AssignmentForm::Compound(operator) => {
-                compound(alloc, extents, marks, operator, line, left, right)?
-            }
-            AssignmentForm::Nothing => return refused((left, right), Rule::Operands, line),
-        };
-        Ok(Operand::Value(value))
-    }
+        AssignmentForm::Nothing => return refused((left, right), Rule::Operands, line),
+    };
+    Ok(Operand::Value(value))
 }
 
 // The structure or union to which a pointer points.

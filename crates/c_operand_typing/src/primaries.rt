@@ -1,6 +1,6 @@
 //! Names, constants and string literals (C99 6.5.1).
 
-ghost use Rattle.std.specs.Prelude.{◌≡◌, ◌++◌, IfOk, Ok};
+ghost use Rattle.std.specs.Prelude.{◌≡◌, ◌++◌, IfOk, Ok, OnOk};
 ghost use Rattle.c_lexer.specs.Literals.{bytes_of_literal};
 ghost use Rattle.c_faults.specs.Answer.{Gives};
 ghost use Rattle.c_rules.specs.Values.{value_of};
@@ -8,11 +8,14 @@ ghost use Rattle.c_place_rules.specs.Operands.{operand_of};
 ghost use Rattle.c_place_rules.specs.Targets.{object_kind};
 ghost use Rattle.c_tree.specs.Extents.{extent_of};
 ghost use Rattle.c_tree.specs.Tree.{automatic, static};
-ghost use Rattle.c_typing.specs.Primaries.{character_constant, constant_value, function_named, integer_constant};
-ghost use Rattle.c_typing.specs.Primaries.{is_aggregate, literal_type, or_empty, place, plain_variable};
-ghost use Rattle.c_typing.specs.Primaries.{size_or_zero, type_of_constant};
+ghost use Rattle.c_operand_typing.specs.Primaries.{character_constant, constant_value, function_named};
+ghost use Rattle.c_operand_typing.specs.Primaries.{integer_constant, is_aggregate, literal_type, or_empty, place};
+ghost use Rattle.c_operand_typing.specs.Primaries.{plain_variable, size_or_zero, type_of_constant, designated};
+ghost use Rattle.c_operand_typing.specs.Primaries.{is_marked, is_object, literal, meant, named, used_as, variable};
+ghost use Rattle.c_operand_typing.specs.Primaries.{with_literal, with_use};
+ghost use Rattle.c_scope.specs.Names.{meaning};
+ghost use Rattle.c_typing_state.specs.State.{Types, state_of};
 
-use crate::typer::{Literal, Typer};
 use c_faults::{Fault, Refusal, Rule};
 use c_lexer::{IntegerType, bytes_of_literal, character_value, constant_of};
 use c_place_rules::operand::{Operand, POINTER, TypedPlace, TypedVariable};
@@ -21,6 +24,7 @@ use c_rules::TypedValue;
 use c_rules::value::{integer, typed};
 use c_scope::meaning::{Designated, Meaning};
 use c_tree::{CType, Expression, Extent, Kind, Lvalue, LvalueNode, Node, PlainName, TypeWord};
+use c_typing_state::{Literal, Typer};
 use obj_memory::IntType;
 use sb_base::Line;
 use std::alloc::{AllocError, Global};
@@ -202,167 +206,162 @@ fn is_aggregate(words: &[TypeWord]) -> bool
     }
 }
 
-impl<'a> Typer<'a> {
-    ghost use Rattle.std.specs.Prelude.{◌≡◌, Ok, OnOk};
-    ghost use Rattle.c_faults.specs.Answer.{Gives};
-    ghost use Rattle.c_place_rules.specs.Operands.{operand_of};
-    ghost use Rattle.c_scope.specs.Names.{meaning};
-    ghost use Rattle.c_typing.specs.Primaries.{designated, is_marked, is_object, literal, meant, named, used_as};
-    ghost use Rattle.c_typing.specs.Primaries.{variable, with_literal, with_use};
-    ghost use Rattle.c_typing.specs.State.{Types, state_of};
+/// String literals that stand side by side, of which these are the bytes with the final 0. They are an object, but
+/// for those inside `sizeof`.
+pub fn literal(
+    typer: &mut Typer,
+    is_evaluated: bool,
+    bytes: Vec<u8>,
+    line: Line,
+) -> Result<Operand, Refusal>
+    ensures { Types operand_of (state_of typer.new) result
+        (literal is_evaluated bytes.items line (state_of typer.old)) }
+{
+    let number = typer.environment.statics;
+    let size = bytes.len() as u64;
+    if is_evaluated {
+        add_literal(typer, bytes)?;
+    }
+    let c_type = literal_type(typer.alloc, size)?;
+    static_place(typer.alloc, &[], line, c_type.words(), number)
+}
 
-    /// String literals that stand side by side, of which these are the bytes with the final 0. They are an object, but
-    /// for those inside `sizeof`.
-    pub fn literal(
-        &mut self,
-        is_evaluated: bool,
-        bytes: Vec<u8>,
-        line: Line,
-    ) -> Result<Operand, Refusal>
-        ensures { Types operand_of (state_of self.new) result
-            (literal is_evaluated bytes.items line (state_of self.old)) }
-    {
-        let number = self.environment.statics;
-        let size = bytes.len() as u64;
-        if is_evaluated {
-            self.add_literal(bytes)?;
+fn add_literal(typer: &mut Typer, bytes: Vec<u8>) -> Result<(), AllocError>
+    ensures { OnOk result (state_of typer.new ≡ with_literal bytes.items (state_of typer.old)) }
+{
+    let number = typer.environment.statics;
+    let Some(statics) = number.checked_add(1) else {
+        return Err(AllocError);
+    };
+    typer.environment.statics = statics;
+    let function = typer.function;
+    typer.literals.push(Literal {
+        number,
+        function,
+        bytes,
+    })?;
+    Ok(())
+}
+
+/// A name as an operand. The rule on undeclared names is violated by one that stands for nothing, that on names of
+/// the library by one of those.
+pub fn named(
+    typer: &mut Typer,
+    is_evaluated: bool,
+    name: &[u8],
+    line: Line,
+) -> Result<Operand, Refusal>
+    ensures { Types operand_of (state_of typer.new) result
+        (named is_evaluated name.now line (state_of typer.old)) }
+{
+    let operand = meant(typer, is_evaluated, name, line)?;
+    count_use(typer, is_evaluated, name, line);
+    Ok(operand)
+}
+
+// What a name means as an operand.
+pub(crate) fn meant(
+    typer: &Typer,
+    is_evaluated: bool,
+    name: &[u8],
+    line: Line,
+) -> Result<Operand, Refusal>
+    ensures { Gives operand_of result (meant is_evaluated line
+        (meaning name.now (state_of typer.now).environment.names) (state_of typer.now)) }
+{
+    match typer.environment.names.get(name) {
+        None | Some(Meaning::Typedef(_)) => {
+            let rule = Rule::Undeclared;
+            Err(Refusal::Fault(Fault { rule, line }))
         }
-        let c_type = literal_type(self.alloc, size)?;
-        static_place(self.alloc, &[], line, c_type.words(), number)
-    }
-
-    fn add_literal(&mut self, bytes: Vec<u8>) -> Result<(), AllocError>
-        ensures { OnOk result (state_of self.new ≡ with_literal bytes.items (state_of self.old)) }
-    {
-        let number = self.environment.statics;
-        let Some(statics) = number.checked_add(1) else {
-            return Err(AllocError);
-        };
-        self.environment.statics = statics;
-        let function = self.function;
-        self.literals.push(Literal {
-            number,
-            function,
-            bytes,
-        })?;
-        Ok(())
-    }
-
-    /// A name as an operand. The rule on undeclared names is violated by one that stands for nothing, that on names of
-    /// the library by one of those.
-    pub fn named(&mut self, is_evaluated: bool, name: &[u8], line: Line) -> Result<Operand, Refusal>
-        ensures { Types operand_of (state_of self.new) result
-            (named is_evaluated name.now line (state_of self.old)) }
-    {
-        let operand = self.meant(is_evaluated, name, line)?;
-        self.count_use(is_evaluated, name, line);
-        Ok(operand)
-    }
-
-    // What a name means as an operand.
-    pub(crate) fn meant(
-        &self,
-        is_evaluated: bool,
-        name: &[u8],
-        line: Line,
-    ) -> Result<Operand, Refusal>
-        ensures { Gives operand_of result (meant is_evaluated line
-            (meaning name.now (state_of self.now).environment.names) (state_of self.now)) }
-    {
-        match self.environment.names.get(name) {
-            None | Some(Meaning::Typedef(_)) => {
-                let rule = Rule::Undeclared;
-                Err(Refusal::Fault(Fault { rule, line }))
-            }
-            Some(Meaning::Constant(word)) => {
-                let value = constant_value(self.alloc, line, IntType::Int, *word)?;
-                Ok(Operand::Value(value))
-            }
-            Some(Meaning::Named(what, c_type)) => {
-                self.designated(is_evaluated, line, *what, c_type.words())
-            }
+        Some(Meaning::Constant(word)) => {
+            let value = constant_value(typer.alloc, line, IntType::Int, *word)?;
+            Ok(Operand::Value(value))
+        }
+        Some(Meaning::Named(what, c_type)) => {
+            designated(typer, is_evaluated, line, *what, c_type.words())
         }
     }
+}
 
-    fn designated(
-        &self,
-        is_evaluated: bool,
-        line: Line,
-        what: Designated,
-        words: &[TypeWord],
-    ) -> Result<Operand, Refusal>
-        ensures { Gives operand_of result (designated is_evaluated line what words.now (state_of self.now)) }
-    {
-        let alloc = self.alloc;
-        match what {
-            Designated::Object(number) | Designated::Static(number) => {
-                static_place(alloc, self.extents(), line, words, number)
-            }
-            Designated::Function(number) => function_named(alloc, line, words, number),
-            Designated::Library(_) => {
-                let rule = Rule::LibraryName;
-                Err(Refusal::Fault(Fault { rule, line }))
-            }
-            Designated::Variable(number) => self.variable(is_evaluated, line, number, words),
+fn designated(
+    typer: &Typer,
+    is_evaluated: bool,
+    line: Line,
+    what: Designated,
+    words: &[TypeWord],
+) -> Result<Operand, Refusal>
+    ensures { Gives operand_of result (designated is_evaluated line what words.now (state_of typer.now)) }
+{
+    let alloc = typer.alloc;
+    match what {
+        Designated::Object(number) | Designated::Static(number) => {
+            static_place(alloc, typer.extents(), line, words, number)
         }
-    }
-
-    fn variable(
-        &self,
-        is_evaluated: bool,
-        line: Line,
-        number: usize,
-        words: &[TypeWord],
-    ) -> Result<Operand, Refusal>
-        ensures { Gives operand_of result
-            (Ok (variable is_evaluated line number words.now (state_of self.now))) }
-    {
-        if self.is_object(is_evaluated, number, words) {
-            automatic_place(self.alloc, self.extents(), line, words, number)
-        } else {
-            plain_variable(self.alloc, self.extents(), line, words, number)
+        Designated::Function(number) => function_named(alloc, line, words, number),
+        Designated::Library(_) => {
+            let rule = Rule::LibraryName;
+            Err(Refusal::Fault(Fault { rule, line }))
         }
+        Designated::Variable(number) => variable(typer, is_evaluated, line, number, words),
     }
+}
 
-    /// Whether a variable is an object: the text takes its address, or it is an array or a structure. What `sizeof`
-    /// does not evaluate needs no plain variables.
-    pub fn is_object(&self, is_evaluated: bool, number: usize, words: &[TypeWord]) -> bool
-        ensures { result ≡ is_object is_evaluated (state_of self.now) number words.now }
-    {
-        !is_evaluated || is_aggregate(words) || self.is_marked(number)
+fn variable(
+    typer: &Typer,
+    is_evaluated: bool,
+    line: Line,
+    number: usize,
+    words: &[TypeWord],
+) -> Result<Operand, Refusal>
+    ensures { Gives operand_of result
+        (Ok (variable is_evaluated line number words.now (state_of typer.now))) }
+{
+    if is_object(typer, is_evaluated, number, words) {
+        automatic_place(typer.alloc, typer.extents(), line, words, number)
+    } else {
+        plain_variable(typer.alloc, typer.extents(), line, words, number)
     }
+}
 
-    fn is_marked(&self, number: usize) -> bool
-        ensures { result ≡ is_marked (state_of self.now).objects number }
-    {
-        match &self.objects {
-            None => true,
-            Some(marks) => match marks.get(number) {
-                Some(mark) => *mark,
-                None => false,
-            },
-        }
+/// Whether a variable is an object: the text takes its address, or it is an array or a structure. What `sizeof`
+/// does not evaluate needs no plain variables.
+pub fn is_object(typer: &Typer, is_evaluated: bool, number: usize, words: &[TypeWord]) -> bool
+    ensures { result ≡ is_object is_evaluated (state_of typer.now) number words.now }
+{
+    !is_evaluated || is_aggregate(words) || is_marked(typer, number)
+}
+
+fn is_marked(typer: &Typer, number: usize) -> bool
+    ensures { result ≡ is_marked (state_of typer.now).objects number }
+{
+    match &typer.objects {
+        None => true,
+        Some(marks) => match marks.get(number) {
+            Some(mark) => *mark,
+            None => false,
+        },
     }
+}
 
-    /// A function is used where its name is evaluated.
-    pub fn count_use(&mut self, is_evaluated: bool, name: &[u8], line: Line)
-        ensures { state_of self.new ≡ used_as is_evaluated line
-            (meaning name.now (state_of self.old).environment.names) (state_of self.old) }
-    {
-        let Some(Meaning::Named(Designated::Function(number), _)) = self.environment.names.get(name)
-        else {
-            return;
-        };
-        if is_evaluated && *number >= self.environment.facts.functions.len() {
-            self.add_use(line);
-        }
+/// A function is used where its name is evaluated.
+pub fn count_use(typer: &mut Typer, is_evaluated: bool, name: &[u8], line: Line)
+    ensures { state_of typer.new ≡ used_as is_evaluated line
+        (meaning name.now (state_of typer.old).environment.names) (state_of typer.old) }
+{
+    let Some(Meaning::Named(Designated::Function(number), _)) = typer.environment.names.get(name)
+    else {
+        return;
+    };
+    if is_evaluated && *number >= typer.environment.facts.functions.len() {
+        add_use(typer, line);
     }
+}
 
-    fn add_use(&mut self, line: Line)
-        ensures { state_of self.new ≡ with_use line (state_of self.old) }
-    {
-        if self.undefined.is_none() {
-            self.undefined = Some(line);
-        }
+fn add_use(typer: &mut Typer, line: Line)
+    ensures { state_of typer.new ≡ with_use line (state_of typer.old) }
+{
+    if typer.undefined.is_none() {
+        typer.undefined = Some(line);
     }
 }

@@ -5,8 +5,8 @@ use Rattle.c_tree.specs.Extents.{TypeExtent}
 use Rattle.c_faults.specs.declared.fault.Refusal.{Refusal}
 use Rattle.c_faults.specs.Answer.{Answer, Fails, ◌>>=◌}
 use Rattle.c_scope.specs.Environment.{Environment, environment_of}
-use Rattle.c_typing.specs.declared.typer.Literal as code_literal
-use Rattle.c_typing.specs.declared.typer.Typer as code
+use Rattle.c_typing_state.specs.declared.typer.Literal as code_literal
+use Rattle.c_typing_state.specs.declared.typer.Typer as code
 
 -- a string literal that is an object: its number among the static objects, the number of the function in whose block it
 -- stands, if it stands in one, and its bytes with the final 0

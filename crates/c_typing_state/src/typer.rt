@@ -1,7 +1,7 @@
 //! What typing carries from token to token.
 
 ghost use Rattle.std.specs.Prelude.{◌≡◌, IfOk, map, option_map};
-ghost use Rattle.c_typing.specs.State.{literal_of};
+ghost use Rattle.c_typing_state.specs.State.{literal_of};
 
 use c_scope::environment::Environment;
 use c_tree::{CType, Extent};
@@ -21,7 +21,7 @@ pub struct Literal {
 
 impl Literal {
     ghost use Rattle.std.specs.Prelude.{◌≡◌, IfOk};
-    ghost use Rattle.c_typing.specs.State.{literal_of};
+    ghost use Rattle.c_typing_state.specs.State.{literal_of};
 
     // A copy.
     fn copy(&self, alloc: Global) -> Result<Self, AllocError>
@@ -96,7 +96,7 @@ pub struct Typer<'a> {
 impl<'a> Typer<'a> {
     ghost use Rattle.std.specs.Prelude.{◌≡◌, [], IfOk, None, option_map};
     ghost use Rattle.c_scope.specs.Environment.{environment_of};
-    ghost use Rattle.c_typing.specs.State.{extents, state_of, with_const};
+    ghost use Rattle.c_typing_state.specs.State.{extents, state_of, with_const};
 
     /// At the start of a file.
     pub fn new(alloc: Global, environment: Environment<'a>, objects: Option<Vec<bool>>) -> Self

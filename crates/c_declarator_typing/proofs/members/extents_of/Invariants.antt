@@ -1,6 +1,6 @@
 use Rattle.std.proofs.Common.{◌≡◌, ◌++◌, drop, map}
-use Rattle.c_typing.specs.Members.{entry_of, extent_in}
-use Rattle.c_typing.proofs.members.extents_of.Given as goal
+use Rattle.c_declarator_typing.specs.Members.{entry_of, extent_in}
+use Rattle.c_declarator_typing.proofs.members.extents_of.Given as goal
 
 abbrev pub invariant-loop-entry : goal.invariant-loop-entry
 invariant-loop-entry l =

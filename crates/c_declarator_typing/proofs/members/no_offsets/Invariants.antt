@@ -1,6 +1,6 @@
 use Rattle.std.proofs.Common.{◌≡◌, ◌++◌, drop, map}
-use Rattle.c_typing.specs.Members.{entry_of, no_offset}
-use Rattle.c_typing.proofs.members.no_offsets.Given as goal
+use Rattle.c_declarator_typing.specs.Members.{entry_of, no_offset}
+use Rattle.c_declarator_typing.proofs.members.no_offsets.Given as goal
 
 abbrev pub invariant-loop : goal.invariant-loop
 invariant-loop l =

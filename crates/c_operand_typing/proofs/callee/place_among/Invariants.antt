@@ -1,6 +1,6 @@
 use Rattle.std.proofs.Common.{◌≡◌, ◌+◌, drop}
-use Rattle.c_typing.specs.Calls.{place_among}
-use Rattle.c_typing.proofs.callee.place_among.Given as goal
+use Rattle.c_operand_typing.specs.Calls.{place_among}
+use Rattle.c_operand_typing.proofs.callee.place_among.Given as goal
 
 abbrev pub invariant-loop-c_type : goal.invariant-loop-c_type
 invariant-loop-c_type l =

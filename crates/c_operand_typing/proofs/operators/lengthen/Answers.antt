@@ -1,6 +1,6 @@
 use Rattle.std.proofs.Common.{◌∙◌, arith}
-use Rattle.c_typing.proofs.Marking.{one_more}
-use Rattle.c_typing.proofs.operators.lengthen.Goals as goal
+use Rattle.c_operand_typing.proofs.Marking.{one_more}
+use Rattle.c_operand_typing.proofs.operators.lengthen.Goals as goal
 
 pub loop-marks-preserved : goal.loop-marks-preserved
 loop-marks-preserved c =

@@ -1,6 +1,6 @@
 use Rattle.std.proofs.Common.{◌≡◌, ◌+◌, ◌-◌, ◌++◌, length}
-use Rattle.c_typing.specs.Operators.{lengthened, unmarked}
-use Rattle.c_typing.proofs.operators.lengthen.Given as goal
+use Rattle.c_operand_typing.specs.Operators.{lengthened, unmarked}
+use Rattle.c_operand_typing.proofs.operators.lengthen.Given as goal
 
 abbrev pub invariant-loop-marks : goal.invariant-loop-marks
 invariant-loop-marks l =

@@ -21,17 +21,17 @@ use Rattle.c_scope.specs.declared.tags.TagKind.{TagKind}
 use Rattle.c_scope.specs.Enumerators.{enumerated}
 use Rattle.c_scope.specs.Names.{Name}
 use Rattle.c_scope.specs.Tags.{begins, tagged}
-use Rattle.c_typing.specs.declared.forms.PrefixForm.{PrefixForm}
-use Rattle.c_typing.specs.declared.forms.PrefixForm.TheVariants as form
-use Rattle.c_typing.specs.Calls.{Called, a_printf, applied, name_called, pointer_called}
-use Rattle.c_typing.specs.Calls.{printed}
-use Rattle.c_typing.specs.Operators.{addressed, arrowed, as_operand, as_value, dotted, stepped_by, unary_value}
-use Rattle.c_typing.specs.Primaries.{spelled_bytes}
-use Rattle.c_typing.specs.Declarators.{Shape}
-use Rattle.c_typing.specs.Members.{Entries, member_added}
-use Rattle.c_typing.specs.Sizes.{next_value}
-use Rattle.c_typing.specs.Specifications.{Gathered, Specification, specified}
-use Rattle.c_typing.specs.State.{State, Typing, done, extents, judged, ◌>>>◌}
+use Rattle.c_operand_typing.specs.declared.forms.PrefixForm.{PrefixForm}
+use Rattle.c_operand_typing.specs.declared.forms.PrefixForm.TheVariants as form
+use Rattle.c_operand_typing.specs.Calls.{Called, a_printf, applied, name_called, pointer_called}
+use Rattle.c_operand_typing.specs.Calls.{printed}
+use Rattle.c_operand_typing.specs.Operators.{addressed, arrowed, as_operand, as_value, dotted, stepped_by, unary_value}
+use Rattle.c_operand_typing.specs.Primaries.{spelled_bytes}
+use Rattle.c_declarator_typing.specs.Declarators.{Shape}
+use Rattle.c_declarator_typing.specs.Members.{Entries, member_added}
+use Rattle.c_declarator_typing.specs.Sizes.{next_value}
+use Rattle.c_declarator_typing.specs.Specifications.{Gathered, Specification, specified}
+use Rattle.c_typing_state.specs.State.{State, Typing, done, extents, judged, ◌>>>◌}
 use Rattle.c_expression_typing.specs.declared.constructs.Printing as code_printing
 use Rattle.c_expression_typing.specs.Lines.{first_line, name_of, spellings}
 

@@ -14,16 +14,16 @@ use Rattle.c_place_rules.specs.Operands.{Operand, a_value, enclosed}
 use Rattle.c_place_rules.specs.Places.{type_in}
 use Rattle.c_declarators.specs.Derivations.{to_array, to_open_array, to_pointer}
 use Rattle.c_scope.specs.declared.tags.TagKind.TheVariants as kind
-use Rattle.c_typing.specs.Declarators.{Shape, parameter, plain_shape, scope_left, scope_opened, type_named}
-use Rattle.c_typing.specs.Declarators.{with_derivation, with_function}
-use Rattle.c_typing.specs.Members.{Entries, member_specified, no_entries, tag_completed}
-use Rattle.c_typing.specs.Operators.{assigned_by, assignment_form_of, binary_form_of, combined, indexed}
-use Rattle.c_typing.specs.Operators.{prefix_form_of, step_form, stepped_by}
-use Rattle.c_typing.specs.Primaries.{character_constant, integer_constant, literal, literal_bytes, named}
-use Rattle.c_typing.specs.Sizes.{count_in, enumeration_value}
-use Rattle.c_typing.specs.Specifications.{Gathered, Specification, nothing_gathered, tag_kind, tag_type}
-use Rattle.c_typing.specs.Specifications.{typedef_type, with_keyword, with_named}
-use Rattle.c_typing.specs.State.{State, Typing, done, judged, ◌>>>◌}
+use Rattle.c_declarator_typing.specs.Declarators.{Shape, parameter, plain_shape, scope_left, scope_opened, type_named}
+use Rattle.c_declarator_typing.specs.Declarators.{with_derivation, with_function}
+use Rattle.c_declarator_typing.specs.Members.{Entries, member_specified, no_entries, tag_completed}
+use Rattle.c_operand_typing.specs.Operators.{assigned_by, assignment_form_of, binary_form_of, combined, indexed}
+use Rattle.c_operand_typing.specs.Operators.{prefix_form_of, step_form, stepped_by}
+use Rattle.c_operand_typing.specs.Primaries.{character_constant, integer_constant, literal, literal_bytes, named}
+use Rattle.c_declarator_typing.specs.Sizes.{count_in, enumeration_value}
+use Rattle.c_declarator_typing.specs.Specifications.{Gathered, Specification, nothing_gathered, tag_kind, tag_type}
+use Rattle.c_declarator_typing.specs.Specifications.{typedef_type, with_keyword, with_named}
+use Rattle.c_typing_state.specs.State.{State, Typing, done, judged, ◌>>>◌}
 use Rattle.c_expression_typing.specs.Constructs.{Printing, accessed, applied_to, begun_as, called_by, cast_to, chosen}
 use Rattle.c_expression_typing.specs.Constructs.{literal_alone, plain_name, specified_by, with_shape}
 use Rattle.c_expression_typing.specs.Constructs.{enumerated_as, format_by, has_words, prefixed, sized, tagged_as}

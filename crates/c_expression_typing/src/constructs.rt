@@ -6,19 +6,25 @@ ghost use Rattle.c_rules.specs.Values.{value_of};
 ghost use Rattle.c_place_rules.specs.Operands.{a_value, operand_of};
 ghost use Rattle.c_call_rules.specs.Printing.{format_of};
 ghost use Rattle.c_syntax.specs.View as view;
-ghost use Rattle.c_typing.specs.Calls.{called_of};
-ghost use Rattle.c_typing.specs.Primaries.{character_constant, integer_constant, literal, literal_bytes};
-ghost use Rattle.c_typing.specs.Primaries.{spelled_bytes};
-ghost use Rattle.c_typing.specs.Specifications.{gathered_of, tag_type, with_named};
-ghost use Rattle.c_typing.specs.State.{Types, state_of};
+ghost use Rattle.c_operand_typing.specs.Calls.{called_of};
+ghost use Rattle.c_operand_typing.specs.Primaries.{character_constant, integer_constant, literal, literal_bytes};
+ghost use Rattle.c_operand_typing.specs.Primaries.{spelled_bytes};
+ghost use Rattle.c_declarator_typing.specs.Specifications.{gathered_of, tag_type, with_named};
+ghost use Rattle.c_typing_state.specs.State.{Types, state_of};
 ghost use Rattle.c_expression_typing.specs.Constructs.{accessed, begun_as, cast_to, chosen, enumerated_as, is_printf};
 ghost use Rattle.c_expression_typing.specs.Constructs.{literal_alone, plain_name, prefixed, sized, tagged_as};
 ghost use Rattle.c_expression_typing.specs.Lines.{spellings};
 
 use c_call_rules::printing::Format;
 use c_condition_rules::conditional;
+use c_declarator_typing::Gathered;
+use c_declarator_typing::sizes::next_value;
+use c_declarator_typing::specification::tag_type;
 use c_faults::{Refusal, Rule};
 use c_lexer::Punctuator;
+use c_operand_typing::forms::PrefixForm;
+use c_operand_typing::primaries::{character_constant, integer_constant, with_spelled_bytes};
+use c_operand_typing::{Called, operators, primaries};
 use c_place_rules::operand::Operand;
 use c_place_rules::place::size_of;
 use c_place_rules::refusal::refused;
@@ -29,11 +35,7 @@ use c_scope::meaning::Tag;
 use c_scope::tags::TagKind;
 use c_syntax::{Expression, Spelled};
 use c_tree::{Fixity, TypeWord};
-use c_typing::forms::PrefixForm;
-use c_typing::primaries::{character_constant, integer_constant, with_spelled_bytes};
-use c_typing::sizes::next_value;
-use c_typing::specification::tag_type;
-use c_typing::{Called, Gathered, Typer};
+use c_typing_state::Typer;
 use sb_base::Line;
 use std::alloc::{AllocError, Global};
 
@@ -86,7 +88,7 @@ pub fn strings<'a>(
         (literal_bytes (spellings first.now more.now)) first.now.position.line (state_of typer.old)) }
 {
     let bytes = ended_bytes(typer.alloc, first, more)?;
-    typer.literal(is_evaluated, bytes, first.position.line)
+    primaries::literal(typer, is_evaluated, bytes, first.position.line)
 }
 
 /// A unary operator, or `&`, `++` or `--`, before its operand.
@@ -102,13 +104,13 @@ pub fn prefixed<'a>(
 {
     match form {
         PrefixForm::Address => {
-            let value = typer.addressed(is_evaluated, line, operand)?;
+            let value = operators::addressed(typer, is_evaluated, line, operand)?;
             Ok(Operand::Value(value))
         }
-        PrefixForm::Step(_) => typer.stepped_by(form, Fixity::Prefix, line, operand),
+        PrefixForm::Step(_) => operators::stepped_by(typer, form, Fixity::Prefix, line, operand),
         _ => {
-            let value = typer.value(operand)?;
-            typer.unary_value(form, line, value)
+            let value = operators::value(typer, operand)?;
+            operators::unary_value(typer, form, line, value)
         }
     }
 }
@@ -125,10 +127,10 @@ pub fn accessed<'a>(
         (accessed punctuator line name.now (operand_of operand) (state_of typer.old)) }
 {
     match punctuator {
-        Punctuator::Dot => typer.dotted(line, name, operand),
+        Punctuator::Dot => operators::dotted(typer, line, name, operand),
         Punctuator::Arrow => {
-            let value = typer.value(operand)?;
-            typer.arrowed(line, name, value)
+            let value = operators::value(typer, operand)?;
+            operators::arrowed(typer, line, name, value)
         }
         _ => refused(operand, Rule::Operands, line),
     }

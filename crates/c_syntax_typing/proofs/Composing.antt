@@ -7,14 +7,14 @@ use Rattle.c_faults.specs.declared.fault.Refusal.TheVariants.{Memory, Fault}
 use Rattle.c_faults.specs.Answer.{Answer, Fails, Gives, ◌>>=◌}
 use Rattle.c_place_rules.specs.declared.operand.Operand as code_operand
 use Rattle.c_place_rules.specs.Operands.{operand_of}
-use Rattle.c_typing.specs.declared.members.Entries as code_entries
-use Rattle.c_typing.specs.declared.shape.Shape as code_shape
-use Rattle.c_typing.specs.declared.specification.Gathered as code_gathered
-use Rattle.c_typing.specs.declared.specification.Specification as code_specification
-use Rattle.c_typing.specs.Declarators.{Shape, shape_of}
-use Rattle.c_typing.specs.Members.{Entries, entries_of, member_added, member_specified}
-use Rattle.c_typing.specs.Specifications.{Gathered, Specification, gathered_of, specification_of}
-use Rattle.c_typing.specs.State.{State, Types, Typing, judged, ◌>>>◌}
+use Rattle.c_declarator_typing.specs.declared.members.Entries as code_entries
+use Rattle.c_declarator_typing.specs.declared.shape.Shape as code_shape
+use Rattle.c_declarator_typing.specs.declared.specification.Gathered as code_gathered
+use Rattle.c_declarator_typing.specs.declared.specification.Specification as code_specification
+use Rattle.c_declarator_typing.specs.Declarators.{Shape, shape_of}
+use Rattle.c_declarator_typing.specs.Members.{Entries, entries_of, member_added, member_specified}
+use Rattle.c_declarator_typing.specs.Specifications.{Gathered, Specification, gathered_of, specification_of}
+use Rattle.c_typing_state.specs.State.{State, Types, Typing, judged, ◌>>>◌}
 use Rattle.c_expression_typing.specs.Constructs.{with_shape}
 use Rattle.c_expression_typing.specs.Typed.{shape, specification, typed, with_member, with_more_declared}
 use Rattle.c_expression_typing.specs.Typed.{with_specifier}

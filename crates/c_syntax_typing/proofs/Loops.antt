@@ -3,7 +3,7 @@ use Rattle.std.proofs.Common.{◌≡◌, ℕ, ◌+◌, ◌<◌, List, ◌∷◌,
 use Rattle.std.proofs.lemmas.List.{drop_more}
 use Rattle.c_faults.specs.declared.fault.Refusal.{Refusal}
 use Rattle.c_faults.specs.Answer.{Fails, ◌>>=◌}
-use Rattle.c_typing.specs.State.{State, Typing, ◌>>>◌}
+use Rattle.c_typing_state.specs.State.{State, Typing, ◌>>>◌}
 use Rattle.c_syntax_typing.proofs.Composing.{fails_on}
 
 module _ {T B : Type 0} (step : T → B → Typing B) (walk : List T → B → Typing B)

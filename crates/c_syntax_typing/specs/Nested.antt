@@ -11,12 +11,12 @@ use Rattle.c_syntax.specs.Levels.{declarator_levels, expression_levels, specifie
 use Rattle.c_faults.specs.declared.fault.Refusal.{Refusal}
 use Rattle.c_place_rules.specs.declared.operand.Operand as code_operand
 use Rattle.c_place_rules.specs.Operands.{operand_of}
-use Rattle.c_typing.specs.declared.shape.Shape as code_shape
-use Rattle.c_typing.specs.declared.specification.Specification as code_specification
-use Rattle.c_typing.specs.declared.typer.Typer.{Typer}
-use Rattle.c_typing.specs.Declarators.{shape_of}
-use Rattle.c_typing.specs.Specifications.{specification_of}
-use Rattle.c_typing.specs.State.{Types, state_of}
+use Rattle.c_declarator_typing.specs.declared.shape.Shape as code_shape
+use Rattle.c_declarator_typing.specs.declared.specification.Specification as code_specification
+use Rattle.c_typing_state.specs.declared.typer.Typer.{Typer}
+use Rattle.c_declarator_typing.specs.Declarators.{shape_of}
+use Rattle.c_declarator_typing.specs.Specifications.{specification_of}
+use Rattle.c_typing_state.specs.State.{Types, state_of}
 use Rattle.c_expression_typing.specs.Typed.{shape, specification, typed}
 use Rattle.c_syntax_typing.specs.declared.nested.Nested.{Nested}
 

@@ -4,13 +4,15 @@ use crate::dropped::without;
 use crate::lists::{only, with_item};
 use crate::nested::Nested;
 use c_call_rules::printing::Format;
+use c_declarator_typing::{Shape, Specification};
 use c_expression_typing::constructs::{Printing, is_printf, literal_alone, plain_name};
 use c_faults::Refusal;
+use c_operand_typing::{Called, callee};
 use c_place_rules::operand::Operand;
 use c_rules::TypedValue;
 use c_rules::holding::beside;
 use c_syntax::{Arguments, Boxed, Declarator, Expression, Position, Specifier};
-use c_typing::{Called, Shape, Specification, Typer};
+use c_typing_state::Typer;
 use sb_base::Line;
 
 impl<
@@ -27,8 +29,8 @@ impl<
     ghost use Rattle.c_rules.specs.Values.{value_of};
     ghost use Rattle.c_call_rules.specs.Printing.{format_of};
     ghost use Rattle.c_place_rules.specs.Operands.{operand_of};
-    ghost use Rattle.c_typing.specs.Calls.{called_of};
-    ghost use Rattle.c_typing.specs.State.{Types, state_of};
+    ghost use Rattle.c_operand_typing.specs.Calls.{called_of};
+    ghost use Rattle.c_typing_state.specs.State.{Types, state_of};
     ghost use Rattle.c_expression_typing.specs.Constructs.{applied_to, called_by, format_by, literal_alone, plain_name};
     ghost use Rattle.c_expression_typing.specs.Constructs.{printing_of};
     ghost use Rattle.c_expression_typing.specs.Typed.{argument_values, more_values, printed_values, typed};
@@ -48,11 +50,16 @@ impl<
     {
         match plain_name(function.get()) {
             Some(name) => {
-                typer.name_called(is_evaluated, name.spelling.bytes(), name.position.line)
+                callee::name_called(
+                    typer,
+                    is_evaluated,
+                    name.spelling.bytes(),
+                    name.position.line,
+                )
             }
             None => {
                 let operand = self.operand(typer, is_evaluated, function)?;
-                typer.pointer_called(operand)
+                callee::pointer_called(typer, operand)
             }
         }
     }
@@ -167,11 +174,11 @@ impl<
         if is_printf(&called) {
             let printing = without(called, self.printing(typer, is_evaluated, arguments));
             let Printing { format, values } = printing?;
-            typer.printed(line, format, values)
+            callee::printed(typer, line, format, values)
         } else {
             let values = self.argument_values(typer, is_evaluated, arguments);
             let (called, values) = beside(called, values)?;
-            typer.applied(line, called, values)
+            callee::applied(typer, line, called, values)
         }
     }
 

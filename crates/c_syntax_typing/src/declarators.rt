@@ -1,21 +1,22 @@
 //! Declarators (C99 6.7.5, 6.7.6).
 
 ghost use Rattle.std.specs.Prelude.{◌≡◌, Some};
-ghost use Rattle.c_typing.specs.Declarators.{plain_shape, shape_of};
+ghost use Rattle.c_declarator_typing.specs.Declarators.{plain_shape, shape_of};
 ghost use Rattle.c_expression_typing.specs.Constructs.{has_words};
 ghost use Rattle.c_expression_typing.specs.Lines.{name_of};
 
 use crate::dropped::without;
 use crate::nested::Nested;
+use c_declarator_typing::shape::{LocatedName, leave_scope, open_scope};
+use c_declarator_typing::sizes::count_in;
+use c_declarator_typing::{Shape, Specification};
 use c_declarators::Derivation;
 use c_faults::Refusal;
 use c_place_rules::operand::Operand;
 use c_rules::holding::beside;
 use c_syntax::declarators::is_plain_name;
 use c_syntax::{Boxed, Declarator, Expression, Parameters, Position, Specifier, Spelled};
-use c_typing::shape::LocatedName;
-use c_typing::sizes::count_in;
-use c_typing::{Shape, Specification, Typer};
+use c_typing_state::Typer;
 use std::alloc::Global;
 
 // Whether there is a word `const` behind a `*`.
@@ -45,8 +46,8 @@ impl<
     ghost use Rattle.c_syntax.specs.Tree as tree;
     ghost use Rattle.c_syntax.specs.View.{declarator_of};
     ghost use Rattle.c_syntax.specs.declared.position.Position.{Position};
-    ghost use Rattle.c_typing.specs.Declarators.{shape_of};
-    ghost use Rattle.c_typing.specs.State.{Types, state_of};
+    ghost use Rattle.c_declarator_typing.specs.Declarators.{shape_of};
+    ghost use Rattle.c_typing_state.specs.State.{Types, state_of};
     ghost use Rattle.c_expression_typing.specs.Typed.{shape};
     ghost use Rattle.c_syntax_typing.specs.Nested.{TypesDeclarator};
 
@@ -94,8 +95,8 @@ impl<
     ghost use Rattle.c_syntax.specs.Tree as tree;
     ghost use Rattle.c_syntax.specs.View.{declarator_of, expression_of};
     ghost use Rattle.c_syntax.specs.declared.position.Position.{Position};
-    ghost use Rattle.c_typing.specs.Declarators.{shape_of};
-    ghost use Rattle.c_typing.specs.State.{Types, state_of};
+    ghost use Rattle.c_declarator_typing.specs.Declarators.{shape_of};
+    ghost use Rattle.c_typing_state.specs.State.{Types, state_of};
     ghost use Rattle.c_expression_typing.specs.Typed.{shape};
     ghost use Rattle.c_syntax_typing.specs.Nested.{TypesDeclarator, TypesExpression};
 
@@ -133,8 +134,8 @@ impl<
     ghost use Rattle.c_syntax.specs.View.{declarator_of, parameters_of};
     ghost use Rattle.c_syntax.specs.Levels.{parameters_levels};
     ghost use Rattle.c_syntax.specs.declared.position.Position.{Position};
-    ghost use Rattle.c_typing.specs.Declarators.{scope_left, scope_opened, shape_of, with_function};
-    ghost use Rattle.c_typing.specs.State.{Types, done, state_of, ◌>>>◌};
+    ghost use Rattle.c_declarator_typing.specs.Declarators.{scope_left, scope_opened, shape_of, with_function};
+    ghost use Rattle.c_typing_state.specs.State.{Types, done, state_of, ◌>>>◌};
     ghost use Rattle.c_expression_typing.specs.Typed.{parameter_types, shape};
     ghost use Rattle.c_syntax_typing.specs.Nested.{DeeperNames, TypesDeclarator};
 
@@ -152,10 +153,10 @@ impl<
             parameter_types in_definition (parameters_of parameters.now) >>> λ types. scope_left variables >>> λ scope.
             done (with_function types scope (shape_of before.entry))) (state_of typer.old)) }
     {
-        let (before, variables) = beside(before, typer.open_scope())?;
+        let (before, variables) = beside(before, open_scope(typer))?;
         let types = self.parameter_types(typer, in_definition, parameters);
         let (before, types) = beside(before, types)?;
-        let scope = typer.leave_scope(variables);
+        let scope = leave_scope(typer, variables);
         let shape = before.with_function(types, scope)?;
         Ok(shape)
     }
@@ -191,8 +192,8 @@ impl<
     ghost use Rattle.c_syntax.specs.Tree as tree;
     ghost use Rattle.c_syntax.specs.View.{declarator_of};
     ghost use Rattle.c_syntax.specs.Levels.{declarator_levels};
-    ghost use Rattle.c_typing.specs.Declarators.{shape_of};
-    ghost use Rattle.c_typing.specs.State.{Types, state_of};
+    ghost use Rattle.c_declarator_typing.specs.Declarators.{shape_of};
+    ghost use Rattle.c_typing_state.specs.State.{Types, state_of};
     ghost use Rattle.c_expression_typing.specs.Typed.{shape};
     ghost use Rattle.c_syntax_typing.specs.Nested.{Deeper};
 

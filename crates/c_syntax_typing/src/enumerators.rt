@@ -2,12 +2,13 @@
 
 use crate::dropped::without;
 use crate::nested::Nested;
+use c_declarator_typing::sizes::enumeration_value;
+use c_declarator_typing::{Shape, Specification};
 use c_expression_typing::constructs::enumerated_as;
 use c_faults::Refusal;
 use c_place_rules::operand::Operand;
 use c_syntax::{Boxed, Declarator, Enumerator, Expression, Position, Specifier, Spelled};
-use c_typing::sizes::enumeration_value;
-use c_typing::{Shape, Specification, Typer};
+use c_typing_state::Typer;
 
 impl<
     'a,
@@ -19,7 +20,7 @@ impl<
     ghost use Rattle.c_syntax.specs.Tree as tree;
     ghost use Rattle.c_syntax.specs.View.{enumerator_of, expression_of, more_enumerators_in};
     ghost use Rattle.c_syntax.specs.Levels.{enumerator_levels, more_enumerators_levels};
-    ghost use Rattle.c_typing.specs.State.{Types, state_of};
+    ghost use Rattle.c_typing_state.specs.State.{Types, state_of};
     ghost use Rattle.c_expression_typing.specs.Typed.{enumerator, more_enumerators};
     ghost use Rattle.c_syntax_typing.specs.Nested.{DeeperExpressions, TypesExpression};
 

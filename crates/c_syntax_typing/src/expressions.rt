@@ -2,18 +2,20 @@
 
 use crate::dropped::without;
 use crate::nested::Nested;
+use c_declarator_typing::{Shape, Specification};
 use c_expression_typing::constructs::{
     accessed, cast_to, character, chosen, integer, prefixed, sized, strings,
 };
 use c_faults::Refusal;
 use c_lexer::Punctuator;
+use c_operand_typing::forms::{assignment_form, binary_form, prefix_form, step_form};
+use c_operand_typing::{operators, primaries};
 use c_place_rules::operand::{Operand, enclosed};
 use c_place_rules::place::type_in;
 use c_rules::holding::beside;
 use c_syntax::{Boxed, Declarator, Expression, Position, Specifier, Spelled, TypedDeclarator};
 use c_tree::Fixity;
-use c_typing::forms::{assignment_form, binary_form, prefix_form, step_form};
-use c_typing::{Shape, Specification, Typer};
+use c_typing_state::Typer;
 use sb_base::Line;
 
 impl<
@@ -27,7 +29,7 @@ impl<
     ghost use Rattle.c_syntax.specs.View.{expression_of};
     ghost use Rattle.c_syntax.specs.declared.position.Position.{Position};
     ghost use Rattle.c_place_rules.specs.Operands.{operand_of};
-    ghost use Rattle.c_typing.specs.State.{Types, state_of};
+    ghost use Rattle.c_typing_state.specs.State.{Types, state_of};
     ghost use Rattle.c_expression_typing.specs.Typed.{typed};
     ghost use Rattle.c_syntax_typing.specs.Nested.{TypesExpression};
 
@@ -63,7 +65,7 @@ impl<
     {
         let array = self.value(typer, is_evaluated, array)?;
         let (array, index) = beside(array, self.value(typer, is_evaluated, index))?;
-        typer.indexed(opening.line, array, index)
+        operators::indexed(typer, opening.line, array, index)
     }
 
     /// An expression, `.` or `->`, and the name of a member (6.5.2.3).
@@ -98,7 +100,13 @@ impl<
             (tree.postfix (expression_of inner.now) operator at) (state_of typer.old)) }
     {
         let operand = self.operand(typer, is_evaluated, inner)?;
-        typer.stepped_by(step_form(operator), Fixity::Postfix, at.line, operand)
+        operators::stepped_by(
+            typer,
+            step_form(operator),
+            Fixity::Postfix,
+            at.line,
+            operand,
+        )
     }
 
     /// `++`, `--` or a unary operator, and its operand (6.5.3.1 to 6.5.3.3).
@@ -151,7 +159,7 @@ impl<
     {
         let left = self.value(typer, is_evaluated, left)?;
         let (left, right) = beside(left, self.value(typer, is_evaluated, right))?;
-        typer.combined(binary_form(operator), at.line, left, right)
+        operators::combined(typer, binary_form(operator), at.line, left, right)
     }
 
     /// `expression ? expression : expression` (6.5.15).
@@ -195,7 +203,7 @@ impl<
     {
         let left = self.operand(typer, is_evaluated, left)?;
         let (left, right) = beside(left, self.value(typer, is_evaluated, right))?;
-        typer.assigned_by(assignment_form(operator), at.line, left, right)
+        operators::assigned_by(typer, assignment_form(operator), at.line, left, right)
     }
 }
 
@@ -211,7 +219,7 @@ impl<
     ghost use Rattle.c_syntax.specs.Levels.{typed_levels};
     ghost use Rattle.c_syntax.specs.declared.position.Position.{Position};
     ghost use Rattle.c_place_rules.specs.Operands.{operand_of};
-    ghost use Rattle.c_typing.specs.State.{Types, state_of};
+    ghost use Rattle.c_typing_state.specs.State.{Types, state_of};
     ghost use Rattle.c_expression_typing.specs.Typed.{typed};
     ghost use Rattle.c_syntax_typing.specs.Nested.{DeeperNames};
 
@@ -243,7 +251,7 @@ impl<
     ghost use Rattle.c_syntax.specs.Levels.{expression_levels, typed_levels};
     ghost use Rattle.c_syntax.specs.declared.position.Position.{Position};
     ghost use Rattle.c_place_rules.specs.Operands.{operand_of};
-    ghost use Rattle.c_typing.specs.State.{Types, state_of};
+    ghost use Rattle.c_typing_state.specs.State.{Types, state_of};
     ghost use Rattle.c_expression_typing.specs.Typed.{typed};
     ghost use Rattle.c_syntax_typing.specs.Nested.{Deeper, DeeperNames, TypesExpression};
 
@@ -280,7 +288,12 @@ impl<
     {
         match tree {
             Expression::Identifier(name) => {
-                typer.named(is_evaluated, name.spelling.bytes(), name.position.line)
+                primaries::named(
+                    typer,
+                    is_evaluated,
+                    name.spelling.bytes(),
+                    name.position.line,
+                )
             }
             Expression::Integer(constant) => integer(typer.alloc, constant),
             Expression::Character(constant) => character(typer.alloc, constant),

@@ -2,11 +2,13 @@
 
 use crate::dropped::without;
 use crate::nested::Nested;
+use c_declarator_typing::members::member_added;
+use c_declarator_typing::{Entries, Shape, Specification};
 use c_faults::Refusal;
 use c_place_rules::operand::Operand;
 use c_rules::holding::beside;
 use c_syntax::{Boxed, Declarator, Expression, Member, Position, Specifier};
-use c_typing::{Entries, Shape, Specification, Typer};
+use c_typing_state::Typer;
 
 impl<
     'a,
@@ -17,9 +19,9 @@ impl<
     ghost use Rattle.std.specs.Prelude.{false, suc};
     ghost use Rattle.c_syntax.specs.View.{declarator_of, more_declarators_in};
     ghost use Rattle.c_syntax.specs.Levels.{more_declarators_levels};
-    ghost use Rattle.c_typing.specs.Members.{entries_of};
-    ghost use Rattle.c_typing.specs.Specifications.{specification_of};
-    ghost use Rattle.c_typing.specs.State.{Types, state_of};
+    ghost use Rattle.c_declarator_typing.specs.Members.{entries_of};
+    ghost use Rattle.c_declarator_typing.specs.Specifications.{specification_of};
+    ghost use Rattle.c_typing_state.specs.State.{Types, state_of};
     ghost use Rattle.c_expression_typing.specs.Constructs.{with_shape};
     ghost use Rattle.c_expression_typing.specs.Typed.{shape, specification};
     ghost use Rattle.c_expression_typing.specs.Typed.{with_more_declared};
@@ -38,7 +40,7 @@ impl<
             (entries_of before.entry) (shape false (declarator_of tree.now)) (state_of typer.old)) }
     {
         let (before, shape) = beside(before, self.shape(typer, false, tree))?;
-        let added = typer.member_added(specification, &shape, before);
+        let added = member_added(typer, specification, &shape, before);
         without(shape, added)
     }
 
@@ -72,9 +74,9 @@ impl<
 > Nested<E, D, S> {
     ghost use Rattle.std.specs.Prelude.{false};
     ghost use Rattle.c_syntax.specs.View.{specifiers_in};
-    ghost use Rattle.c_typing.specs.Members.{member_specified};
-    ghost use Rattle.c_typing.specs.Specifications.{specification_of};
-    ghost use Rattle.c_typing.specs.State.{Types, judged, state_of, ◌>>>◌};
+    ghost use Rattle.c_declarator_typing.specs.Members.{member_specified};
+    ghost use Rattle.c_declarator_typing.specs.Specifications.{specification_of};
+    ghost use Rattle.c_typing_state.specs.State.{Types, judged, state_of, ◌>>>◌};
     ghost use Rattle.c_expression_typing.specs.Typed.{specification};
     ghost use Rattle.c_syntax_typing.specs.Nested.{TypesSpecifiers};
 
@@ -102,8 +104,8 @@ impl<
     ghost use Rattle.std.specs.Prelude.{suc};
     ghost use Rattle.c_syntax.specs.View.{member_of, members_in};
     ghost use Rattle.c_syntax.specs.Levels.{member_levels, members_levels};
-    ghost use Rattle.c_typing.specs.Members.{entries_of, no_entries};
-    ghost use Rattle.c_typing.specs.State.{Types, state_of};
+    ghost use Rattle.c_declarator_typing.specs.Members.{entries_of, no_entries};
+    ghost use Rattle.c_typing_state.specs.State.{Types, state_of};
     ghost use Rattle.c_expression_typing.specs.Typed.{with_member, with_members};
     ghost use Rattle.c_syntax_typing.specs.Nested.{DeeperNames};
 

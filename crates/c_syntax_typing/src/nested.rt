@@ -1,10 +1,12 @@
 //! The rules for a construct take the functions that type its parts as values, so that each rule is proved by itself.
 
+use c_declarator_typing::{Shape, Specification};
 use c_faults::Refusal;
+use c_operand_typing::operators;
 use c_place_rules::operand::Operand;
 use c_rules::TypedValue;
 use c_syntax::{Boxed, Declarator, Expression, Specifier};
-use c_typing::{Shape, Specification, Typer};
+use c_typing_state::Typer;
 
 /// The rules for constructs, with the functions that type what has fewer levels.
 #[derive(Drop)]
@@ -26,7 +28,7 @@ impl<
     ghost use Rattle.c_syntax.specs.View.{expression_of};
     ghost use Rattle.c_rules.specs.Values.{value_of};
     ghost use Rattle.c_place_rules.specs.Operands.{operand_of};
-    ghost use Rattle.c_typing.specs.State.{Types, state_of};
+    ghost use Rattle.c_typing_state.specs.State.{Types, state_of};
     ghost use Rattle.c_expression_typing.specs.Constructs.{valued};
     ghost use Rattle.c_expression_typing.specs.Typed.{typed};
     ghost use Rattle.c_syntax_typing.specs.Nested.{TypesExpression};
@@ -57,7 +59,7 @@ impl<
             (valued (typed is_evaluated (expression_of tree.now)) (state_of typer.old)) }
     {
         let operand = self.operand(typer, is_evaluated, tree)?;
-        typer.value(operand)
+        operators::value(typer, operand)
     }
 }
 
@@ -68,8 +70,8 @@ impl<
     S,
 > Nested<E, D, S> {
     ghost use Rattle.c_syntax.specs.View.{declarator_of};
-    ghost use Rattle.c_typing.specs.Declarators.{shape_of};
-    ghost use Rattle.c_typing.specs.State.{Types, state_of};
+    ghost use Rattle.c_declarator_typing.specs.Declarators.{shape_of};
+    ghost use Rattle.c_typing_state.specs.State.{Types, state_of};
     ghost use Rattle.c_expression_typing.specs.Typed.{shape};
     ghost use Rattle.c_syntax_typing.specs.Nested.{TypesDeclarator};
 
@@ -96,8 +98,8 @@ impl<
 > Nested<E, D, S> {
     ghost use Rattle.std.specs.Prelude.{false};
     ghost use Rattle.c_syntax.specs.View.{specifiers_in};
-    ghost use Rattle.c_typing.specs.Specifications.{specification_of};
-    ghost use Rattle.c_typing.specs.State.{Types, state_of};
+    ghost use Rattle.c_declarator_typing.specs.Specifications.{specification_of};
+    ghost use Rattle.c_typing_state.specs.State.{Types, state_of};
     ghost use Rattle.c_expression_typing.specs.Typed.{specification};
     ghost use Rattle.c_syntax_typing.specs.Nested.{TypesSpecifiers};
 

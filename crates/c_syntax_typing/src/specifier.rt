@@ -3,12 +3,15 @@
 ghost use Rattle.std.specs.Prelude.{◌≡◌};
 ghost use Rattle.c_faults.specs.Answer.{Gives};
 ghost use Rattle.c_syntax_typing.specs.Specifiers.{with_typedef_name};
-ghost use Rattle.c_typing.specs.Specifications.{gathered_of, tag_type, with_named};
-ghost use Rattle.c_typing.specs.State.{Types, done, state_of, ◌>>>◌};
+ghost use Rattle.c_declarator_typing.specs.Specifications.{gathered_of, tag_type, with_named};
+ghost use Rattle.c_typing_state.specs.State.{Types, done, state_of, ◌>>>◌};
 ghost use Rattle.c_expression_typing.specs.Constructs.{tagged_as};
 ghost use Rattle.c_expression_typing.specs.Lines.{name_of};
 
 use crate::nested::Nested;
+use c_declarator_typing::members::tag_completed;
+use c_declarator_typing::specification::{tag_kind, typedef_type};
+use c_declarator_typing::{Gathered, Shape, Specification};
 use c_expression_typing::constructs::{begun_as, tagged_as, with_tag};
 use c_expression_typing::lines::{first_line, tag_name};
 use c_faults::Refusal;
@@ -18,8 +21,7 @@ use c_rules::holding::beside;
 use c_scope::meaning::Tag;
 use c_scope::tags::TagKind;
 use c_syntax::{Declarator, Enumerator, Expression, Member, Position, Specifier, Spelled};
-use c_typing::specification::tag_kind;
-use c_typing::{Gathered, Shape, Specification, Typer};
+use c_typing_state::Typer;
 use sb_base::Line;
 
 // What specifiers say with a typedef name.
@@ -31,7 +33,7 @@ fn with_typedef_name<'a>(
     ensures { Gives gathered_of result
         (with_typedef_name (name_of name.now) name.now.position.line (gathered_of before) (state_of typer.now)) }
 {
-    let c_type = typer.typedef_type(name.spelling.bytes(), name.position.line);
+    let c_type = typedef_type(typer, name.spelling.bytes(), name.position.line);
     let (before, c_type) = beside(before, c_type)?;
     Ok(before.with_named(c_type))
 }
@@ -65,9 +67,9 @@ impl<
     ghost use Rattle.c_syntax.specs.View.{members_in};
     ghost use Rattle.c_syntax.specs.Levels.{members_levels};
     ghost use Rattle.c_syntax.specs.declared.position.Position.{Position};
-    ghost use Rattle.c_typing.specs.Members.{no_entries, tag_completed};
-    ghost use Rattle.c_typing.specs.Specifications.{gathered_of};
-    ghost use Rattle.c_typing.specs.State.{Types, state_of, ◌>>>◌};
+    ghost use Rattle.c_declarator_typing.specs.Members.{no_entries, tag_completed};
+    ghost use Rattle.c_declarator_typing.specs.Specifications.{gathered_of};
+    ghost use Rattle.c_typing_state.specs.State.{Types, state_of, ◌>>>◌};
     ghost use Rattle.c_expression_typing.specs.Typed.{gathered};
     ghost use Rattle.c_expression_typing.specs.Typed.{with_members, with_specifier};
     ghost use Rattle.c_syntax_typing.specs.Nested.{DeeperNames};
@@ -86,7 +88,7 @@ impl<
             tag_completed line tag es) (state_of typer.old)) }
     {
         let entries = self.members(typer, members)?;
-        typer.tag_completed(line, tag, entries)
+        tag_completed(typer, line, tag, entries)
     }
 
     // `struct` or `union`, a tag or none, and `{ members }` (6.7.2.1).
@@ -123,8 +125,8 @@ impl<
     ghost use Rattle.c_syntax.specs.View.{enumerator_of, more_enumerators_in};
     ghost use Rattle.c_syntax.specs.Levels.{enumerator_levels, more_enumerators_levels};
     ghost use Rattle.c_syntax.specs.declared.position.Position.{Position};
-    ghost use Rattle.c_typing.specs.Specifications.{gathered_of};
-    ghost use Rattle.c_typing.specs.State.{Types, state_of, ◌>>>◌};
+    ghost use Rattle.c_declarator_typing.specs.Specifications.{gathered_of};
+    ghost use Rattle.c_typing_state.specs.State.{Types, state_of, ◌>>>◌};
     ghost use Rattle.c_expression_typing.specs.Typed.{enumerator, gathered, more_enumerators};
     ghost use Rattle.c_expression_typing.specs.Typed.{with_specifier};
     ghost use Rattle.c_syntax_typing.specs.Nested.{DeeperExpressions};
@@ -180,8 +182,8 @@ impl<
     ghost use Rattle.c_syntax.specs.Tree as tree;
     ghost use Rattle.c_syntax.specs.View.{specifier_of, specifiers_in};
     ghost use Rattle.c_syntax.specs.Levels.{specifier_levels, specifiers_levels};
-    ghost use Rattle.c_typing.specs.Specifications.{gathered_of, nothing_gathered, specification_of};
-    ghost use Rattle.c_typing.specs.State.{Types, state_of};
+    ghost use Rattle.c_declarator_typing.specs.Specifications.{gathered_of, nothing_gathered, specification_of};
+    ghost use Rattle.c_typing_state.specs.State.{Types, state_of};
     ghost use Rattle.c_expression_typing.specs.Typed.{gathered, specification};
     ghost use Rattle.c_expression_typing.specs.Typed.{with_specifier};
     ghost use Rattle.c_syntax_typing.specs.Nested.{Deeper};

@@ -3,12 +3,14 @@
 use crate::dropped::without;
 use crate::lists::{only, with_item};
 use crate::nested::Nested;
+use c_declarator_typing::shape::{parameter_declared, type_named};
+use c_declarator_typing::{Shape, Specification};
 use c_faults::Refusal;
 use c_place_rules::operand::Operand;
 use c_rules::holding::beside;
 use c_syntax::{Declarator, Expression, Parameters, Position, Specifier, TypedDeclarator};
 use c_tree::CType;
-use c_typing::{Shape, Specification, Typer};
+use c_typing_state::Typer;
 
 impl<
     'a,
@@ -19,7 +21,7 @@ impl<
     ghost use Rattle.std.specs.Prelude.{suc};
     ghost use Rattle.c_syntax.specs.View.{more_parameters_in, parameters_of, typed_of};
     ghost use Rattle.c_syntax.specs.Levels.{more_parameters_levels, parameters_levels, typed_levels};
-    ghost use Rattle.c_typing.specs.State.{Types, state_of};
+    ghost use Rattle.c_typing_state.specs.State.{Types, state_of};
     ghost use Rattle.c_expression_typing.specs.Typed.{more_types, parameter_type, parameter_types, type_name};
     ghost use Rattle.c_syntax_typing.specs.Nested.{DeeperNames};
 
@@ -37,7 +39,7 @@ impl<
         let specification = self.specification(typer, name.specifiers.as_slice())?;
         let shape = self.shape(typer, false, &name.declarator);
         let (specification, shape) = beside(specification, shape)?;
-        let named = typer.type_named(&specification, &shape);
+        let named = type_named(typer, &specification, &shape);
         without((specification, shape), named)
     }
 
@@ -56,7 +58,7 @@ impl<
         let specification = self.specification(typer, parameter.specifiers.as_slice())?;
         let shape = self.shape(typer, false, &parameter.declarator);
         let (specification, shape) = beside(specification, shape)?;
-        let c_type = typer.parameter(in_definition, &specification, &shape);
+        let c_type = parameter_declared(typer, in_definition, &specification, &shape);
         without((specification, shape), c_type)
     }
 

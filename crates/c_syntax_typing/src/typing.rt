@@ -2,17 +2,18 @@
 
 ghost use Rattle.c_syntax.specs.View.{declarator_of, expression_of, specifiers_in, typed_of};
 ghost use Rattle.c_place_rules.specs.Operands.{operand_of};
-ghost use Rattle.c_typing.specs.Declarators.{shape_of};
-ghost use Rattle.c_typing.specs.Specifications.{specification_of};
-ghost use Rattle.c_typing.specs.State.{Types, state_of};
+ghost use Rattle.c_declarator_typing.specs.Declarators.{shape_of};
+ghost use Rattle.c_declarator_typing.specs.Specifications.{specification_of};
+ghost use Rattle.c_typing_state.specs.State.{Types, state_of};
 ghost use Rattle.c_expression_typing.specs.Typed.{shape, specification, type_name, typed};
 
 use crate::nested::Nested;
+use c_declarator_typing::{Shape, Specification};
 use c_faults::Refusal;
 use c_place_rules::operand::Operand;
 use c_syntax::{Declarator, Expression, Specifier, TypedDeclarator};
 use c_tree::CType;
-use c_typing::{Shape, Specification, Typer};
+use c_typing_state::Typer;
 
 /// Types an expression (C99 6.5). Where it is not evaluated, as inside `sizeof`, it makes no objects and uses no
 /// functions. The refusal is that of the first rule that is violated, in the order of the tokens, or that there is no

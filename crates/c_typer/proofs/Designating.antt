@@ -3,7 +3,7 @@ use Rattle.std.proofs.Common.{◌≡◌, Result, subst}
 use Rattle.c_syntax.specs.Tree.{Designator}
 use Rattle.c_faults.specs.declared.fault.Refusal.{Refusal}
 use Rattle.c_initializer_rules.specs.Initializing.{Initializing}
-use Rattle.c_typing.specs.State.{State, Types}
+use Rattle.c_typing_state.specs.State.{State, Types}
 use Rattle.c_unit_typing.specs.Initializers.{designated_once}
 
 pub designator_typed : (x y : Designator) (i j : Initializing) (s new : State) (result : Result (Unit {0}) Refusal)

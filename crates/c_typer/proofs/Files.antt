@@ -8,7 +8,7 @@ use Rattle.c_scope.specs.declared.meaning.Designated.{Designated}
 use Rattle.c_scope.specs.declared.meaning.Designated.TheVariants.{Function, Library, Object, Static, Variable}
 use Rattle.c_scope.specs.declared.meaning.Entity.{Entity}
 use Rattle.c_scope.specs.Names.{Names}
-use Rattle.c_typing.specs.State.{extents}
+use Rattle.c_typing_state.specs.State.{extents}
 use Rattle.c_unit_typing.specs.Files.{Definition, File}
 use Rattle.c_unit_typing.specs.Programs.{function_of, functions_from, in_order, linked_object, linked_objects}
 use Rattle.c_unit_typing.specs.Programs.{literal_object, program_of, room_of}

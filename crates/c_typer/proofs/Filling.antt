@@ -13,8 +13,8 @@ use Rattle.c_tree.specs.View.{part_of}
 use Rattle.c_scope.specs.declared.meaning.Designated.{Designated}
 use Rattle.c_scope.specs.declared.meaning.Designated.TheVariants.{Function, Library, Object, Static, Variable}
 use Rattle.c_scope.specs.declared.meaning.Entity.{Entity}
-use Rattle.c_typing.specs.declared.typer.Literal as code_literal
-use Rattle.c_typing.specs.State.{literal_of}
+use Rattle.c_typing_state.specs.declared.typer.Literal as code_literal
+use Rattle.c_typing_state.specs.State.{literal_of}
 use Rattle.c_typer.specs.declared.state.LinkedInitializer as code_initializer
 use Rattle.c_typer.specs.declared.state.LocalStatic as code_static
 use Rattle.c_typer.specs.FileState.{linked_initializer_of, local_static_of}

@@ -10,8 +10,8 @@ use Rattle.c_scope.specs.declared.meaning.Meaning.{Meaning}
 use Rattle.c_scope.specs.declared.meaning.Meaning.TheVariants.{Constant, Named, Typedef}
 use Rattle.c_scope.specs.Names.{Names}
 use Rattle.c_scope.specs.Parameters.{ParameterScope}
-use Rattle.c_typing.specs.Calls.{place_among}
-use Rattle.c_typing.specs.State.{State}
+use Rattle.c_operand_typing.specs.Calls.{place_among}
+use Rattle.c_typing_state.specs.State.{State}
 use Rattle.c_unit_typing.specs.Files.{File}
 use Rattle.c_unit_typing.specs.Units.{entered, parameter_in, parameters_in}
 use Rattle.typing_laws.proofs.Programs.Scopes.Files.{inside}

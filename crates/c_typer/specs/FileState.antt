@@ -6,7 +6,7 @@ use Rattle.c_tree.specs.View.{part_of, statement_of, static_of}
 use Rattle.c_faults.specs.declared.fault.Refusal.{Refusal}
 use Rattle.c_faults.specs.Answer.{Answer, Fails}
 use Rattle.c_scope.specs.Environment.{Environment}
-use Rattle.c_typing.specs.State.{state_of}
+use Rattle.c_typing_state.specs.State.{state_of}
 use Rattle.c_typer.specs.declared.state.Definition as code_definition
 use Rattle.c_typer.specs.declared.state.FileTyper as code
 use Rattle.c_typer.specs.declared.state.LinkedInitializer as code_initializer

@@ -5,7 +5,7 @@ use Rattle.c_tree.specs.Extents.{TypeExtent}
 use Rattle.c_tree.specs.Programs.{Program, StaticObject}
 use Rattle.c_tree.specs.View.{static_of}
 use Rattle.c_scope.specs.Names.{declared}
-use Rattle.c_typing.specs.State.{extents}
+use Rattle.c_typing_state.specs.State.{extents}
 use Rattle.c_typer.specs.FileState.{definition_of}
 use Rattle.c_unit_typing.specs.Files.{Definition, File}
 use Rattle.c_unit_typing.specs.Programs.{function_type, number_or_zero, static_objects}

@@ -13,8 +13,8 @@ use Rattle.c_place_rules.specs.Targets.{object_kind}
 use Rattle.c_scope.specs.declared.meaning.Designated.{Designated}
 use Rattle.c_scope.specs.declared.meaning.Designated.TheVariants as what
 use Rattle.c_scope.specs.declared.meaning.Entity.{Entity}
-use Rattle.c_typing.specs.declared.typer.Literal as code_literal
-use Rattle.c_typing.specs.Primaries.{size_or_zero}
+use Rattle.c_typing_state.specs.declared.typer.Literal as code_literal
+use Rattle.c_operand_typing.specs.Primaries.{size_or_zero}
 use Rattle.c_typer.specs.declared.state.LinkedInitializer as code_initializer
 use Rattle.c_typer.specs.declared.state.LocalStatic as code_static
 use Rattle.c_unit_typing.specs.Programs.{final_type, parts_of, with_number}

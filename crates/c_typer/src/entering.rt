@@ -6,8 +6,8 @@ ghost use Rattle.c_tree.specs.View.{statement_of};
 ghost use Rattle.c_scope.specs.declared.meaning.Meaning.TheVariants as meanings;
 ghost use Rattle.c_scope.specs.Names.{names_of};
 ghost use Rattle.c_scope.specs.Parameters.{scope_of};
-ghost use Rattle.c_typing.specs.Calls.{with_type};
-ghost use Rattle.c_typing.specs.State.{state_of};
+ghost use Rattle.c_operand_typing.specs.Calls.{with_type};
+ghost use Rattle.c_typing_state.specs.State.{state_of};
 ghost use Rattle.c_typer.specs.FileState.{file_of};
 ghost use Rattle.c_unit_typing.specs.Declarations.{variable_in};
 ghost use Rattle.c_unit_typing.specs.Units.{entered, left, marks_in, parameter_in, parameters_in};
@@ -15,12 +15,12 @@ ghost use Rattle.c_typer.specs.Entering.{begun, parameter_if, parameter_of};
 
 use crate::place::place_among;
 use crate::state::{Definition, FileTyper};
+use c_operand_typing::primaries::{is_object, kind_of_place};
 use c_scope::meaning::{Designated, Meaning};
 use c_scope::names::Names;
 use c_scope::parameters::ParameterScope;
 use c_tree::{CType, Statement, TypeWord, Variable};
-use c_typing::Typer;
-use c_typing::primaries::kind_of_place;
+use c_typing_state::Typer;
 use sb_base::Line;
 use std::alloc::{AllocError, Global};
 use std::mem;
@@ -50,7 +50,7 @@ fn parameter_named(typer: &Typer, what: Designated, words: &[TypeWord]) -> Optio
     match what {
         Designated::Variable(number) => Some(Variable {
             kind: kind_of_place(typer.extents(), words),
-            is_object: typer.is_object(true, number, words),
+            is_object: is_object(typer, true, number, words),
         }),
         _ => None,
     }

@@ -8,7 +8,7 @@ pub mod values;
 ghost use Rattle.c_syntax.specs.StatementsView.{initializer_of, item_of, more_items_in};
 ghost use Rattle.c_syntax.specs.View.{expression_of};
 ghost use Rattle.c_initializer_rules.specs.Initializing.{initializing_of};
-ghost use Rattle.c_typing.specs.State.{Types, judged, state_of, ◌>>>◌};
+ghost use Rattle.c_typing_state.specs.State.{Types, judged, state_of, ◌>>>◌};
 ghost use Rattle.c_unit_typing.specs.Initializers.{by_expression, by_value, filled, initialized, unless_filled};
 ghost use Rattle.c_unit_typing.specs.Initializers.{with_item, with_items};
 ghost use Rattle.c_unit_typing.specs.Lines.{expression_line};
@@ -21,7 +21,7 @@ use c_faults::Refusal;
 use c_initializer_rules::Initializing;
 use c_syntax::declaration::{Initializer, InitializerItem};
 use c_syntax::{Expression, Position};
-use c_typing::Typer;
+use c_typing_state::Typer;
 use c_unit_typing::lines::expression_line;
 
 // An expression whose value is stored.

@@ -4,15 +4,17 @@ ghost use Rattle.std.specs.Prelude.{◌≡◌, Ok};
 ghost use Rattle.c_declarators.specs.Derivations.{built_of};
 ghost use Rattle.c_scope.specs.Declaring as declaring;
 ghost use Rattle.c_scope.specs.Names.{declared};
-ghost use Rattle.c_typing.specs.Declarators.{declaring as declares, located, shape_of};
-ghost use Rattle.c_typing.specs.Specifications.{specification_of};
-ghost use Rattle.c_typing.specs.State.{Types, extents, judged, state_of, ◌>>>◌};
+ghost use Rattle.c_declarator_typing.specs.Declarators.{declaring as declares, located, shape_of};
+ghost use Rattle.c_declarator_typing.specs.Specifications.{specification_of};
+ghost use Rattle.c_typing_state.specs.State.{Types, extents, judged, state_of, ◌>>>◌};
 ghost use Rattle.c_unit_typing.specs.Units.{defined_as, definition_of, definition_rule, gives_incomplete};
 ghost use Rattle.c_unit_typing.specs.Units.{is_incomplete_structure};
 
 use crate::declarations::naming::meaning_here;
 use crate::declarations::specifying::misplaced;
 use c_call_rules::function_type::result_type;
+use c_declarator_typing::shape::{LocatedName, built_in};
+use c_declarator_typing::{Shape, Specification};
 use c_declarators::BuiltType;
 use c_declarators::faults::TypeFaults;
 use c_faults::{Refusal, Rule};
@@ -20,8 +22,7 @@ use c_rules::value::unqualified;
 use c_scope::declaring::Declared;
 use c_scope::meaning::{Meaning, Storage};
 use c_tree::{Extent, TypeWord};
-use c_typing::shape::LocatedName;
-use c_typing::{Shape, Specification, Typer};
+use c_typing_state::Typer;
 
 fn is_incomplete_structure(extents: &[Option<Extent>], words: &[TypeWord]) -> bool
     ensures { result ≡ is_incomplete_structure extents.now words.now }
@@ -122,7 +123,7 @@ pub(crate) fn defined_as<'a>(
     match specification.storage {
         Storage::Typedef => misplaced(specification.line),
         _ => {
-            let built = typer.built_in(specification, shape)?;
+            let built = built_in(typer, specification, shape)?;
             defined_with(typer, specification, &built, name)
         }
     }

@@ -1,7 +1,7 @@
 //! The number of a type of functions among the types of a program.
 
 ghost use Rattle.std.specs.Prelude.{◌≡◌};
-ghost use Rattle.c_typing.specs.Calls.{place_among};
+ghost use Rattle.c_operand_typing.specs.Calls.{place_among};
 
 use c_tree::{CType, TypeWord, same_words};
 

@@ -2,7 +2,7 @@
 
 use c_scope::environment::Environment;
 use c_tree::{CType, Part, Statement, StaticObject, Variable};
-use c_typing::Typer;
+use c_typing_state::Typer;
 use sb_base::Line;
 use std::alloc::{AllocError, Global};
 use tree_containers::Items;
@@ -63,7 +63,7 @@ pub struct FileTyper<'a> {
 impl<'a> FileTyper<'a> {
     ghost use Rattle.std.specs.Prelude.{◌≡◌, OnOk, [], None};
     ghost use Rattle.c_scope.specs.Environment.{environment_of};
-    ghost use Rattle.c_typing.specs.State.{extents, state_of};
+    ghost use Rattle.c_typing_state.specs.State.{extents, state_of};
     ghost use Rattle.c_unit_typing.specs.Constructs.{scope_closed, scope_opened};
     ghost use Rattle.c_typer.specs.FileState.{at_start, file_of};
 

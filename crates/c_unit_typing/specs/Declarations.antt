@@ -30,10 +30,10 @@ use Rattle.c_scope.specs.Environment.{Environment, in_file, type_or, with_name}
 use Rattle.c_scope.specs.Names.{Name, bound, declared}
 use Rattle.c_initializer_rules.specs.Initializing.{begun}
 use Rattle.c_initializer_rules.specs.Placed.{count_of, parts_in}
-use Rattle.c_typing.specs.Declarators.{Shape, built_in, declaring}
-use Rattle.c_typing.specs.Primaries.{is_object, size_or_zero}
-use Rattle.c_typing.specs.Specifications.{Specification}
-use Rattle.c_typing.specs.State.{State, Typing, done, extents, judged, ◌>>>◌}
+use Rattle.c_declarator_typing.specs.Declarators.{Shape, built_in, declaring}
+use Rattle.c_operand_typing.specs.Primaries.{is_object, size_or_zero}
+use Rattle.c_declarator_typing.specs.Specifications.{Specification}
+use Rattle.c_typing_state.specs.State.{State, Typing, done, extents, judged, ◌>>>◌}
 use Rattle.c_expression_typing.specs.Typed.{shape, specification}
 use Rattle.c_unit_typing.specs.Files.{FileTyping, finished, in_state, ◌~>◌}
 use Rattle.c_unit_typing.specs.Initializers.{initialized}

@@ -5,7 +5,7 @@ use Rattle.c_tree.specs.declared.program.Variable.{Variable}
 use Rattle.c_tree.specs.Programs.{StaticObject}
 use Rattle.c_tree.specs.Statements.{Part, Statements}
 use Rattle.c_faults.specs.Answer.{Answer, ◌>>=◌}
-use Rattle.c_typing.specs.State.{State, Typing}
+use Rattle.c_typing_state.specs.State.{State, Typing}
 
 -- a function that is defined: the line of its name, its type, its parameters, its automatic variables and its block
 pub record Definition : Type 0 where

@@ -10,9 +10,9 @@ use Rattle.c_scope.specs.Names.{Name}
 use Rattle.c_current_object.specs.Members.{MemberLists, lists_in}
 use Rattle.c_initializer_rules.specs.Initializing.{Initializing, closed, designation_begun, opened, with_index}
 use Rattle.c_initializer_rules.specs.Initializing.{with_literal, with_name, with_value}
-use Rattle.c_typing.specs.Primaries.{spelled_bytes}
-use Rattle.c_typing.specs.Sizes.{constant_where}
-use Rattle.c_typing.specs.State.{State, Typing, done, extents, judged, ◌>>>◌}
+use Rattle.c_operand_typing.specs.Primaries.{spelled_bytes}
+use Rattle.c_declarator_typing.specs.Sizes.{constant_where}
+use Rattle.c_typing_state.specs.State.{State, Typing, done, extents, judged, ◌>>>◌}
 use Rattle.c_expression_typing.specs.Constructs.{literal_alone, valued}
 use Rattle.c_expression_typing.specs.Lines.{name_of}
 use Rattle.c_expression_typing.specs.Typed.{typed}

@@ -16,8 +16,8 @@ use Rattle.c_scope.specs.declared.meaning.Designated.{Designated}
 use Rattle.c_scope.specs.declared.meaning.Designated.TheVariants as what
 use Rattle.c_scope.specs.declared.meaning.Entity.{Entity}
 use Rattle.c_scope.specs.Names.{Names, declared}
-use Rattle.c_typing.specs.Calls.{place_among}
-use Rattle.c_typing.specs.State.{Literal, extents}
+use Rattle.c_operand_typing.specs.Calls.{place_among}
+use Rattle.c_typing_state.specs.State.{Literal, extents}
 use Rattle.c_unit_typing.specs.Declarations.{kind_in}
 use Rattle.c_unit_typing.specs.Files.{Definition, File}
 

@@ -8,7 +8,7 @@ use Rattle.c_tree.specs.Statements as tree
 use Rattle.c_tree.specs.Tree.{kind_of}
 use Rattle.c_const.specs.Integers.{type_of}
 use Rattle.c_rules.specs.Values.{Value}
-use Rattle.c_typing.specs.State.{judged}
+use Rattle.c_typing_state.specs.State.{judged}
 use Rattle.c_unit_typing.specs.Constructs.{Around, Labelled, Labels, case_label, controlled, declaration_typed}
 use Rattle.c_unit_typing.specs.Constructs.{default_label, do_typed, expression_typed, for_typed, if_else_typed}
 use Rattle.c_unit_typing.specs.Constructs.{if_typed, in_scope, jump, labelled, labels_on, looping, no_labels, returned}

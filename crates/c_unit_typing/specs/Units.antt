@@ -27,10 +27,10 @@ use Rattle.c_scope.specs.Environment.{Facts, without_block}
 use Rattle.c_scope.specs.Names.{Name, Names, declared}
 use Rattle.c_scope.specs.Parameters.{ParameterScope, with_parameters}
 use Rattle.c_scope.specs.Start.{start}
-use Rattle.c_typing.specs.Calls.{with_type}
-use Rattle.c_typing.specs.Declarators.{Shape, built_in, declaring}
-use Rattle.c_typing.specs.Specifications.{Specification}
-use Rattle.c_typing.specs.State.{State, Typing, extents, judged, ◌>>>◌}
+use Rattle.c_operand_typing.specs.Calls.{with_type}
+use Rattle.c_declarator_typing.specs.Declarators.{Shape, built_in, declaring}
+use Rattle.c_declarator_typing.specs.Specifications.{Specification}
+use Rattle.c_typing_state.specs.State.{State, Typing, extents, judged, ◌>>>◌}
 use Rattle.c_expression_typing.specs.Typed.{shape, specification}
 use Rattle.c_unit_typing.specs.Constructs.{Around}
 use Rattle.c_unit_typing.specs.Declarations.{declaration, stored_once, variable_in}

@@ -19,7 +19,7 @@ use Rattle.c_scope.specs.declared.meaning.Designated.TheVariants.{Function}
 use Rattle.c_scope.specs.declared.meaning.Meaning.TheVariants.{Named}
 use Rattle.c_scope.specs.Environment.{Environment, with_name, with_variable}
 use Rattle.c_scope.specs.Start.{empty}
-use Rattle.c_typing.specs.State.{State}
+use Rattle.c_typing_state.specs.State.{State}
 use Rattle.c_expression_typing.specs.Typed.{typed}
 
 abbrev pub at : (line : ℕ) → Position

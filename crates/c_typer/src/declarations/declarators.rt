@@ -5,8 +5,8 @@ ghost use Rattle.c_syntax.specs.StatementsView as views;
 ghost use Rattle.c_tree.specs.View.{declared_of};
 ghost use Rattle.c_scope.specs.declared.meaning.Designated.TheVariants as kinds;
 ghost use Rattle.c_scope.specs.declared.meaning.Meaning.TheVariants as meanings;
-ghost use Rattle.c_typing.specs.Declarators.{located, shape_of};
-ghost use Rattle.c_typing.specs.Specifications.{specification_of};
+ghost use Rattle.c_declarator_typing.specs.Declarators.{located, shape_of};
+ghost use Rattle.c_declarator_typing.specs.Specifications.{specification_of};
 ghost use Rattle.c_typer.specs.FileState.{FileTypes, file_of};
 ghost use Rattle.c_unit_typing.specs.Declarations.{declaration, declared_with, initialized_if, initializer_in};
 ghost use Rattle.c_unit_typing.specs.Declarations.{named_by, with_declarator, with_declarators, with_others};
@@ -21,6 +21,8 @@ use crate::declarations::sizing::initialized_if;
 use crate::declarations::specifying::{alone_in, specified};
 use crate::initializers::dropping::let_go;
 use crate::state::FileTyper;
+use c_declarator_typing::shape::LocatedName;
+use c_declarator_typing::{Shape, Specification};
 use c_faults::Refusal;
 use c_rules::holding::beside;
 use c_scope::meaning::{Designated, Meaning};
@@ -28,8 +30,6 @@ use c_syntax::declaration::{Declaration, InitDeclarator, InitDeclarators, Initia
 use c_syntax::{Boxed, Position};
 use c_syntax_typing::declarator;
 use c_tree::{CType, DeclaredVariable};
-use c_typing::shape::LocatedName;
-use c_typing::{Shape, Specification};
 use c_unit_typing::lines::initializer_line;
 use sb_base::Line;
 

@@ -4,19 +4,20 @@ ghost use Rattle.std.specs.Prelude.{◌≡◌, IfOk, Ok};
 ghost use Rattle.c_declarators.specs.Derivations.{built_of};
 ghost use Rattle.c_scope.specs.Declaring as declaring;
 ghost use Rattle.c_scope.specs.Names.{declared};
-ghost use Rattle.c_typing.specs.Declarators.{declaring as declares, located, shape_of};
-ghost use Rattle.c_typing.specs.Specifications.{specification_of};
-ghost use Rattle.c_typing.specs.State.{Types, judged, state_of, ◌>>>◌};
+ghost use Rattle.c_declarator_typing.specs.Declarators.{declaring as declares, located, shape_of};
+ghost use Rattle.c_declarator_typing.specs.Specifications.{specification_of};
+ghost use Rattle.c_typing_state.specs.State.{Types, judged, state_of, ◌>>>◌};
 ghost use Rattle.c_unit_typing.specs.Declarations.{declaration_of, declared_as, line_or};
 
 use crate::declarations::specifying::{has_place, misplaced};
+use c_declarator_typing::shape::{LocatedName, built_in};
+use c_declarator_typing::{Shape, Specification};
 use c_declarators::BuiltType;
 use c_faults::Refusal;
 use c_scope::declaring::Declared;
 use c_scope::meaning::Meaning;
 use c_tree::CType;
-use c_typing::shape::LocatedName;
-use c_typing::{Shape, Specification, Typer};
+use c_typing_state::Typer;
 use sb_base::Line;
 use std::alloc::{AllocError, Global};
 
@@ -127,7 +128,7 @@ pub(crate) fn declared_as<'a>(
     ensures { Types (λ m. m) (state_of typer.new) result (declared_as in_head (specification_of specification.now)
         (shape_of shape.now) initializer (located name.now) (state_of typer.old)) }
 {
-    let built = typer.built_in(specification, shape)?;
+    let built = built_in(typer, specification, shape)?;
     if has_place(in_head, specification, built.c_type.words()) {
         declared_with(typer, specification, &built, name, initializer)
     } else {

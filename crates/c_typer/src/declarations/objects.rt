@@ -3,7 +3,7 @@
 
 ghost use Rattle.std.specs.Prelude.{◌≡◌, ◌++◌, ◌∷◌, [], if◌then◌else◌, IfOk, OnOk, map, option_map};
 ghost use Rattle.c_tree.specs.View.{content_of, declared_of, initializer_of, part_of, static_of};
-ghost use Rattle.c_typing.specs.State.{state_of};
+ghost use Rattle.c_typing_state.specs.State.{state_of};
 ghost use Rattle.c_typer.specs.FileState.{FileTypes, file_of};
 ghost use Rattle.c_unit_typing.specs.Declarations.{content_initializer, initializer_if, parts_initializer, static_in};
 ghost use Rattle.c_unit_typing.specs.Declarations.{variable_in, with_parts, with_static, with_variable};
@@ -14,10 +14,10 @@ use crate::declarations::sizing::Initialized;
 use crate::initializers::dropping::let_go;
 use crate::state::{FileTyper, LinkedInitializer, LocalStatic};
 use c_faults::Refusal;
+use c_operand_typing::primaries::{is_object, kind_of_place};
 use c_rules::holding::beside;
 use c_tree::{Content, DeclaredVariable, Initializer, Part, StaticObject, TypeWord, Variable};
-use c_typing::Typer;
-use c_typing::primaries::kind_of_place;
+use c_typing_state::Typer;
 use std::alloc::{AllocError, Global};
 use tree_containers::Items;
 
@@ -26,7 +26,7 @@ fn variable_in(typer: &Typer, number: usize, words: &[TypeWord]) -> Variable
 {
     Variable {
         kind: kind_of_place(typer.extents(), words),
-        is_object: typer.is_object(true, number, words),
+        is_object: is_object(typer, true, number, words),
     }
 }
 

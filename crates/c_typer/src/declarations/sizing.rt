@@ -7,14 +7,15 @@ ghost use Rattle.c_scope.specs.Composite.{composite};
 ghost use Rattle.c_scope.specs.Environment.{environment_of, type_or, with_name};
 ghost use Rattle.c_scope.specs.Names.{declared};
 ghost use Rattle.c_initializer_rules.specs.Initializing.{begun, initializing_of};
-ghost use Rattle.c_typing.specs.Declarators.{located};
-ghost use Rattle.c_typing.specs.State.{Types, state_of};
+ghost use Rattle.c_declarator_typing.specs.Declarators.{located};
+ghost use Rattle.c_typing_state.specs.State.{Types, state_of};
 ghost use Rattle.c_unit_typing.specs.Declarations.{completed, entity_with_type, initialized_by, initialized_if};
 ghost use Rattle.c_unit_typing.specs.Declarations.{is_of_type, is_same_object, sized, with_entity, with_size};
 ghost use Rattle.c_unit_typing.specs.Initializers.{initialized};
 ghost use Rattle.c_typer.specs.Initialized.{initialized_of};
 
 use crate::initializers::initialized;
+use c_declarator_typing::shape::LocatedName;
 use c_declarators::derivation::{array_of, is_large};
 use c_faults::{Fault, Refusal, Rule};
 use c_initializer_rules::Initializing;
@@ -24,8 +25,7 @@ use c_scope::environment::Environment;
 use c_scope::meaning::{Designated, Entity, Meaning};
 use c_syntax::declaration::Initializer;
 use c_tree::{CType, Extent, Part, TypeWord};
-use c_typing::Typer;
-use c_typing::shape::LocatedName;
+use c_typing_state::Typer;
 use std::alloc::{AllocError, Global};
 
 /// An object with its initializer. It is taken apart wherever it goes, so that no proof writes out how it is let go.

@@ -5,10 +5,11 @@ ghost use Rattle.c_syntax.specs.StatementsView as views;
 ghost use Rattle.c_faults.specs.declared.fault.Refusal.TheVariants.{Fault as OfFault};
 ghost use Rattle.c_faults.specs.declared.fault.Rule.TheVariants.{MisplacedStorage};
 ghost use Rattle.c_faults.specs.Answer.{Gives, violates};
-ghost use Rattle.c_typing.specs.Specifications.{specification_of};
-ghost use Rattle.c_typing.specs.State.{Types, state_of};
+ghost use Rattle.c_declarator_typing.specs.Specifications.{specification_of};
+ghost use Rattle.c_typing_state.specs.State.{Types, state_of};
 ghost use Rattle.c_unit_typing.specs.Declarations.{alone_in, has_place, is_automatic, specified};
 
+use c_declarator_typing::Specification;
 use c_faults::{Fault, Refusal, Rule};
 use c_rules::holding::beside;
 use c_scope::declaring::{is_function, is_misplaced};
@@ -16,7 +17,7 @@ use c_scope::meaning::Storage;
 use c_syntax::declaration::Declaration;
 use c_syntax_typing::specifiers;
 use c_tree::TypeWord;
-use c_typing::{Specification, Typer};
+use c_typing_state::Typer;
 use sb_base::Line;
 
 /// That a storage-class specifier is out of place.

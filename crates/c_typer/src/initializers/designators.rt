@@ -4,7 +4,7 @@ ghost use Rattle.std.specs.Prelude.{false};
 ghost use Rattle.c_syntax.specs.StatementsView.{designation_of, designator_of, designators_in};
 ghost use Rattle.c_syntax.specs.View.{expression_of};
 ghost use Rattle.c_initializer_rules.specs.Initializing.{initializing_of};
-ghost use Rattle.c_typing.specs.State.{Types, state_of, ◌>>>◌};
+ghost use Rattle.c_typing_state.specs.State.{Types, state_of, ◌>>>◌};
 ghost use Rattle.c_expression_typing.specs.Constructs.{valued};
 ghost use Rattle.c_expression_typing.specs.Typed.{typed};
 ghost use Rattle.c_unit_typing.specs.Initializers.{by_index, designated, designated_by, designated_once};
@@ -15,7 +15,7 @@ use c_faults::Refusal;
 use c_initializer_rules::Initializing;
 use c_syntax::Expression;
 use c_syntax::declaration::{Designation, Designator};
-use c_typing::Typer;
+use c_typing_state::Typer;
 use sb_base::Line;
 
 // `[ expression ]`, with the line of the `[`.

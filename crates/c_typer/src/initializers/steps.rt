@@ -4,13 +4,13 @@ ghost use Rattle.std.specs.Prelude.{◌≡◌, OnOk};
 ghost use Rattle.c_rules.specs.Values.{value_of};
 ghost use Rattle.c_initializer_rules.specs.Initializing.{Leaves, LeavesAnd, closed, initializing_of, opened};
 ghost use Rattle.c_initializer_rules.specs.Initializing.{with_index, with_literal, with_name, with_value};
-ghost use Rattle.c_typing.specs.State.{extents, state_of};
+ghost use Rattle.c_typing_state.specs.State.{extents, state_of};
 ghost use Rattle.c_unit_typing.specs.Initializers.{member_lists};
 
 use c_faults::Refusal;
 use c_initializer_rules::Initializing;
 use c_rules::TypedValue;
-use c_typing::Typer;
+use c_typing_state::Typer;
 use sb_base::Line;
 use std::alloc::AllocError;
 

@@ -3,19 +3,20 @@
 ghost use Rattle.std.specs.Prelude.{◌≡◌};
 ghost use Rattle.c_syntax.specs.View.{expression_of};
 ghost use Rattle.c_rules.specs.Values.{value_of};
-ghost use Rattle.c_typing.specs.State.{Types, state_of};
+ghost use Rattle.c_typing_state.specs.State.{Types, state_of};
 ghost use Rattle.c_expression_typing.specs.Constructs.{valued};
 ghost use Rattle.c_expression_typing.specs.Typed.{typed};
 ghost use Rattle.c_unit_typing.specs.Initializers.{index_in, is_index};
 
 use crate::initializers::dropping::let_go;
 use c_const::constant_word;
+use c_declarator_typing::sizes::has_sign;
 use c_faults::Refusal;
+use c_operand_typing::operators;
 use c_rules::TypedValue;
 use c_syntax::Expression;
 use c_syntax_typing::expression;
-use c_typing::Typer;
-use c_typing::sizes::has_sign;
+use c_typing_state::Typer;
 
 /// The value of an expression (C99 6.3.2.1), which is evaluated or not. Refusals as of `expression`.
 pub(crate) fn value<'a>(
@@ -27,7 +28,7 @@ pub(crate) fn value<'a>(
         (valued (typed is_evaluated (expression_of tree.now)) (state_of typer.old)) }
 {
     let operand = expression(typer, is_evaluated, tree)?;
-    typer.value(operand)
+    operators::value(typer, operand)
 }
 
 fn is_index(has_sign: bool, word: u64) -> bool

@@ -9,10 +9,10 @@ ghost use Rattle.c_typer.specs.Statics.{final_kind, with_entities, with_entity, 
 use crate::programs::slots::put;
 use crate::programs::statics::Found;
 use c_declarators::derivation::array_of;
+use c_operand_typing::primaries::kind_of_place;
 use c_scope::meaning::{Designated, Entity};
 use c_scope::names::Names;
 use c_tree::{Extent, Kind, TypeWord};
-use c_typing::primaries::kind_of_place;
 use std::alloc::{AllocError, Global};
 
 // An array of one element of a type.

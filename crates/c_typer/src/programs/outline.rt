@@ -5,7 +5,7 @@ ghost use Rattle.c_tree.specs.View as view;
 ghost use Rattle.c_tree.specs.View.{static_of};
 ghost use Rattle.c_scope.specs.Environment.{environment_of, facts_of};
 ghost use Rattle.c_scope.specs.Names.{declared, names_of};
-ghost use Rattle.c_typing.specs.State.{literal_of};
+ghost use Rattle.c_typing_state.specs.State.{literal_of};
 ghost use Rattle.c_typer.specs.FileState.{file_of, linked_initializer_of, local_static_of};
 ghost use Rattle.c_unit_typing.specs.Programs as programs;
 ghost use Rattle.c_unit_typing.specs.Programs.{in_order, literal_object, number_or_zero};
@@ -24,7 +24,7 @@ use c_scope::environment::Facts;
 use c_scope::meaning::Entity;
 use c_scope::names::Names;
 use c_tree::{CType, Extent, Program, StaticObject};
-use c_typing::{Literal, Typer};
+use c_typing_state::{Literal, Typer};
 use std::alloc::{AllocError, Global};
 use tree_containers::Items;
 

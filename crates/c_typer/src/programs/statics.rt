@@ -8,7 +8,7 @@ ghost use Rattle.c_typer.specs.Statics.{finished, finished_one, found_initialize
 use crate::programs::slots::{put, taken};
 use crate::state::{LinkedInitializer, LocalStatic};
 use c_tree::{Content, Kind, Part, StaticObject};
-use c_typing::Literal;
+use c_typing_state::Literal;
 use std::alloc::{AllocError, Global};
 use tree_containers::Items;
 

@@ -9,7 +9,7 @@ ghost use Rattle.c_tree.specs.View.{expression_of, statement_of};
 ghost use Rattle.c_const.specs.Integers as integers;
 ghost use Rattle.c_faults.specs.Answer.{Gives};
 ghost use Rattle.c_rules.specs.Values.{value_of};
-ghost use Rattle.c_typing.specs.State.{Types, state_of};
+ghost use Rattle.c_typing_state.specs.State.{Types, state_of};
 ghost use Rattle.c_expression_typing.specs.Constructs.{valued};
 ghost use Rattle.c_expression_typing.specs.Typed.{typed};
 ghost use Rattle.c_unit_typing.specs.Constructs as constructs;
@@ -22,7 +22,7 @@ use c_faults::Refusal;
 use c_rules::TypedValue;
 use c_syntax::{Boxed, Expression as ExpressionTree};
 use c_tree::{Expression, Kind, Statement};
-use c_typing::Typer;
+use c_typing_state::Typer;
 use obj_memory::{IntType, Scalar};
 use sb_base::Line;
 

@@ -9,7 +9,7 @@ ghost use Rattle.c_tree.specs.Statements as built;
 ghost use Rattle.c_tree.specs.View.{declared_of, expression_of, first_of};
 ghost use Rattle.c_faults.specs.Answer.{Gives};
 ghost use Rattle.c_rules.specs.Values.{value_of};
-ghost use Rattle.c_typing.specs.State.{Types, state_of};
+ghost use Rattle.c_typing_state.specs.State.{Types, state_of};
 ghost use Rattle.c_typer.specs.FileState.{FileTypes, file_of};
 ghost use Rattle.c_unit_typing.specs.Constructs as constructs;
 ghost use Rattle.c_unit_typing.specs.Files.{finished, in_state, ◌~>◌};
@@ -24,7 +24,7 @@ use c_rules::TypedValue;
 use c_rules::holding::beside;
 use c_syntax::{Boxed, Declaration, Expression as ExpressionTree, ForHead, ForInit};
 use c_tree::{Expression, First};
-use c_typing::Typer;
+use c_typing_state::Typer;
 use sb_base::Line;
 use tree_containers::Items;
 

@@ -9,7 +9,7 @@ ghost use Rattle.c_faults.specs.declared.fault.Refusal.TheVariants.{Fault as OfF
 ghost use Rattle.c_faults.specs.declared.fault.Rule.TheVariants.{MisplacedLabel};
 ghost use Rattle.c_faults.specs.Answer.{Gives};
 ghost use Rattle.c_rules.specs.Values.{value_of};
-ghost use Rattle.c_typing.specs.State.{Types, state_of};
+ghost use Rattle.c_typing_state.specs.State.{Types, state_of};
 ghost use Rattle.c_unit_typing.specs.Constructs as constructs;
 ghost use Rattle.c_typer.specs.Around.{labels_of};
 
@@ -21,7 +21,7 @@ use c_faults::{Fault, Refusal, Rule};
 use c_rules::TypedValue;
 use c_syntax::Expression;
 use c_tree::CaseLabel;
-use c_typing::Typer;
+use c_typing_state::Typer;
 use obj_memory::IntType;
 use sb_base::Line;
 

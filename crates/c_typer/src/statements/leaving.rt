@@ -9,7 +9,7 @@ ghost use Rattle.c_faults.specs.declared.fault.Refusal.TheVariants.{Fault as OfF
 ghost use Rattle.c_faults.specs.declared.fault.Rule.TheVariants.{MistakenReturn};
 ghost use Rattle.c_faults.specs.Answer.{Gives};
 ghost use Rattle.c_rules.specs.Values.{value_of};
-ghost use Rattle.c_typing.specs.State.{Types, state_of};
+ghost use Rattle.c_typing_state.specs.State.{Types, state_of};
 ghost use Rattle.c_unit_typing.specs.Constructs as constructs;
 
 use crate::initializers::dropping::let_go;
@@ -22,7 +22,7 @@ use c_rules::conversion::assigned;
 use c_rules::value::unqualified;
 use c_syntax::{Boxed, Expression as ExpressionTree};
 use c_tree::{Statement, TypeWord};
-use c_typing::Typer;
+use c_typing_state::Typer;
 use sb_base::Line;
 
 /// `break`, with its line. The rule on labels is violated where it may not stand.

@@ -8,7 +8,7 @@ ghost use Rattle.c_faults.specs.Answer.{Answer, Fails, Gives};
 ghost use Rattle.c_rules.specs.Values.{value_of};
 ghost use Rattle.c_expression_typing.specs.Constructs.{valued};
 ghost use Rattle.c_expression_typing.specs.Typed.{typed};
-ghost use Rattle.c_typing.specs.State.{State, Types, state_of};
+ghost use Rattle.c_typing_state.specs.State.{State, Types, state_of};
 ghost use Rattle.c_typer.specs.FileState.{FileTypes, file_of};
 ghost use Rattle.c_unit_typing.specs.Files.{File, finished, in_state, ◌~>◌};
 ghost use Rattle.c_unit_typing.specs.Constructs as constructs;
@@ -23,7 +23,7 @@ use c_rules::TypedValue;
 use c_rules::holding::beside;
 use c_syntax::Expression;
 use c_tree::Statement;
-use c_typing::Typer;
+use c_typing_state::Typer;
 use sb_base::Line;
 
 // The condition behind a body that violates no rule.

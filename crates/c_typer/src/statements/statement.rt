@@ -9,7 +9,7 @@ ghost use Rattle.c_tree.specs.View as tree;
 ghost use Rattle.c_tree.specs.View.{statement_of};
 ghost use Rattle.c_faults.specs.Answer.{Answer};
 ghost use Rattle.c_rules.specs.Values.{value_of};
-ghost use Rattle.c_typing.specs.State.{judged};
+ghost use Rattle.c_typing_state.specs.State.{judged};
 ghost use Rattle.c_typer.specs.FileState.{FileTypes, file_of};
 ghost use Rattle.c_unit_typing.specs.Constructs as constructs;
 ghost use Rattle.c_unit_typing.specs.Files.{File, in_state, ◌~>◌};

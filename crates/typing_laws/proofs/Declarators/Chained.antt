@@ -12,7 +12,7 @@ use Rattle.c_scope.specs.declared.meaning.Designated.TheVariants as what
 use Rattle.c_scope.specs.declared.meaning.Meaning.{Meaning}
 use Rattle.c_scope.specs.declared.meaning.Meaning.TheVariants as meaning
 use Rattle.c_scope.specs.Names.{Name, Names, declared, found, or_else}
-use Rattle.c_typing.specs.State.{State, Typing, extents}
+use Rattle.c_typing_state.specs.State.{State, Typing, extents}
 use Rattle.typing_laws.specs.Validity.Sound.{IsFormed, is_sized_array}
 use Rattle.typing_laws.proofs.Validity.Sound.{IfAnswer, longer_list, more_more, same_list, same_more}
 use Rattle.typing_laws.specs.Declarators.Extending.{AddsEnumerators, AreEnumerators, Extending, Extends}

@@ -14,9 +14,9 @@ use Rattle.c_scope.specs.declared.meaning.Tag.{Tag}
 use Rattle.c_scope.specs.declared.meaning.Tag.TheVariants as tag
 use Rattle.c_scope.specs.Names.{Name, Names, declared}
 use Rattle.c_scope.specs.Structures.{Body, begun_body, changed, is_begun, member_in, member_of}
-use Rattle.c_typing.specs.Members.{Entries, Entry, extent_with, member_at, members_at, offsets_in}
-use Rattle.c_typing.specs.Members.{tag_completed, with_structure}
-use Rattle.c_typing.specs.State.{State, extents}
+use Rattle.c_declarator_typing.specs.Members.{Entries, Entry, extent_with, member_at, members_at, offsets_in}
+use Rattle.c_declarator_typing.specs.Members.{tag_completed, with_structure}
+use Rattle.c_typing_state.specs.State.{State, extents}
 use Rattle.typing_laws.specs.Validity.More.{AreMore}
 use Rattle.typing_laws.specs.Validity.Sound.{IsFormed, IsNumbered, IsObjectExtent, IsPending}
 use Rattle.typing_laws.specs.Validity.Typed.{HaveMembers}

@@ -9,8 +9,8 @@ use Rattle.c_scope.specs.declared.meaning.Designated.TheVariants as what
 use Rattle.c_scope.specs.declared.meaning.Meaning.{Meaning}
 use Rattle.c_scope.specs.declared.meaning.Meaning.TheVariants as meaning
 use Rattle.c_scope.specs.Names.{declared, found, or_else}
-use Rattle.c_typing.specs.Primaries.{is_aggregate, is_marked}
-use Rattle.c_typing.specs.State.{State}
+use Rattle.c_operand_typing.specs.Primaries.{is_aggregate, is_marked}
+use Rattle.c_typing_state.specs.State.{State}
 use Rattle.c_expression_typing.specs.Typed.{type_name}
 use Rattle.typing_laws.specs.Validity.Names.{IsMeant}
 use Rattle.typing_laws.specs.Validity.Sound.{IsFormed, Keeps, Knows, Sound}

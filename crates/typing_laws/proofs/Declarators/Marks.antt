@@ -8,10 +8,10 @@ use Rattle.c_place_rules.specs.Operands.{Operand, a_value, a_place, a_variable, 
 use Rattle.c_scope.specs.declared.meaning.Designated.TheVariants as what
 use Rattle.c_scope.specs.declared.meaning.Meaning.{Meaning}
 use Rattle.c_scope.specs.declared.meaning.Meaning.TheVariants as meaning
-use Rattle.c_typing.specs.Calls.{place_among, with_callee_type, with_type}
-use Rattle.c_typing.specs.Operators.{object_taken, variable_named, with_taken}
-use Rattle.c_typing.specs.Primaries.{is_undefined, used_as, with_literal, with_use}
-use Rattle.c_typing.specs.State.{Literal, State, extents}
+use Rattle.c_operand_typing.specs.Calls.{place_among, with_callee_type, with_type}
+use Rattle.c_operand_typing.specs.Operators.{object_taken, variable_named, with_taken}
+use Rattle.c_operand_typing.specs.Primaries.{is_undefined, used_as, with_literal, with_use}
+use Rattle.c_typing_state.specs.State.{Literal, State, extents}
 use Rattle.typing_laws.specs.Validity.Sound.{Extended, IsFormed}
 use Rattle.typing_laws.proofs.Validity.Moved.{unused_before}
 use Rattle.typing_laws.proofs.Validity.Sound.{same_list, same_more}

@@ -14,12 +14,13 @@ use Rattle.c_tree.specs.declared.member.Member.{Member}
 use Rattle.c_declarators.specs.Derivations.{BuiltType, element_faults}
 use Rattle.c_declarators.specs.Faults.{and_faults, rule_of}
 use Rattle.c_scope.specs.Names.{Name, Names, bound, declared}
-use Rattle.c_typing.specs.Declarators.{Shape, built_in, unless}
-use Rattle.c_typing.specs.Members.{Entries, Entry, extent_in, extent_with, member_added, member_at}
-use Rattle.c_typing.specs.Members.{member_named, member_rule, members_at, no_offset, offsets_in, rule_or_repeated}
-use Rattle.c_typing.specs.Members.{sized_entry}
-use Rattle.c_typing.specs.Specifications.{Specification}
-use Rattle.c_typing.specs.State.{State, extents}
+use Rattle.c_declarator_typing.specs.Declarators.{Shape, built_in, unless}
+use Rattle.c_declarator_typing.specs.Members.{Entries, Entry, extent_in, extent_with, member_added, member_at}
+use Rattle.c_declarator_typing.specs.Members.{member_named, member_rule, members_at, no_offset, offsets_in}
+use Rattle.c_declarator_typing.specs.Members.{rule_or_repeated}
+use Rattle.c_declarator_typing.specs.Members.{sized_entry}
+use Rattle.c_declarator_typing.specs.Specifications.{Specification}
+use Rattle.c_typing_state.specs.State.{State, extents}
 use Rattle.typing_laws.specs.Validity.More.{AreMore}
 use Rattle.typing_laws.specs.Validity.Sound.{IsFormed, IsObjectExtent, is_sized_array}
 use Rattle.typing_laws.proofs.Validity.Common.{the_same}

@@ -49,16 +49,18 @@ use Rattle.c_call_rules.specs.Calls.{of_routine, outcome_in, passed}
 use Rattle.c_call_rules.specs.FunctionTypes.{callee_type}
 use Rattle.c_call_rules.specs.Printing.{Format, a_literal, another, directives_in, formatted, printed, printed_by}
 use Rattle.c_call_rules.specs.Printing.{printf_tree}
-use Rattle.c_typing.specs.declared.forms.AssignmentForm.{AssignmentForm}
-use Rattle.c_typing.specs.declared.forms.AssignmentForm.TheVariants as assignment_form
-use Rattle.c_typing.specs.declared.forms.BinaryForm.{BinaryForm}
-use Rattle.c_typing.specs.declared.forms.BinaryForm.TheVariants as binary_form
-use Rattle.c_typing.specs.declared.forms.PrefixForm.{PrefixForm}
-use Rattle.c_typing.specs.declared.forms.PrefixForm.TheVariants as form
-use Rattle.c_typing.specs.Operators.{as_operand, as_place, assigned_by, combined, read_unless, stepped_by, unary_value}
-use Rattle.c_typing.specs.Operators.{unreadable, value_among}
-use Rattle.c_typing.specs.Primaries.{character_constant, integer_as, integer_constant, or_zero, type_of_constant}
-use Rattle.c_typing.specs.State.{State, extents, with_const}
+use Rattle.c_operand_typing.specs.declared.forms.AssignmentForm.{AssignmentForm}
+use Rattle.c_operand_typing.specs.declared.forms.AssignmentForm.TheVariants as assignment_form
+use Rattle.c_operand_typing.specs.declared.forms.BinaryForm.{BinaryForm}
+use Rattle.c_operand_typing.specs.declared.forms.BinaryForm.TheVariants as binary_form
+use Rattle.c_operand_typing.specs.declared.forms.PrefixForm.{PrefixForm}
+use Rattle.c_operand_typing.specs.declared.forms.PrefixForm.TheVariants as form
+use Rattle.c_operand_typing.specs.Operators.{as_operand, as_place, assigned_by, combined, read_unless, stepped_by}
+use Rattle.c_operand_typing.specs.Operators.{unary_value}
+use Rattle.c_operand_typing.specs.Operators.{unreadable, value_among}
+use Rattle.c_operand_typing.specs.Primaries.{character_constant, integer_as, integer_constant, or_zero}
+use Rattle.c_operand_typing.specs.Primaries.{type_of_constant}
+use Rattle.c_typing_state.specs.State.{State, extents, with_const}
 use Rattle.c_expression_typing.specs.Constructs.{cast_to, chosen, sized}
 use Rattle.typing_laws.proofs.Validity.Constants.{IsHeld, constant_held, within_type}
 use Rattle.typing_laws.proofs.Validity.Moved.{size_high}

@@ -20,10 +20,11 @@ use Rattle.c_scope.specs.Names.{Name, Names, Scopes, around, bound, declared, fo
 use Rattle.c_scope.specs.Names.{or_else, opened}
 use Rattle.c_scope.specs.Names as names
 use Rattle.c_scope.specs.Parameters.{without_parameters}
-use Rattle.c_typing.specs.Declarators.{Shape, declaring, is_misplaced, not_for_parameter, nameless_parameter, parameter}
-use Rattle.c_typing.specs.Declarators.{parameter_built, parameter_declaration, built_in}
-use Rattle.c_typing.specs.Specifications.{Specification}
-use Rattle.c_typing.specs.State.{State, extents}
+use Rattle.c_declarator_typing.specs.Declarators.{Shape, declaring, is_misplaced, not_for_parameter, nameless_parameter}
+use Rattle.c_declarator_typing.specs.Declarators.{parameter}
+use Rattle.c_declarator_typing.specs.Declarators.{parameter_built, parameter_declaration, built_in}
+use Rattle.c_declarator_typing.specs.Specifications.{Specification}
+use Rattle.c_typing_state.specs.State.{State, extents}
 use Rattle.typing_laws.specs.Validity.Sound.{IsFormed}
 use Rattle.typing_laws.proofs.Validity.Common.{neither_right}
 use Rattle.typing_laws.proofs.Validity.Sound.{same_list, same_more}

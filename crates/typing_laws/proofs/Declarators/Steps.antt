@@ -28,17 +28,18 @@ use Rattle.c_scope.specs.Enumerators.{with_value}
 use Rattle.c_scope.specs.Environment.{Environment, with_name}
 use Rattle.c_scope.specs.Names.{Name, declared}
 use Rattle.c_scope.specs.Names as names
-use Rattle.c_typing.specs.declared.forms.PrefixForm.{PrefixForm}
-use Rattle.c_typing.specs.declared.forms.PrefixForm.TheVariants as form
-use Rattle.c_typing.specs.Calls.{Called, a_function, a_pointer, a_printf, a_routine, applied, callee_number}
-use Rattle.c_typing.specs.Calls.{called_by_value, called_plainly, name_called, plainly_or, pointer_called}
-use Rattle.c_typing.specs.Calls.{printed, with_callee_type}
-use Rattle.c_typing.specs.Operators.{arrowed, as_operand, as_value, dotted, stepped_by, unary_value}
-use Rattle.c_typing.specs.Operators.{value_among}
-use Rattle.c_typing.specs.Primaries.{designated, is_object, literal, meant, named, place, plain_variable, used_as}
-use Rattle.c_typing.specs.Sizes.{count_in, is_count, has_sign, next_value, provided}
-use Rattle.c_typing.specs.Specifications.{typedef_meant, typedef_type}
-use Rattle.c_typing.specs.State.{State, Typing, done, extents, judged, ◌>>>◌}
+use Rattle.c_operand_typing.specs.declared.forms.PrefixForm.{PrefixForm}
+use Rattle.c_operand_typing.specs.declared.forms.PrefixForm.TheVariants as form
+use Rattle.c_operand_typing.specs.Calls.{Called, a_function, a_pointer, a_printf, a_routine, applied, callee_number}
+use Rattle.c_operand_typing.specs.Calls.{called_by_value, called_plainly, name_called, plainly_or, pointer_called}
+use Rattle.c_operand_typing.specs.Calls.{printed, with_callee_type}
+use Rattle.c_operand_typing.specs.Operators.{arrowed, as_operand, as_value, dotted, stepped_by, unary_value}
+use Rattle.c_operand_typing.specs.Operators.{value_among}
+use Rattle.c_operand_typing.specs.Primaries.{designated, is_object, literal, meant, named, place, plain_variable}
+use Rattle.c_operand_typing.specs.Primaries.{used_as}
+use Rattle.c_declarator_typing.specs.Sizes.{count_in, is_count, has_sign, next_value, provided}
+use Rattle.c_declarator_typing.specs.Specifications.{typedef_meant, typedef_type}
+use Rattle.c_typing_state.specs.State.{State, Typing, done, extents, judged, ◌>>>◌}
 use Rattle.c_expression_typing.specs.Constructs.{Printing, accessed, applied_to, called_by, enumerated_as, format_by}
 use Rattle.c_expression_typing.specs.Constructs.{prefixed, valued}
 use Rattle.c_expression_typing.specs.Lines.{name_of}

@@ -19,7 +19,7 @@ use Rattle.c_scope.specs.Names.{Name, Names, bound, declared, found, is_name, or
 use Rattle.c_scope.specs.Structures.{Body, Structures, begun, begun_body, changed, declared_structure, is_begun}
 use Rattle.c_scope.specs.Structures.{member_in, member_of}
 use Rattle.c_scope.specs.Tags.{added, begins_in, has_begun, if_file, is_of, marked, next_tag, referred, tag_found}
-use Rattle.c_typing.specs.State.{State, extents}
+use Rattle.c_typing_state.specs.State.{State, extents}
 use Rattle.c_expression_typing.specs.Constructs.{begun_as, tagged_as}
 use Rattle.typing_laws.specs.Validity.More.{AreMore}
 use Rattle.typing_laws.specs.Validity.Sound.{IsFormed, IsNumbered, IsObjectExtent, IsPending}

@@ -26,7 +26,7 @@ use Rattle.c_specifiers.specs.declared.specified.Size.{Size}
 use Rattle.c_specifiers.specs.declared.specified.Size.TheVariants as size
 use Rattle.c_specifiers.specs.declared.specified.Specified.{Specified}
 use Rattle.c_specifiers.specs.Specified.{basic_of}
-use Rattle.c_typing.specs.Specifications.{Gathered, specified, type_or_basic}
+use Rattle.c_declarator_typing.specs.Specifications.{Gathered, specified, type_or_basic}
 use Rattle.typing_laws.specs.Validity.Sound.{IsObjectExtent, is_sized_array}
 use Rattle.typing_laws.proofs.Validity.Common.{first, neither_left, neither_right, no_value, the_same}
 use Rattle.typing_laws.proofs.Validity.Moved.{size_high}

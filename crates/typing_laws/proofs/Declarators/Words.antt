@@ -15,7 +15,7 @@ use Rattle.c_tree.specs.Tree as tree
 use Rattle.c_tree.specs.Tree.{Expression, Node, expression, kind_of}
 use Rattle.c_const.specs.Integers.{constant_word, has_form, node_value, truth, type_of, value_of, with_value}
 use Rattle.c_rules.specs.Values.{Value}
-use Rattle.c_typing.specs.Sizes.{enumeration_value, has_sign, is_int, next_value, provided}
+use Rattle.c_declarator_typing.specs.Sizes.{enumeration_value, has_sign, is_int, next_value, provided}
 use Rattle.typing_laws.specs.Declarators.Given.{HasWords, IsIntIf, NodeHasWords}
 
 abbrev IsWordIf : Option ℕ → Type 0

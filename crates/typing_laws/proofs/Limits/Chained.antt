@@ -3,7 +3,7 @@ use Rattle.std.proofs.Common.{◌≡◌, ℕ, ◌+◌, ◌≤◌, refl, ap, ◌�
 use Rattle.std.specs.Prelude.{Ok, Err}
 use Rattle.c_faults.specs.declared.fault.Fault.{Fault}
 use Rattle.c_faults.specs.Answer.{Answer, ◌>>=◌}
-use Rattle.c_typing.specs.State.{State}
+use Rattle.c_typing_state.specs.State.{State}
 use Rattle.typing_laws.specs.Limits.Variables.{variables_among}
 
 -- the scopes around are the same, and the innermost one has at most so many variables more

@@ -24,12 +24,13 @@ use Rattle.c_scope.specs.Environment.{with_declarator, with_name, without_linkag
 use Rattle.c_scope.specs.Names.{Name, Names, around, bound, declared, innermost, is_name}
 use Rattle.c_scope.specs.Tags.{added, begins, begins_in, has_begun, is_of, marked, next_tag, referred, tag_found}
 use Rattle.c_scope.specs.Tags.{tagged, with_declaration, with_tag}
-use Rattle.c_typing.specs.Declarators.{Shape, built_in, declaring, is_misplaced, nameless_parameter, parameter}
-use Rattle.c_typing.specs.Declarators.{parameter_built, parameter_declaration}
-use Rattle.c_typing.specs.Members.{Entries, Entry, tag_completed, with_structure}
-use Rattle.c_typing.specs.Sizes.{next_value}
-use Rattle.c_typing.specs.Specifications.{Specification}
-use Rattle.c_typing.specs.State.{State}
+use Rattle.c_declarator_typing.specs.Declarators.{Shape, built_in, declaring, is_misplaced, nameless_parameter}
+use Rattle.c_declarator_typing.specs.Declarators.{parameter}
+use Rattle.c_declarator_typing.specs.Declarators.{parameter_built, parameter_declaration}
+use Rattle.c_declarator_typing.specs.Members.{Entries, Entry, tag_completed, with_structure}
+use Rattle.c_declarator_typing.specs.Sizes.{next_value}
+use Rattle.c_declarator_typing.specs.Specifications.{Specification}
+use Rattle.c_typing_state.specs.State.{State}
 use Rattle.c_expression_typing.specs.Constructs.{begun_as, enumerated_as, tagged_as}
 use Rattle.typing_laws.proofs.Declarators.Parameters.{around_last, behind, innermost_last, within}
 use Rattle.typing_laws.specs.Limits.Variables.{variable_count, variables_among}

@@ -14,9 +14,10 @@ use Rattle.c_counts.specs.Counts.{Count, parameters_counted}
 use Rattle.c_counts.specs.Counts as counts
 use Rattle.c_counts.specs.Excess.{first_above, parameters_among}
 use Rattle.c_scope.specs.Parameters.{ParameterScope, parameters_in}
-use Rattle.c_typing.specs.Declarators.{Shape, is_nothing, scope_left, scope_opened, with_derivation, with_function}
-use Rattle.c_typing.specs.Sizes.{count_in}
-use Rattle.c_typing.specs.State.{State, Typing, done, ◌>>>◌}
+use Rattle.c_declarator_typing.specs.Declarators.{Shape, is_nothing, scope_left, scope_opened, with_derivation}
+use Rattle.c_declarator_typing.specs.Declarators.{with_function}
+use Rattle.c_declarator_typing.specs.Sizes.{count_in}
+use Rattle.c_typing_state.specs.State.{State, Typing, done, ◌>>>◌}
 use Rattle.c_expression_typing.specs.Constructs.{has_words, valued}
 use Rattle.c_expression_typing.specs.Typed.{parameter_types, shape, typed}
 use Rattle.typing_laws.proofs.Declarators.Parameters.{within}

@@ -20,15 +20,15 @@ use Rattle.c_scope.specs.declared.meaning.Meaning.{Meaning}
 use Rattle.c_scope.specs.declared.meaning.Meaning.TheVariants as meaning
 use Rattle.c_scope.specs.Names.{Name}
 use Rattle.c_scope.specs.Names as names
-use Rattle.c_typing.specs.declared.forms.PrefixForm.{PrefixForm}
-use Rattle.c_typing.specs.declared.forms.PrefixForm.TheVariants as form
-use Rattle.c_typing.specs.Calls.{Called, a_function, a_pointer, a_printf, a_routine, applied}
-use Rattle.c_typing.specs.Calls.{called_by_value, called_plainly, callee_number, plainly_applied, plainly_or}
-use Rattle.c_typing.specs.Calls.{pointer_called, printed, with_callee_type}
-use Rattle.c_typing.specs.Operators.{addressed, arrowed, as_operand, as_value, dotted, object_taken}
-use Rattle.c_typing.specs.Operators.{stepped_by, unary_value, value_among, variable_named, with_taken}
-use Rattle.c_typing.specs.Primaries.{literal, meant, named, used, used_as, with_literal, with_use}
-use Rattle.c_typing.specs.State.{State, Typing, extents, judged, ◌>>>◌}
+use Rattle.c_operand_typing.specs.declared.forms.PrefixForm.{PrefixForm}
+use Rattle.c_operand_typing.specs.declared.forms.PrefixForm.TheVariants as form
+use Rattle.c_operand_typing.specs.Calls.{Called, a_function, a_pointer, a_printf, a_routine, applied}
+use Rattle.c_operand_typing.specs.Calls.{called_by_value, called_plainly, callee_number, plainly_applied, plainly_or}
+use Rattle.c_operand_typing.specs.Calls.{pointer_called, printed, with_callee_type}
+use Rattle.c_operand_typing.specs.Operators.{addressed, arrowed, as_operand, as_value, dotted, object_taken}
+use Rattle.c_operand_typing.specs.Operators.{stepped_by, unary_value, value_among, variable_named, with_taken}
+use Rattle.c_operand_typing.specs.Primaries.{literal, meant, named, used, used_as, with_literal, with_use}
+use Rattle.c_typing_state.specs.State.{State, Typing, extents, judged, ◌>>>◌}
 use Rattle.c_expression_typing.specs.Constructs.{Printing, accessed, applied_to, called_by, format_by, prefixed}
 use Rattle.c_expression_typing.specs.Constructs.{valued}
 use Rattle.c_expression_typing.specs.Lines.{name_of}

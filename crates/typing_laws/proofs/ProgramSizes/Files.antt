@@ -17,9 +17,9 @@ use Rattle.c_scope.specs.Declaring.{Declaration, is_typedef}
 use Rattle.c_scope.specs.Environment.{Facts}
 use Rattle.c_scope.specs.Names.{Name, declared}
 use Rattle.c_scope.specs.Parameters.{ParameterScope, with_parameters}
-use Rattle.c_typing.specs.Declarators.{Shape, built_in, declaring}
-use Rattle.c_typing.specs.Specifications.{Specification}
-use Rattle.c_typing.specs.State.{State, extents, judged, ◌>>>◌}
+use Rattle.c_declarator_typing.specs.Declarators.{Shape, built_in, declaring}
+use Rattle.c_declarator_typing.specs.Specifications.{Specification}
+use Rattle.c_typing_state.specs.State.{State, extents, judged, ◌>>>◌}
 use Rattle.c_expression_typing.specs.Typed.{shape, specification}
 use Rattle.c_unit_typing.specs.Constructs.{Around}
 use Rattle.c_unit_typing.specs.Declarations.{stored_once}

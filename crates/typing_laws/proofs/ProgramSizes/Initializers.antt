@@ -25,8 +25,8 @@ use Rattle.c_initializer_rules.specs.Initializing.{with_value}
 use Rattle.c_initializer_rules.specs.Literals.{filling, is_too_long}
 use Rattle.c_initializer_rules.specs.Placed.{PlacedPart, overrides, parts_in, placed, with_part, without}
 use Rattle.c_scope.specs.Names.{Name}
-use Rattle.c_typing.specs.Primaries.{spelled_bytes}
-use Rattle.c_typing.specs.State.{State, done, extents, judged}
+use Rattle.c_operand_typing.specs.Primaries.{spelled_bytes}
+use Rattle.c_typing_state.specs.State.{State, done, extents, judged}
 use Rattle.c_expression_typing.specs.Constructs.{literal_alone}
 use Rattle.c_expression_typing.specs.Lines.{name_of}
 use Rattle.c_unit_typing.specs.Initializers.{by_literal_or, by_value, designated, designated_by, designated_once}

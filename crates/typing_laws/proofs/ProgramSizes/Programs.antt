@@ -15,7 +15,7 @@ use Rattle.c_scope.specs.declared.meaning.Designated.{Designated}
 use Rattle.c_scope.specs.declared.meaning.Designated.TheVariants as what
 use Rattle.c_scope.specs.declared.meaning.Entity.{Entity}
 use Rattle.c_scope.specs.Names.{Names}
-use Rattle.c_typing.specs.State.{Literal}
+use Rattle.c_typing_state.specs.State.{Literal}
 use Rattle.c_unit_typing.specs.declared.limits.Limited.{Limited}
 use Rattle.c_unit_typing.specs.declared.limits.Limited.TheVariants as limited
 use Rattle.c_unit_typing.specs.Files.{Definition, File}

@@ -22,7 +22,7 @@ use Rattle.c_faults.specs.declared.fault.Rule.TheVariants.{MisplacedLabel, Mista
 use Rattle.c_faults.specs.Answer.{Answer, violates, ◌>>=◌}
 use Rattle.c_rules.specs.Conversions.{assigned}
 use Rattle.c_rules.specs.Values.{Value}
-use Rattle.c_typing.specs.State.{State, extents, judged}
+use Rattle.c_typing_state.specs.State.{State, extents, judged}
 use Rattle.c_expression_typing.specs.Constructs.{valued}
 use Rattle.c_expression_typing.specs.Typed.{typed}
 use Rattle.c_unit_typing.specs.Constructs.{Around, Head, Labelled, Labels, added, behind_first, case_label, case_on}

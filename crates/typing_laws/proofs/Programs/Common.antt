@@ -12,7 +12,7 @@ use Rattle.c_faults.specs.declared.fault.Rule.TheVariants.{LargeType}
 use Rattle.c_scope.specs.declared.meaning.Designated.{Designated}
 use Rattle.c_scope.specs.Declaring.{when, when_some}
 use Rattle.c_scope.specs.Names.{Name, or_else}
-use Rattle.c_typing.specs.State.{State, Typing}
+use Rattle.c_typing_state.specs.State.{State, Typing}
 use Rattle.c_unit_typing.specs.Declarations.{with_size}
 use Rattle.c_unit_typing.specs.Files.{File}
 

@@ -26,15 +26,17 @@ use Rattle.c_declarators.specs.Adjusted.{adjusted}
 use Rattle.c_declarators.specs.Derivations.{BuiltType}
 use Rattle.c_scope.specs.Declaring.{Declaration}
 use Rattle.c_scope.specs.declared.tags.TagKind.{TagKind}
-use Rattle.c_typing.specs.Declarators.{Shape, built_in, declaring, is_misplaced, nameless_parameter, parameter}
-use Rattle.c_typing.specs.Declarators.{parameter_built, parameter_declaration, type_named}
-use Rattle.c_typing.specs.Members.{Entries, Entry, member_added, member_specified, no_entries, structure_completed}
-use Rattle.c_typing.specs.Members.{tag_completed, with_structure}
-use Rattle.c_typing.specs.Operators.{assignment_form_of, binary_form_of, prefix_form_of, step_form}
-use Rattle.c_typing.specs.Primaries.{literal_bytes}
-use Rattle.c_typing.specs.Sizes.{enumeration_value}
-use Rattle.c_typing.specs.Specifications.{Gathered, Specification, nothing_gathered, tag_kind, typedef_type}
-use Rattle.c_typing.specs.State.{State, Typing}
+use Rattle.c_declarator_typing.specs.Declarators.{Shape, built_in, declaring, is_misplaced, nameless_parameter}
+use Rattle.c_declarator_typing.specs.Declarators.{parameter}
+use Rattle.c_declarator_typing.specs.Declarators.{parameter_built, parameter_declaration, type_named}
+use Rattle.c_declarator_typing.specs.Members.{Entries, Entry, member_added, member_specified, no_entries}
+use Rattle.c_declarator_typing.specs.Members.{structure_completed}
+use Rattle.c_declarator_typing.specs.Members.{tag_completed, with_structure}
+use Rattle.c_operand_typing.specs.Operators.{assignment_form_of, binary_form_of, prefix_form_of, step_form}
+use Rattle.c_operand_typing.specs.Primaries.{literal_bytes}
+use Rattle.c_declarator_typing.specs.Sizes.{enumeration_value}
+use Rattle.c_declarator_typing.specs.Specifications.{Gathered, Specification, nothing_gathered, tag_kind, typedef_type}
+use Rattle.c_typing_state.specs.State.{State, Typing}
 use Rattle.c_expression_typing.specs.Constructs.{begun_as, enumerated_as, literal_alone, plain_name, specified_by}
 use Rattle.c_expression_typing.specs.Constructs.{tagged_as, valued, with_shape}
 use Rattle.c_expression_typing.specs.Lines.{first_line, name_of, spellings, tag_name}

@@ -30,21 +30,25 @@ use Rattle.c_scope.specs.declared.meaning.Meaning.{Meaning}
 use Rattle.c_scope.specs.declared.meaning.Meaning.TheVariants as meaning
 use Rattle.c_scope.specs.Names.{Name}
 use Rattle.c_scope.specs.Names as names
-use Rattle.c_typing.specs.declared.forms.AssignmentForm.{AssignmentForm}
-use Rattle.c_typing.specs.declared.forms.AssignmentForm.TheVariants as assignment_form
-use Rattle.c_typing.specs.declared.forms.BinaryForm.{BinaryForm}
-use Rattle.c_typing.specs.declared.forms.BinaryForm.TheVariants as binary_form
-use Rattle.c_typing.specs.declared.forms.PrefixForm.{PrefixForm}
-use Rattle.c_typing.specs.declared.forms.PrefixForm.TheVariants as form
-use Rattle.c_typing.specs.Calls.{Called, a_function, a_pointer, a_printf, a_routine, applied, called_as}
-use Rattle.c_typing.specs.Calls.{called_by_value, called_plainly, callee_number, library_called, plainly_applied}
-use Rattle.c_typing.specs.Calls.{plainly_or, pointer_applied, pointer_called, printed, with_callee_type, with_type}
-use Rattle.c_typing.specs.Operators.{addressed, arrowed, as_operand, as_place, as_value, assigned_by, combined, dotted}
-use Rattle.c_typing.specs.Operators.{indexed, object_taken, read_unless, stepped_by, unary_value, unreadable}
-use Rattle.c_typing.specs.Operators.{value_among, variable_named, with_taken}
-use Rattle.c_typing.specs.Primaries.{as_meant, designated, integer_as, integer_constant, is_object, literal, meant}
-use Rattle.c_typing.specs.Primaries.{named, place, plain_variable, used, used_as, with_literal, with_use}
-use Rattle.c_typing.specs.State.{Literal, State, Typing, extents, judged, with_const, ◌>>>◌}
+use Rattle.c_operand_typing.specs.declared.forms.AssignmentForm.{AssignmentForm}
+use Rattle.c_operand_typing.specs.declared.forms.AssignmentForm.TheVariants as assignment_form
+use Rattle.c_operand_typing.specs.declared.forms.BinaryForm.{BinaryForm}
+use Rattle.c_operand_typing.specs.declared.forms.BinaryForm.TheVariants as binary_form
+use Rattle.c_operand_typing.specs.declared.forms.PrefixForm.{PrefixForm}
+use Rattle.c_operand_typing.specs.declared.forms.PrefixForm.TheVariants as form
+use Rattle.c_operand_typing.specs.Calls.{Called, a_function, a_pointer, a_printf, a_routine, applied, called_as}
+use Rattle.c_operand_typing.specs.Calls.{called_by_value, called_plainly, callee_number, library_called}
+use Rattle.c_operand_typing.specs.Calls.{plainly_applied}
+use Rattle.c_operand_typing.specs.Calls.{plainly_or, pointer_applied, pointer_called, printed, with_callee_type}
+use Rattle.c_operand_typing.specs.Calls.{with_type}
+use Rattle.c_operand_typing.specs.Operators.{addressed, arrowed, as_operand, as_place, as_value, assigned_by, combined}
+use Rattle.c_operand_typing.specs.Operators.{dotted}
+use Rattle.c_operand_typing.specs.Operators.{indexed, object_taken, read_unless, stepped_by, unary_value, unreadable}
+use Rattle.c_operand_typing.specs.Operators.{value_among, variable_named, with_taken}
+use Rattle.c_operand_typing.specs.Primaries.{as_meant, designated, integer_as, integer_constant, is_object, literal}
+use Rattle.c_operand_typing.specs.Primaries.{meant}
+use Rattle.c_operand_typing.specs.Primaries.{named, place, plain_variable, used, used_as, with_literal, with_use}
+use Rattle.c_typing_state.specs.State.{Literal, State, Typing, extents, judged, with_const, ◌>>>◌}
 use Rattle.c_expression_typing.specs.Constructs.{Printing, accessed, applied_to, called_by, cast_to, chosen, format_by}
 use Rattle.c_expression_typing.specs.Constructs.{prefixed, sized, valued}
 use Rattle.c_expression_typing.specs.Lines.{name_of}

@@ -15,7 +15,7 @@ use Rattle.c_lexer.specs.declared.integer.Suffix.{Suffix}
 use Rattle.c_lexer.specs.Characters.{begins}
 use Rattle.c_lexer.specs.Constants.{base_of, constant_in, constant_of, greatest_of, is_digit_of, is_hexadecimal}
 use Rattle.c_lexer.specs.Constants.{number_from, of_type, suffix_of, typed, types_of, with_suffix}
-use Rattle.c_typing.specs.Primaries.{type_of_constant}
+use Rattle.c_operand_typing.specs.Primaries.{type_of_constant}
 
 pub small_int : (w : ℕ) → w ≤ 2 ^ 31 - 1 → fit int.Int w ≡ w
 unfolding fit

@@ -27,18 +27,19 @@ use Rattle.c_place_laws.proofs.FineOperands.{size_fine}
 use Rattle.c_assignment_rules.proofs.FineWriting.{assignment_fine, compound_fine, stepped_fine}
 use Rattle.c_condition_rules.proofs.FineConditions.{conditional_fine}
 use Rattle.c_call_rules.proofs.FinePrinting.{formatted_fine}
-use Rattle.c_typing.specs.declared.forms.AssignmentForm.{AssignmentForm}
-use Rattle.c_typing.specs.declared.forms.AssignmentForm.TheVariants as assignment_form
-use Rattle.c_typing.specs.declared.forms.BinaryForm.{BinaryForm}
-use Rattle.c_typing.specs.declared.forms.BinaryForm.TheVariants as binary_form
-use Rattle.c_typing.specs.declared.forms.PrefixForm.{PrefixForm}
-use Rattle.c_typing.specs.declared.forms.PrefixForm.TheVariants as form
-use Rattle.c_typing.specs.Calls.{printed}
-use Rattle.c_typing.specs.Operators.{as_operand, as_place, as_value, assigned_by, combined, indexed}
-use Rattle.c_typing.specs.Operators.{is_array_type, is_readable, object_taken, read_unless, stepped_by, unary_value}
-use Rattle.c_typing.specs.Operators.{unreadable, value_among}
-use Rattle.c_typing.specs.Operators.{variable_named, with_taken}
-use Rattle.c_typing.specs.State.{State, extents, judged, with_const}
+use Rattle.c_operand_typing.specs.declared.forms.AssignmentForm.{AssignmentForm}
+use Rattle.c_operand_typing.specs.declared.forms.AssignmentForm.TheVariants as assignment_form
+use Rattle.c_operand_typing.specs.declared.forms.BinaryForm.{BinaryForm}
+use Rattle.c_operand_typing.specs.declared.forms.BinaryForm.TheVariants as binary_form
+use Rattle.c_operand_typing.specs.declared.forms.PrefixForm.{PrefixForm}
+use Rattle.c_operand_typing.specs.declared.forms.PrefixForm.TheVariants as form
+use Rattle.c_operand_typing.specs.Calls.{printed}
+use Rattle.c_operand_typing.specs.Operators.{as_operand, as_place, as_value, assigned_by, combined, indexed}
+use Rattle.c_operand_typing.specs.Operators.{is_array_type, is_readable, object_taken, read_unless, stepped_by}
+use Rattle.c_operand_typing.specs.Operators.{unary_value}
+use Rattle.c_operand_typing.specs.Operators.{unreadable, value_among}
+use Rattle.c_operand_typing.specs.Operators.{variable_named, with_taken}
+use Rattle.c_typing_state.specs.State.{State, extents, judged, with_const}
 use Rattle.c_expression_typing.specs.Constructs.{cast_to, chosen, prefixed, sized}
 use Rattle.typing_laws.specs.Validity.Typed.{IfTyped, IfValued}
 use Rattle.typing_laws.proofs.Validity.Kept.{operand_kept}

@@ -15,11 +15,12 @@ use Rattle.c_condition_rules.proofs.FineConditions.{conditional_fine}
 use Rattle.c_call_rules.specs.FineCalls.{AreFine}
 use Rattle.c_call_rules.specs.Printing.{Format, a_literal, another}
 use Rattle.c_scope.specs.Names.{Name}
-use Rattle.c_typing.specs.Calls.{Called, a_function, a_pointer, a_printf, a_routine, applied, pointer_called, printed}
-use Rattle.c_typing.specs.Operators.{assigned_by, assignment_form_of, binary_form_of, combined, indexed}
-use Rattle.c_typing.specs.Operators.{prefix_form_of, step_form, stepped_by}
-use Rattle.c_typing.specs.Primaries.{character_constant, integer_constant, literal_bytes, spelled_bytes}
-use Rattle.c_typing.specs.State.{State, Typing, done, extents, judged, ◌>>>◌}
+use Rattle.c_operand_typing.specs.Calls.{Called, a_function, a_pointer, a_printf, a_routine, applied, pointer_called}
+use Rattle.c_operand_typing.specs.Calls.{printed}
+use Rattle.c_operand_typing.specs.Operators.{assigned_by, assignment_form_of, binary_form_of, combined, indexed}
+use Rattle.c_operand_typing.specs.Operators.{prefix_form_of, step_form, stepped_by}
+use Rattle.c_operand_typing.specs.Primaries.{character_constant, integer_constant, literal_bytes, spelled_bytes}
+use Rattle.c_typing_state.specs.State.{State, Typing, done, extents, judged, ◌>>>◌}
 use Rattle.c_expression_typing.specs.Constructs.{Printing, accessed, applied_to, called_by, cast_to, chosen, format_by}
 use Rattle.c_expression_typing.specs.Constructs.{literal_alone, plain_name, prefixed, sized, valued}
 use Rattle.c_expression_typing.specs.Lines.{name_of, spellings}

@@ -18,11 +18,12 @@ use Rattle.c_place_laws.specs.FinePlaces.{IsFineOperand, IsFinePlace, IsSized, c
 use Rattle.c_scope.specs.declared.meaning.Designated.TheVariants as what
 use Rattle.c_scope.specs.declared.meaning.Meaning.{Meaning}
 use Rattle.c_scope.specs.declared.meaning.Meaning.TheVariants as meaning
-use Rattle.c_typing.specs.Operators.{object_taken, variable_named, with_taken}
-use Rattle.c_typing.specs.Primaries.{is_aggregate, is_marked, is_undefined, literal_place, literal_type, size_or_zero}
-use Rattle.c_typing.specs.Primaries.{used_as}
-use Rattle.c_typing.specs.Primaries.{earlier_or, with_literal, with_use}
-use Rattle.c_typing.specs.State.{State, extents}
+use Rattle.c_operand_typing.specs.Operators.{object_taken, variable_named, with_taken}
+use Rattle.c_operand_typing.specs.Primaries.{is_aggregate, is_marked, is_undefined, literal_place, literal_type}
+use Rattle.c_operand_typing.specs.Primaries.{size_or_zero}
+use Rattle.c_operand_typing.specs.Primaries.{used_as}
+use Rattle.c_operand_typing.specs.Primaries.{earlier_or, with_literal, with_use}
+use Rattle.c_typing_state.specs.State.{State, extents}
 use Rattle.typing_laws.specs.Validity.More.{AreMore}
 use Rattle.typing_laws.specs.Validity.Names.{IsMeant, kind_among}
 use Rattle.typing_laws.specs.Validity.Sound.{Covers, IsFormed, Keeps}

@@ -28,9 +28,9 @@ use Rattle.c_call_rules.specs.Calls.{of_pointer, call_tree, passed}
 use Rattle.c_call_rules.specs.FineCalls.{AreFine, Spells}
 use Rattle.c_call_rules.specs.FunctionTypes.{callee_type, first_types, result_type}
 use Rattle.c_call_rules.proofs.FineCalls.{called_fine, through_fine}
-use Rattle.c_typing.specs.Calls.{callee_number, place_among, with_callee_type, with_type}
-use Rattle.c_typing.specs.Operators.{as_operand}
-use Rattle.c_typing.specs.State.{State, extents}
+use Rattle.c_operand_typing.specs.Calls.{callee_number, place_among, with_callee_type, with_type}
+use Rattle.c_operand_typing.specs.Operators.{as_operand}
+use Rattle.c_typing_state.specs.State.{State, extents}
 use Rattle.typing_laws.specs.Validity.More.{AreMore}
 use Rattle.typing_laws.specs.Validity.Names.{IsFunctionOf}
 use Rattle.typing_laws.specs.Validity.Sound.{Covers, IsFormed, IsTypeOf, Keeps, Sound}

@@ -36,11 +36,11 @@ use Rattle.c_scope.specs.declared.meaning.Designated.{Designated}
 use Rattle.c_scope.specs.declared.meaning.Designated.TheVariants as what
 use Rattle.c_scope.specs.declared.meaning.Meaning.{Meaning}
 use Rattle.c_scope.specs.declared.meaning.Meaning.TheVariants as meaning
-use Rattle.c_typing.specs.Primaries.{character_constant, constant_value, designated, function_named, integer_as}
-use Rattle.c_typing.specs.Primaries.{integer_constant, is_aggregate, is_marked, is_undefined, meant, or_zero}
-use Rattle.c_typing.specs.Primaries.{earlier_or, place, plain_variable, size_or_zero, type_of_constant}
-use Rattle.c_typing.specs.Primaries.{used, used_as, with_use}
-use Rattle.c_typing.specs.State.{State, extents}
+use Rattle.c_operand_typing.specs.Primaries.{character_constant, constant_value, designated, function_named, integer_as}
+use Rattle.c_operand_typing.specs.Primaries.{integer_constant, is_aggregate, is_marked, is_undefined, meant, or_zero}
+use Rattle.c_operand_typing.specs.Primaries.{earlier_or, place, plain_variable, size_or_zero, type_of_constant}
+use Rattle.c_operand_typing.specs.Primaries.{used, used_as, with_use}
+use Rattle.c_typing_state.specs.State.{State, extents}
 use Rattle.typing_laws.specs.Validity.More.{AreMore}
 use Rattle.typing_laws.specs.Validity.Names.{IsDesignated, IsFunctionOf, IsMeant, IsStaticOf, IsVariableOf, kind_among}
 use Rattle.typing_laws.proofs.Validity.Common.{neither_left, no_value}

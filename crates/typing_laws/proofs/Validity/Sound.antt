@@ -4,7 +4,7 @@ use Rattle.std.specs.Prelude.{Ok, Err, slice_get}
 use Rattle.std.proofs.lemmas.List.{append_assoc, append-nil}
 use Rattle.c_tree.specs.Valid.{Scope}
 use Rattle.c_faults.specs.Answer.{Answer, ◌>>=◌}
-use Rattle.c_typing.specs.State.{State, Typing, extents}
+use Rattle.c_typing_state.specs.State.{State, Typing, extents}
 use Rattle.typing_laws.specs.Validity.More.{AreMore}
 use Rattle.typing_laws.specs.Validity.Sound.{Covers, Extended, IsFormed, Keeps, Knows, Sound}
 use Rattle.typing_laws.specs.Validity.Steps.{Structures, nothing}

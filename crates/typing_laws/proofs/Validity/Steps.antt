@@ -35,16 +35,16 @@ use Rattle.c_scope.specs.declared.meaning.Meaning.TheVariants as meaning
 use Rattle.c_scope.specs.Names.{Name}
 use Rattle.c_scope.specs.Names as names
 use Rattle.c_scope.specs.Structures.{member_of}
-use Rattle.c_typing.specs.declared.forms.PrefixForm.{PrefixForm}
-use Rattle.c_typing.specs.declared.forms.PrefixForm.TheVariants as form
-use Rattle.c_typing.specs.Calls.{Called, a_function, a_pointer, a_printf, a_routine, applied}
-use Rattle.c_typing.specs.Calls.{called_by_value, called_plainly, library_called, name_called, plainly_applied}
-use Rattle.c_typing.specs.Calls.{plainly_or, pointer_applied, pointer_called, printed}
-use Rattle.c_typing.specs.Operators.{arrowed, as_value, dotted, member_in}
-use Rattle.c_typing.specs.Operators.{object_taken, stepped_by, structure_behind, unary_value}
-use Rattle.c_typing.specs.Operators.{value_among}
-use Rattle.c_typing.specs.Primaries.{is_undefined, literal, meant, named, used_as}
-use Rattle.c_typing.specs.State.{State, Typing, extents, judged, ◌>>>◌}
+use Rattle.c_operand_typing.specs.declared.forms.PrefixForm.{PrefixForm}
+use Rattle.c_operand_typing.specs.declared.forms.PrefixForm.TheVariants as form
+use Rattle.c_operand_typing.specs.Calls.{Called, a_function, a_pointer, a_printf, a_routine, applied}
+use Rattle.c_operand_typing.specs.Calls.{called_by_value, called_plainly, library_called, name_called, plainly_applied}
+use Rattle.c_operand_typing.specs.Calls.{plainly_or, pointer_applied, pointer_called, printed}
+use Rattle.c_operand_typing.specs.Operators.{arrowed, as_value, dotted, member_in}
+use Rattle.c_operand_typing.specs.Operators.{object_taken, stepped_by, structure_behind, unary_value}
+use Rattle.c_operand_typing.specs.Operators.{value_among}
+use Rattle.c_operand_typing.specs.Primaries.{is_undefined, literal, meant, named, used_as}
+use Rattle.c_typing_state.specs.State.{State, Typing, extents, judged, ◌>>>◌}
 use Rattle.c_expression_typing.specs.Constructs.{accessed, prefixed, valued}
 use Rattle.typing_laws.specs.Validity.More.{AreMore}
 use Rattle.typing_laws.specs.Validity.Names.{IsFunctionOf, IsMeant}

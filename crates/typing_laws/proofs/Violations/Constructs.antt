@@ -20,7 +20,7 @@ use Rattle.c_faults.specs.declared.fault.Fault.{Fault}
 use Rattle.c_faults.specs.declared.fault.Rule.TheVariants.{MisplacedLabel}
 use Rattle.c_faults.specs.Answer.{Answer, violates, ◌>>=◌}
 use Rattle.c_rules.specs.Values.{Value}
-use Rattle.c_typing.specs.State.{State, Typing, judged}
+use Rattle.c_typing_state.specs.State.{State, Typing, judged}
 use Rattle.c_expression_typing.specs.Constructs as expression_typing
 use Rattle.c_expression_typing.specs.Typed.{typed}
 use Rattle.c_unit_typing.specs.Constructs as typing

@@ -21,10 +21,10 @@ use Rattle.c_scope.specs.declared.meaning.Meaning.{Meaning}
 use Rattle.c_scope.specs.declared.meaning.Meaning.TheVariants as meaning
 use Rattle.c_scope.specs.Names.{Name}
 use Rattle.c_initializer_rules.specs.Initializing.{Initializing, begun, designation_begun, with_value}
-use Rattle.c_typing.specs.Declarators.{Shape}
-use Rattle.c_typing.specs.Primaries.{spelled_bytes}
-use Rattle.c_typing.specs.Specifications.{Specification}
-use Rattle.c_typing.specs.State.{State, judged}
+use Rattle.c_declarator_typing.specs.Declarators.{Shape}
+use Rattle.c_operand_typing.specs.Primaries.{spelled_bytes}
+use Rattle.c_declarator_typing.specs.Specifications.{Specification}
+use Rattle.c_typing_state.specs.State.{State, judged}
 use Rattle.c_expression_typing.specs.Constructs.{literal_alone}
 use Rattle.c_expression_typing.specs.Lines.{name_of}
 use Rattle.c_unit_typing.specs.Declarations.{alone_in, declared_as, stored_once, with_parts, with_static, with_variable}

@@ -14,9 +14,9 @@ use Rattle.c_scope.specs.declared.meaning.Meaning.{Meaning}
 use Rattle.c_scope.specs.declared.meaning.Meaning.TheVariants as meaning
 use Rattle.c_scope.specs.Names.{Name}
 use Rattle.c_initializer_rules.specs.Initializing.{begun}
-use Rattle.c_typing.specs.Declarators.{Shape}
-use Rattle.c_typing.specs.Specifications.{Specification}
-use Rattle.c_typing.specs.State.{State, judged}
+use Rattle.c_declarator_typing.specs.Declarators.{Shape}
+use Rattle.c_declarator_typing.specs.Specifications.{Specification}
+use Rattle.c_typing_state.specs.State.{State, judged}
 use Rattle.c_expression_typing.specs.Typed as expression_typing
 use Rattle.c_unit_typing.specs.Declarations as typing
 use Rattle.c_unit_typing.specs.Declarations.{alone_in, declared_as, initializer_in, stored_once, with_parts}

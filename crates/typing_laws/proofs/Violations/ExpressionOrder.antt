@@ -21,15 +21,15 @@ use Rattle.c_place_rules.specs.Operands.{enclosed}
 use Rattle.c_place_rules.specs.Places.{type_in}
 use Rattle.c_declarators.specs.Derivations.{to_open_array, to_pointer}
 use Rattle.c_scope.specs.declared.tags.TagKind.TheVariants as kind
-use Rattle.c_typing.specs.Declarators.{parameter, type_named, with_derivation}
-use Rattle.c_typing.specs.Members.{Entries, member_specified, no_entries, tag_completed}
-use Rattle.c_typing.specs.Operators.{assigned_by, assignment_form_of, binary_form_of, combined, indexed}
-use Rattle.c_typing.specs.Operators.{prefix_form_of, step_form, stepped_by}
-use Rattle.c_typing.specs.Primaries.{literal, literal_bytes, named}
-use Rattle.c_typing.specs.Sizes.{enumeration_value}
-use Rattle.c_typing.specs.Specifications.{Specification, tag_kind, typedef_type}
-use Rattle.c_typing.specs.Specifications.{with_keyword, with_named}
-use Rattle.c_typing.specs.State.{State, judged}
+use Rattle.c_declarator_typing.specs.Declarators.{parameter, type_named, with_derivation}
+use Rattle.c_declarator_typing.specs.Members.{Entries, member_specified, no_entries, tag_completed}
+use Rattle.c_operand_typing.specs.Operators.{assigned_by, assignment_form_of, binary_form_of, combined, indexed}
+use Rattle.c_operand_typing.specs.Operators.{prefix_form_of, step_form, stepped_by}
+use Rattle.c_operand_typing.specs.Primaries.{literal, literal_bytes, named}
+use Rattle.c_declarator_typing.specs.Sizes.{enumeration_value}
+use Rattle.c_declarator_typing.specs.Specifications.{Specification, tag_kind, typedef_type}
+use Rattle.c_declarator_typing.specs.Specifications.{with_keyword, with_named}
+use Rattle.c_typing_state.specs.State.{State, judged}
 use Rattle.c_expression_typing.specs.Constructs.{accessed, begun_as, cast_to, chosen, enumerated_as}
 use Rattle.c_expression_typing.specs.Constructs.{has_words, literal_alone, plain_name, prefixed, sized}
 use Rattle.c_expression_typing.specs.Constructs.{tagged_as}

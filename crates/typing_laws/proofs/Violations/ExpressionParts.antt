@@ -14,12 +14,12 @@ use Rattle.c_call_rules.specs.Printing.{another}
 use Rattle.c_place_rules.specs.Operands.{Operand}
 use Rattle.c_scope.specs.Names.{Name}
 use Rattle.c_scope.specs.Parameters.{parameters_in, without_parameters}
-use Rattle.c_typing.specs.Calls.{Called, applied, name_called, pointer_called, printed}
-use Rattle.c_typing.specs.Declarators.{Shape}
-use Rattle.c_typing.specs.Members.{Entries, member_added}
-use Rattle.c_typing.specs.Operators.{as_value}
-use Rattle.c_typing.specs.Specifications.{Gathered, Specification, nothing_gathered, specified}
-use Rattle.c_typing.specs.State.{State, judged}
+use Rattle.c_operand_typing.specs.Calls.{Called, applied, name_called, pointer_called, printed}
+use Rattle.c_declarator_typing.specs.Declarators.{Shape}
+use Rattle.c_declarator_typing.specs.Members.{Entries, member_added}
+use Rattle.c_operand_typing.specs.Operators.{as_value}
+use Rattle.c_declarator_typing.specs.Specifications.{Gathered, Specification, nothing_gathered, specified}
+use Rattle.c_typing_state.specs.State.{State, judged}
 use Rattle.c_expression_typing.specs.Constructs.{Printing}
 use Rattle.c_expression_typing.specs.Constructs.{is_printf}
 use Rattle.c_expression_typing.specs.Lines.{first_line, name_of}

@@ -20,9 +20,9 @@ use Rattle.c_scope.specs.declared.meaning.Meaning.{Meaning}
 use Rattle.c_scope.specs.declared.meaning.Meaning.TheVariants as meaning
 use Rattle.c_scope.specs.Names.{Name, declared}
 use Rattle.c_scope.specs.Parameters.{ParameterScope}
-use Rattle.c_typing.specs.Declarators.{Shape}
-use Rattle.c_typing.specs.Specifications.{Specification}
-use Rattle.c_typing.specs.State.{judged}
+use Rattle.c_declarator_typing.specs.Declarators.{Shape}
+use Rattle.c_declarator_typing.specs.Specifications.{Specification}
+use Rattle.c_typing_state.specs.State.{judged}
 use Rattle.c_unit_typing.specs.Constructs.{Around}
 use Rattle.c_unit_typing.specs.Declarations.{stored_once}
 use Rattle.c_unit_typing.specs.Files.{File}

@@ -6,8 +6,8 @@ use Rattle.c_syntax.specs.Tree as t
 use Rattle.c_faults.specs.Answer.{◌>>=◌}
 use Rattle.c_scope.specs.Names.{Name}
 use Rattle.c_initializer_rules.specs.Initializing.{Initializing, designation_begun, with_value}
-use Rattle.c_typing.specs.Primaries.{spelled_bytes}
-use Rattle.c_typing.specs.State.{State, done, judged}
+use Rattle.c_operand_typing.specs.Primaries.{spelled_bytes}
+use Rattle.c_typing_state.specs.State.{State, done, judged}
 use Rattle.c_expression_typing.specs.Constructs.{literal_alone}
 use Rattle.c_expression_typing.specs.Lines.{name_of}
 use Rattle.c_unit_typing.specs.Initializers as typing

@@ -16,7 +16,7 @@ use Rattle.c_tree.specs.Statements as tree
 use Rattle.c_tree.specs.Tree as typed_tree
 use Rattle.c_faults.specs.Answer.{Answer}
 use Rattle.c_rules.specs.Values.{Value}
-use Rattle.c_typing.specs.State.{State, judged}
+use Rattle.c_typing_state.specs.State.{State, judged}
 use Rattle.c_unit_typing.specs.Constructs.{Labels, controls, jump, no_labels, returned_nothing, returned_value}
 use Rattle.c_unit_typing.specs.Constructs.{labels_on, scope_opened, switches}
 use Rattle.c_unit_typing.specs.Files.{File}

@@ -9,7 +9,7 @@ use Rattle.c_tree.specs.Statements as tree
 use Rattle.c_tree.specs.Tree.{kind_of}
 use Rattle.c_const.specs.Integers.{type_of}
 use Rattle.c_rules.specs.Values.{Value}
-use Rattle.c_typing.specs.State.{judged}
+use Rattle.c_typing_state.specs.State.{judged}
 use Rattle.c_unit_typing.specs.Constructs.{Around, Labels, in_scope as typed_in_scope, jump, labels_on}
 use Rattle.c_unit_typing.specs.Constructs.{looping as typed_looping, no_labels, scope_opened}
 use Rattle.c_unit_typing.specs.Constructs.{switching as typed_switching}

@@ -10,7 +10,7 @@ use Rattle.c_scope.specs.declared.meaning.Designated.TheVariants as what
 use Rattle.c_scope.specs.declared.meaning.Meaning.{Meaning}
 use Rattle.c_scope.specs.declared.meaning.Meaning.TheVariants as meaning
 use Rattle.c_scope.specs.Names.{Name, Names, declared}
-use Rattle.c_typing.specs.State.{Literal, State, extents}
+use Rattle.c_typing_state.specs.State.{Literal, State, extents}
 use Rattle.typing_laws.specs.Validity.More.{AreMore}
 use Rattle.typing_laws.specs.Validity.Sound.{Extended, IsFormed, IsPending}
 use Rattle.typing_laws.specs.Validity.Typed.{HaveMembers}

@@ -16,10 +16,10 @@ use Rattle.c_scope.specs.declared.meaning.Tag.{Tag}
 use Rattle.c_scope.specs.declared.meaning.Tag.TheVariants as tag
 use Rattle.c_scope.specs.Names.{Name, declared}
 use Rattle.c_scope.specs.Parameters.{ParameterScope}
-use Rattle.c_typing.specs.Declarators.{Shape}
-use Rattle.c_typing.specs.Members.{Entry}
-use Rattle.c_typing.specs.Specifications.{Gathered, Specification}
-use Rattle.c_typing.specs.State.{State, extents}
+use Rattle.c_declarator_typing.specs.Declarators.{Shape}
+use Rattle.c_declarator_typing.specs.Members.{Entry}
+use Rattle.c_declarator_typing.specs.Specifications.{Gathered, Specification}
+use Rattle.c_typing_state.specs.State.{State, extents}
 use Rattle.typing_laws.specs.Validity.Sound.{IsNumbered, IsObjectExtent, IsPending, is_sized_array}
 use Rattle.typing_laws.specs.Declarators.Extending.{IsNew}
 

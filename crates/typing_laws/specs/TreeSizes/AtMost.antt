@@ -3,7 +3,7 @@ use Rattle.std.specs.Prelude.{◌≡◌, ℕ, ◌+◌, ◌≤◌, List, [], ◌�
 use Rattle.c_faults.specs.Answer.{Answer}
 use Rattle.c_rules.specs.Values.{Value}
 use Rattle.c_place_rules.specs.Operands.{Operand, a_value, a_place, a_variable, a_function}
-use Rattle.c_typing.specs.State.{State}
+use Rattle.c_typing_state.specs.State.{State}
 use Rattle.typing_laws.specs.TreeSizes.Nodes.{nodes, lvalue_nodes}
 
 -- what is answered, if no rule is violated, has at most this size

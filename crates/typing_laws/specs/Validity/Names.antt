@@ -15,8 +15,8 @@ use Rattle.c_scope.specs.declared.meaning.Designated.{Designated}
 use Rattle.c_scope.specs.declared.meaning.Designated.TheVariants as what
 use Rattle.c_scope.specs.declared.meaning.Meaning.{Meaning}
 use Rattle.c_scope.specs.declared.meaning.Meaning.TheVariants as meaning
-use Rattle.c_typing.specs.Primaries.{is_aggregate, is_marked, is_undefined, size_or_zero}
-use Rattle.c_typing.specs.State.{State}
+use Rattle.c_operand_typing.specs.Primaries.{is_aggregate, is_marked, is_undefined, size_or_zero}
+use Rattle.c_typing_state.specs.State.{State}
 
 -- the kind of an object of a type, of which the bytes are counted that it has with these structures
 abbrev pub kind_among : (structures : List (Option TypeExtent)) → (type : List TypeWord) → Kind

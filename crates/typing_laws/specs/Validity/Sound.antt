@@ -17,7 +17,7 @@ use Rattle.c_scope.specs.declared.meaning.Tag.{Tag}
 use Rattle.c_scope.specs.declared.meaning.Tag.TheVariants as tag
 use Rattle.c_scope.specs.Names.{Name, meaning}
 use Rattle.c_scope.specs.Structures.{is_begun}
-use Rattle.c_typing.specs.State.{Literal, State, extents}
+use Rattle.c_typing_state.specs.State.{Literal, State, extents}
 use Rattle.typing_laws.specs.Validity.More.{AreMore}
 use Rattle.typing_laws.specs.Validity.Names.{IsMeant}
 use Rattle.typing_laws.specs.Validity.Typed.{HaveMembers}

@@ -9,8 +9,8 @@ use Rattle.c_rules.specs.Values.{Value}
 use Rattle.c_place_rules.specs.Operands.{Operand}
 use Rattle.c_place_laws.specs.FinePlaces.{IsEarlierOperand, IsFineOperand}
 use Rattle.c_call_rules.specs.FineCalls.{AreFine}
-use Rattle.c_typing.specs.Calls.{pointer_applied}
-use Rattle.c_typing.specs.State.{State}
+use Rattle.c_operand_typing.specs.Calls.{pointer_applied}
+use Rattle.c_typing_state.specs.State.{State}
 use Rattle.c_expression_typing.specs.Typed.{type_name}
 use Rattle.typing_laws.specs.Validity.Regular.{is_regular_name}
 use Rattle.typing_laws.specs.Validity.Sound.{Sound}

@@ -10,7 +10,7 @@ use Rattle.c_place_laws.specs.FinePlaces.{IsFineOperand, IsMemberOf}
 use Rattle.c_scope.specs.Names.{Name}
 use Rattle.c_scope.specs.Structures.{member_of}
 use Rattle.c_tree.specs.declared.member.Member.{Member}
-use Rattle.c_typing.specs.State.{State, extents}
+use Rattle.c_typing_state.specs.State.{State, extents}
 
 abbrev pub IfTyped : Scope → Answer (State × Operand) → Type 0
 IfTyped scope (Ok r) = IsFineOperand scope (extents r.0) r.1

@@ -14,9 +14,9 @@ use Rattle.c_scope.specs.declared.meaning.Meaning.TheVariants as meaning
 use Rattle.c_scope.specs.Names.{Name}
 use Rattle.c_initializer_rules.specs.Initializing.{Initializing, begun}
 use Rattle.c_initializer_rules.specs.Placed.{count_of, parts_in}
-use Rattle.c_typing.specs.Declarators.{Shape}
-use Rattle.c_typing.specs.Specifications.{Specification}
-use Rattle.c_typing.specs.State.{State, Typing, done, judged, ◌>>>◌}
+use Rattle.c_declarator_typing.specs.Declarators.{Shape}
+use Rattle.c_declarator_typing.specs.Specifications.{Specification}
+use Rattle.c_typing_state.specs.State.{State, Typing, done, judged, ◌>>>◌}
 use Rattle.c_unit_typing.specs.Declarations.{alone_in, completed, declared_as, initializer_in, stored_once}
 use Rattle.c_unit_typing.specs.Declarations.{with_parts, with_static, with_variable}
 use Rattle.c_unit_typing.specs.Files.{File}

@@ -21,16 +21,20 @@ use Rattle.c_scope.specs.declared.tags.TagKind.TheVariants as kind
 use Rattle.c_scope.specs.Environment.{with_block}
 use Rattle.c_scope.specs.Names.{Name}
 use Rattle.c_scope.specs.Parameters.{ParameterScope, parameters_in, without_parameters}
-use Rattle.c_typing.specs.Calls.{Called, applied, name_called, pointer_called, printed}
-use Rattle.c_typing.specs.Declarators.{Shape, parameter, plain_shape, type_named, with_derivation, with_function}
-use Rattle.c_typing.specs.Members.{Entries, member_added, member_specified, no_entries, tag_completed}
-use Rattle.c_typing.specs.Operators.{as_value, assigned_by, assignment_form_of, binary_form_of, combined, indexed}
-use Rattle.c_typing.specs.Operators.{prefix_form_of, step_form, stepped_by}
-use Rattle.c_typing.specs.Primaries.{character_constant, integer_constant, literal, literal_bytes, named, spelled_bytes}
-use Rattle.c_typing.specs.Sizes.{count_in, enumeration_value}
-use Rattle.c_typing.specs.Specifications.{Gathered, Specification, nothing_gathered, specified, tag_kind, tag_type}
-use Rattle.c_typing.specs.Specifications.{typedef_type, with_keyword, with_named}
-use Rattle.c_typing.specs.State.{State, judged}
+use Rattle.c_operand_typing.specs.Calls.{Called, applied, name_called, pointer_called, printed}
+use Rattle.c_declarator_typing.specs.Declarators.{Shape, parameter, plain_shape, type_named, with_derivation}
+use Rattle.c_declarator_typing.specs.Declarators.{with_function}
+use Rattle.c_declarator_typing.specs.Members.{Entries, member_added, member_specified, no_entries, tag_completed}
+use Rattle.c_operand_typing.specs.Operators.{as_value, assigned_by, assignment_form_of, binary_form_of, combined}
+use Rattle.c_operand_typing.specs.Operators.{indexed}
+use Rattle.c_operand_typing.specs.Operators.{prefix_form_of, step_form, stepped_by}
+use Rattle.c_operand_typing.specs.Primaries.{character_constant, integer_constant, literal, literal_bytes, named}
+use Rattle.c_operand_typing.specs.Primaries.{spelled_bytes}
+use Rattle.c_declarator_typing.specs.Sizes.{count_in, enumeration_value}
+use Rattle.c_declarator_typing.specs.Specifications.{Gathered, Specification, nothing_gathered, specified, tag_kind}
+use Rattle.c_declarator_typing.specs.Specifications.{tag_type}
+use Rattle.c_declarator_typing.specs.Specifications.{typedef_type, with_keyword, with_named}
+use Rattle.c_typing_state.specs.State.{State, judged}
 use Rattle.c_expression_typing.specs.Constructs.{Printing, accessed, begun_as, cast_to, chosen, enumerated_as}
 use Rattle.c_expression_typing.specs.Constructs.{has_words, is_printf, literal_alone, plain_name, prefixed, sized}
 use Rattle.c_expression_typing.specs.Constructs.{tagged_as}

@@ -18,9 +18,9 @@ use Rattle.c_scope.specs.declared.meaning.Meaning.TheVariants as meaning
 use Rattle.c_scope.specs.Environment.{without_block}
 use Rattle.c_scope.specs.Names.{Name, declared}
 use Rattle.c_scope.specs.Parameters.{ParameterScope, parameters_in as scope_in, with_parameters}
-use Rattle.c_typing.specs.Declarators.{Shape, built_in}
-use Rattle.c_typing.specs.Specifications.{Specification}
-use Rattle.c_typing.specs.State.{State, judged}
+use Rattle.c_declarator_typing.specs.Declarators.{Shape, built_in}
+use Rattle.c_declarator_typing.specs.Specifications.{Specification}
+use Rattle.c_typing_state.specs.State.{State, judged}
 use Rattle.c_unit_typing.specs.Declarations.{stored_once}
 use Rattle.c_unit_typing.specs.Files.{File}
 use Rattle.c_unit_typing.specs.Typed.{TypedUnit, a_fault}

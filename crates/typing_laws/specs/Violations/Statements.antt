@@ -16,7 +16,7 @@ use Rattle.c_tree.specs.ValidProgram.{Inside, in_loop, in_switch}
 use Rattle.c_const.specs.Integers.{constant_word, type_of}
 use Rattle.c_faults.specs.Answer.{Answer, ◌>>=◌}
 use Rattle.c_rules.specs.Values.{Value}
-use Rattle.c_typing.specs.State.{State, judged}
+use Rattle.c_typing_state.specs.State.{State, judged}
 use Rattle.c_unit_typing.specs.Constructs.{Around, Head, Labelled, Labels, case_with, controls, controls_if, default_on}
 use Rattle.c_unit_typing.specs.Constructs.{jump, labels_on, no_labels, returned_nothing, returned_value}
 use Rattle.c_unit_typing.specs.Constructs.{scope_closed, scope_opened, switches}

@@ -4,7 +4,7 @@ ghost use Rattle.std.specs.Prelude.{◌≡◌, Bool, true, false, List};
 ghost use Rattle.c_syntax.specs.Tree.{Declarator, Expression, Specifiers, TypedDeclarator};
 ghost use Rattle.c_tree.specs.declared.c_type.TypeWord.{TypeWord};
 ghost use Rattle.c_tree.specs.Valid.{Scope};
-ghost use Rattle.c_typing.specs.State.{State};
+ghost use Rattle.c_typing_state.specs.State.{State};
 ghost use Rattle.c_expression_typing.specs.Typed.{shape, specification, type_name, typed};
 ghost use Rattle.typing_laws.specs.Validity.Regular.{are_regular_specifiers, is_regular, is_regular_declarator};
 ghost use Rattle.typing_laws.specs.Validity.Regular.{is_regular_name};

@@ -10,8 +10,8 @@ ghost use Rattle.c_scope.specs.Parameters.{ParameterScope};
 ghost use Rattle.c_syntax.specs.Statements.{Unit as TextUnit};
 ghost use Rattle.c_syntax.specs.Tree.{Declarator};
 ghost use Rattle.c_tree.specs.Programs.{Program};
-ghost use Rattle.c_typing.specs.Declarators.{Shape};
-ghost use Rattle.c_typing.specs.State.{State};
+ghost use Rattle.c_declarator_typing.specs.Declarators.{Shape};
+ghost use Rattle.c_typing_state.specs.State.{State};
 ghost use Rattle.c_unit_typing.specs.Typed.{a_program, are_constant, typed_unit};
 ghost use Rattle.typing_laws.specs.Limits.Variables.{variables_among};
 

@@ -9,7 +9,7 @@ ghost use Rattle.c_syntax.specs.Words.{unit_words};
 ghost use Rattle.c_tree.specs.Programs.{Program};
 ghost use Rattle.c_tree.specs.Statements as tree;
 ghost use Rattle.c_tree.specs.Tree as typed_tree;
-ghost use Rattle.c_typing.specs.State.{State};
+ghost use Rattle.c_typing_state.specs.State.{State};
 ghost use Rattle.c_unit_typing.specs.Constructs.{Around, Labelled, Labels, evaluated};
 ghost use Rattle.c_unit_typing.specs.Declarations.{declaration};
 ghost use Rattle.c_unit_typing.specs.Files.{File};

@@ -1,15 +1,15 @@
 //! Laws of typed operands.
 
 ghost use Rattle.std.specs.Prelude.{◌≡◌, ℕ, Bool, true, List, Option};
-ghost use Rattle.c_typing.specs.Primaries.{character_constant, integer_constant};
+ghost use Rattle.c_operand_typing.specs.Primaries.{character_constant, integer_constant};
 ghost use Rattle.c_tree.specs.declared.expression.Fixity.{Fixity};
 ghost use Rattle.c_call_rules.specs.Printing.{Format};
-ghost use Rattle.c_typing.specs.declared.forms.AssignmentForm.{AssignmentForm};
-ghost use Rattle.c_typing.specs.declared.forms.BinaryForm.{BinaryForm};
-ghost use Rattle.c_typing.specs.declared.forms.PrefixForm.{PrefixForm};
-ghost use Rattle.c_typing.specs.Calls.{printed};
-ghost use Rattle.c_typing.specs.Operators.{as_value, assigned_by, combined, indexed, stepped_by};
-ghost use Rattle.c_typing.specs.State.{State, extents, judged};
+ghost use Rattle.c_operand_typing.specs.declared.forms.AssignmentForm.{AssignmentForm};
+ghost use Rattle.c_operand_typing.specs.declared.forms.BinaryForm.{BinaryForm};
+ghost use Rattle.c_operand_typing.specs.declared.forms.PrefixForm.{PrefixForm};
+ghost use Rattle.c_operand_typing.specs.Calls.{printed};
+ghost use Rattle.c_operand_typing.specs.Operators.{as_value, assigned_by, combined, indexed, stepped_by};
+ghost use Rattle.c_typing_state.specs.State.{State, extents, judged};
 ghost use Rattle.c_syntax.specs.Tree.{Expression};
 ghost use Rattle.c_expression_typing.specs.Typed.{typed};
 ghost use Rattle.c_expression_typing.specs.Constructs.{cast_to, chosen, prefixed, sized};

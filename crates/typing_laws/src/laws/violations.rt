@@ -7,7 +7,7 @@ ghost use Rattle.c_syntax.specs.Statements.{BlockItems, Declaration, Statement, 
 ghost use Rattle.c_syntax.specs.Tree.{Declarator, Expression, Initializer, Specifiers, TypedDeclarator};
 ghost use Rattle.c_syntax.specs.Words.{expression_words, positioned, unit_words};
 ghost use Rattle.c_initializer_rules.specs.Initializing.{Initializing};
-ghost use Rattle.c_typing.specs.State.{State};
+ghost use Rattle.c_typing_state.specs.State.{State};
 ghost use Rattle.c_expression_typing.specs.Typed as expressions;
 ghost use Rattle.c_unit_typing.specs.Constructs.{Around, Labels};
 ghost use Rattle.c_unit_typing.specs.Declarations as declarations;

@@ -1,5 +1,5 @@
 use Rattle.std.proofs.Common.{◌≡◌, ◌++◌, drop, map}
-use Rattle.c_typing.specs.Primaries.{spelled_bytes}
+use Rattle.c_operand_typing.specs.Primaries.{spelled_bytes}
 use Rattle.c_expression_typing.specs.Lines.{name_of, spellings}
 use Rattle.c_expression_typing.proofs.constructs.bytes_of.Given as goal
 

@@ -1,6 +1,6 @@
 use Rattle.std.proofs.Common.{arith}
 use Rattle.c_scope.specs.Names.{names_of}
-use Rattle.c_typing.specs.State.{state_of}
+use Rattle.c_typing_state.specs.State.{state_of}
 use Rattle.c_typer.proofs.Parameters.{parameters_next}
 use Rattle.c_typer.proofs.entering.parameters_in.Goals as goal
 

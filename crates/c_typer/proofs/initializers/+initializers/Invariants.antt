@@ -1,7 +1,7 @@
 use Rattle.std.proofs.Common.{◌≡◌, drop}
 use Rattle.c_syntax.specs.StatementsView.{more_items_in}
 use Rattle.c_initializer_rules.specs.Initializing.{initializing_of}
-use Rattle.c_typing.specs.State.{state_of}
+use Rattle.c_typing_state.specs.State.{state_of}
 use Rattle.c_unit_typing.specs.Initializers.{with_items}
 use Rattle.c_typer.proofs.initializers.+initializers.Given as goal
 

@@ -1,5 +1,5 @@
 use Rattle.std.proofs.Common.{◌≡◌, ◌+◌, drop}
-use Rattle.c_typing.specs.Calls.{place_among}
+use Rattle.c_operand_typing.specs.Calls.{place_among}
 use Rattle.c_typer.proofs.place.place_among.Given as goal
 
 abbrev pub invariant-loop-c_type : goal.invariant-loop-c_type

@@ -16,7 +16,7 @@ use Rattle.c_tree.specs.Valid.{Scope}
 use Rattle.c_tree.specs.ValidProgram.{are_parameters, are_statements, count_from, declares_all, is_variable}
 use Rattle.c_faults.specs.Answer.{Answer}
 use Rattle.c_call_rules.specs.FunctionTypes.{result_type}
-use Rattle.c_typing.specs.State.{extents}
+use Rattle.c_typing_state.specs.State.{extents}
 use Rattle.c_unit_typing.specs.Constructs.{Around}
 use Rattle.c_unit_typing.specs.Files.{File}
 use Rattle.c_unit_typing.specs.Statements.{block_items}

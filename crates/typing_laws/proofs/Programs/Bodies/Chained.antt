@@ -9,7 +9,7 @@ use Rattle.c_tree.specs.Valid.{Scope, at_number, within}
 use Rattle.c_tree.specs.ValidProgram.{is_variable}
 use Rattle.c_faults.specs.Answer.{Answer, ◌>>=◌}
 use Rattle.c_scope.specs.Names.{is_empty}
-use Rattle.c_typing.specs.State.{State, extents}
+use Rattle.c_typing_state.specs.State.{State, extents}
 use Rattle.c_unit_typing.specs.Constructs.{in_scope, scope_closed, scope_opened}
 use Rattle.c_unit_typing.specs.Files.{File, FileTyping, finished, ◌~>◌}
 use Rattle.typing_laws.specs.Validity.More.{AreMore}

@@ -27,9 +27,9 @@ use Rattle.c_scope.specs.Environment.{Environment, entity_with, in_file, linked,
 use Rattle.c_scope.specs.Environment.{with_declarator as declared_by, without_linkage}
 use Rattle.c_scope.specs.Names.{Name, declared}
 use Rattle.c_scope.specs.Names as names
-use Rattle.c_typing.specs.Declarators.{Shape, built_in}
-use Rattle.c_typing.specs.Specifications.{Specification}
-use Rattle.c_typing.specs.State.{State, extents}
+use Rattle.c_declarator_typing.specs.Declarators.{Shape, built_in}
+use Rattle.c_declarator_typing.specs.Specifications.{Specification}
+use Rattle.c_typing_state.specs.State.{State, extents}
 use Rattle.c_expression_typing.specs.Typed.{shape}
 use Rattle.c_unit_typing.specs.Declarations.{declaration, declaration_of, declared_as, declared_with}
 use Rattle.c_unit_typing.specs.Declarations.{has_place, named_by, specified}

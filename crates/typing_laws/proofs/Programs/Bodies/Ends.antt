@@ -11,7 +11,7 @@ use Rattle.c_scope.specs.declared.meaning.Designated.TheVariants as what
 use Rattle.c_scope.specs.Environment.{entity_with}
 use Rattle.c_scope.specs.Names.{declared}
 use Rattle.c_scope.specs.Names as names
-use Rattle.c_typing.specs.State.{State, extents}
+use Rattle.c_typing_state.specs.State.{State, extents}
 use Rattle.c_unit_typing.specs.Constructs.{scope_closed}
 use Rattle.c_unit_typing.specs.Files.{File}
 use Rattle.typing_laws.specs.Validity.Sound.{Covers}

@@ -22,7 +22,7 @@ use Rattle.c_scope.specs.Declaring.{is_linked}
 use Rattle.c_scope.specs.Names.{Name, Names, declared, found, is_name, or_else}
 use Rattle.c_scope.specs.Names as names
 use Rattle.c_scope.specs.Parameters.{ParameterScope, with_parameters}
-use Rattle.c_typing.specs.State.{State, extents}
+use Rattle.c_typing_state.specs.State.{State, extents}
 use Rattle.c_unit_typing.specs.Declarations.{variable_in}
 use Rattle.c_unit_typing.specs.Files.{File}
 use Rattle.c_unit_typing.specs.Units.{entered, parameter_in, parameters_in}

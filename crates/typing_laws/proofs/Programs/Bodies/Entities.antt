@@ -14,7 +14,7 @@ use Rattle.c_scope.specs.Environment.{Environment, entity_with, linked, number_o
 use Rattle.c_scope.specs.Environment.{visible_type, with_name}
 use Rattle.c_scope.specs.Names.{Name, Names, bound, declared, found, is_name, or_else}
 use Rattle.c_scope.specs.Names as names
-use Rattle.c_typing.specs.State.{State}
+use Rattle.c_typing_state.specs.State.{State}
 use Rattle.c_unit_typing.specs.Constructs.{scope_closed, scope_opened}
 use Rattle.c_unit_typing.specs.Files.{File}
 use Rattle.typing_laws.proofs.Validity.Common.{the_same}

@@ -25,7 +25,7 @@ use Rattle.c_rules.specs.Values.{Value}
 use Rattle.c_rules.proofs.FineConversions.{assigned_fine, unqualified_kind}
 use Rattle.c_condition_rules.specs.Controlling.{IfCondition, IfSwitchValue}
 use Rattle.c_condition_rules.proofs.FineConditions.{condition_fine, switch_fine}
-use Rattle.c_typing.specs.State.{State, Typing, done, extents, judged, ◌>>>◌}
+use Rattle.c_typing_state.specs.State.{State, Typing, done, extents, judged, ◌>>>◌}
 use Rattle.c_expression_typing.specs.Constructs.{valued}
 use Rattle.c_expression_typing.specs.Typed.{typed}
 use Rattle.c_unit_typing.specs.Constructs.{Head, behind_first, controlling, controls, controls_if, evaluated}

@@ -16,8 +16,8 @@ use Rattle.c_initializer_rules.specs.Initializing.{Initializing, begun}
 use Rattle.c_initializer_rules.specs.Placed.{count_of, parts_in}
 use Rattle.c_scope.specs.declared.meaning.Designated.{Designated}
 use Rattle.c_scope.specs.Names.{Name}
-use Rattle.c_typing.specs.Primaries.{is_aggregate}
-use Rattle.c_typing.specs.State.{State, done, extents, ◌>>>◌}
+use Rattle.c_operand_typing.specs.Primaries.{is_aggregate}
+use Rattle.c_typing_state.specs.State.{State, done, extents, ◌>>>◌}
 use Rattle.c_unit_typing.specs.Declarations.{completed, initialized_by, initialized_if, is_same_object, kind_in}
 use Rattle.c_unit_typing.specs.Declarations.{with_size}
 use Rattle.c_unit_typing.specs.Initializers.{initialized}

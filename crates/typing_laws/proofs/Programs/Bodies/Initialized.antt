@@ -24,8 +24,8 @@ use Rattle.c_scope.specs.Environment.{Environment}
 use Rattle.c_scope.specs.Names.{Name}
 use Rattle.c_place_rules.specs.Targets.{object_kind}
 use Rattle.c_place_laws.specs.FinePlaces.{unsized}
-use Rattle.c_typing.specs.Primaries.{is_aggregate, is_marked, size_or_zero}
-use Rattle.c_typing.specs.State.{State, done, extents, ◌>>>◌}
+use Rattle.c_operand_typing.specs.Primaries.{is_aggregate, is_marked, size_or_zero}
+use Rattle.c_typing_state.specs.State.{State, done, extents, ◌>>>◌}
 use Rattle.c_unit_typing.specs.Declarations.{completed, initialized_if, is_same_object, kind_in, variable_in, with_size}
 use Rattle.c_unit_typing.specs.Initializers.{initialized}
 use Rattle.typing_laws.specs.Validity.More.{AreMore}

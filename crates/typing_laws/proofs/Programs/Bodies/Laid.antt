@@ -10,9 +10,9 @@ use Rattle.c_faults.specs.Answer.{Answer, violates, ◌>>=◌}
 use Rattle.c_scope.specs.Declaring.{Declaration, judged as judged_declarator}
 use Rattle.c_scope.specs.Environment.{surroundings}
 use Rattle.c_scope.specs.Names.{Name}
-use Rattle.c_typing.specs.Declarators.{Shape, built_in}
-use Rattle.c_typing.specs.Specifications.{Specification}
-use Rattle.c_typing.specs.State.{State, extents, judged, ◌>>>◌}
+use Rattle.c_declarator_typing.specs.Declarators.{Shape, built_in}
+use Rattle.c_declarator_typing.specs.Specifications.{Specification}
+use Rattle.c_typing_state.specs.State.{State, extents, judged, ◌>>>◌}
 use Rattle.c_expression_typing.specs.Typed.{specification}
 use Rattle.c_unit_typing.specs.Constructs.{Labels, behind_first, case_label, controlling}
 use Rattle.c_unit_typing.specs.Constructs.{evaluated, expression_typed, returned}

@@ -25,12 +25,12 @@ use Rattle.c_scope.specs.Declaring.{judged as judged_declarator}
 use Rattle.c_scope.specs.Environment.{in_file, linked, surroundings, with_declarator, without_linkage}
 use Rattle.c_scope.specs.Names.{Name, Names, declared, is_empty}
 use Rattle.c_scope.specs.Parameters.{ParameterScope, parameters_in}
-use Rattle.c_typing.specs.Declarators.{Shape, built_in, declaring, is_misplaced as misplaced, is_nothing}
-use Rattle.c_typing.specs.Declarators.{not_for_parameter, parameter, parameter_built, parameter_declaration}
-use Rattle.c_typing.specs.Declarators.{scope_left, scope_opened, with_derivation, with_function}
-use Rattle.c_typing.specs.Sizes.{count_in}
-use Rattle.c_typing.specs.Specifications.{Specification}
-use Rattle.c_typing.specs.State.{State, Typing, done, ◌>>>◌}
+use Rattle.c_declarator_typing.specs.Declarators.{Shape, built_in, declaring, is_misplaced as misplaced, is_nothing}
+use Rattle.c_declarator_typing.specs.Declarators.{not_for_parameter, parameter, parameter_built, parameter_declaration}
+use Rattle.c_declarator_typing.specs.Declarators.{scope_left, scope_opened, with_derivation, with_function}
+use Rattle.c_declarator_typing.specs.Sizes.{count_in}
+use Rattle.c_declarator_typing.specs.Specifications.{Specification}
+use Rattle.c_typing_state.specs.State.{State, Typing, done, ◌>>>◌}
 use Rattle.c_expression_typing.specs.Constructs.{has_words, valued}
 use Rattle.c_expression_typing.specs.Typed.{more_types, parameter_type, parameter_types, shape, specification, typed}
 use Rattle.typing_laws.specs.Validity.Regular.{are_regular_parameters, is_regular_declarator, is_regular_name}

@@ -18,8 +18,8 @@ use Rattle.c_scope.specs.declared.meaning.Designated.{Designated}
 use Rattle.c_scope.specs.declared.meaning.Designated.TheVariants as what
 use Rattle.c_scope.specs.declared.meaning.Meaning.TheVariants as meaning
 use Rattle.c_scope.specs.Names.{Name}
-use Rattle.c_typing.specs.Primaries.{is_aggregate, is_marked}
-use Rattle.c_typing.specs.State.{State, extents}
+use Rattle.c_operand_typing.specs.Primaries.{is_aggregate, is_marked}
+use Rattle.c_typing_state.specs.State.{State, extents}
 use Rattle.c_unit_typing.specs.Declarations.{initialized_if, initializer_if, kind_in, parts_initializer, static_in}
 use Rattle.c_unit_typing.specs.Declarations.{variable_in, with_static, with_variable}
 use Rattle.c_unit_typing.specs.Files.{File, in_state, ◌~>◌}

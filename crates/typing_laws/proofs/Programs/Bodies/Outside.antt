@@ -30,9 +30,9 @@ use Rattle.c_scope.specs.Environment.{Environment, entity_with, in_file, type_or
 use Rattle.c_scope.specs.Environment.{with_declarator as declared_env, with_name, without_linkage}
 use Rattle.c_scope.specs.Names.{Name, declared, found, is_empty, or_else}
 use Rattle.c_scope.specs.Names as names
-use Rattle.c_typing.specs.Declarators.{Shape, built_in}
-use Rattle.c_typing.specs.Specifications.{Specification}
-use Rattle.c_typing.specs.State.{State, done, extents, ◌>>>◌}
+use Rattle.c_declarator_typing.specs.Declarators.{Shape, built_in}
+use Rattle.c_declarator_typing.specs.Specifications.{Specification}
+use Rattle.c_typing_state.specs.State.{State, done, extents, ◌>>>◌}
 use Rattle.c_expression_typing.specs.Typed.{shape}
 use Rattle.c_unit_typing.specs.Declarations.{completed, declaration, declaration_of, declared_as}
 use Rattle.c_unit_typing.specs.Declarations.{declared_with, entity_with_type, has_place, initialized_if, is_same_object}

@@ -30,13 +30,14 @@ use Rattle.c_scope.specs.Declaring.{sized_by_initializer}
 use Rattle.c_scope.specs.Environment.{in_file, linked, surroundings, with_declarator, with_variable, without_linkage}
 use Rattle.c_scope.specs.Names.{Name, Names, declared, is_empty}
 use Rattle.c_scope.specs.Parameters.{ParameterScope, parameters_in}
-use Rattle.c_typing.specs.Declarators.{Shape, built_in, declaring, is_misplaced as misplaced, is_nothing}
-use Rattle.c_typing.specs.Declarators.{not_for_parameter}
-use Rattle.c_typing.specs.Declarators.{parameter, parameter_built, parameter_declaration, scope_left, scope_opened}
-use Rattle.c_typing.specs.Declarators.{nameless_parameter, with_derivation, with_function}
-use Rattle.c_typing.specs.Sizes.{count_in}
-use Rattle.c_typing.specs.Specifications.{Specification}
-use Rattle.c_typing.specs.State.{State, Typing, done, extents, ◌>>>◌}
+use Rattle.c_declarator_typing.specs.Declarators.{Shape, built_in, declaring, is_misplaced as misplaced, is_nothing}
+use Rattle.c_declarator_typing.specs.Declarators.{not_for_parameter}
+use Rattle.c_declarator_typing.specs.Declarators.{parameter, parameter_built, parameter_declaration, scope_left}
+use Rattle.c_declarator_typing.specs.Declarators.{scope_opened}
+use Rattle.c_declarator_typing.specs.Declarators.{nameless_parameter, with_derivation, with_function}
+use Rattle.c_declarator_typing.specs.Sizes.{count_in}
+use Rattle.c_declarator_typing.specs.Specifications.{Specification}
+use Rattle.c_typing_state.specs.State.{State, Typing, done, extents, ◌>>>◌}
 use Rattle.c_expression_typing.specs.Constructs.{has_words, valued}
 use Rattle.c_expression_typing.specs.Typed.{more_types, parameter_type, parameter_types, shape, specification, typed}
 use Rattle.typing_laws.specs.Validity.More.{AreMore}

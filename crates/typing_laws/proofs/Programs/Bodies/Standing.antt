@@ -5,7 +5,7 @@ use Rattle.c_tree.specs.Valid.{Scope, within}
 use Rattle.c_scope.specs.declared.meaning.Meaning.{Meaning}
 use Rattle.c_scope.specs.Names.{Name, declared, found, or_else}
 use Rattle.c_scope.specs.Names as names
-use Rattle.c_typing.specs.State.{State}
+use Rattle.c_typing_state.specs.State.{State}
 use Rattle.c_unit_typing.specs.Constructs.{scope_closed, scope_opened}
 use Rattle.c_unit_typing.specs.Files.{File}
 use Rattle.typing_laws.specs.Validity.Names.{IsMeant}

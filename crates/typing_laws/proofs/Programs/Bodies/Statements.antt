@@ -21,7 +21,7 @@ use Rattle.c_tree.specs.ValidProgram.{is_first}
 use Rattle.c_const.specs.Integers.{type_of}
 use Rattle.c_faults.specs.Answer.{Answer, ◌>>=◌}
 use Rattle.c_rules.specs.Values.{Value}
-use Rattle.c_typing.specs.State.{State, judged}
+use Rattle.c_typing_state.specs.State.{State, judged}
 use Rattle.c_unit_typing.specs.Constructs.{Around, Head, Labels, behind_first, case_label, controlled}
 use Rattle.c_unit_typing.specs.Constructs.{declaration_typed as local_typed, default_label}
 use Rattle.c_unit_typing.specs.Constructs.{do_typed, evaluated, expression_typed}

@@ -21,8 +21,8 @@ use Rattle.c_scope.specs.declared.meaning.Designated.TheVariants as what
 use Rattle.c_scope.specs.declared.meaning.Meaning.{Meaning}
 use Rattle.c_scope.specs.declared.meaning.Meaning.TheVariants as meaning
 use Rattle.c_scope.specs.Names.{Names}
-use Rattle.c_typing.specs.Primaries.{size_or_zero}
-use Rattle.c_typing.specs.State.{State, extents}
+use Rattle.c_operand_typing.specs.Primaries.{size_or_zero}
+use Rattle.c_typing_state.specs.State.{State, extents}
 use Rattle.c_unit_typing.specs.Declarations.{kind_in, variable_in}
 use Rattle.c_unit_typing.specs.Units.{parameter_in, parameters_in}
 use Rattle.typing_laws.specs.Validity.More.{AreMore}

@@ -33,15 +33,16 @@ use Rattle.c_specifiers.specs.declared.specified.Size.TheVariants as size
 use Rattle.c_specifiers.specs.declared.specified.Specified.{Specified}
 use Rattle.c_specifiers.specs.Specified.{basic_of, basic_type}
 use Rattle.c_scope.specs.Environment.{Environment, declared_in}
-use Rattle.c_typing.specs.Declarators.{Shape, built_in, declaring, is_misplaced as misplaced, is_void}
-use Rattle.c_typing.specs.Declarators.{parameter, parameter_built, parameter_declaration, rule_or_storage}
-use Rattle.c_typing.specs.Declarators.{scope_left, scope_opened, unless, with_derivation, with_function}
-use Rattle.c_typing.specs.Sizes.{count_in}
-use Rattle.c_typing.specs.Members.{no_entries, tag_completed}
+use Rattle.c_declarator_typing.specs.Declarators.{Shape, built_in, declaring, is_misplaced as misplaced, is_void}
+use Rattle.c_declarator_typing.specs.Declarators.{parameter, parameter_built, parameter_declaration, rule_or_storage}
+use Rattle.c_declarator_typing.specs.Declarators.{scope_left, scope_opened, unless, with_derivation, with_function}
+use Rattle.c_declarator_typing.specs.Sizes.{count_in}
+use Rattle.c_declarator_typing.specs.Members.{no_entries, tag_completed}
 use Rattle.c_expression_typing.specs.Lines.{first_line, name_of, tag_name}
-use Rattle.c_typing.specs.Specifications.{Gathered, Specification, nothing_gathered, specified, tag_kind, tag_type}
-use Rattle.c_typing.specs.Specifications.{type_or_basic, typedef_meant, with_named}
-use Rattle.c_typing.specs.State.{State, Typing, done, extents, judged, ◌>>>◌}
+use Rattle.c_declarator_typing.specs.Specifications.{Gathered, Specification, nothing_gathered, specified, tag_kind}
+use Rattle.c_declarator_typing.specs.Specifications.{tag_type}
+use Rattle.c_declarator_typing.specs.Specifications.{type_or_basic, typedef_meant, with_named}
+use Rattle.c_typing_state.specs.State.{State, Typing, done, extents, judged, ◌>>>◌}
 use Rattle.c_expression_typing.specs.Constructs.{begun_as, has_words, tagged_as, valued}
 use Rattle.c_expression_typing.specs.Typed.{enumerator, gathered, more_enumerators, specification, with_members}
 use Rattle.c_expression_typing.specs.Typed.{with_specifier}

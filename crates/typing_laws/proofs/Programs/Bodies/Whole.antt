@@ -19,7 +19,7 @@ use Rattle.c_scope.specs.Library.{name_of, routines}
 use Rattle.c_scope.specs.Names as names
 use Rattle.c_scope.specs.Names.{Name, bound, declared, found, is_empty}
 use Rattle.c_scope.specs.Start.{empty, start, with_library, with_routine, with_routines}
-use Rattle.c_typing.specs.State.{State, extents}
+use Rattle.c_typing_state.specs.State.{State, extents}
 use Rattle.c_unit_typing.specs.Files.{Definition, File}
 use Rattle.c_tree.specs.Valid.{Scope}
 use Rattle.c_unit_typing.specs.Units.{entered, file_before, left, parameters_in}

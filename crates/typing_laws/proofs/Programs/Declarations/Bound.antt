@@ -13,7 +13,7 @@ use Rattle.c_scope.specs.Declaring.{Declaration, has_linkage, is_function}
 use Rattle.c_scope.specs.Environment.{Environment, entity_with, in_file, linked, statics_with}
 use Rattle.c_scope.specs.Environment.{with_declarator, with_name, without_linkage}
 use Rattle.c_scope.specs.Names.{Name, Names, bound, declared, is_name}
-use Rattle.c_typing.specs.State.{State}
+use Rattle.c_typing_state.specs.State.{State}
 use Rattle.typing_laws.proofs.Declarators.Tags.{bound_same}
 use Rattle.typing_laws.specs.Programs.Declarations.Binding.{Binds, bound_meaning, linked_meaning, unlinked_meaning}
 

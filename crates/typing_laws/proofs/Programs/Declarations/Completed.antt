@@ -15,7 +15,7 @@ use Rattle.c_scope.specs.declared.meaning.Entity.{Entity}
 use Rattle.c_scope.specs.declared.meaning.Meaning.TheVariants as meaning
 use Rattle.c_scope.specs.Environment.{with_name}
 use Rattle.c_scope.specs.Names.{Name, bound, declared}
-use Rattle.c_typing.specs.State.{State, extents}
+use Rattle.c_typing_state.specs.State.{State, extents}
 use Rattle.c_unit_typing.specs.Declarations.{completed, entity_with_type, is_same_object, with_entity, with_size}
 use Rattle.typing_laws.specs.Validity.Sound.{IsFormed, IsObjectExtent}
 use Rattle.typing_laws.proofs.Validity.Common.{the_same}

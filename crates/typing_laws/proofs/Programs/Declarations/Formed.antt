@@ -11,7 +11,7 @@ use Rattle.c_scope.specs.declared.meaning.Meaning.TheVariants as meaning
 use Rattle.c_scope.specs.Names.{Name, Names, declared, found, or_else}
 use Rattle.c_scope.specs.Names as names
 use Rattle.c_scope.specs.Structures.{is_begun, member_of}
-use Rattle.c_typing.specs.State.{State, extents}
+use Rattle.c_typing_state.specs.State.{State, extents}
 use Rattle.typing_laws.specs.Validity.Names.{IsMeant}
 use Rattle.typing_laws.specs.Validity.Sound.{IsFormed, IsNumbered, Knows, is_sized_array}
 use Rattle.typing_laws.specs.Validity.Steps.{Structures as Extents}

@@ -15,9 +15,9 @@ use Rattle.c_scope.specs.Declaring.{is_incomplete, is_misplaced, is_redeclared, 
 use Rattle.c_scope.specs.Declaring.{is_undefined, is_wrongly_initialized, judged, sized_by_initializer}
 use Rattle.c_scope.specs.Environment.{Environment, in_file, surroundings, with_declarator}
 use Rattle.c_scope.specs.Names.{Name, declared}
-use Rattle.c_typing.specs.Declarators.{Shape, built_in}
-use Rattle.c_typing.specs.Specifications.{Specification}
-use Rattle.c_typing.specs.State.{State, extents}
+use Rattle.c_declarator_typing.specs.Declarators.{Shape, built_in}
+use Rattle.c_declarator_typing.specs.Specifications.{Specification}
+use Rattle.c_typing_state.specs.State.{State, extents}
 use Rattle.c_unit_typing.specs.Declarations.{declaration_of, declared_as, has_place}
 use Rattle.typing_laws.specs.Validity.Sound.{IsFormed, is_sized_array}
 use Rattle.typing_laws.specs.Declarators.Given.{AreCounted}

@@ -6,8 +6,8 @@ use Rattle.c_syntax.specs.Tree.{Declarator}
 use Rattle.c_syntax.specs.Tree as tree
 use Rattle.c_faults.specs.Answer.{Answer, ◌>>=◌}
 use Rattle.c_scope.specs.Names.{Name}
-use Rattle.c_typing.specs.Declarators.{Shape}
-use Rattle.c_typing.specs.State.{State}
+use Rattle.c_declarator_typing.specs.Declarators.{Shape}
+use Rattle.c_typing_state.specs.State.{State}
 use Rattle.c_expression_typing.specs.Constructs.{valued}
 use Rattle.c_expression_typing.specs.Typed.{parameter_types, shape, typed}
 use Rattle.typing_laws.proofs.Programs.Common.{IfGives}

@@ -13,8 +13,8 @@ use Rattle.c_rules.proofs.FineUnary.{same_kind}
 use Rattle.c_place_rules.specs.Targets.{object_kind}
 use Rattle.c_place_laws.specs.FinePlaces.{IsSized, complete}
 use Rattle.c_place_laws.proofs.Sizes.{kind_bytes}
-use Rattle.c_typing.specs.Primaries.{is_aggregate, is_marked, size_or_zero}
-use Rattle.c_typing.specs.State.{State, extents}
+use Rattle.c_operand_typing.specs.Primaries.{is_aggregate, is_marked, size_or_zero}
+use Rattle.c_typing_state.specs.State.{State, extents}
 use Rattle.typing_laws.specs.Validity.More.{AreMore}
 use Rattle.typing_laws.specs.Validity.Names.{IsStaticOf, IsVariableOf, kind_among}
 use Rattle.typing_laws.specs.Validity.Sound.{IsObjectExtent}

@@ -28,9 +28,9 @@ use Rattle.c_scope.specs.Environment.{with_declarator as with_declared}
 use Rattle.c_scope.specs.Names.{Name, declared}
 use Rattle.c_scope.specs.Names as names
 use Rattle.c_scope.specs.Parameters.{ParameterScope}
-use Rattle.c_typing.specs.Declarators.{Shape, built_in}
-use Rattle.c_typing.specs.Specifications.{Specification}
-use Rattle.c_typing.specs.State.{State, extents, judged, ◌>>>◌}
+use Rattle.c_declarator_typing.specs.Declarators.{Shape, built_in}
+use Rattle.c_declarator_typing.specs.Specifications.{Specification}
+use Rattle.c_typing_state.specs.State.{State, extents, judged, ◌>>>◌}
 use Rattle.c_expression_typing.specs.Typed.{shape, specification}
 use Rattle.c_unit_typing.specs.Constructs.{scope_closed, scope_opened}
 use Rattle.c_unit_typing.specs.Declarations.{declaration, stored_once}

@@ -14,9 +14,9 @@ use Rattle.c_scope.specs.Declaring.{Declaration, is_extern, is_function, is_type
 use Rattle.c_scope.specs.Environment.{in_file, surroundings}
 use Rattle.c_scope.specs.Names.{Name, is_empty}
 use Rattle.c_scope.specs.Parameters.{ParameterScope}
-use Rattle.c_typing.specs.Declarators.{Shape, built_in}
-use Rattle.c_typing.specs.Specifications.{Specification}
-use Rattle.c_typing.specs.State.{State, extents, judged, ◌>>>◌}
+use Rattle.c_declarator_typing.specs.Declarators.{Shape, built_in}
+use Rattle.c_declarator_typing.specs.Specifications.{Specification}
+use Rattle.c_typing_state.specs.State.{State, extents, judged, ◌>>>◌}
 use Rattle.c_expression_typing.specs.Typed.{shape, specification}
 use Rattle.c_unit_typing.specs.Declarations.{declaration, stored_once}
 use Rattle.c_unit_typing.specs.Files.{File, FileTyping, in_state, ◌~>◌}

@@ -24,7 +24,7 @@ use Rattle.c_scope.specs.Environment.{Environment, Facts}
 use Rattle.c_scope.specs.Library.{name_of, routines}
 use Rattle.c_scope.specs.Names.{Name}
 use Rattle.c_scope.specs.Start.{empty, start, with_library, with_routine, with_routines}
-use Rattle.c_typing.specs.State.{extents}
+use Rattle.c_typing_state.specs.State.{extents}
 use Rattle.c_unit_typing.specs.Files.{File}
 use Rattle.c_unit_typing.specs.Programs.{function_type, parameter_kinds, program_of, result_kind}
 use Rattle.c_unit_typing.specs.Units.{externals, file_before, file_with}

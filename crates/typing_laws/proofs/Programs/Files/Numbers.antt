@@ -15,7 +15,7 @@ use Rattle.c_scope.specs.Declaring.{Declaration, has_linkage, is_function, is_li
 use Rattle.c_scope.specs.Environment.{designated, entity_with, in_file, linked, statics_with, with_declarator}
 use Rattle.c_scope.specs.Environment.{without_linkage}
 use Rattle.c_scope.specs.Names.{Name, Names, bound, declared, is_name}
-use Rattle.c_typing.specs.State.{State}
+use Rattle.c_typing_state.specs.State.{State}
 use Rattle.c_unit_typing.specs.Declarations.{entity_with_type, with_entity, with_size}
 use Rattle.typing_laws.proofs.Validity.Common.{first as left, second as right, the_same}
 use Rattle.typing_laws.specs.Declarators.Extending.{Extends, below, literals_at}

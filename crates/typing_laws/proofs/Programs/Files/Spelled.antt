@@ -32,9 +32,9 @@ use Rattle.c_scope.specs.Environment.{in_file, surroundings, type_or, visible_ty
 use Rattle.c_scope.specs.Environment.{with_declarator as with_declared}
 use Rattle.c_scope.specs.Names.{Name, Names, bound, declared}
 use Rattle.c_scope.specs.Names as names
-use Rattle.c_typing.specs.Declarators.{Shape, built_in}
-use Rattle.c_typing.specs.Specifications.{Specification}
-use Rattle.c_typing.specs.State.{State, done, extents, judged, ◌>>>◌}
+use Rattle.c_declarator_typing.specs.Declarators.{Shape, built_in}
+use Rattle.c_declarator_typing.specs.Specifications.{Specification}
+use Rattle.c_typing_state.specs.State.{State, done, extents, judged, ◌>>>◌}
 use Rattle.c_expression_typing.specs.Constructs.{valued}
 use Rattle.c_expression_typing.specs.Typed.{shape, specification, typed}
 use Rattle.c_unit_typing.specs.Declarations.{alone_in, completed, declaration, declaration_of, declared_as}

@@ -14,7 +14,7 @@ use Rattle.c_scope.specs.declared.meaning.Designated.{Designated}
 use Rattle.c_scope.specs.declared.meaning.Designated.TheVariants as what
 use Rattle.c_scope.specs.declared.meaning.Entity.{Entity}
 use Rattle.c_scope.specs.Names.{Name, Names, declared, is_name}
-use Rattle.c_typing.specs.State.{Literal, extents}
+use Rattle.c_typing_state.specs.State.{Literal, extents}
 use Rattle.c_unit_typing.specs.Declarations.{kind_in}
 use Rattle.c_unit_typing.specs.Files.{File}
 use Rattle.c_unit_typing.specs.Programs.{final_type, linked_object, linked_objects, literal_object, parts_of}

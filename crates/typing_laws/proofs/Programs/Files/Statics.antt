@@ -9,7 +9,7 @@ use Rattle.c_scope.specs.declared.meaning.Designated.{Designated}
 use Rattle.c_scope.specs.declared.meaning.Designated.TheVariants as what
 use Rattle.c_scope.specs.declared.meaning.Entity.{Entity}
 use Rattle.c_scope.specs.Names.{Names}
-use Rattle.c_typing.specs.State.{Literal}
+use Rattle.c_typing_state.specs.State.{Literal}
 use Rattle.c_unit_typing.specs.Files.{File}
 use Rattle.c_unit_typing.specs.Programs.{in_order, linked_object, linked_objects, literal_object, static_objects}
 use Rattle.c_unit_typing.specs.Programs.{with_number}

@@ -27,10 +27,10 @@ use Rattle.c_scope.specs.Environment.{visible_type, with_declarator, without_lin
 use Rattle.c_scope.specs.Names.{Name, Names, bound, declared}
 use Rattle.c_scope.specs.Names as names
 use Rattle.c_scope.specs.Parameters.{ParameterScope}
-use Rattle.c_typing.specs.Calls.{place_among}
-use Rattle.c_typing.specs.Declarators.{Shape, built_in}
-use Rattle.c_typing.specs.Specifications.{Specification}
-use Rattle.c_typing.specs.State.{State, extents, judged, ◌>>>◌}
+use Rattle.c_operand_typing.specs.Calls.{place_among}
+use Rattle.c_declarator_typing.specs.Declarators.{Shape, built_in}
+use Rattle.c_declarator_typing.specs.Specifications.{Specification}
+use Rattle.c_typing_state.specs.State.{State, extents, judged, ◌>>>◌}
 use Rattle.c_expression_typing.specs.Typed.{shape, specification}
 use Rattle.c_unit_typing.specs.Declarations.{declaration, stored_once}
 use Rattle.c_unit_typing.specs.Files.{Definition, File, FileTyping, in_state, ◌~>◌}

@@ -25,9 +25,9 @@ use Rattle.c_scope.specs.Declaring.{is_function}
 use Rattle.c_scope.specs.Environment.{Facts, number_or}
 use Rattle.c_scope.specs.Names.{Name, Names, declared, is_empty, is_name}
 use Rattle.c_scope.specs.Start.{start}
-use Rattle.c_typing.specs.Calls.{place_among}
-use Rattle.c_typing.specs.Primaries.{is_undefined}
-use Rattle.c_typing.specs.State.{extents}
+use Rattle.c_operand_typing.specs.Calls.{place_among}
+use Rattle.c_operand_typing.specs.Primaries.{is_undefined}
+use Rattle.c_typing_state.specs.State.{extents}
 use Rattle.c_unit_typing.specs.Files.{Definition, File, FileTyping}
 use Rattle.c_unit_typing.specs.Programs.{function_of, function_type, functions_from, number_or_zero, program_of}
 use Rattle.c_unit_typing.specs.Programs.{result_kind, room_of}

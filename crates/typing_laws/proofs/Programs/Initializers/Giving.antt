@@ -7,8 +7,8 @@ use Rattle.c_faults.specs.Answer.{Answer, ◌>>=◌}
 use Rattle.c_rules.specs.Fine.{IsFine}
 use Rattle.c_rules.specs.Values.{Value}
 use Rattle.c_place_rules.specs.Operands.{Operand}
-use Rattle.c_typing.specs.Operators.{as_value, value_among}
-use Rattle.c_typing.specs.State.{State, Typing, extents}
+use Rattle.c_operand_typing.specs.Operators.{as_value, value_among}
+use Rattle.c_typing_state.specs.State.{State, Typing, extents}
 use Rattle.c_expression_typing.specs.Constructs.{valued}
 use Rattle.c_expression_typing.specs.Typed.{typed}
 use Rattle.typing_laws.specs.Validity.Regular.{is_regular}

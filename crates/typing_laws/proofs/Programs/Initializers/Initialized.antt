@@ -22,8 +22,8 @@ use Rattle.c_current_object.specs.Subobjects.{whole}
 use Rattle.c_current_object.specs.Types.{is_aggregate_as}
 use Rattle.c_initializer_rules.specs.Initializing.{Initializing, begun}
 use Rattle.c_initializer_rules.specs.Placed.{PlacedPart, count_of, parts_in}
-use Rattle.c_typing.specs.Primaries.{is_aggregate, size_or_zero}
-use Rattle.c_typing.specs.State.{State, extents}
+use Rattle.c_operand_typing.specs.Primaries.{is_aggregate, size_or_zero}
+use Rattle.c_typing_state.specs.State.{State, extents}
 use Rattle.c_expression_typing.specs.Typed.{typed}
 use Rattle.c_unit_typing.specs.Declarations.{completed, initialized_by, initialized_if, kind_in}
 use Rattle.c_unit_typing.specs.Declarations.{parts_initializer}

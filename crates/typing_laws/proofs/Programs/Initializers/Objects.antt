@@ -18,8 +18,8 @@ use Rattle.c_declarators.specs.Derivations.{array_of, is_large}
 use Rattle.c_scope.specs.declared.meaning.Designated.{Designated}
 use Rattle.c_scope.specs.Declaring.{sized_by_initializer}
 use Rattle.c_scope.specs.Names.{Name}
-use Rattle.c_typing.specs.Primaries.{is_aggregate, size_or_zero}
-use Rattle.c_typing.specs.State.{State, extents}
+use Rattle.c_operand_typing.specs.Primaries.{is_aggregate, size_or_zero}
+use Rattle.c_typing_state.specs.State.{State, extents}
 use Rattle.c_unit_typing.specs.Declarations.{completed, is_same_object, kind_in, with_size}
 use Rattle.typing_laws.specs.Validity.Sound.{Covers, IsFormed}
 use Rattle.typing_laws.specs.Validity.More.{AreMore}

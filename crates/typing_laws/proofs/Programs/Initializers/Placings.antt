@@ -10,7 +10,7 @@ use Rattle.c_initializer_rules.specs.declared.initializing.Braces.{Braces}
 use Rattle.c_initializer_rules.specs.declared.initializing.Next.{Next}
 use Rattle.c_initializer_rules.specs.Initializing.{Initializing, with_literal}
 use Rattle.c_initializer_rules.specs.Placed.{PlacedPart}
-use Rattle.c_typing.specs.State.{State, extents}
+use Rattle.c_typing_state.specs.State.{State, extents}
 use Rattle.c_unit_typing.specs.Initializers.{member_lists}
 use Rattle.typing_laws.specs.Validity.Steps.{Structures}
 use Rattle.typing_laws.proofs.Validity.Sound.{IfAnswer, Stays}

@@ -11,8 +11,8 @@ use Rattle.c_rules.specs.Values.{Value}
 use Rattle.c_initializer_rules.specs.Initializing.{Initializing, closed, designation_begun, opened, with_index}
 use Rattle.c_initializer_rules.specs.Initializing.{with_literal, with_name, with_value}
 use Rattle.c_scope.specs.Names.{Name}
-use Rattle.c_typing.specs.Primaries.{spelled_bytes}
-use Rattle.c_typing.specs.State.{State, done, extents, judged, ◌>>>◌}
+use Rattle.c_operand_typing.specs.Primaries.{spelled_bytes}
+use Rattle.c_typing_state.specs.State.{State, done, extents, judged, ◌>>>◌}
 use Rattle.c_expression_typing.specs.Constructs.{literal_alone, valued}
 use Rattle.c_expression_typing.specs.Lines.{name_of}
 use Rattle.c_expression_typing.specs.Typed.{typed}

@@ -18,7 +18,7 @@ use Rattle.c_current_object.specs.Members.{MemberLists}
 use Rattle.c_current_object.specs.Subobjects.{part, part_as, whole}
 use Rattle.c_current_object.specs.Types.{is_aggregate_as, is_character_array, is_character_array_as}
 use Rattle.c_initializer_rules.specs.Placed.{PlacedPart, placed, with_part, without}
-use Rattle.c_typing.specs.Primaries.{is_aggregate}
+use Rattle.c_operand_typing.specs.Primaries.{is_aggregate}
 use Rattle.typing_laws.specs.Validity.More.{AreMore}
 use Rattle.typing_laws.proofs.Validity.Common.{the_same}
 use Rattle.typing_laws.proofs.Validity.Kept.{kind_kept}

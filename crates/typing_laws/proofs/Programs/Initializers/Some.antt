@@ -27,7 +27,7 @@ use Rattle.c_initializer_rules.specs.Initializing.{place_of, stored_at, value_ne
 use Rattle.c_initializer_rules.specs.Initializing.{with_value}
 use Rattle.c_initializer_rules.specs.Literals.{filling, is_too_long}
 use Rattle.c_initializer_rules.specs.Placed.{PlacedPart, placed, without}
-use Rattle.c_typing.specs.State.{State, extents}
+use Rattle.c_typing_state.specs.State.{State, extents}
 use Rattle.c_unit_typing.specs.Initializers.{member_lists}
 use Rattle.typing_laws.specs.Validity.Steps.{Structures}
 use Rattle.typing_laws.proofs.Validity.Common.{second}

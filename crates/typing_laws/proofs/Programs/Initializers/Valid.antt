@@ -9,7 +9,7 @@ use Rattle.c_tree.specs.Valid.{Scope, is_valid}
 use Rattle.c_faults.specs.Answer.{Answer}
 use Rattle.c_current_object.specs.declared.subobject.Subobject.{Subobject}
 use Rattle.c_initializer_rules.specs.Initializing.{Initializing}
-use Rattle.c_typing.specs.State.{State, extents}
+use Rattle.c_typing_state.specs.State.{State, extents}
 use Rattle.c_expression_typing.specs.Typed.{typed}
 use Rattle.c_unit_typing.specs.Initializers.{initialized}
 use Rattle.typing_laws.specs.Validity.Sound.{Sound}

@@ -3,7 +3,7 @@ use Rattle.std.proofs.Common.{◌≡◌, Bool, true, false, sym, ◌∙◌}
 use Rattle.std.specs.Prelude.{Ok, Err}
 use Rattle.c_syntax.specs.Tree.{Expression}
 use Rattle.c_faults.specs.Answer.{Answer, ◌>>=◌}
-use Rattle.c_typing.specs.State.{State, Typing, extents, judged, ◌>>>◌}
+use Rattle.c_typing_state.specs.State.{State, Typing, extents, judged, ◌>>>◌}
 use Rattle.c_expression_typing.specs.Constructs.{valued}
 use Rattle.c_expression_typing.specs.Typed.{typed}
 use Rattle.c_unit_typing.specs.Constructs.{in_scope, scope_closed, scope_opened}

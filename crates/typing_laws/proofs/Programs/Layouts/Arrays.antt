@@ -21,7 +21,7 @@ use Rattle.c_specifiers.specs.declared.specified.Specified.{Specified}
 use Rattle.c_specifiers.specs.Specified.{basic_of}
 use Rattle.c_scope.specs.declared.meaning.Tag.{Tag}
 use Rattle.c_scope.specs.declared.meaning.Tag.TheVariants as tag
-use Rattle.c_typing.specs.Specifications.{Gathered, specified, tag_type, type_or_basic}
+use Rattle.c_declarator_typing.specs.Specifications.{Gathered, specified, tag_type, type_or_basic}
 use Rattle.typing_laws.specs.Validity.More.{AreMore}
 use Rattle.typing_laws.proofs.Validity.Common.{both_true}
 use Rattle.typing_laws.proofs.Validity.Kept.{extent_kept}

@@ -1,7 +1,7 @@
 -- The state behind what is typed is laid out.
 use Rattle.std.proofs.Common.{◌≡◌, Bool, true, false}
 use Rattle.c_syntax.specs.Tree.{Declarator, Expression, Specifiers, TypedDeclarator}
-use Rattle.c_typing.specs.State.{State}
+use Rattle.c_typing_state.specs.State.{State}
 use Rattle.c_expression_typing.specs.Typed.{shape, specification, type_name, typed}
 use Rattle.typing_laws.specs.Validity.Regular.{are_regular_specifiers, is_regular, is_regular_declarator, is_regular_name}
 use Rattle.typing_laws.specs.Validity.Sound.{IsFormed}

@@ -8,7 +8,7 @@ use Rattle.c_scope.specs.declared.meaning.Meaning.{Meaning}
 use Rattle.c_scope.specs.declared.meaning.Meaning.TheVariants as meaning
 use Rattle.c_scope.specs.Names.{declared, found, or_else}
 use Rattle.c_current_object.specs.Members.{lists_in}
-use Rattle.c_typing.specs.State.{State, Typing, extents}
+use Rattle.c_typing_state.specs.State.{State, Typing, extents}
 use Rattle.typing_laws.specs.Validity.More.{AreMore}
 use Rattle.typing_laws.proofs.Validity.Common.{the_same}
 use Rattle.typing_laws.proofs.Validity.Sound.{IfAnswer}

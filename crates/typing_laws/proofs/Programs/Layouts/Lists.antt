@@ -22,12 +22,12 @@ use Rattle.c_scope.specs.Structures.{Body, Structures, begun, changed, declared_
 use Rattle.c_scope.specs.Structures.{members_in}
 use Rattle.c_scope.specs.Tags.{added, begins_in, has_begun, if_file, is_of, marked, next_tag, tag_found, referred}
 use Rattle.c_current_object.specs.Members.{MemberList, list_in, lists_in}
-use Rattle.c_typing.specs.Declarators.{Shape, built_in}
-use Rattle.c_typing.specs.Members.{Entries, Entry, extent_with, member_added, member_at, member_named}
-use Rattle.c_typing.specs.Members.{member_rule, members_at, offsets_in, sized_entry, tag_completed}
-use Rattle.c_typing.specs.Members.{with_structure}
-use Rattle.c_typing.specs.Specifications.{Specification}
-use Rattle.c_typing.specs.State.{State, extents}
+use Rattle.c_declarator_typing.specs.Declarators.{Shape, built_in}
+use Rattle.c_declarator_typing.specs.Members.{Entries, Entry, extent_with, member_added, member_at, member_named}
+use Rattle.c_declarator_typing.specs.Members.{member_rule, members_at, offsets_in, sized_entry, tag_completed}
+use Rattle.c_declarator_typing.specs.Members.{with_structure}
+use Rattle.c_declarator_typing.specs.Specifications.{Specification}
+use Rattle.c_typing_state.specs.State.{State, extents}
 use Rattle.c_expression_typing.specs.Constructs.{begun_as, tagged_as}
 use Rattle.typing_laws.specs.Validity.More.{AreMore}
 use Rattle.typing_laws.specs.Validity.Sound.{IsFormed, IsPending}

@@ -25,18 +25,21 @@ use Rattle.c_scope.specs.Enumerators.{enumerated, with_value}
 use Rattle.c_scope.specs.Environment.{Environment, declared_in, surroundings, with_declarator}
 use Rattle.c_scope.specs.Names.{Name, declared}
 use Rattle.c_scope.specs.Names as names
-use Rattle.c_typing.specs.declared.forms.PrefixForm.{PrefixForm}
-use Rattle.c_typing.specs.declared.forms.PrefixForm.TheVariants as form
-use Rattle.c_typing.specs.Calls.{Called, a_function, a_pointer, a_printf, a_routine, applied}
-use Rattle.c_typing.specs.Calls.{called_by_value, called_plainly, name_called, place_among, plainly_applied, plainly_or}
-use Rattle.c_typing.specs.Calls.{printed, with_callee_type}
-use Rattle.c_typing.specs.Declarators.{Shape, declaring, is_misplaced, nameless_parameter, parameter, parameter_built}
-use Rattle.c_typing.specs.Declarators.{parameter_declaration, built_in}
-use Rattle.c_typing.specs.Operators.{arrowed, as_value, dotted, object_taken, stepped_by, unary_value, value_among}
-use Rattle.c_typing.specs.Operators.{variable_named, with_taken, addressed}
-use Rattle.c_typing.specs.Primaries.{literal, meant, named, used_as, with_use, is_undefined}
-use Rattle.c_typing.specs.Specifications.{Specification}
-use Rattle.c_typing.specs.State.{State, Typing, extents, judged, ◌>>>◌}
+use Rattle.c_operand_typing.specs.declared.forms.PrefixForm.{PrefixForm}
+use Rattle.c_operand_typing.specs.declared.forms.PrefixForm.TheVariants as form
+use Rattle.c_operand_typing.specs.Calls.{Called, a_function, a_pointer, a_printf, a_routine, applied}
+use Rattle.c_operand_typing.specs.Calls.{called_by_value, called_plainly, name_called, place_among, plainly_applied}
+use Rattle.c_operand_typing.specs.Calls.{plainly_or}
+use Rattle.c_operand_typing.specs.Calls.{printed, with_callee_type}
+use Rattle.c_declarator_typing.specs.Declarators.{Shape, declaring, is_misplaced, nameless_parameter, parameter}
+use Rattle.c_declarator_typing.specs.Declarators.{parameter_built}
+use Rattle.c_declarator_typing.specs.Declarators.{parameter_declaration, built_in}
+use Rattle.c_operand_typing.specs.Operators.{arrowed, as_value, dotted, object_taken, stepped_by, unary_value}
+use Rattle.c_operand_typing.specs.Operators.{value_among}
+use Rattle.c_operand_typing.specs.Operators.{variable_named, with_taken, addressed}
+use Rattle.c_operand_typing.specs.Primaries.{literal, meant, named, used_as, with_use, is_undefined}
+use Rattle.c_declarator_typing.specs.Specifications.{Specification}
+use Rattle.c_typing_state.specs.State.{State, Typing, extents, judged, ◌>>>◌}
 use Rattle.c_expression_typing.specs.Constructs.{accessed, enumerated_as, prefixed}
 use Rattle.typing_laws.specs.Declarators.Given.{anything}
 use Rattle.typing_laws.proofs.Programs.Declarations.Bound.{declarator_binds}

@@ -17,7 +17,7 @@ use Rattle.c_scope.specs.Library.{name_of, routines}
 use Rattle.c_scope.specs.Names.{Name, Names, bound, declared, found, or_else}
 use Rattle.c_scope.specs.Start.{empty, start, with_library, with_routine, with_routines}
 use Rattle.c_scope.specs.Structures.{none}
-use Rattle.c_typing.specs.State.{State}
+use Rattle.c_typing_state.specs.State.{State}
 use Rattle.c_unit_typing.specs.Units.{file_before}
 use Rattle.typing_laws.proofs.Declarators.Tags.{bound_same}
 use Rattle.typing_laws.specs.Programs.Layouts.Listed.{AreListed, HasArraysIn, HasSizes, IsLaidOut}

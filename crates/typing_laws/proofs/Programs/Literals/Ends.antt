@@ -9,7 +9,7 @@ use Rattle.c_facts.specs.Facts.{facts_in}
 use Rattle.c_faults.specs.Answer.{Answer}
 use Rattle.c_scope.specs.Environment.{Facts, number_or}
 use Rattle.c_scope.specs.Names.{Names, declared}
-use Rattle.c_typing.specs.State.{Literal}
+use Rattle.c_typing_state.specs.State.{Literal}
 use Rattle.c_unit_typing.specs.Files.{File}
 use Rattle.c_unit_typing.specs.Programs.{program_of, static_objects}
 use Rattle.c_unit_typing.specs.Units.{externals, file_before, file_with}

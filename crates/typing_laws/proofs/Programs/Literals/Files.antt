@@ -22,9 +22,9 @@ use Rattle.c_scope.specs.Environment.{Environment, entity_with, in_file, linked,
 use Rattle.c_scope.specs.Environment.{without_linkage}
 use Rattle.c_scope.specs.Names.{Name, Names, declared}
 use Rattle.c_scope.specs.Parameters.{ParameterScope}
-use Rattle.c_typing.specs.Declarators.{Shape, built_in}
-use Rattle.c_typing.specs.Specifications.{Specification}
-use Rattle.c_typing.specs.State.{Literal, State, extents, judged, ◌>>>◌}
+use Rattle.c_declarator_typing.specs.Declarators.{Shape, built_in}
+use Rattle.c_declarator_typing.specs.Specifications.{Specification}
+use Rattle.c_typing_state.specs.State.{Literal, State, extents, judged, ◌>>>◌}
 use Rattle.c_expression_typing.specs.Typed.{shape, specification}
 use Rattle.c_unit_typing.specs.Declarations.{declaration, stored_once}
 use Rattle.c_unit_typing.specs.Files.{File, FileTyping, in_state, ◌~>◌}

@@ -3,8 +3,8 @@ use Rattle.std.proofs.Common.{◌≡◌, true, false, refl, sym, ap, ◌∙◌, 
 use Rattle.std.proofs.lemmas.List.{append-nil, append_assoc}
 use Rattle.c_syntax.specs.Statements.{BlockItems}
 use Rattle.c_scope.specs.Tags.{added, marked}
-use Rattle.c_typing.specs.Members.{with_structure}
-use Rattle.c_typing.specs.State.{State}
+use Rattle.c_declarator_typing.specs.Members.{with_structure}
+use Rattle.c_typing_state.specs.State.{State}
 use Rattle.c_unit_typing.specs.Constructs.{Around}
 use Rattle.c_unit_typing.specs.Files.{File}
 use Rattle.c_unit_typing.specs.Statements.{block_items}

@@ -28,9 +28,9 @@ use Rattle.c_scope.specs.Environment.{with_declarator as declared_env, with_vari
 use Rattle.c_scope.specs.Environment.{without_linkage}
 use Rattle.c_scope.specs.Names.{Name, Names, bound, declared, found, or_else}
 use Rattle.c_scope.specs.Names as names
-use Rattle.c_typing.specs.Declarators.{Shape, built_in}
-use Rattle.c_typing.specs.Specifications.{Specification}
-use Rattle.c_typing.specs.State.{State, done, extents, ◌>>>◌}
+use Rattle.c_declarator_typing.specs.Declarators.{Shape, built_in}
+use Rattle.c_declarator_typing.specs.Specifications.{Specification}
+use Rattle.c_typing_state.specs.State.{State, done, extents, ◌>>>◌}
 use Rattle.c_expression_typing.specs.Typed.{shape}
 use Rattle.c_unit_typing.specs.Declarations.{alone_in, completed, declaration, declaration_of, declared_as}
 use Rattle.c_unit_typing.specs.Declarations.{declared_with, entity_with_type, has_place, initialized_if, is_of_type}

@@ -7,7 +7,7 @@ use Rattle.c_syntax.specs.Statements as t
 use Rattle.c_tree.specs.declared.expression.Kind.TheVariants as kind
 use Rattle.c_tree.specs.Programs.{StaticObject}
 use Rattle.c_tree.specs.Valid.{Scope, has_number}
-use Rattle.c_typing.specs.State.{extents}
+use Rattle.c_typing_state.specs.State.{extents}
 use Rattle.c_unit_typing.specs.Files.{File}
 use Rattle.c_unit_typing.specs.Programs.{linked_objects, literal_object, program_of}
 use Rattle.c_unit_typing.specs.Units.{file_with}

@@ -25,7 +25,7 @@ use Rattle.typing_laws.proofs.Programs.Common.{conflict}
 use Rattle.typing_laws.proofs.Programs.SpelledTypes.Composites.{IsJoint, alike, first_sized, second_sized}
 use Rattle.typing_laws.proofs.Programs.SpelledTypes.Composites.{composite_nothing, joins, none_first, none_second}
 use Rattle.c_declarators.specs.Derivations.{array_of}
-use Rattle.c_typing.specs.Primaries.{size_or_zero}
+use Rattle.c_operand_typing.specs.Primaries.{size_or_zero}
 use Rattle.c_unit_typing.specs.Programs.{final_type}
 use Rattle.typing_laws.specs.Validity.Names.{kind_among}
 use Rattle.typing_laws.specs.Validity.Steps.{Structures}

@@ -13,7 +13,7 @@ use Rattle.c_scope.specs.declared.meaning.Meaning.TheVariants as meaning
 use Rattle.c_scope.specs.Declaring.{is_linked}
 use Rattle.c_scope.specs.Names.{Name, declared}
 use Rattle.c_scope.specs.Names as names
-use Rattle.c_typing.specs.State.{State, extents}
+use Rattle.c_typing_state.specs.State.{State, extents}
 use Rattle.c_unit_typing.specs.Files.{Definition, File}
 use Rattle.c_unit_typing.specs.Programs.{final_type, program_of}
 use Rattle.c_unit_typing.specs.Units.{entered, file_with, left, parameters_in}

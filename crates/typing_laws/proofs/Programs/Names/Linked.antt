@@ -17,8 +17,8 @@ use Rattle.c_scope.specs.Environment.{Environment, entity_with, in_file, linked,
 use Rattle.c_scope.specs.Environment.{with_declarator, without_linkage}
 use Rattle.c_scope.specs.Names.{Name, declared}
 use Rattle.c_scope.specs.Names as names
-use Rattle.c_typing.specs.Primaries.{is_undefined}
-use Rattle.c_typing.specs.State.{State, extents}
+use Rattle.c_operand_typing.specs.Primaries.{is_undefined}
+use Rattle.c_typing_state.specs.State.{State, extents}
 use Rattle.c_unit_typing.specs.Files.{File}
 use Rattle.c_unit_typing.specs.Programs.{final_type, program_of}
 use Rattle.c_unit_typing.specs.Units.{file_with}

@@ -9,7 +9,7 @@ use Rattle.c_tree.specs.declared.expression.Kind.{Kind}
 use Rattle.c_tree.specs.declared.expression.Kind.TheVariants as kind
 use Rattle.c_tree.specs.Kinds.{is_size, size_of_kind}
 use Rattle.c_tree.specs.Programs.{StaticObject}
-use Rattle.c_typing.specs.State.{Literal}
+use Rattle.c_typing_state.specs.State.{Literal}
 use Rattle.c_unit_typing.specs.Files.{File}
 use Rattle.c_unit_typing.specs.Programs.{linked_objects, literal_object, program_of}
 use Rattle.c_unit_typing.specs.Typed.{end_behind, global_bytes, most_bytes}

@@ -16,8 +16,8 @@ use Rattle.c_tree.specs.ValidProgram.{are_all_different, are_functions, are_para
 use Rattle.c_tree.specs.ValidProgram.{function_scope, is_function, is_function_type, is_main, is_static_object}
 use Rattle.c_tree.specs.ValidProgram.{is_valid_program, is_variable, signature_at}
 use Rattle.c_call_rules.specs.FunctionTypes.{result_type}
-use Rattle.c_typing.specs.Calls.{place_among}
-use Rattle.c_typing.specs.State.{extents}
+use Rattle.c_operand_typing.specs.Calls.{place_among}
+use Rattle.c_typing_state.specs.State.{extents}
 use Rattle.c_unit_typing.specs.Files.{Definition, File}
 use Rattle.c_unit_typing.specs.Programs.{function_of, function_type, functions_from}
 use Rattle.c_unit_typing.specs.Programs.{program_of, room_of, static_objects}

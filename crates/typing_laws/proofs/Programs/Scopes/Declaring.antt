@@ -9,9 +9,9 @@ use Rattle.c_syntax.specs.Tree.{Initializer}
 use Rattle.c_tree.specs.Statements.{DeclaredVariable}
 use Rattle.c_faults.specs.Answer.{Answer, ◌>>=◌}
 use Rattle.c_scope.specs.Names.{Name}
-use Rattle.c_typing.specs.Declarators.{Shape}
-use Rattle.c_typing.specs.Specifications.{Specification}
-use Rattle.c_typing.specs.State.{State}
+use Rattle.c_declarator_typing.specs.Declarators.{Shape}
+use Rattle.c_declarator_typing.specs.Specifications.{Specification}
+use Rattle.c_typing_state.specs.State.{State}
 use Rattle.c_expression_typing.specs.Typed.{shape}
 use Rattle.c_unit_typing.specs.Declarations.{alone_in, declaration, named_by, specified, with_declarator}
 use Rattle.c_unit_typing.specs.Declarations.{with_declarators}

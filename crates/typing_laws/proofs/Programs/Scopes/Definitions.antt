@@ -14,9 +14,9 @@ use Rattle.c_scope.specs.Declaring.{Declaration, is_typedef, judged as judged_de
 use Rattle.c_scope.specs.Environment.{surroundings, with_declarator}
 use Rattle.c_scope.specs.Names.{Name, declared}
 use Rattle.c_scope.specs.Parameters.{ParameterScope}
-use Rattle.c_typing.specs.Declarators.{Shape, built_in}
-use Rattle.c_typing.specs.Specifications.{Specification}
-use Rattle.c_typing.specs.State.{State, extents, judged, ◌>>>◌}
+use Rattle.c_declarator_typing.specs.Declarators.{Shape, built_in}
+use Rattle.c_declarator_typing.specs.Specifications.{Specification}
+use Rattle.c_typing_state.specs.State.{State, extents, judged, ◌>>>◌}
 use Rattle.c_expression_typing.specs.Typed.{shape, specification}
 use Rattle.c_unit_typing.specs.Declarations.{stored_once}
 use Rattle.c_unit_typing.specs.Files.{File, FileTyping, in_state, ◌~>◌}

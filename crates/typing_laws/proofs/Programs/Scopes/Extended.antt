@@ -3,7 +3,7 @@ use Rattle.std.proofs.Common.{◌≡◌, ℕ, true, false, List, Option}
 use Rattle.c_syntax.specs.Tree.{Expression}
 use Rattle.c_tree.specs.declared.c_type.TypeWord.{TypeWord}
 use Rattle.c_faults.specs.Answer.{Answer}
-use Rattle.c_typing.specs.State.{State, judged}
+use Rattle.c_typing_state.specs.State.{State, judged}
 use Rattle.c_unit_typing.specs.Constructs.{Labels, case_label, controlling, evaluated, evaluated_if, expression_typed}
 use Rattle.c_unit_typing.specs.Constructs.{returned, switching_on, valued_if}
 use Rattle.typing_laws.specs.Validity.Regular.{is_regular}

@@ -19,10 +19,10 @@ use Rattle.c_scope.specs.Environment.{surroundings}
 use Rattle.c_scope.specs.Names.{Name, declared, found}
 use Rattle.c_scope.specs.Names as names
 use Rattle.c_scope.specs.Parameters.{ParameterScope, with_parameters}
-use Rattle.c_typing.specs.Calls.{place_among, with_type}
-use Rattle.c_typing.specs.Declarators.{Shape, built_in}
-use Rattle.c_typing.specs.Specifications.{Specification}
-use Rattle.c_typing.specs.State.{State, extents, judged, ◌>>>◌}
+use Rattle.c_operand_typing.specs.Calls.{place_among, with_type}
+use Rattle.c_declarator_typing.specs.Declarators.{Shape, built_in}
+use Rattle.c_declarator_typing.specs.Specifications.{Specification}
+use Rattle.c_typing_state.specs.State.{State, extents, judged, ◌>>>◌}
 use Rattle.c_expression_typing.specs.Typed.{shape, specification}
 use Rattle.c_unit_typing.specs.Declarations.{declaration, stored_once}
 use Rattle.c_unit_typing.specs.Files.{File, FileTyping, finished, in_state, ◌~>◌}

@@ -8,7 +8,7 @@ use Rattle.c_scope.specs.declared.meaning.Meaning.{Meaning}
 use Rattle.c_scope.specs.Names.{Name, Names, around, closed, declared, found, innermost, or_else}
 use Rattle.c_scope.specs.Names as names
 use Rattle.c_scope.specs.Structures.{is_begun}
-use Rattle.c_typing.specs.State.{State, extents}
+use Rattle.c_typing_state.specs.State.{State, extents}
 use Rattle.c_unit_typing.specs.Constructs.{in_scope, scope_closed, scope_opened}
 use Rattle.c_unit_typing.specs.Files.{File, FileTyping}
 use Rattle.typing_laws.specs.Validity.More.{AreMore}

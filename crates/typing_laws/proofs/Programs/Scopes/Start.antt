@@ -18,7 +18,7 @@ use Rattle.c_scope.specs.Names.{Name, Names, bound, declared, found, or_else}
 use Rattle.c_scope.specs.Start.{empty, start, with_library, with_routine, with_routines}
 use Rattle.c_scope.specs.Names as names
 use Rattle.c_scope.specs.Structures.{member_of, none}
-use Rattle.c_typing.specs.State.{State}
+use Rattle.c_typing_state.specs.State.{State}
 use Rattle.c_unit_typing.specs.Units.{file_before}
 use Rattle.typing_laws.specs.Validity.Sound.{IsFormed}
 use Rattle.typing_laws.specs.Validity.Typed.{HaveMembers}

@@ -14,7 +14,7 @@ use Rattle.c_const.specs.Integers.{constant_word, type_of}
 use Rattle.c_faults.specs.declared.fault.Fault.{Fault}
 use Rattle.c_faults.specs.Answer.{Answer, ◌>>=◌}
 use Rattle.c_rules.specs.Values.{Value}
-use Rattle.c_typing.specs.State.{State, Typing, done, judged, ◌>>>◌}
+use Rattle.c_typing_state.specs.State.{State, Typing, done, judged, ◌>>>◌}
 use Rattle.c_expression_typing.specs.Constructs.{valued}
 use Rattle.c_expression_typing.specs.Typed.{typed}
 use Rattle.c_unit_typing.specs.Constructs.{Around, Labelled, Labels, behind_first, case_label, case_with, controlled}

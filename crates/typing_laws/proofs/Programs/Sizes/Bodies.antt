@@ -3,7 +3,7 @@ use Rattle.std.proofs.Common.{false, List}
 use Rattle.std.specs.Prelude.{Ok, Err}
 use Rattle.c_faults.specs.Answer.{Answer}
 use Rattle.c_scope.specs.Structures.{Body}
-use Rattle.c_typing.specs.State.{State}
+use Rattle.c_typing_state.specs.State.{State}
 use Rattle.c_expression_typing.specs.Constructs.{valued}
 use Rattle.c_expression_typing.specs.Typed.{typed}
 use Rattle.typing_laws.specs.Validity.Sound.{IsFormed}

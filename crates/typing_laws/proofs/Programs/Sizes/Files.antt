@@ -21,7 +21,7 @@ use Rattle.c_scope.specs.Environment.{Environment, Facts, in_file}
 use Rattle.c_scope.specs.Library.{name_of, routines}
 use Rattle.c_scope.specs.Names.{Name, Names, bound, declared}
 use Rattle.c_scope.specs.Start.{empty, start, with_library, with_routine, with_routines}
-use Rattle.c_typing.specs.State.{extents}
+use Rattle.c_typing_state.specs.State.{extents}
 use Rattle.c_unit_typing.specs.Declarations.{declaration, kind_in}
 use Rattle.c_unit_typing.specs.Files.{File, FileTyping, finished}
 use Rattle.c_unit_typing.specs.Programs.{final_type}

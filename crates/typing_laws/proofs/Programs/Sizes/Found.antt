@@ -16,9 +16,9 @@ use Rattle.c_scope.specs.declared.meaning.Meaning.{Meaning}
 use Rattle.c_scope.specs.Declaring.{Declaration, is_extern, is_function, is_typedef, judged as judged_declarator}
 use Rattle.c_scope.specs.Environment.{Environment, in_file, surroundings}
 use Rattle.c_scope.specs.Names.{Name, Names, bound, declared}
-use Rattle.c_typing.specs.Declarators.{Shape, built_in}
-use Rattle.c_typing.specs.Specifications.{Specification}
-use Rattle.c_typing.specs.State.{State}
+use Rattle.c_declarator_typing.specs.Declarators.{Shape, built_in}
+use Rattle.c_declarator_typing.specs.Specifications.{Specification}
+use Rattle.c_typing_state.specs.State.{State}
 use Rattle.c_expression_typing.specs.Typed.{shape}
 use Rattle.c_unit_typing.specs.Declarations.{alone_in, declaration, declaration_of, declared_as, declared_with}
 use Rattle.c_unit_typing.specs.Declarations.{has_place, named_by, specified, with_declarator, with_declarators}

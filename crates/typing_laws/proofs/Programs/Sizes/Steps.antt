@@ -11,7 +11,7 @@ use Rattle.c_scope.specs.Declaring.{Declaration, has_linkage, is_extern, is_func
 use Rattle.c_scope.specs.Environment.{Environment, Facts, entity_with, in_file, linked, surroundings, type_or}
 use Rattle.c_scope.specs.Environment.{with_declarator, without_linkage}
 use Rattle.c_scope.specs.Names.{Name, Names, bound, declared, is_empty}
-use Rattle.c_typing.specs.State.{State}
+use Rattle.c_typing_state.specs.State.{State}
 use Rattle.c_unit_typing.specs.Declarations.{entity_with_type, is_of_type, is_same_object, with_entity, with_size}
 use Rattle.typing_laws.specs.Validity.More.{AreMore}
 use Rattle.typing_laws.specs.Validity.Sound.{is_sized_array}

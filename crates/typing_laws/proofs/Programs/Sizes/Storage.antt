@@ -21,10 +21,11 @@ use Rattle.c_scope.specs.declared.tags.TagKind.TheVariants as kind
 use Rattle.c_scope.specs.Declaring.{is_extern, is_typedef}
 use Rattle.c_specifiers.specs.declared.specified.Specified.{Specified}
 use Rattle.c_specifiers.specs.Specified.{stored, with}
-use Rattle.c_typing.specs.Members.{no_entries, tag_completed}
-use Rattle.c_typing.specs.Specifications.{Gathered, Specification, nothing_gathered, specified, tag_kind, tag_type}
-use Rattle.c_typing.specs.Specifications.{typedef_type, with_named}
-use Rattle.c_typing.specs.State.{State, Typing, done, judged, ◌>>>◌}
+use Rattle.c_declarator_typing.specs.Members.{no_entries, tag_completed}
+use Rattle.c_declarator_typing.specs.Specifications.{Gathered, Specification, nothing_gathered, specified, tag_kind}
+use Rattle.c_declarator_typing.specs.Specifications.{tag_type}
+use Rattle.c_declarator_typing.specs.Specifications.{typedef_type, with_named}
+use Rattle.c_typing_state.specs.State.{State, Typing, done, judged, ◌>>>◌}
 use Rattle.c_expression_typing.specs.Constructs.{begun_as, tagged_as}
 use Rattle.c_expression_typing.specs.Lines.{first_line, name_of, tag_name}
 use Rattle.c_expression_typing.specs.Typed.{enumerator, gathered, more_enumerators}

@@ -18,7 +18,7 @@ use Rattle.c_scope.specs.Environment.{Environment, Facts, at_end, ends_complete,
 use Rattle.c_scope.specs.Environment.{type_or}
 use Rattle.c_scope.specs.Names.{Name}
 use Rattle.c_scope.specs.Structures.{Body, Structures, file_tag_of, is_known}
-use Rattle.c_typing.specs.State.{State, extents}
+use Rattle.c_typing_state.specs.State.{State, extents}
 use Rattle.c_unit_typing.specs.Declarations.{kind_in}
 use Rattle.c_unit_typing.specs.Files.{File}
 use Rattle.c_unit_typing.specs.Programs.{final_type}

@@ -6,7 +6,7 @@ use Rattle.c_tree.specs.declared.c_type.TypeWord.{TypeWord}
 use Rattle.c_tree.specs.Programs.{StaticObject}
 use Rattle.c_tree.specs.Valid.{Scope, at_number}
 use Rattle.c_faults.specs.Answer.{Answer, ◌>>=◌}
-use Rattle.c_typing.specs.State.{State, extents}
+use Rattle.c_typing_state.specs.State.{State, extents}
 use Rattle.c_unit_typing.specs.Constructs.{scope_closed, scope_opened}
 use Rattle.c_unit_typing.specs.Files.{File, FileTyping}
 use Rattle.typing_laws.specs.Validity.More.{AreMore}

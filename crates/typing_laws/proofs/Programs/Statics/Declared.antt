@@ -22,9 +22,9 @@ use Rattle.c_scope.specs.declared.meaning.Storage.TheVariants as storage
 use Rattle.c_scope.specs.Declaring.{Declaration, has_linkage, is_linked, is_misplaced, is_typedef}
 use Rattle.c_scope.specs.Environment.{Environment, in_file}
 use Rattle.c_scope.specs.Names.{Name}
-use Rattle.c_typing.specs.Declarators.{Shape, built_in}
-use Rattle.c_typing.specs.Specifications.{Specification}
-use Rattle.c_typing.specs.State.{State, extents}
+use Rattle.c_declarator_typing.specs.Declarators.{Shape, built_in}
+use Rattle.c_declarator_typing.specs.Specifications.{Specification}
+use Rattle.c_typing_state.specs.State.{State, extents}
 use Rattle.c_expression_typing.specs.Typed.{shape}
 use Rattle.c_unit_typing.specs.Declarations.{declaration, declaration_of, declared_as, declared_with, has_place}
 use Rattle.c_unit_typing.specs.Declarations.{initialized_if, named_by, specified, with_declarator, with_declarators}

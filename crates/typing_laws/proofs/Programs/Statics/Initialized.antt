@@ -26,8 +26,8 @@ use Rattle.c_scope.specs.declared.meaning.Meaning.TheVariants as meaning
 use Rattle.c_scope.specs.Environment.{Facts}
 use Rattle.c_scope.specs.Names.{Name, Names, declared}
 use Rattle.c_scope.specs.Names as names
-use Rattle.c_typing.specs.Primaries.{size_or_zero}
-use Rattle.c_typing.specs.State.{extents}
+use Rattle.c_operand_typing.specs.Primaries.{size_or_zero}
+use Rattle.c_typing_state.specs.State.{extents}
 use Rattle.c_unit_typing.specs.Declarations.{declaration, kind_in}
 use Rattle.c_unit_typing.specs.Files.{File, FileTyping}
 use Rattle.c_unit_typing.specs.Programs.{final_type, program_of}

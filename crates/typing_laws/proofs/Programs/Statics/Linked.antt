@@ -15,7 +15,7 @@ use Rattle.c_scope.specs.declared.meaning.Designated.{Designated}
 use Rattle.c_scope.specs.declared.meaning.Designated.TheVariants as what
 use Rattle.c_scope.specs.declared.meaning.Entity.{Entity}
 use Rattle.c_scope.specs.Names.{Name, Names}
-use Rattle.c_typing.specs.State.{State, extents}
+use Rattle.c_typing_state.specs.State.{State, extents}
 use Rattle.c_unit_typing.specs.Declarations.{initialized_if, kind_in, with_parts}
 use Rattle.c_unit_typing.specs.Files.{File, in_state, ◌~>◌}
 use Rattle.c_unit_typing.specs.Programs.{final_type, linked_object, linked_objects, parts_of}

@@ -13,7 +13,7 @@ use Rattle.c_faults.specs.Answer.{Answer, ◌>>=◌}
 use Rattle.c_scope.specs.declared.meaning.Designated.TheVariants as what
 use Rattle.c_scope.specs.declared.meaning.Meaning.TheVariants as meaning
 use Rattle.c_scope.specs.Names.{Name}
-use Rattle.c_typing.specs.State.{State, extents}
+use Rattle.c_typing_state.specs.State.{State, extents}
 use Rattle.c_unit_typing.specs.Declarations.{initialized_if, kind_in, static_in, with_static}
 use Rattle.c_unit_typing.specs.Files.{File, in_state, ◌~>◌}
 use Rattle.typing_laws.specs.Validity.Sound.{IsFormed}

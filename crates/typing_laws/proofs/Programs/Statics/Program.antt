@@ -13,7 +13,7 @@ use Rattle.c_tree.specs.ValidProgram.{are_parts, is_function_number, is_static_o
 use Rattle.c_tree.specs.ValidProgram.{variables_of_function}
 use Rattle.c_call_rules.specs.FunctionTypes.{result_type}
 use Rattle.c_scope.specs.Parameters.{ParameterScope}
-use Rattle.c_typing.specs.State.{Literal, State}
+use Rattle.c_typing_state.specs.State.{Literal, State}
 use Rattle.c_unit_typing.specs.Files.{File}
 use Rattle.c_unit_typing.specs.Programs.{literal_object}
 use Rattle.c_unit_typing.specs.Units.{around_body, entered}

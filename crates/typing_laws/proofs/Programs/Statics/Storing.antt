@@ -31,9 +31,9 @@ use Rattle.c_scope.specs.Environment.{with_declarator as declared_env, without_l
 use Rattle.c_scope.specs.Library.{name_of, routines}
 use Rattle.c_scope.specs.Names.{Name, Names, bound, declared, is_empty, is_name}
 use Rattle.c_scope.specs.Start.{empty, start, with_routine, with_routines}
-use Rattle.c_typing.specs.Declarators.{Shape, built_in}
-use Rattle.c_typing.specs.Specifications.{Specification}
-use Rattle.c_typing.specs.State.{State, Typing, done, extents, ◌>>>◌}
+use Rattle.c_declarator_typing.specs.Declarators.{Shape, built_in}
+use Rattle.c_declarator_typing.specs.Specifications.{Specification}
+use Rattle.c_typing_state.specs.State.{State, Typing, done, extents, ◌>>>◌}
 use Rattle.c_unit_typing.specs.Declarations.{completed, declaration, declaration_of, declared_as}
 use Rattle.c_unit_typing.specs.Declarations.{declared_with, entity_with_type, has_place, initialized_if, is_same_object}
 use Rattle.c_unit_typing.specs.Declarations.{named_by}

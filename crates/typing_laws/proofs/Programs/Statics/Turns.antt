@@ -9,7 +9,7 @@ use Rattle.c_tree.specs.Blocks.{all_of}
 use Rattle.c_tree.specs.Programs.{Function, StaticObject}
 use Rattle.c_tree.specs.Valid.{Scope, has_number}
 use Rattle.c_tree.specs.ValidProgram.{function_scope, scope_in, variables_of_function}
-use Rattle.c_typing.specs.State.{extents}
+use Rattle.c_typing_state.specs.State.{extents}
 use Rattle.c_unit_typing.specs.Files.{Definition, File}
 use Rattle.c_unit_typing.specs.Programs.{function_of, functions_from, program_of, room_of, static_objects}
 use Rattle.c_unit_typing.specs.Units.{file_with}

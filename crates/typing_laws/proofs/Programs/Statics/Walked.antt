@@ -5,7 +5,7 @@ use Rattle.c_syntax.specs.Statements as t
 use Rattle.c_syntax.specs.Tree.{Expression}
 use Rattle.c_tree.specs.declared.c_type.TypeWord.{TypeWord}
 use Rattle.c_faults.specs.Answer.{Answer}
-use Rattle.c_typing.specs.State.{State}
+use Rattle.c_typing_state.specs.State.{State}
 use Rattle.c_expression_typing.specs.Constructs.{valued}
 use Rattle.c_expression_typing.specs.Typed.{typed}
 use Rattle.c_unit_typing.specs.Constructs.{Around, Labels}

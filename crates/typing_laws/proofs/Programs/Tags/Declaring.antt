@@ -13,8 +13,9 @@ use Rattle.c_scope.specs.Environment.{in_file}
 use Rattle.c_scope.specs.Names.{Name, Names, bound, declared, is_empty}
 use Rattle.c_scope.specs.Structures.{Body, begun, changed, declared_structure, is_known}
 use Rattle.c_scope.specs.Tags.{added, begins_in, has_begun, if_file, is_enumeration, is_of, marked, next_tag}
-use Rattle.c_typing.specs.Members.{Entries, Entry, extent_with, members_at, offsets_in, tag_completed, with_structure}
-use Rattle.c_typing.specs.State.{State, extents}
+use Rattle.c_declarator_typing.specs.Members.{Entries, Entry, extent_with, members_at, offsets_in, tag_completed}
+use Rattle.c_declarator_typing.specs.Members.{with_structure}
+use Rattle.c_typing_state.specs.State.{State, extents}
 use Rattle.c_expression_typing.specs.Constructs.{begun_as}
 use Rattle.typing_laws.proofs.Validity.Common.{no_value, the_same}
 use Rattle.typing_laws.proofs.Declarators.Lists.{added_length, changed_length, read_added, there_changed}

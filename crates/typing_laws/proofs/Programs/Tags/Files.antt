@@ -21,9 +21,9 @@ use Rattle.c_scope.specs.Names.{Name, Names, declared, is_empty}
 use Rattle.c_scope.specs.Parameters.{ParameterScope}
 use Rattle.c_scope.specs.Start.{start}
 use Rattle.c_scope.specs.Structures.{file_tag_of, is_known}
-use Rattle.c_typing.specs.Declarators.{Shape, built_in, declaring}
-use Rattle.c_typing.specs.Specifications.{Specification}
-use Rattle.c_typing.specs.State.{State, extents, judged, ◌>>>◌}
+use Rattle.c_declarator_typing.specs.Declarators.{Shape, built_in, declaring}
+use Rattle.c_declarator_typing.specs.Specifications.{Specification}
+use Rattle.c_typing_state.specs.State.{State, extents, judged, ◌>>>◌}
 use Rattle.c_expression_typing.specs.Typed.{shape, specification}
 use Rattle.c_unit_typing.specs.Declarations.{declaration, specified, stored_once, with_declarators}
 use Rattle.c_unit_typing.specs.Files.{File, FileTyping, in_state, ◌~>◌}

@@ -8,7 +8,7 @@ use Rattle.c_scope.specs.declared.meaning.Tag.{Tag}
 use Rattle.c_scope.specs.declared.meaning.Tag.TheVariants as tag
 use Rattle.c_scope.specs.Names.{Name, Names, around, declared, innermost, is_empty}
 use Rattle.c_scope.specs.Structures.{Body, changed, file_tag_of, is_known}
-use Rattle.c_typing.specs.State.{State, extents}
+use Rattle.c_typing_state.specs.State.{State, extents}
 use Rattle.typing_laws.specs.Validity.Sound.{Extended}
 use Rattle.typing_laws.proofs.Validity.Common.{the_same}
 use Rattle.typing_laws.proofs.Validity.Sound.{get_extended, longer_list, same_list}

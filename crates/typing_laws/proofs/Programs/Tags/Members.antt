@@ -11,9 +11,10 @@ use Rattle.c_scope.specs.declared.meaning.Tag.{Tag}
 use Rattle.c_scope.specs.Names.{Name, Names, bound, declared, is_empty}
 use Rattle.c_scope.specs.Structures.{is_known}
 use Rattle.c_scope.specs.Tags.{is_enumeration}
-use Rattle.c_typing.specs.Members.{Entries, member_specified, no_entries, tag_completed}
-use Rattle.c_typing.specs.Specifications.{Gathered, nothing_gathered, specified, tag_kind, tag_type, with_named}
-use Rattle.c_typing.specs.State.{State, Typing, done, extents, judged, ◌>>>◌}
+use Rattle.c_declarator_typing.specs.Members.{Entries, member_specified, no_entries, tag_completed}
+use Rattle.c_declarator_typing.specs.Specifications.{Gathered, nothing_gathered, specified, tag_kind, tag_type}
+use Rattle.c_declarator_typing.specs.Specifications.{with_named}
+use Rattle.c_typing_state.specs.State.{State, Typing, done, extents, judged, ◌>>>◌}
 use Rattle.c_expression_typing.specs.Constructs.{begun_as, specified_by, with_shape}
 use Rattle.c_expression_typing.specs.Lines.{first_line, name_of}
 use Rattle.c_expression_typing.specs.Typed.{gathered, shape, specification, with_member, with_members}

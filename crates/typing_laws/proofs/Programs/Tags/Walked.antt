@@ -1,8 +1,8 @@
 -- Whatever is typed keeps the tags of file scope.
 use Rattle.std.proofs.Common.{◌≡◌, false, true, refl}
 use Rattle.c_syntax.specs.Statements.{BlockItems}
-use Rattle.c_typing.specs.Primaries.{with_literal}
-use Rattle.c_typing.specs.State.{State}
+use Rattle.c_operand_typing.specs.Primaries.{with_literal}
+use Rattle.c_typing_state.specs.State.{State}
 use Rattle.c_unit_typing.specs.Constructs.{Around}
 use Rattle.c_unit_typing.specs.Files.{File}
 use Rattle.c_unit_typing.specs.Statements.{block_items}

@@ -20,7 +20,7 @@ use Rattle.c_specifiers.specs.declared.specified.Size.{Size}
 use Rattle.c_specifiers.specs.declared.specified.Size.TheVariants as size
 use Rattle.c_specifiers.specs.declared.specified.Specified.{Specified}
 use Rattle.c_specifiers.specs.Specified.{basic_of}
-use Rattle.c_typing.specs.Specifications.{Gathered, specified, type_or_basic}
+use Rattle.c_declarator_typing.specs.Specifications.{Gathered, specified, type_or_basic}
 use Rattle.typing_laws.proofs.Validity.Common.{second as right}
 use Rattle.typing_laws.specs.Validity.Steps.{Structures}
 use Rattle.typing_laws.proofs.Declarators.Types.{NoFaults, element_known, first_faultless, second_faultless}

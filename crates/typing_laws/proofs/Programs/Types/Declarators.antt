@@ -14,11 +14,12 @@ use Rattle.c_declarators.specs.Derivations.{to_pointer}
 use Rattle.c_declarators.specs.Faults.{and_faults, rule_of}
 use Rattle.c_scope.specs.Names.{Name, declared}
 use Rattle.c_scope.specs.Parameters.{ParameterScope, parameters_in}
-use Rattle.c_typing.specs.Declarators.{Shape, built_in, is_nothing, scope_left, with_derivation, with_function}
-use Rattle.c_typing.specs.Members.{Entries, Entry, member_added, member_named, member_rule}
-use Rattle.c_typing.specs.Members.{sized_entry}
-use Rattle.c_typing.specs.Specifications.{Specification}
-use Rattle.c_typing.specs.State.{State, Typing, done, extents, judged, ◌>>>◌}
+use Rattle.c_declarator_typing.specs.Declarators.{Shape, built_in, is_nothing, scope_left, with_derivation}
+use Rattle.c_declarator_typing.specs.Declarators.{with_function}
+use Rattle.c_declarator_typing.specs.Members.{Entries, Entry, member_added, member_named, member_rule}
+use Rattle.c_declarator_typing.specs.Members.{sized_entry}
+use Rattle.c_declarator_typing.specs.Specifications.{Specification}
+use Rattle.c_typing_state.specs.State.{State, Typing, done, extents, judged, ◌>>>◌}
 use Rattle.c_expression_typing.specs.Constructs.{with_shape}
 use Rattle.typing_laws.specs.Validity.More.{AreMore}
 use Rattle.typing_laws.specs.Validity.Steps.{Structures}

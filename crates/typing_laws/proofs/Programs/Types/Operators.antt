@@ -46,16 +46,16 @@ use Rattle.c_assignment_rules.specs.Assignable.{assignable, has_const, is_unsize
 use Rattle.c_assignment_rules.specs.Assignments.{assignment, change_between, change_to, compound, operator_of, step_to}
 use Rattle.c_assignment_rules.specs.Assignments.{stepped}
 use Rattle.c_assignment_rules.specs.Writing.{Writing, set, written}
-use Rattle.c_typing.specs.declared.forms.AssignmentForm.{AssignmentForm}
-use Rattle.c_typing.specs.declared.forms.AssignmentForm.TheVariants as assignment_form
-use Rattle.c_typing.specs.declared.forms.BinaryForm.{BinaryForm}
-use Rattle.c_typing.specs.declared.forms.BinaryForm.TheVariants as binary_form
-use Rattle.c_typing.specs.declared.forms.PrefixForm.{PrefixForm}
-use Rattle.c_typing.specs.declared.forms.PrefixForm.TheVariants as form
-use Rattle.c_typing.specs.Operators.{as_operand, as_place, assigned_by, combined, is_readable as may_be_read}
-use Rattle.c_typing.specs.Operators.{read_unless, stepped_by, unary_value, unreadable, value_among}
-use Rattle.c_typing.specs.Operators as operators
-use Rattle.c_typing.specs.State.{State, extents, with_const}
+use Rattle.c_operand_typing.specs.declared.forms.AssignmentForm.{AssignmentForm}
+use Rattle.c_operand_typing.specs.declared.forms.AssignmentForm.TheVariants as assignment_form
+use Rattle.c_operand_typing.specs.declared.forms.BinaryForm.{BinaryForm}
+use Rattle.c_operand_typing.specs.declared.forms.BinaryForm.TheVariants as binary_form
+use Rattle.c_operand_typing.specs.declared.forms.PrefixForm.{PrefixForm}
+use Rattle.c_operand_typing.specs.declared.forms.PrefixForm.TheVariants as form
+use Rattle.c_operand_typing.specs.Operators.{as_operand, as_place, assigned_by, combined, is_readable as may_be_read}
+use Rattle.c_operand_typing.specs.Operators.{read_unless, stepped_by, unary_value, unreadable, value_among}
+use Rattle.c_operand_typing.specs.Operators as operators
+use Rattle.c_typing_state.specs.State.{State, extents, with_const}
 use Rattle.c_expression_typing.specs.Constructs.{cast_to, chosen, sized}
 use Rattle.typing_laws.proofs.Validity.Common.{first as left, second as right}
 use Rattle.typing_laws.proofs.Validity.Sound.{IfAnswer}

@@ -20,11 +20,11 @@ use Rattle.c_scope.specs.Declaring.{is_misplaced as is_misplaced_storage, is_red
 use Rattle.c_scope.specs.Declaring.{is_undefined, is_wrongly_initialized, judged as judged_declarator}
 use Rattle.c_scope.specs.Environment.{in_file, surroundings, with_declarator}
 use Rattle.c_scope.specs.Names.{Name}
-use Rattle.c_typing.specs.Declarators.{Shape, built_in, declaring, is_misplaced, is_void, nameless_parameter}
-use Rattle.c_typing.specs.Declarators.{not_for_parameter, parameter, parameter_built, parameter_declaration}
-use Rattle.c_typing.specs.Declarators.{rule_or_storage, type_named, unless, has_storage}
-use Rattle.c_typing.specs.Specifications.{Specification}
-use Rattle.c_typing.specs.State.{State, extents}
+use Rattle.c_declarator_typing.specs.Declarators.{Shape, built_in, declaring, is_misplaced, is_void, nameless_parameter}
+use Rattle.c_declarator_typing.specs.Declarators.{not_for_parameter, parameter, parameter_built, parameter_declaration}
+use Rattle.c_declarator_typing.specs.Declarators.{rule_or_storage, type_named, unless, has_storage}
+use Rattle.c_declarator_typing.specs.Specifications.{Specification}
+use Rattle.c_typing_state.specs.State.{State, extents}
 use Rattle.typing_laws.proofs.Validity.Common.{first as left_true, neither_right as second_false, second as right}
 use Rattle.typing_laws.proofs.Validity.Common.{neither_left}
 use Rattle.typing_laws.proofs.Validity.Sound.{IfAnswer}

@@ -22,16 +22,17 @@ use Rattle.c_scope.specs.declared.meaning.Tag.{Tag}
 use Rattle.c_scope.specs.declared.meaning.Tag.TheVariants as tag
 use Rattle.c_scope.specs.declared.tags.TagKind.TheVariants as kind
 use Rattle.c_scope.specs.Names.{is_empty}
-use Rattle.c_typing.specs.Declarators.{has_storage, parameter, scope_left, scope_opened, type_named}
-use Rattle.c_typing.specs.Declarators.{with_derivation, with_function}
-use Rattle.c_typing.specs.Members.{Entries, member_specified, no_entries, tag_completed}
-use Rattle.c_typing.specs.Operators.{assigned_by, assignment_form_of, binary_form_of, combined, indexed}
-use Rattle.c_typing.specs.Operators.{prefix_form_of, step_form, stepped_by}
-use Rattle.c_typing.specs.Primaries.{integer_as, literal_bytes}
-use Rattle.c_typing.specs.Sizes.{count_in, enumeration_value}
-use Rattle.c_typing.specs.Specifications.{Gathered, Specification, nothing_gathered, specified, tag_kind, tag_type}
-use Rattle.c_typing.specs.Specifications.{typedef_type, with_named}
-use Rattle.c_typing.specs.State.{State, Typing, done, extents, judged, ◌>>>◌}
+use Rattle.c_declarator_typing.specs.Declarators.{has_storage, parameter, scope_left, scope_opened, type_named}
+use Rattle.c_declarator_typing.specs.Declarators.{with_derivation, with_function}
+use Rattle.c_declarator_typing.specs.Members.{Entries, member_specified, no_entries, tag_completed}
+use Rattle.c_operand_typing.specs.Operators.{assigned_by, assignment_form_of, binary_form_of, combined, indexed}
+use Rattle.c_operand_typing.specs.Operators.{prefix_form_of, step_form, stepped_by}
+use Rattle.c_operand_typing.specs.Primaries.{integer_as, literal_bytes}
+use Rattle.c_declarator_typing.specs.Sizes.{count_in, enumeration_value}
+use Rattle.c_declarator_typing.specs.Specifications.{Gathered, Specification, nothing_gathered, specified, tag_kind}
+use Rattle.c_declarator_typing.specs.Specifications.{tag_type}
+use Rattle.c_declarator_typing.specs.Specifications.{typedef_type, with_named}
+use Rattle.c_typing_state.specs.State.{State, Typing, done, extents, judged, ◌>>>◌}
 use Rattle.c_expression_typing.specs.Constructs.{accessed, applied_to, begun_as, called_by, cast_to, chosen}
 use Rattle.c_expression_typing.specs.Constructs.{enumerated_as, format_by, has_words, literal_alone, plain_name}
 use Rattle.c_expression_typing.specs.Constructs.{prefixed, sized, specified_by, tagged_as, valued, with_shape}

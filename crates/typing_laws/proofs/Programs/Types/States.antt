@@ -23,10 +23,10 @@ use Rattle.c_scope.specs.Environment.{entity_with, in_file, linked, type_or, vis
 use Rattle.c_scope.specs.Environment.{with_declarator, with_name, without_linkage}
 use Rattle.c_scope.specs.Names.{Name, Names, bound, declared}
 use Rattle.c_scope.specs.Names as names
-use Rattle.c_typing.specs.Calls.{place_among, with_type}
-use Rattle.c_typing.specs.Operators.{object_taken, variable_named, with_taken}
-use Rattle.c_typing.specs.Primaries.{is_undefined, used_as, with_literal, with_use}
-use Rattle.c_typing.specs.State.{State, extents}
+use Rattle.c_operand_typing.specs.Calls.{place_among, with_type}
+use Rattle.c_operand_typing.specs.Operators.{object_taken, variable_named, with_taken}
+use Rattle.c_operand_typing.specs.Primaries.{is_undefined, used_as, with_literal, with_use}
+use Rattle.c_typing_state.specs.State.{State, extents}
 use Rattle.typing_laws.specs.Validity.Steps.{Structures}
 use Rattle.typing_laws.specs.Programs.SpelledTypes.Spelled.{IsFunctionType}
 use Rattle.typing_laws.proofs.Programs.Common.{conflict}

@@ -39,18 +39,18 @@ use Rattle.c_scope.specs.Enumerators.{with_value}
 use Rattle.c_scope.specs.Names.{Name, declared}
 use Rattle.c_scope.specs.Names as names
 use Rattle.c_scope.specs.Structures.{Body, member_in as member_of_body, member_of}
-use Rattle.c_typing.specs.declared.forms.PrefixForm.{PrefixForm}
-use Rattle.c_typing.specs.declared.forms.PrefixForm.TheVariants as form
-use Rattle.c_typing.specs.Calls.{Called, a_function, a_pointer, a_printf, a_routine, applied, callee_number}
-use Rattle.c_typing.specs.Calls.{called_by_value, called_plainly, library_called, name_called, plainly_or}
-use Rattle.c_typing.specs.Calls.{pointer_called, printed, with_callee_type}
-use Rattle.c_typing.specs.Operators.{arrowed, as_operand, as_place, as_value, dotted, member_in}
-use Rattle.c_typing.specs.Operators.{stepped_by, structure_behind, unary_value, value_among}
-use Rattle.c_typing.specs.Primaries.{designated, is_aggregate, is_object, literal, literal_type, meant}
-use Rattle.c_typing.specs.Primaries.{named, place, plain_variable, size_or_zero, used_as}
-use Rattle.c_typing.specs.Sizes.{next_value}
-use Rattle.c_typing.specs.Specifications.{typedef_meant, typedef_type}
-use Rattle.c_typing.specs.State.{State, Typing, extents, judged, ◌>>>◌}
+use Rattle.c_operand_typing.specs.declared.forms.PrefixForm.{PrefixForm}
+use Rattle.c_operand_typing.specs.declared.forms.PrefixForm.TheVariants as form
+use Rattle.c_operand_typing.specs.Calls.{Called, a_function, a_pointer, a_printf, a_routine, applied, callee_number}
+use Rattle.c_operand_typing.specs.Calls.{called_by_value, called_plainly, library_called, name_called, plainly_or}
+use Rattle.c_operand_typing.specs.Calls.{pointer_called, printed, with_callee_type}
+use Rattle.c_operand_typing.specs.Operators.{arrowed, as_operand, as_place, as_value, dotted, member_in}
+use Rattle.c_operand_typing.specs.Operators.{stepped_by, structure_behind, unary_value, value_among}
+use Rattle.c_operand_typing.specs.Primaries.{designated, is_aggregate, is_object, literal, literal_type, meant}
+use Rattle.c_operand_typing.specs.Primaries.{named, place, plain_variable, size_or_zero, used_as}
+use Rattle.c_declarator_typing.specs.Sizes.{next_value}
+use Rattle.c_declarator_typing.specs.Specifications.{typedef_meant, typedef_type}
+use Rattle.c_typing_state.specs.State.{State, Typing, extents, judged, ◌>>>◌}
 use Rattle.c_expression_typing.specs.Constructs.{Printing, accessed, applied_to, called_by, enumerated_as, format_by}
 use Rattle.c_expression_typing.specs.Constructs.{prefixed, valued}
 use Rattle.c_expression_typing.specs.Lines.{name_of}

@@ -16,9 +16,10 @@ use Rattle.c_scope.specs.Environment.{Environment}
 use Rattle.c_scope.specs.Names.{Name, Names, Scopes, bound, declared}
 use Rattle.c_scope.specs.Structures.{Body, changed}
 use Rattle.c_scope.specs.Tags.{added, begins_in, has_begun, is_of, marked, next_tag, referred, tag_found}
-use Rattle.c_typing.specs.Members.{Entries, Entry, extent_with, member_at, members_at, offsets_in, tag_completed}
-use Rattle.c_typing.specs.Members.{with_structure}
-use Rattle.c_typing.specs.State.{State, extents}
+use Rattle.c_declarator_typing.specs.Members.{Entries, Entry, extent_with, member_at, members_at, offsets_in}
+use Rattle.c_declarator_typing.specs.Members.{tag_completed}
+use Rattle.c_declarator_typing.specs.Members.{with_structure}
+use Rattle.c_typing_state.specs.State.{State, extents}
 use Rattle.c_expression_typing.specs.Constructs.{begun_as, tagged_as}
 use Rattle.typing_laws.specs.Validity.Sound.{IsFormed, IsPending}
 use Rattle.typing_laws.specs.Validity.Steps.{Structures}

@@ -19,9 +19,9 @@ use Rattle.c_scope.specs.declared.meaning.Meaning.{Meaning}
 use Rattle.c_scope.specs.declared.meaning.Meaning.TheVariants as meaning
 use Rattle.c_scope.specs.Declaring as declarators
 use Rattle.c_scope.specs.Names.{Name, declared}
-use Rattle.c_typing.specs.Declarators.{Shape, built_in, declaring}
-use Rattle.c_typing.specs.Specifications.{Specification}
-use Rattle.c_typing.specs.State.{State, extents, judged, ◌>>>◌}
+use Rattle.c_declarator_typing.specs.Declarators.{Shape, built_in, declaring}
+use Rattle.c_declarator_typing.specs.Specifications.{Specification}
+use Rattle.c_typing_state.specs.State.{State, extents, judged, ◌>>>◌}
 use Rattle.c_expression_typing.specs.Typed.{specification}
 use Rattle.c_unit_typing.specs.Declarations.{alone_in, completed, declaration, declaration_of, declared_as}
 use Rattle.c_unit_typing.specs.Declarations.{declared_with, has_place, initialized_if, initializer_in, is_same_object}

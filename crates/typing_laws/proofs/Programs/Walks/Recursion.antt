@@ -13,13 +13,14 @@ use Rattle.c_place_rules.specs.Operands.{enclosed}
 use Rattle.c_place_rules.specs.Places.{type_in}
 use Rattle.c_scope.specs.declared.tags.TagKind.TheVariants as kind
 use Rattle.c_scope.specs.Parameters.{parameters_in}
-use Rattle.c_typing.specs.Declarators.{Shape, type_named, with_function}
-use Rattle.c_typing.specs.Members.{Entries, member_added, member_specified, no_entries}
-use Rattle.c_typing.specs.Operators.{assigned_by, assignment_form_of, binary_form_of, combined, indexed, prefix_form_of}
-use Rattle.c_typing.specs.Operators.{step_form, stepped_by}
-use Rattle.c_typing.specs.Sizes.{enumeration_value}
-use Rattle.c_typing.specs.Specifications.{Gathered, Specification, nothing_gathered, tag_kind, typedef_type}
-use Rattle.c_typing.specs.State.{State, Typing, judged, ◌>>>◌}
+use Rattle.c_declarator_typing.specs.Declarators.{Shape, type_named, with_function}
+use Rattle.c_declarator_typing.specs.Members.{Entries, member_added, member_specified, no_entries}
+use Rattle.c_operand_typing.specs.Operators.{assigned_by, assignment_form_of, binary_form_of, combined, indexed}
+use Rattle.c_operand_typing.specs.Operators.{prefix_form_of}
+use Rattle.c_operand_typing.specs.Operators.{step_form, stepped_by}
+use Rattle.c_declarator_typing.specs.Sizes.{enumeration_value}
+use Rattle.c_declarator_typing.specs.Specifications.{Gathered, Specification, nothing_gathered, tag_kind, typedef_type}
+use Rattle.c_typing_state.specs.State.{State, Typing, judged, ◌>>>◌}
 use Rattle.c_expression_typing.specs.Constructs.{cast_to, chosen, literal_alone, plain_name, sized, specified_by}
 use Rattle.c_expression_typing.specs.Constructs.{with_shape}
 use Rattle.c_expression_typing.specs.Lines.{first_line, name_of, spellings, tag_name}

@@ -10,8 +10,8 @@ use Rattle.c_scope.specs.declared.tags.TagKind.{TagKind}
 use Rattle.c_scope.specs.Names.{Name, declared, found, meaning, or_else}
 use Rattle.c_scope.specs.Tags.{added, begins_in, has_begun, is_enumeration, is_of, marked, next_tag, referred}
 use Rattle.c_scope.specs.Tags.{tag_found}
-use Rattle.c_typing.specs.Members.{Entries, Entry, extent_with, tag_completed, with_structure}
-use Rattle.c_typing.specs.State.{State}
+use Rattle.c_declarator_typing.specs.Members.{Entries, Entry, extent_with, tag_completed, with_structure}
+use Rattle.c_typing_state.specs.State.{State}
 use Rattle.c_expression_typing.specs.Constructs.{begun_as, tagged_as}
 use Rattle.typing_laws.proofs.Declarators.Parameters.{behind, within}
 use Rattle.typing_laws.proofs.Declarators.Tags.{in_environment, unless_mistaken}

@@ -7,9 +7,9 @@ use Rattle.c_scope.specs.declared.meaning.Tag.{Tag}
 use Rattle.c_scope.specs.declared.tags.TagKind.{TagKind}
 use Rattle.c_scope.specs.Names.{Name, Names, around, declared, innermost}
 use Rattle.c_scope.specs.Tags.{added, marked}
-use Rattle.c_typing.specs.Members.{Entry, with_structure}
-use Rattle.c_typing.specs.Primaries.{with_literal}
-use Rattle.c_typing.specs.State.{State}
+use Rattle.c_declarator_typing.specs.Members.{Entry, with_structure}
+use Rattle.c_operand_typing.specs.Primaries.{with_literal}
+use Rattle.c_typing_state.specs.State.{State}
 use Rattle.c_unit_typing.specs.Files.{File}
 use Rattle.typing_laws.proofs.Declarators.Parameters.{within}
 use Rattle.typing_laws.proofs.Programs.Scopes.Initializers.{IfBehind}

@@ -27,20 +27,21 @@ use Rattle.c_scope.specs.Enumerators.{with_value}
 use Rattle.c_scope.specs.Environment.{surroundings, with_declarator}
 use Rattle.c_scope.specs.Names.{Name, declared}
 use Rattle.c_scope.specs.Names as names
-use Rattle.c_typing.specs.declared.forms.PrefixForm.{PrefixForm}
-use Rattle.c_typing.specs.declared.forms.PrefixForm.TheVariants as form
-use Rattle.c_typing.specs.Calls.{Called, a_function, a_pointer, a_printf, a_routine, applied, called_by_value}
-use Rattle.c_typing.specs.Calls.{called_plainly, callee_number, place_among, plainly_applied, plainly_or}
-use Rattle.c_typing.specs.Calls.{pointer_called, printed, with_callee_type, with_type}
-use Rattle.c_typing.specs.Declarators.{Shape, built_in, declaring, is_misplaced, nameless_parameter, parameter}
-use Rattle.c_typing.specs.Declarators.{parameter_built, parameter_declaration}
-use Rattle.c_typing.specs.Operators.{addressed, arrowed, as_operand, as_value, dotted, object_taken, stepped_by}
-use Rattle.c_typing.specs.Operators.{unary_value, value_among, variable_named, with_taken}
-use Rattle.c_typing.specs.Primaries.{is_undefined, literal, literal_bytes, meant, named, spelled_bytes, used_as}
-use Rattle.c_typing.specs.Primaries.{with_use}
-use Rattle.c_typing.specs.Sizes.{next_value}
-use Rattle.c_typing.specs.Specifications.{Specification}
-use Rattle.c_typing.specs.State.{State, Typing, extents, judged, ◌>>>◌}
+use Rattle.c_operand_typing.specs.declared.forms.PrefixForm.{PrefixForm}
+use Rattle.c_operand_typing.specs.declared.forms.PrefixForm.TheVariants as form
+use Rattle.c_operand_typing.specs.Calls.{Called, a_function, a_pointer, a_printf, a_routine, applied, called_by_value}
+use Rattle.c_operand_typing.specs.Calls.{called_plainly, callee_number, place_among, plainly_applied, plainly_or}
+use Rattle.c_operand_typing.specs.Calls.{pointer_called, printed, with_callee_type, with_type}
+use Rattle.c_declarator_typing.specs.Declarators.{Shape, built_in, declaring, is_misplaced, nameless_parameter}
+use Rattle.c_declarator_typing.specs.Declarators.{parameter}
+use Rattle.c_declarator_typing.specs.Declarators.{parameter_built, parameter_declaration}
+use Rattle.c_operand_typing.specs.Operators.{addressed, arrowed, as_operand, as_value, dotted, object_taken, stepped_by}
+use Rattle.c_operand_typing.specs.Operators.{unary_value, value_among, variable_named, with_taken}
+use Rattle.c_operand_typing.specs.Primaries.{is_undefined, literal, literal_bytes, meant, named, spelled_bytes, used_as}
+use Rattle.c_operand_typing.specs.Primaries.{with_use}
+use Rattle.c_declarator_typing.specs.Sizes.{next_value}
+use Rattle.c_declarator_typing.specs.Specifications.{Specification}
+use Rattle.c_typing_state.specs.State.{State, Typing, extents, judged, ◌>>>◌}
 use Rattle.c_expression_typing.specs.Constructs.{Printing, accessed, applied_to, called_by, enumerated_as, format_by}
 use Rattle.c_expression_typing.specs.Constructs.{is_printf, prefixed, valued}
 use Rattle.c_expression_typing.specs.Lines.{name_of}

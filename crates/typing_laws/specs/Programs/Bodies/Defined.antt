@@ -13,7 +13,7 @@ use Rattle.c_tree.specs.ValidProgram.{Inside, are_statements}
 use Rattle.c_faults.specs.Answer.{Answer}
 use Rattle.c_call_rules.specs.FunctionTypes.{result_type}
 use Rattle.c_scope.specs.Parameters.{ParameterScope}
-use Rattle.c_typing.specs.State.{extents}
+use Rattle.c_typing_state.specs.State.{extents}
 use Rattle.c_unit_typing.specs.Files.{File}
 use Rattle.c_unit_typing.specs.Statements.{block_items}
 use Rattle.c_unit_typing.specs.Units.{around_body, entered, left, parameters_in}

@@ -8,8 +8,8 @@ use Rattle.c_tree.specs.Tree.{Expression, kind_of}
 use Rattle.c_tree.specs.Valid.{Scope, is_valid}
 use Rattle.c_tree.specs.ValidProgram.{are_parts}
 use Rattle.c_faults.specs.Answer.{Answer}
-use Rattle.c_typing.specs.Primaries.{is_aggregate}
-use Rattle.c_typing.specs.State.{State, extents}
+use Rattle.c_operand_typing.specs.Primaries.{is_aggregate}
+use Rattle.c_typing_state.specs.State.{State, extents}
 use Rattle.c_unit_typing.specs.Declarations.{kind_in}
 use Rattle.typing_laws.specs.Validity.Sound.{Covers}
 use Rattle.typing_laws.specs.Validity.Steps.{Structures}

@@ -9,7 +9,7 @@ use Rattle.c_scope.specs.Declaring.{is_linked}
 use Rattle.c_scope.specs.Environment.{Environment, in_file}
 use Rattle.c_scope.specs.Names.{Name, Names}
 use Rattle.c_scope.specs.Names as names
-use Rattle.c_typing.specs.State.{State}
+use Rattle.c_typing_state.specs.State.{State}
 use Rattle.typing_laws.specs.Validity.Sound.{IsFormed}
 use Rattle.typing_laws.specs.Validity.Steps.{Structures}
 use Rattle.typing_laws.specs.Programs.Declarations.Binding.{IsObjectType}

@@ -20,7 +20,7 @@ use Rattle.c_scope.specs.Declaring.{Declaration, has_linkage, is_linked, judged}
 use Rattle.c_scope.specs.Environment.{Environment, in_file, surroundings, type_or, with_declarator}
 use Rattle.c_scope.specs.Names.{Name, declared}
 use Rattle.c_scope.specs.Names as names
-use Rattle.c_typing.specs.State.{State, extents}
+use Rattle.c_typing_state.specs.State.{State, extents}
 use Rattle.c_unit_typing.specs.Files.{File}
 use Rattle.typing_laws.specs.Validity.More.{AreMore}
 use Rattle.typing_laws.specs.Validity.Names.{IsMeant}

@@ -9,7 +9,7 @@ use Rattle.c_declarators.specs.Derivations.{Derivation, to_array, to_function, t
 use Rattle.c_scope.specs.declared.meaning.Meaning.{Meaning}
 use Rattle.c_scope.specs.declared.meaning.Meaning.TheVariants.{Constant, Named, Typedef}
 use Rattle.c_scope.specs.Names.{Name, Names, meaning}
-use Rattle.c_typing.specs.State.{State}
+use Rattle.c_typing_state.specs.State.{State}
 use Rattle.typing_laws.specs.Validity.Steps.{Structures}
 
 -- whether words are those of so many types

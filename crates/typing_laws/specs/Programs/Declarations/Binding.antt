@@ -15,7 +15,7 @@ use Rattle.c_scope.specs.Declaring.{Declaration, has_linkage, is_typedef, sized_
 use Rattle.c_scope.specs.Environment.{Environment, entity_with, in_file, visible_type}
 use Rattle.c_scope.specs.Names.{Name, declared}
 use Rattle.c_scope.specs.Names as names
-use Rattle.c_typing.specs.State.{State, extents}
+use Rattle.c_typing_state.specs.State.{State, extents}
 use Rattle.c_unit_typing.specs.Declarations.{kind_in, variable_in}
 use Rattle.typing_laws.specs.Validity.Sound.{IsFormed, IsObjectExtent, is_sized_array}
 use Rattle.typing_laws.specs.Declarators.Extending.{IsSameOr}

@@ -8,7 +8,7 @@ use Rattle.c_faults.specs.Answer.{Answer}
 use Rattle.c_rules.specs.Conversions.{assigned}
 use Rattle.c_rules.specs.Fine.{IsFine, IsFineAs}
 use Rattle.c_rules.specs.Values.{Value}
-use Rattle.c_typing.specs.State.{State, extents}
+use Rattle.c_typing_state.specs.State.{State, extents}
 use Rattle.c_expression_typing.specs.Typed.{typed}
 use Rattle.typing_laws.specs.Validity.Regular.{is_regular}
 use Rattle.typing_laws.specs.Validity.Sound.{Covers, IsFormed, Keeps, Knows}

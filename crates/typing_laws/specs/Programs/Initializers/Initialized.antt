@@ -11,7 +11,7 @@ use Rattle.c_faults.specs.Answer.{Answer}
 use Rattle.c_scope.specs.declared.meaning.Designated.{Designated}
 use Rattle.c_scope.specs.Names.{Name}
 use Rattle.c_initializer_rules.specs.Placed.{PlacedPart}
-use Rattle.c_typing.specs.State.{State, extents}
+use Rattle.c_typing_state.specs.State.{State, extents}
 use Rattle.c_unit_typing.specs.Declarations.{kind_in}
 use Rattle.typing_laws.specs.Validity.Sound.{Covers, Keeps, Knows}
 use Rattle.typing_laws.specs.Validity.Steps.{Structures}

@@ -15,8 +15,8 @@ use Rattle.c_scope.specs.Declaring.{is_linked}
 use Rattle.c_scope.specs.Names.{Name}
 use Rattle.c_scope.specs.Names as names
 use Rattle.c_current_object.specs.Members.{MemberList, MemberLists, lists_in}
-use Rattle.c_typing.specs.Specifications.{Specification}
-use Rattle.c_typing.specs.State.{State, extents}
+use Rattle.c_declarator_typing.specs.Specifications.{Specification}
+use Rattle.c_typing_state.specs.State.{State, extents}
 use Rattle.typing_laws.specs.Validity.Sound.{is_sized_array}
 use Rattle.typing_laws.specs.Programs.Declarations.Binding.{IsCompleteFor}
 

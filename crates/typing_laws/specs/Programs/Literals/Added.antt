@@ -3,7 +3,7 @@ use Rattle.std.specs.Prelude.{◌≡◌, ℕ, ◌≤◌, true, List, ◌++◌, l
 use Rattle.c_scope.specs.declared.meaning.Designated.TheVariants as what
 use Rattle.c_scope.specs.declared.meaning.Entity.{Entity}
 use Rattle.c_scope.specs.Names.{Name, Names, declared}
-use Rattle.c_typing.specs.State.{Literal, State}
+use Rattle.c_typing_state.specs.State.{Literal, State}
 use Rattle.c_unit_typing.specs.Files.{File}
 use Rattle.typing_laws.specs.Programs.Types.Typed.{Each}
 

@@ -13,7 +13,7 @@ use Rattle.c_scope.specs.Declaring.{is_linked}
 use Rattle.c_scope.specs.Environment.{Environment}
 use Rattle.c_scope.specs.Names.{Name, declared}
 use Rattle.c_scope.specs.Names as names
-use Rattle.c_typing.specs.State.{Literal, extents}
+use Rattle.c_typing_state.specs.State.{Literal, extents}
 use Rattle.c_unit_typing.specs.Declarations.{kind_in}
 use Rattle.c_unit_typing.specs.Files.{File}
 use Rattle.c_unit_typing.specs.Programs.{final_type}

@@ -1,7 +1,7 @@
 -- What the typing of initializers, declarations and statements leaves of a state and of a file.
 use Rattle.std.specs.Prelude.{◌≡◌, ℕ, ◌≤◌, length, None, Ok, Err}
 use Rattle.c_faults.specs.Answer.{Answer}
-use Rattle.c_typing.specs.State.{State, extents}
+use Rattle.c_typing_state.specs.State.{State, extents}
 use Rattle.c_unit_typing.specs.Files.{File}
 use Rattle.typing_laws.specs.Validity.More.{AreMore}
 use Rattle.typing_laws.specs.Validity.Sound.{Extended, IsFormed, IsPending}

@@ -4,7 +4,7 @@ use Rattle.std.specs.Prelude.{◌≡◌, ℕ, true, List, Some, Ok, Err, is_some
 use Rattle.c_faults.specs.Answer.{Answer}
 use Rattle.c_scope.specs.Names.{Name, declared}
 use Rattle.c_scope.specs.Structures.{Body, file_tag_of, is_known}
-use Rattle.c_typing.specs.State.{State}
+use Rattle.c_typing_state.specs.State.{State}
 use Rattle.c_unit_typing.specs.Files.{File}
 
 -- each that is declared at file scope by such a tag is complete at the end of the file

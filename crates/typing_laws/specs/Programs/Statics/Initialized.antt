@@ -8,7 +8,7 @@ use Rattle.c_tree.specs.ValidProgram.{are_parts}
 use Rattle.c_scope.specs.declared.meaning.Designated.TheVariants as what
 use Rattle.c_scope.specs.declared.meaning.Entity.{Entity}
 use Rattle.c_scope.specs.Names.{Name, Names, declared}
-use Rattle.c_typing.specs.State.{extents}
+use Rattle.c_typing_state.specs.State.{extents}
 use Rattle.c_unit_typing.specs.Declarations.{kind_in}
 use Rattle.c_unit_typing.specs.Files.{File}
 use Rattle.typing_laws.specs.Validity.Sound.{Covers, Knows}

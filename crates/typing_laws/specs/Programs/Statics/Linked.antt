@@ -13,7 +13,7 @@ use Rattle.c_scope.specs.declared.meaning.Designated.{Designated}
 use Rattle.c_scope.specs.declared.meaning.Designated.TheVariants as what
 use Rattle.c_scope.specs.declared.meaning.Entity.{Entity}
 use Rattle.c_scope.specs.Names.{Names}
-use Rattle.c_typing.specs.State.{extents}
+use Rattle.c_typing_state.specs.State.{extents}
 use Rattle.c_unit_typing.specs.Declarations.{kind_in}
 use Rattle.c_unit_typing.specs.Files.{File}
 use Rattle.c_unit_typing.specs.Programs.{final_type}

@@ -6,7 +6,7 @@ use Rattle.c_tree.specs.Blocks.{all_of}
 use Rattle.c_tree.specs.Programs.{Function, Program, StaticObject}
 use Rattle.c_tree.specs.Valid.{Scope, has_number}
 use Rattle.c_tree.specs.ValidProgram.{is_function_number, is_static_object, scope_in, variables_of_function}
-use Rattle.c_typing.specs.State.{Literal}
+use Rattle.c_typing_state.specs.State.{Literal}
 use Rattle.c_unit_typing.specs.Files.{Definition, File}
 use Rattle.c_unit_typing.specs.Programs.{program_of}
 use Rattle.typing_laws.specs.Scopes.Scopes.{AreOfOneProgram}

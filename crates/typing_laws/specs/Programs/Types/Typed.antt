@@ -18,11 +18,11 @@ use Rattle.c_scope.specs.declared.meaning.Meaning.TheVariants as meaning
 use Rattle.c_scope.specs.Names.{Names, Scopes}
 use Rattle.c_scope.specs.Parameters.{ParameterScope}
 use Rattle.c_scope.specs.Structures.{Body}
-use Rattle.c_typing.specs.Calls.{Called, a_function, a_routine, a_printf, a_pointer}
-use Rattle.c_typing.specs.Declarators.{Shape}
-use Rattle.c_typing.specs.Members.{Entry}
-use Rattle.c_typing.specs.Specifications.{Gathered, Specification}
-use Rattle.c_typing.specs.State.{State, extents}
+use Rattle.c_operand_typing.specs.Calls.{Called, a_function, a_routine, a_printf, a_pointer}
+use Rattle.c_declarator_typing.specs.Declarators.{Shape}
+use Rattle.c_declarator_typing.specs.Members.{Entry}
+use Rattle.c_declarator_typing.specs.Specifications.{Gathered, Specification}
+use Rattle.c_typing_state.specs.State.{State, extents}
 use Rattle.typing_laws.specs.Validity.Steps.{Structures}
 use Rattle.typing_laws.specs.Programs.SpelledTypes.Spelled.{IsFunctionType, IsValueType, is_readable, is_spelled}
 

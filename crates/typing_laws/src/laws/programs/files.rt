@@ -8,7 +8,7 @@ ghost use Rattle.c_tree.specs.Valid.{Scope};
 ghost use Rattle.c_scope.specs.declared.meaning.Designated.TheVariants as what;
 ghost use Rattle.c_scope.specs.declared.meaning.Entity.{Entity};
 ghost use Rattle.c_scope.specs.Names.{Name, declared};
-ghost use Rattle.c_typing.specs.State.{Literal, extents};
+ghost use Rattle.c_typing_state.specs.State.{Literal, extents};
 ghost use Rattle.c_unit_typing.specs.Declarations.{kind_in};
 ghost use Rattle.typing_laws.specs.Validity.Sound.{IsLiteral};
 ghost use Rattle.c_unit_typing.specs.Files.{File};

@@ -2,7 +2,7 @@
 
 ghost use Rattle.std.specs.Prelude.{◌≡◌, ℕ, ◌≤◌, Bool, true, List, Option, Some, Ok, length, slice_get};
 ghost use Rattle.c_syntax.specs.Statements.{External};
-ghost use Rattle.c_typing.specs.State.{Literal};
+ghost use Rattle.c_typing_state.specs.State.{Literal};
 ghost use Rattle.c_unit_typing.specs.Files.{File};
 ghost use Rattle.c_unit_typing.specs.Programs.{program_of};
 ghost use Rattle.c_unit_typing.specs.Units.{file_with};

@@ -5,7 +5,7 @@ ghost use Rattle.c_syntax.specs.Statements.{External};
 ghost use Rattle.c_tree.specs.declared.c_type.TypeWord.{TypeWord};
 ghost use Rattle.c_tree.specs.Kinds.{has_size};
 ghost use Rattle.c_tree.specs.Valid.{Scope};
-ghost use Rattle.c_typing.specs.State.{extents};
+ghost use Rattle.c_typing_state.specs.State.{extents};
 ghost use Rattle.c_unit_typing.specs.Files.{Definition, File};
 ghost use Rattle.c_unit_typing.specs.Programs.{final_type, program_of};
 ghost use Rattle.c_unit_typing.specs.Units.{file_with};

@@ -6,7 +6,7 @@ ghost use Rattle.c_initializer_rules.specs.Initializing.{Initializing};
 ghost use Rattle.c_syntax.specs.Formed.{IsWellFormed};
 ghost use Rattle.c_syntax.specs.Statements.{BlockItems, Declaration, External, Statement, Unit};
 ghost use Rattle.c_syntax.specs.Tree.{Initializer};
-ghost use Rattle.c_typing.specs.State.{State};
+ghost use Rattle.c_typing_state.specs.State.{State};
 ghost use Rattle.c_unit_typing.specs.Constructs.{Around, Labels};
 ghost use Rattle.c_unit_typing.specs.Declarations.{declaration};
 ghost use Rattle.c_unit_typing.specs.Files.{File};

@@ -6,7 +6,7 @@ ghost use Rattle.c_tree.specs.Kinds.{has_size};
 ghost use Rattle.c_scope.specs.declared.meaning.Designated.TheVariants as what;
 ghost use Rattle.c_scope.specs.declared.meaning.Entity.{Entity};
 ghost use Rattle.c_scope.specs.Names.{Name, declared};
-ghost use Rattle.c_typing.specs.State.{extents};
+ghost use Rattle.c_typing_state.specs.State.{extents};
 ghost use Rattle.c_unit_typing.specs.Declarations.{kind_in};
 ghost use Rattle.c_unit_typing.specs.Files.{File};
 ghost use Rattle.c_unit_typing.specs.Programs.{final_type};

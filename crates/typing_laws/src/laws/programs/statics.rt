@@ -11,7 +11,7 @@ ghost use Rattle.c_tree.specs.ValidProgram.{is_static_object};
 ghost use Rattle.c_scope.specs.declared.meaning.Designated.TheVariants as what;
 ghost use Rattle.c_scope.specs.declared.meaning.Entity.{Entity};
 ghost use Rattle.c_scope.specs.Names.{Name, Names};
-ghost use Rattle.c_typing.specs.State.{State, extents};
+ghost use Rattle.c_typing_state.specs.State.{State, extents};
 ghost use Rattle.c_unit_typing.specs.Constructs.{Around, Labels};
 ghost use Rattle.c_unit_typing.specs.Declarations.{declaration, initialized_if, with_parts};
 ghost use Rattle.c_unit_typing.specs.Files.{File, in_state, ◌~>◌};

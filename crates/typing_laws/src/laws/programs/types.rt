@@ -2,7 +2,7 @@
 
 ghost use Rattle.std.specs.Prelude.{◌≡◌, Bool, true};
 ghost use Rattle.c_syntax.specs.Tree.{Expression};
-ghost use Rattle.c_typing.specs.State.{State};
+ghost use Rattle.c_typing_state.specs.State.{State};
 ghost use Rattle.c_expression_typing.specs.Typed.{typed};
 ghost use Rattle.typing_laws.specs.Validity.Regular.{is_regular};
 ghost use Rattle.typing_laws.specs.Validity.Sound.{IsFormed};

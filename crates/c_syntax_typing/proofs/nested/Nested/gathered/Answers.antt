@@ -3,8 +3,8 @@ use Rattle.std.proofs.lemmas.Result.{err_from_is_err_and}
 use Rattle.c_syntax.specs.View.{specifier_of, specifiers_in}
 use Rattle.c_syntax.specs.Levels.{specifier_levels, specifiers_levels}
 use Rattle.c_faults.specs.Answer.{Fails}
-use Rattle.c_typing.specs.Specifications.{gathered_of}
-use Rattle.c_typing.specs.State.{state_of}
+use Rattle.c_declarator_typing.specs.Specifications.{gathered_of}
+use Rattle.c_typing_state.specs.State.{state_of}
 use Rattle.c_expression_typing.specs.Typed.{gathered, with_specifier}
 use Rattle.c_syntax_typing.proofs.Loops.{failed, levels_here, turned}
 use Rattle.c_syntax_typing.proofs.Lower.{lower}

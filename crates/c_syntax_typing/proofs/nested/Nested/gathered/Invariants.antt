@@ -1,8 +1,8 @@
 use Rattle.std.proofs.Common.{◌≡◌, ◌≤◌, drop}
 use Rattle.c_syntax.specs.View.{specifiers_in}
 use Rattle.c_syntax.specs.Levels.{specifiers_levels}
-use Rattle.c_typing.specs.Specifications.{gathered_of, nothing_gathered}
-use Rattle.c_typing.specs.State.{state_of}
+use Rattle.c_declarator_typing.specs.Specifications.{gathered_of, nothing_gathered}
+use Rattle.c_typing_state.specs.State.{state_of}
 use Rattle.c_expression_typing.specs.Typed.{gathered}
 use Rattle.c_syntax_typing.proofs.nested.Nested.gathered.Given as goal
 

@@ -1,8 +1,8 @@
 use Rattle.std.proofs.Common.{◌≡◌, ◌≤◌, drop}
 use Rattle.c_syntax.specs.View.{members_in}
 use Rattle.c_syntax.specs.Levels.{members_levels}
-use Rattle.c_typing.specs.Members.{entries_of, no_entries}
-use Rattle.c_typing.specs.State.{state_of}
+use Rattle.c_declarator_typing.specs.Members.{entries_of, no_entries}
+use Rattle.c_typing_state.specs.State.{state_of}
 use Rattle.c_expression_typing.specs.Typed.{with_members}
 use Rattle.c_syntax_typing.proofs.nested.Nested.members.Given as goal
 

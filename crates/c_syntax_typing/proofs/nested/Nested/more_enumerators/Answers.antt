@@ -3,7 +3,7 @@ use Rattle.std.proofs.lemmas.Result.{err_from_is_err_and}
 use Rattle.c_syntax.specs.View.{enumerator_of, more_enumerators_in}
 use Rattle.c_syntax.specs.Levels.{enumerator_levels, more_enumerators_levels}
 use Rattle.c_faults.specs.Answer.{Fails}
-use Rattle.c_typing.specs.State.{state_of}
+use Rattle.c_typing_state.specs.State.{state_of}
 use Rattle.c_expression_typing.specs.Typed.{enumerator, more_enumerators}
 use Rattle.c_syntax_typing.proofs.Loops.{failed, levels_here, turned}
 use Rattle.c_syntax_typing.proofs.Lower.{lower_expressions}

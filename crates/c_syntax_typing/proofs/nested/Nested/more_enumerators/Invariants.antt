@@ -1,7 +1,7 @@
 use Rattle.std.proofs.Common.{◌≡◌, ◌≤◌, drop}
 use Rattle.c_syntax.specs.View.{more_enumerators_in}
 use Rattle.c_syntax.specs.Levels.{more_enumerators_levels}
-use Rattle.c_typing.specs.State.{state_of}
+use Rattle.c_typing_state.specs.State.{state_of}
 use Rattle.c_expression_typing.specs.Typed.{more_enumerators}
 use Rattle.c_syntax_typing.proofs.nested.Nested.more_enumerators.Given as goal
 

@@ -1,7 +1,7 @@
 use Rattle.std.proofs.Common.{◌≡◌, ◌≤◌, drop}
 use Rattle.c_syntax.specs.View.{more_parameters_in}
 use Rattle.c_syntax.specs.Levels.{more_parameters_levels}
-use Rattle.c_typing.specs.State.{state_of}
+use Rattle.c_typing_state.specs.State.{state_of}
 use Rattle.c_expression_typing.specs.Typed.{more_types}
 use Rattle.c_syntax_typing.proofs.nested.Nested.more_types.Given as goal
 

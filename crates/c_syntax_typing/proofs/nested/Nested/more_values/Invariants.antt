@@ -2,7 +2,7 @@ use Rattle.std.proofs.Common.{◌≡◌, ◌≤◌, drop, map}
 use Rattle.c_syntax.specs.View.{more_arguments_in}
 use Rattle.c_syntax.specs.Levels.{more_arguments_levels}
 use Rattle.c_rules.specs.Values.{value_of}
-use Rattle.c_typing.specs.State.{state_of}
+use Rattle.c_typing_state.specs.State.{state_of}
 use Rattle.c_expression_typing.specs.Typed.{more_values}
 use Rattle.c_syntax_typing.proofs.nested.Nested.more_values.Given as goal
 

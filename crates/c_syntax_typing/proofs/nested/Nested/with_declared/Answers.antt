@@ -1,9 +1,9 @@
 use Rattle.std.proofs.Common.{◌≡◌, Ok, sym, subst, false}
 use Rattle.c_syntax.specs.View.{declarator_of}
-use Rattle.c_typing.specs.Declarators.{shape_of}
-use Rattle.c_typing.specs.Members.{entries_of, member_added}
-use Rattle.c_typing.specs.Specifications.{specification_of}
-use Rattle.c_typing.specs.State.{Types, state_of}
+use Rattle.c_declarator_typing.specs.Declarators.{shape_of}
+use Rattle.c_declarator_typing.specs.Members.{entries_of, member_added}
+use Rattle.c_declarator_typing.specs.Specifications.{specification_of}
+use Rattle.c_typing_state.specs.State.{Types, state_of}
 use Rattle.c_faults.specs.Answer.{Gives}
 use Rattle.c_expression_typing.specs.Constructs.{with_shape}
 use Rattle.c_expression_typing.specs.Typed.{shape}

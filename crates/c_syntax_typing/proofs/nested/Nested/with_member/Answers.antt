@@ -3,9 +3,9 @@ use Rattle.std.proofs.lemmas.Result.{err_from_is_err_and}
 use Rattle.c_syntax.specs.View.{declarator_of, member_of, more_declarators_in, specifiers_in}
 use Rattle.c_syntax.proofs.MemberView.{member_view}
 use Rattle.c_faults.specs.Answer.{Fails}
-use Rattle.c_typing.specs.Members.{entries_of}
-use Rattle.c_typing.specs.Specifications.{specification_of}
-use Rattle.c_typing.specs.State.{Types, state_of}
+use Rattle.c_declarator_typing.specs.Members.{entries_of}
+use Rattle.c_declarator_typing.specs.Specifications.{specification_of}
+use Rattle.c_typing_state.specs.State.{Types, state_of}
 use Rattle.c_expression_typing.specs.Constructs.{with_shape}
 use Rattle.c_expression_typing.specs.Typed.{shape, with_member, with_more_declared}
 use Rattle.c_syntax_typing.proofs.Composing.{member_done, member_failed, member_specification}

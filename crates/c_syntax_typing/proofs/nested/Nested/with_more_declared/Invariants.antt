@@ -1,9 +1,9 @@
 use Rattle.std.proofs.Common.{◌≡◌, ◌≤◌, drop}
 use Rattle.c_syntax.specs.View.{more_declarators_in}
 use Rattle.c_syntax.specs.Levels.{more_declarators_levels}
-use Rattle.c_typing.specs.Members.{entries_of}
-use Rattle.c_typing.specs.Specifications.{specification_of}
-use Rattle.c_typing.specs.State.{state_of}
+use Rattle.c_declarator_typing.specs.Members.{entries_of}
+use Rattle.c_declarator_typing.specs.Specifications.{specification_of}
+use Rattle.c_typing_state.specs.State.{state_of}
 use Rattle.c_expression_typing.specs.Typed.{with_more_declared}
 use Rattle.c_syntax_typing.proofs.nested.Nested.with_more_declared.Given as goal
 

@@ -1,7 +1,7 @@
 use Rattle.std.proofs.Common.{◌≡◌, drop}
 use Rattle.c_syntax.specs.StatementsView.{designators_in}
 use Rattle.c_initializer_rules.specs.Initializing.{initializing_of}
-use Rattle.c_typing.specs.State.{state_of}
+use Rattle.c_typing_state.specs.State.{state_of}
 use Rattle.c_unit_typing.specs.Initializers.{designated}
 use Rattle.c_typer.proofs.initializers.designators.designated.Given as goal
 

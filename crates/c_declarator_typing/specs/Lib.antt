@@ -1,0 +1,4 @@
+pub mod Specifications
+pub mod Sizes
+pub mod Declarators
+pub mod Members

@@ -1,0 +1,3 @@
+pub mod Primaries
+pub mod Operators
+pub mod Calls

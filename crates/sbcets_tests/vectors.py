@@ -6,8 +6,7 @@ rows/ that have integers alone, whose run C99 determines, and that write UTF-8. 
 line `%<` and its input where it has one, and a line `%%` between each two. stdout has for each what gcc's program writes and its
 status (128 and the signal's number where a signal ends it).
 
-Behind a line `%%%` come the cases of cases.txt, where the lines `%= ` are those of stdout, behind another the texts of
-typing_rows.py, with a line for each, and behind a third those of static_rows.py, with a line for each static object.
+Behind a line `%%%` come the cases of cases.txt, where the lines `%= ` are those of stdout.
 
 usage: python3 crates/sbcets_tests/vectors.py make
 """
@@ -19,10 +18,6 @@ import sys
 import tempfile
 
 HERE = os.path.dirname(os.path.realpath(__file__))
-sys.path.insert(0, HERE)
-import static_rows  # noqa: E402
-import typing_rows  # noqa: E402
-
 TOP = os.path.join(HERE, "..", "..")
 OPTIONS = ["-std=c99", "-O1", "-fwrapv", "-funsigned-char", "-fno-builtin", "-w", "-include", "stdio.h", "-include", "stdlib.h"]
 EXAMPLES = [("hi", [b""]), ("hello", [b""]), ("status", [b""]), ("directives", [b""]), ("table", [b"12\n", b" 1", b"21", b""]),
@@ -79,15 +74,10 @@ def make():
             given.append(bytes_of(source) + (b"%<\n" + data if data else b""))
             shown.append(output + b"\n%%%% %d\n" % status)
     calls, lines = cases()
-    typed = list(typing_rows.rows())
-    statics = list(static_rows.rows(200))
     with open(f"{HERE}/stdin", "wb") as it:
         it.write(b"%%\n".join(given) + b"%%%\n" + calls)
-        it.write(b"%%%\n" + "%%\n".join(text for text, _ in typed).encode())
-        it.write(b"%%%\n" + "%%\n".join(text for text, _ in statics).encode())
     with open(f"{HERE}/stdout", "wb") as it:
-        it.write(b"".join(shown) + lines + "".join(line + "\n" for _, line in typed).encode())
-        it.write("".join("\n".join([*lines, "typed\n"]) for _, lines in statics).encode())
+        it.write(b"".join(shown) + lines)
 
 
 if sys.argv[1:] == ["make"]:

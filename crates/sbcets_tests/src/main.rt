@@ -1,5 +1,5 @@
-// Programs of integers, compiled and run, calls of the program over an outside in memory, and sources that are typed.
-// Standard input has four parts, with a line `%%%` between each two, and in each a line `%%` between each two texts.
+// Programs of integers, compiled and run, and calls of the program over an outside in memory. Standard input has two
+// parts, with a line `%%%` between them, and in each a line `%%` between each two texts.
 //
 // The first has programs, each with its input behind a line `%<` where it reads one. For each is printed what the run
 // wrote, and then on a line of its own its status, or what else the run came to.
@@ -18,30 +18,18 @@
 // - `%holds image`: how much of the image of `hi.c` the file `hi.img` holds after each call, and the call gave.
 // - `%compile hi.c`: what `compile` says of `hi.c`, on a line of its own.
 //
-// The third has sources. For each is printed the first rule that it violates and its line, or what it has too much of
-// and how much, or that it is typed.
-//
-// The fourth has such sources too. For each come first its static objects, in the order of their names, with the bytes
-// that they hold before a run.
-//
 // `stdin` and `stdout` are made by `vectors.py` beside them: of the programs by gcc 12.2.0 (Debian 12; -std=c99 -O1
-// -fwrapv -funsigned-char), of the cases from `cases.txt`, where each expected line stands with its case, as the
-// documents state it (docs/LANGUAGE.md, docs/FORMATS.md), and of the sources that are typed from `typing_rows.py`,
-// whose
-// tables were worked out by hand; what gcc 12.2.0 says of them stands there. What static objects hold is what gcc's
-// object files hold (`static_rows.py`).
+// -fwrapv -funsigned-char), and of the cases from `cases.txt`, where each expected line stands with its case, as the
+// documents state it (docs/LANGUAGE.md, docs/FORMATS.md).
 #![tactic(auto)]
 
 mod calls;
 mod case;
 mod image;
-mod statics;
 mod text;
-mod typing;
 
 use crate::calls::put_calls;
 use crate::case::Case;
-use crate::typing::{Question, verdict_of};
 use anyhow::{Context, Result};
 use sb_outside::{MemFiles, MemSink, MemSource};
 use sbcets_core::sbcets;
@@ -53,21 +41,10 @@ const LARGE_ROOM: u64 = 1_048_576;
 
 fn main(rt: HostRuntime) -> Result<()> {
     let input = io::read_to_string(rt.alloc(), rt.reader())?;
-    let (programs, rest) = input.as_str().split_once("%%%\n").context("four parts")?;
-    let (cases, rest) = rest.split_once("%%%\n").context("four parts")?;
-    let (sources, statics) = rest.split_once("%%%\n").context("four parts")?;
+    let (programs, cases) = input.as_str().split_once("%%%\n").context("two parts")?;
     put_programs(&rt, programs)?;
     for text in cases.split("%%\n") {
         put_calls(&rt, &Case::parse(rt.alloc(), text)?)?;
-    }
-    put_verdicts(&rt, Question::Rule, sources)?;
-    put_verdicts(&rt, Question::Statics, statics)
-}
-
-fn put_verdicts(rt: &HostRuntime, question: Question, sources: &str) -> Result<()> {
-    for text in sources.split("%%\n") {
-        let verdict = verdict_of(rt, question, text.as_bytes())?;
-        println!(rt; "{verdict}")?;
     }
     Ok(())
 }

@@ -1,11 +1,11 @@
 #!/usr/bin/env python3
-"""The texts of this program that are typed alone. They are those of rows/units.py and of RULES below; the rule that a text
+"""The texts of the first part of this program. They are those of rows/units.py and of RULES below; the rule that a text
 violates first and its line, or that it violates none, were worked out by hand from C99 and docs/LANGUAGE.md. The sizes of
 objects, and the values, sizes and signs of constant expressions are gcc's (12.2.0): a text with another one is refused, since
 the size of an array in it is -1 then. `gcc` prints the texts of RULES that gcc does not refuse on the same line, and those of the
 other tables that it does not decide so: these have a rule that gcc has not, or are judged at another token.
 
-usage: python3 crates/sbcets_tests/typing_rows.py gcc      compares with gcc
+usage: python3 crates/typing_vectors/typing_rows.py gcc      compares with gcc
 """
 
 import itertools

@@ -15,7 +15,7 @@ OPTIONS = ["-std=c99", "-pedantic-errors", "-funsigned-char", "-fno-pic", "-fno-
 INTEGERS = ["char", "signed char", "unsigned char", "short", "unsigned short", "int", "unsigned", "long", "unsigned long", "long long"]
 HEAD = "int f(void){return 0;}int g(void){return 1;}\nint y[4];"
 TAIL = "int main(void){return 0;}"
-# Where sbcets_tests places static objects and functions.
+# Where typing_vectors places static objects and functions.
 STATICS, FUNCTIONS, STEP = 0x10000000, 0x20000000, 0x10000
 
 

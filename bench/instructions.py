@@ -13,7 +13,7 @@ import tempfile
 
 TOP = os.path.join(os.path.dirname(os.path.realpath(__file__)), "..")
 PROGRAMS = f"{TOP}/crates/sbcets_tests/programs"
-TEN = ["ackermann", "calculator", "crc32", "hanoi", "life", "mandelbrot", "partitions", "primes", "queens", "wide_product"]
+TEN = ["ackermann", "calculator", "crc32", "hanoi", "life", "mandelbrot", "partitions", "powers", "queens", "wide_product"]
 GCC = ["riscv64-linux-gnu-gcc", "-std=c99", "-O0", "-fwrapv", "-funsigned-char", "-march=rv64im", "-mabi=lp64", "-nostdlib", "-static", "-w",
        "-fno-builtin", "-fno-pic", "-no-pie", "-nostdinc"]
 HEADER = "#define EOF (-1)\nint putchar(int);\nint getchar(void);\nvoid exit(int);\nvoid abort(void);\n"

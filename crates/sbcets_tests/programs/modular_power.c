@@ -30,14 +30,16 @@ word power(word base, word exponent, word modulus)
     return result;
 }
 
-/* Fermat's test with a few bases */
-int is_probably_prime(word n)
+/* the least exponent above 0 with the power 1, or 0 where there is none */
+word order(word base, word modulus)
 {
-    word a;
-    for (a = 2; a < 8; a++)
-        if (n % a != 0 && power(a, n - 1, n) != 1)
-            return 0;
-    return 1;
+    word exponent, result = base % modulus;
+    for (exponent = 1; exponent < modulus; exponent++) {
+        if (result == 1)
+            return exponent;
+        result = result * base % modulus;
+    }
+    return 0;
 }
 
 int main(void)
@@ -46,8 +48,10 @@ int main(void)
     line(power(2, 10, 1000007));
     line(power(3, 1000000, 1000000007));
     line(power(7, 65537, 4294967291u));
-    for (n = 1000003; n < 1000100; n += 2)
-        if (is_probably_prime(n))
-            line(n);
+    for (n = 81; n < 1000; n += 88) {
+        word exponent = order(10, n);
+        line(exponent);
+        line(power(10, exponent + 1, n));
+    }
     return power(5, 117, 19);
 }

@@ -10,38 +10,23 @@
 //! that; and the accesses where they are asked for. The last line of all has the kinds of instructions that no run came
 //! to: `Reserved` alone, which stands nowhere in code that is done.
 //!
-//! What a step does stands here once more, after the definitions of `tac_ir` and `source_meaning`; what is wrong there
-//! is `stuck` here. `stdin` and `stdout` are made by `rows.py` beside them, from the texts of `rows/` and from what
+//! `stdin` and `stdout` are made by `rows.py` beside them, from the texts of `rows/` and from what
 //! `source_meaning_rows` proves of their meaning. A word says how far the program of a text goes instead: `type`,
 //! `lower` or `insert`; then the number of nodes is told.
 #![tactic(auto)]
 
-mod access;
-mod act;
-mod call;
-mod heap;
-mod key;
-mod kind;
-mod library;
 mod lowered;
-mod object;
 mod row;
-mod run;
 mod shown;
-mod state;
-mod string;
-mod value;
 
-use crate::kind::NAMES;
 use crate::lowered::{lowered, typed};
 use crate::row::Row;
-use crate::run::run;
 use crate::shown::{count_checks, put_run};
-use crate::state::State;
 use anyhow::{Result, bail};
 use c_tree::Program;
 use check_insert::{checks, insert};
 use std::{env, io};
+use tac_interpreter::{KIND_NAMES, run};
 use tac_ir::{Tac, Test};
 
 fn main(rt: HostRuntime) -> Result<()> {
@@ -54,13 +39,13 @@ fn main(rt: HostRuntime) -> Result<()> {
 }
 
 fn put_rows(rt: &HostRuntime, rows: &str) -> Result<()> {
-    let mut done = [false; NAMES.len()];
+    let mut done = [false; KIND_NAMES.len()];
     for text in rows.split("%%\n") {
         let row = Row::parse(rt.alloc(), text)?;
         put_row(rt, &row, &mut done)?;
     }
     print!(rt; "never done:")?;
-    for (name, is_done) in NAMES.iter().zip(done.iter()) {
+    for (name, is_done) in KIND_NAMES.iter().zip(done.iter()) {
         if !*is_done {
             print!(rt; " {name}")?;
         }
@@ -96,9 +81,8 @@ fn put_program(rt: &HostRuntime, row: &Row, program: &Program, done: &mut [bool]
 
 fn put_code(rt: &HostRuntime, when: &str, row: &Row, code: &Tac, done: &mut [bool]) -> Result<()> {
     let input = Vec::from_slice(rt.alloc(), &row.input)?;
-    let mut state = State::new(rt.alloc(), &row.budgets, code, input)?;
-    let ran = run(&mut state, code, done);
-    put_run(rt, when, row, &state, ran)
+    let ran = run(rt.alloc(), &row.budgets, code, input, done)?;
+    put_run(rt, when, row, &ran)
 }
 
 fn nodes_of(code: &Tac) -> usize {

@@ -1,9 +1,9 @@
 //! Rows: a text, and what its run is given.
 
-use crate::state::Budgets;
 use anyhow::{Context, Result};
 use std::alloc::Global;
 use std::str::Split;
+use tac_interpreter::Budgets;
 
 /// A row.
 #[derive(Drop)]

@@ -1,10 +1,8 @@
 //! What is told of a row.
 
-use crate::kind::NAMES;
 use crate::row::Row;
-use crate::run::Ran;
-use crate::state::{Cause, State, Stop};
 use anyhow::Result;
+use tac_interpreter::{Access, Cause, Finder, Outcome, Stop};
 use tac_ir::{CodeFunction, Instruction, Tac, Test};
 
 /// How many times the work of its meaning the code of a program may do.
@@ -24,35 +22,32 @@ fn report_of(cause: Cause) -> (u8, &'static str) {
     }
 }
 
-// What the last instruction of a run is.
-fn place_of(last: usize) -> &'static str {
-    match NAMES.get(last) {
-        Some(name) => match *name {
-            "Read" | "Write" | "Update" => "access",
-            "Judge" => "check",
-            "Library" | "Print" => "routine",
-            _ => "other",
-        },
-        None => "other",
+// The word for what found a wrong access.
+fn name_of(finder: Finder) -> &'static str {
+    match finder {
+        Finder::Access => "access",
+        Finder::Check => "check",
+        Finder::Routine => "routine",
+        Finder::Other => "other",
     }
 }
 
 // Prints the end of a run at a line, and gives the bytes of its report with its newline.
-fn put_end(rt: &HostRuntime, cause: Cause, line: u32, last: usize) -> Result<u64> {
+fn put_end(rt: &HostRuntime, cause: Cause, line: u32, finder: Finder) -> Result<u64> {
     let (status, what) = report_of(cause);
     let report = format!(in rt.alloc(); "sbcets: {what} at line {line}")?;
     print!(rt; "{status} {report}")?;
     if cause == Cause::Spatial || cause == Cause::Temporal {
-        print!(rt; " ({})", place_of(last))?;
+        print!(rt; " ({})", name_of(finder))?;
     }
     Ok((report.len() as u64).saturating_add(1))
 }
 
 // Prints how a run stopped, and gives the bytes of its report.
-fn put_stop(rt: &HostRuntime, stop: Stop, last: usize) -> Result<u64> {
+fn put_stop(rt: &HostRuntime, stop: Stop, finder: Finder) -> Result<u64> {
     match stop {
         Stop::Exited(status) => print!(rt; "{}", status.rem_euclid(256))?,
-        Stop::Ended(cause, line) => return put_end(rt, cause, line, last),
+        Stop::Ended(cause, line) => return put_end(rt, cause, line, finder),
         Stop::Stuck => print!(rt; "stuck")?,
         Stop::Paused => print!(rt; "running")?,
         Stop::Memory => print!(rt; "memory")?,
@@ -73,9 +68,9 @@ fn put_output(rt: &HostRuntime, bytes: &[u8]) -> Result<()> {
     Ok(())
 }
 
-fn put_accesses(rt: &HostRuntime, state: &State) -> Result<()> {
-    print!(rt; " {} accesses", state.accesses.len())?;
-    for access in state.accesses.iter() {
+fn put_accesses(rt: &HostRuntime, accesses: &[Access]) -> Result<()> {
+    print!(rt; " {} accesses", accesses.len())?;
+    for access in accesses {
         let kind = if access.is_write { 'w' } else { 'r' };
         print!(rt; " {kind}{:x}+{}", access.address, access.size)?;
     }
@@ -84,17 +79,17 @@ fn put_accesses(rt: &HostRuntime, state: &State) -> Result<()> {
 
 /// Prints a line on a run: how it stopped, what it put out, and of a row that asks for it its turns, whether its work
 /// is within what is promised, and its accesses.
-pub fn put_run(rt: &HostRuntime, when: &str, row: &Row, state: &State, ran: Ran) -> Result<()> {
+pub fn put_run(rt: &HostRuntime, when: &str, row: &Row, ran: &Outcome) -> Result<()> {
     print!(rt; "  {when}: ")?;
-    let report = put_stop(rt, ran.stop, ran.last)?;
-    put_output(rt, &state.output)?;
+    let report = put_stop(rt, ran.stop, ran.finder)?;
+    put_output(rt, &ran.output)?;
     if let Some(work) = row.work {
-        let is_within = state.work.saturating_add(report) <= work.saturating_mul(WORK);
+        let is_within = ran.work.saturating_add(report) <= work.saturating_mul(WORK);
         let word = if is_within { "within" } else { "over" };
-        print!(rt; " {} turns, {word}", state.turns)?;
+        print!(rt; " {} turns, {word}", ran.turns)?;
     }
     if row.has_accesses {
-        put_accesses(rt, state)?;
+        put_accesses(rt, &ran.accesses)?;
     }
     println!(rt; "")?;
     Ok(())

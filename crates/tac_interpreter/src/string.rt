@@ -67,7 +67,7 @@ impl State {
     }
 
     /// The bytes of a string before its 0 byte.
-    pub fn scan(&mut self, string: Value, line: Line) -> Result<Vec<u8>, Stop> {
+    pub(crate) fn scan(&mut self, string: Value, line: Line) -> Result<Vec<u8>, Stop> {
         match self.scan_within(reach(string), string, line) {
             Ok((bytes, true)) => Ok(bytes),
             Ok((_, false)) => Err(ended(Cause::Spatial, line)),
@@ -75,12 +75,12 @@ impl State {
         }
     }
 
-    pub fn strlen(&mut self, string: Value, line: Line) -> Result<Value, Stop> {
+    pub(crate) fn strlen(&mut self, string: Value, line: Line) -> Result<Value, Stop> {
         let bytes = self.scan(string, line)?;
         Ok(integer(bytes.len() as u64))
     }
 
-    pub fn strcmp(&mut self, left: Value, right: Value, line: Line) -> Result<Value, Stop> {
+    pub(crate) fn strcmp(&mut self, left: Value, right: Value, line: Line) -> Result<Value, Stop> {
         let mut one = left;
         let mut other = right;
         for _ in 0..reach(left) {
@@ -104,20 +104,20 @@ impl State {
         Ok(())
     }
 
-    pub fn strcpy(&mut self, to: Value, from: Value, line: Line) -> Result<Value, Stop> {
+    pub(crate) fn strcpy(&mut self, to: Value, from: Value, line: Line) -> Result<Value, Stop> {
         let bytes = self.scan(from, line)?;
         self.write_string(to, bytes, line)?;
         Ok(to)
     }
 
-    pub fn strcat(&mut self, to: Value, from: Value, line: Line) -> Result<Value, Stop> {
+    pub(crate) fn strcat(&mut self, to: Value, from: Value, line: Line) -> Result<Value, Stop> {
         let before = self.scan(to, line)?.len();
         let bytes = self.scan(from, line)?;
         self.write_string(to.moved(before as u64), bytes, line)?;
         Ok(to)
     }
 
-    pub fn strncpy(
+    pub(crate) fn strncpy(
         &mut self,
         to: Value,
         from: Value,
@@ -136,7 +136,7 @@ impl State {
         Ok(to)
     }
 
-    pub fn strchr(&mut self, string: Value, byte: Value, line: Line) -> Result<Value, Stop> {
+    pub(crate) fn strchr(&mut self, string: Value, byte: Value, line: Line) -> Result<Value, Stop> {
         let mut place = string;
         for _ in 0..reach(string) {
             let found = self.look(place, line)?;
@@ -151,7 +151,7 @@ impl State {
         Err(ended(Cause::Spatial, line))
     }
 
-    pub fn memmove(
+    pub(crate) fn memmove(
         &mut self,
         to: Value,
         from: Value,
@@ -166,7 +166,7 @@ impl State {
         Ok(to)
     }
 
-    pub fn memset(
+    pub(crate) fn memset(
         &mut self,
         to: Value,
         byte: Value,
@@ -181,7 +181,7 @@ impl State {
         Ok(to)
     }
 
-    pub fn memcmp(
+    pub(crate) fn memcmp(
         &mut self,
         left: Value,
         right: Value,

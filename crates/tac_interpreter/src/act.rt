@@ -524,7 +524,7 @@ impl State {
     }
 
     /// What an instruction of the function that runs does, once its cost is paid; the next node.
-    pub fn act(
+    pub(crate) fn act(
         &mut self,
         code: &Tac,
         function: &CodeFunction,

@@ -10,13 +10,13 @@ use static_data::pointers::size_of;
 
 /// How the place of an access is found: by judgement of its pointer, or by its tag alone.
 #[derive(Clone, Copy)]
-pub enum Finding {
+pub(crate) enum Finding {
     Judged,
     Named,
 }
 
 /// A binary operator in a type, which ends the run where the divisor is zero.
-pub fn operate(
+pub(crate) fn operate(
     operator: BinaryOperator,
     of: IntType,
     left: u64,
@@ -30,7 +30,7 @@ pub fn operate(
 }
 
 /// The new value of a scalar that is updated.
-pub fn updated(
+pub(crate) fn updated(
     update: Update,
     scalar: Scalar,
     right: Value,
@@ -48,7 +48,7 @@ pub fn updated(
 }
 
 /// Whether so many bytes from an address on are within bounds.
-pub fn are_within(bounds: Bounds, address: u64, size: u64) -> bool {
+pub(crate) fn are_within(bounds: Bounds, address: u64, size: u64) -> bool {
     bounds.base <= address && address <= bounds.bound && size <= bounds.bound - address
 }
 
@@ -62,14 +62,14 @@ impl State {
     }
 
     /// Whether the object with a number lives.
-    pub fn is_live(&self, number: usize) -> bool {
+    pub(crate) fn is_live(&self, number: usize) -> bool {
         self.objects
             .get(number)
             .is_some_and(|object| object.is_live)
     }
 
     /// The place of an access of so many bytes.
-    pub fn located(
+    pub(crate) fn located(
         &self,
         finding: Finding,
         size: u64,
@@ -127,7 +127,7 @@ impl State {
     }
 
     /// A byte of a literal is written at an offset of an object.
-    pub fn store_byte(&mut self, number: usize, offset: u64, byte: u8) -> Result<(), Stop> {
+    pub(crate) fn store_byte(&mut self, number: usize, offset: u64, byte: u8) -> Result<(), Stop> {
         let address = self.pointer_to(number).word.wrapping_add(offset);
         let place = Place {
             object: number,
@@ -138,7 +138,7 @@ impl State {
     }
 
     /// A scalar is judged once, read, updated and written: the line of the access, then that of the operator.
-    pub fn update(
+    pub(crate) fn update(
         &mut self,
         (update, scalar, fixity): (Update, Scalar, Fixity),
         finding: Finding,
@@ -154,7 +154,7 @@ impl State {
     }
 
     /// A plain variable is updated, at the line of the operator.
-    pub fn update_plain(
+    pub(crate) fn update_plain(
         &mut self,
         (update, scalar, fixity): (Update, Scalar, Fixity),
         variable: usize,
@@ -183,7 +183,7 @@ impl State {
     }
 
     /// What a pointer points to, or a part of contents.
-    pub fn read(
+    pub(crate) fn read(
         &mut self,
         kind: Kind,
         finding: Finding,
@@ -208,7 +208,7 @@ impl State {
     }
 
     /// What a pointer points to gets a value; what is given is the value as it is stored.
-    pub fn write(
+    pub(crate) fn write(
         &mut self,
         kind: Kind,
         finding: Finding,
@@ -263,7 +263,7 @@ impl State {
     }
 
     /// Bytes move with their tags from one place to another.
-    pub fn move_bytes(&mut self, size: u64, to: Place, from: Place) -> Result<(), Stop> {
+    pub(crate) fn move_bytes(&mut self, size: u64, to: Place, from: Place) -> Result<(), Stop> {
         self.tally(size);
         let Some(object) = self.objects.get(from.object) else {
             return Err(Stop::Stuck);
@@ -294,7 +294,12 @@ impl State {
     }
 
     /// A value as an argument or a result.
-    pub fn take(&mut self, kind: Kind, line: Line, value: Temporary) -> Result<Temporary, Stop> {
+    pub(crate) fn take(
+        &mut self,
+        kind: Kind,
+        line: Line,
+        value: Temporary,
+    ) -> Result<Temporary, Stop> {
         match kind {
             Kind::Structure(size) => self.taken(size, value, line),
             Kind::Void | Kind::Scalar(_) | Kind::Array(_) => Ok(value),
@@ -302,7 +307,7 @@ impl State {
     }
 
     /// 0 of a kind.
-    pub fn zero_of(&mut self, kind: Kind) -> Result<Temporary, Stop> {
+    pub(crate) fn zero_of(&mut self, kind: Kind) -> Result<Temporary, Stop> {
         match kind {
             Kind::Structure(size) => {
                 let contents = Object::new(self.alloc, Storage::Automatic, 0, size)?;
@@ -334,7 +339,7 @@ impl State {
     }
 
     /// A step is wrong that moves a structure value which is not there.
-    pub fn admit_moved(&self, kind: Kind, value: Temporary) -> Result<(), Stop> {
+    pub(crate) fn admit_moved(&self, kind: Kind, value: Temporary) -> Result<(), Stop> {
         match kind {
             Kind::Structure(size) if !self.is_there(size, value) => Err(Stop::Stuck),
             _ => Ok(()),
@@ -342,7 +347,7 @@ impl State {
     }
 
     /// A step is wrong that accesses by name what is not there.
-    pub fn admit_named(&self, kind: Kind, value: Temporary) -> Result<(), Stop> {
+    pub(crate) fn admit_named(&self, kind: Kind, value: Temporary) -> Result<(), Stop> {
         if self.is_there(size_of(kind), value) {
             Ok(())
         } else {
@@ -351,7 +356,7 @@ impl State {
     }
 
     /// A step is wrong that accesses contents through a pointer.
-    pub fn admit_pointer(&self, value: Temporary) -> Result<(), Stop> {
+    pub(crate) fn admit_pointer(&self, value: Temporary) -> Result<(), Stop> {
         match value.contents {
             None => Ok(()),
             Some(_) => Err(Stop::Stuck),
@@ -359,7 +364,7 @@ impl State {
     }
 
     /// A step is wrong that accesses behind its checks what they do not allow.
-    pub fn admit_judged(&self, kind: Kind, value: Temporary) -> Result<(), Stop> {
+    pub(crate) fn admit_judged(&self, kind: Kind, value: Temporary) -> Result<(), Stop> {
         self.admit_pointer(value)?;
         match value.value.tag {
             Tag::OfObject(number, bounds)

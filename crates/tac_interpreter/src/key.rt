@@ -46,7 +46,7 @@ impl State {
     }
 
     /// A step with a key is wrong where the key does not give its pointer.
-    pub fn admit_key(
+    pub(crate) fn admit_key(
         &self,
         keys: &[Key],
         number: Option<usize>,

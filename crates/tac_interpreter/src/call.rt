@@ -14,7 +14,7 @@ use tac_ir::{CodeFunction, Tac};
 
 /// Arguments, so many from a place among the temporaries of all calls.
 #[derive(Clone, Copy)]
-pub struct Arguments {
+pub(crate) struct Arguments {
     pub first: usize,
     pub count: usize,
 }
@@ -190,7 +190,7 @@ impl State {
     }
 
     /// A call of a function by its number, with what waits for its result; the node where it begins.
-    pub fn call(
+    pub(crate) fn call(
         &mut self,
         code: &Tac,
         number: usize,
@@ -214,7 +214,7 @@ impl State {
     }
 
     /// The function that runs, which goes on at a node once a temporary has the result of a call.
-    pub fn waiting(&self, node: usize, place: usize) -> Waiting {
+    pub(crate) fn waiting(&self, node: usize, place: usize) -> Waiting {
         Waiting {
             function: self.function,
             node,
@@ -226,7 +226,7 @@ impl State {
     }
 
     /// The number of the function of a type that a pointer is called as.
-    pub fn callee(
+    pub(crate) fn callee(
         &self,
         code: &Tac,
         type_number: usize,
@@ -265,7 +265,7 @@ impl State {
     }
 
     /// A return of a value; the node where the caller goes on.
-    pub fn give_back(&mut self, value: Temporary) -> Result<usize, Stop> {
+    pub(crate) fn give_back(&mut self, value: Temporary) -> Result<usize, Stop> {
         match self.frames.pop() {
             None => Err(Stop::Exited(int_of(value.value.word))),
             Some(Frame::Entered(_)) => Err(Stop::Stuck),
@@ -313,7 +313,7 @@ impl State {
     }
 
     /// A block of a function is entered.
-    pub fn enter_block(
+    pub(crate) fn enter_block(
         &mut self,
         function: &CodeFunction,
         block: usize,
@@ -338,7 +338,7 @@ impl State {
     }
 
     /// The block that was entered last is left.
-    pub fn leave_block(&mut self) -> Result<(), Stop> {
+    pub(crate) fn leave_block(&mut self) -> Result<(), Stop> {
         let Some(Frame::Entered(block)) = self.frames.pop() else {
             return Err(Stop::Stuck);
         };

@@ -5,7 +5,7 @@ use std::alloc::{AllocError, Global};
 
 /// An object, or the contents of a structure value.
 #[derive(Drop)]
-pub struct Object {
+pub(crate) struct Object {
     pub storage: Storage,
     pub address: u64,
     pub size: u64,
@@ -25,7 +25,7 @@ fn number_of(bytes: &[u8]) -> u64 {
 
 impl Object {
     /// A new object, with zero bytes and no tags.
-    pub fn new(
+    pub(crate) fn new(
         alloc: Global,
         storage: Storage,
         address: u64,
@@ -44,7 +44,7 @@ impl Object {
     }
 
     /// The same object again.
-    pub fn copy(&self, alloc: Global) -> Result<Object, AllocError> {
+    pub(crate) fn copy(&self, alloc: Global) -> Result<Object, AllocError> {
         let bytes = Vec::from_slice(alloc, &self.bytes)?;
         let tags = Vec::from_slice(alloc, &self.tags)?;
         Ok(Object {
@@ -58,13 +58,13 @@ impl Object {
     }
 
     /// All bytes become zero, and the words lose their tags.
-    pub fn clear(&mut self) {
+    pub(crate) fn clear(&mut self) {
         self.bytes.as_mut_slice().fill(0);
         self.tags.as_mut_slice().fill(Tag::Untagged);
     }
 
     /// Some bytes from an offset on, none where they are not all there.
-    pub fn part(&self, offset: u64, size: u64) -> &[u8] {
+    pub(crate) fn part(&self, offset: u64, size: u64) -> &[u8] {
         let first = offset as usize;
         let end = first.saturating_add(size as usize);
         self.bytes.get(first..end).unwrap_or(&[])
@@ -90,7 +90,7 @@ impl Object {
     }
 
     /// What is read of a scalar at an offset.
-    pub fn read(&self, scalar: Scalar, offset: u64) -> Value {
+    pub(crate) fn read(&self, scalar: Scalar, offset: u64) -> Value {
         let number = number_of(self.part(offset, scalar.size()));
         match scalar {
             Scalar::Integer(of) => Value {
@@ -105,7 +105,7 @@ impl Object {
     }
 
     /// Bytes are set from an offset on; the tags stay.
-    pub fn put_bytes(&mut self, offset: u64, new: &[u8]) {
+    pub(crate) fn put_bytes(&mut self, offset: u64, new: &[u8]) {
         let mut place = offset as usize;
         for byte in new {
             if let Some(old) = self.bytes.get_mut(place) {
@@ -116,7 +116,7 @@ impl Object {
     }
 
     /// A scalar is written at an offset.
-    pub fn write(&mut self, scalar: Scalar, offset: u64, value: Value) {
+    pub(crate) fn write(&mut self, scalar: Scalar, offset: u64, value: Value) {
         let bytes = value.word.to_le_bytes();
         let size = scalar.size() as usize;
         self.put_bytes(offset, &bytes[..size]);
@@ -138,7 +138,7 @@ impl Object {
     }
 
     /// Some bytes of another object move here with the tags of whole words, where both offsets are equal modulo 8.
-    pub fn move_into(&mut self, size: u64, start: u64, source: u64, from: &Object) {
+    pub(crate) fn move_into(&mut self, size: u64, start: u64, source: u64, from: &Object) {
         self.put_bytes(start, from.part(source, size));
         if start % 8 == source % 8 {
             self.move_tags(size, start, source, &from.tags);

@@ -1,4 +1,4 @@
-//! The kinds of instructions, and what they cost.
+//! The kinds of instructions, what they cost, and which of them find a wrong access.
 
 ghost use Rattle.std.specs.Prelude.{◌≤◌};
 
@@ -6,8 +6,8 @@ use c_tree::Kind;
 use obj_memory::Scalar;
 use tac_ir::{Instruction, Mode};
 
-/// The names of the kinds, by number.
-pub const NAMES: [&str; 34] = [
+/// The names of the kinds of instructions, in the order of their declaration.
+pub const KIND_NAMES: [&str; 34] = [
     "Reserved",
     "Constant",
     "FunctionPointer",
@@ -44,8 +44,8 @@ pub const NAMES: [&str; 34] = [
     "Return",
 ];
 
-/// The number of an instruction's kind.
-pub fn kind_of(instruction: &Instruction) -> usize {
+/// The place of the name of an instruction's kind in `KIND_NAMES`.
+pub(crate) fn kind_of(instruction: &Instruction) -> usize {
     match instruction {
         Instruction::Reserved => 0,
         Instruction::Constant { .. } => 1,
@@ -84,6 +84,31 @@ pub fn kind_of(instruction: &Instruction) -> usize {
     }
 }
 
+/// What kind of instruction ended a run.
+#[derive(Clone, Copy)]
+pub enum Finder {
+    /// An access of an object.
+    Access,
+    /// A check that `check_insert` put in.
+    Check,
+    /// A routine of the library.
+    Routine,
+    /// Another instruction, or none: the call of `main`.
+    Other,
+}
+
+/// What kind of instruction this one is to a run that ends at it.
+pub(crate) fn finder_of(instruction: &Instruction) -> Finder {
+    match instruction {
+        Instruction::Read { .. } | Instruction::Write { .. } | Instruction::Update { .. } => {
+            Finder::Access
+        }
+        Instruction::Judge { .. } => Finder::Check,
+        Instruction::Library { .. } | Instruction::Print { .. } => Finder::Routine,
+        _ => Finder::Other,
+    }
+}
+
 // The checks that an access will get.
 fn checks_of(mode: Mode) -> u64
     ensures { result ≤ 2 }
@@ -105,7 +130,7 @@ fn entries_of(kind: Kind) -> u64
 }
 
 /// The units of work that an instruction costs, beside those of the bytes that it moves.
-pub fn cost(instruction: &Instruction) -> u64 {
+pub(crate) fn cost(instruction: &Instruction) -> u64 {
     match *instruction {
         Instruction::Read { kind, mode, .. } | Instruction::Write { kind, mode, .. } => {
             1 + entries_of(kind) + checks_of(mode)

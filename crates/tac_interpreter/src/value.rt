@@ -9,7 +9,7 @@ const FUNCTIONS: u64 = 0x1_0000;
 const ENTRY: u64 = 16;
 
 /// An integer, which has no tag.
-pub fn integer(word: u64) -> Value {
+pub(crate) fn integer(word: u64) -> Value {
     Value {
         word,
         tag: Tag::Untagged,
@@ -17,12 +17,12 @@ pub fn integer(word: u64) -> Value {
 }
 
 /// The address of a function.
-pub fn function_address(number: usize) -> u64 {
+pub(crate) fn function_address(number: usize) -> u64 {
     FUNCTIONS.wrapping_add((number as u64).wrapping_mul(ENTRY))
 }
 
 /// The pointer to a function.
-pub fn function_pointer(number: usize) -> Value {
+pub(crate) fn function_pointer(number: usize) -> Value {
     Value {
         word: function_address(number),
         tag: Tag::OfFunction(number),
@@ -30,7 +30,7 @@ pub fn function_pointer(number: usize) -> Value {
 }
 
 /// A value converted to a scalar.
-pub fn converted_to(scalar: Scalar, value: Value) -> Value {
+pub(crate) fn converted_to(scalar: Scalar, value: Value) -> Value {
     match scalar {
         Scalar::Integer(of) => integer(of.fit(value.word)),
         Scalar::Pointer => value,
@@ -38,7 +38,7 @@ pub fn converted_to(scalar: Scalar, value: Value) -> Value {
 }
 
 /// A value converted to a kind.
-pub fn converted(kind: Kind, value: Value) -> Value {
+pub(crate) fn converted(kind: Kind, value: Value) -> Value {
     match kind {
         Kind::Void => integer(0),
         Kind::Scalar(scalar) => converted_to(scalar, value),
@@ -47,12 +47,12 @@ pub fn converted(kind: Kind, value: Value) -> Value {
 }
 
 /// A pointer so many bytes back.
-pub fn moved_back(pointer: Value, offset: u64) -> Value {
+pub(crate) fn moved_back(pointer: Value, offset: u64) -> Value {
     pointer.moved(offset.wrapping_neg())
 }
 
 /// A pointer and an index of elements of so many bytes, in the order of the form.
-pub fn offset_value(form: OffsetForm, size: u64, left: Value, right: Value) -> Value {
+pub(crate) fn offset_value(form: OffsetForm, size: u64, left: Value, right: Value) -> Value {
     match form {
         OffsetForm::PointerPlusIndex => left.moved(right.word.wrapping_mul(size)),
         OffsetForm::IndexPlusPointer => right.moved(left.word.wrapping_mul(size)),
@@ -61,14 +61,14 @@ pub fn offset_value(form: OffsetForm, size: u64, left: Value, right: Value) -> V
 }
 
 /// The difference of two pointers in elements of so many bytes.
-pub fn difference_value(size: u64, left: Value, right: Value) -> Value {
+pub(crate) fn difference_value(size: u64, left: Value, right: Value) -> Value {
     let bytes = left.word.wrapping_sub(right.word);
     let elements = BinaryOperator::Divide.apply(IntType::Long, bytes, size);
     integer(elements.unwrap_or(0))
 }
 
 /// The old value or the new one.
-pub fn given(fixity: Fixity, old: Value, new: Value) -> Value {
+pub(crate) fn given(fixity: Fixity, old: Value, new: Value) -> Value {
     match fixity {
         Fixity::Prefix => new,
         Fixity::Postfix => old,
@@ -76,6 +76,6 @@ pub fn given(fixity: Fixity, old: Value, new: Value) -> Value {
 }
 
 /// The signed number of the low 32 bits of a word.
-pub fn int_of(word: u64) -> i32 {
+pub(crate) fn int_of(word: u64) -> i32 {
     ((word & 0xffff_ffff) as u32).cast_signed()
 }

@@ -103,18 +103,18 @@ impl State {
         self.kill(number);
     }
 
-    pub fn malloc(&mut self, size: Value, line: Line) -> Result<Value, Stop> {
+    pub(crate) fn malloc(&mut self, size: Value, line: Line) -> Result<Value, Stop> {
         self.allocate(size.word, line)
     }
 
-    pub fn calloc(&mut self, count: Value, size: Value, line: Line) -> Result<Value, Stop> {
+    pub(crate) fn calloc(&mut self, count: Value, size: Value, line: Line) -> Result<Value, Stop> {
         match count.word.checked_mul(size.word) {
             Some(bytes) => self.allocate(bytes, line),
             None => Ok(integer(0)),
         }
     }
 
-    pub fn free(&mut self, pointer: Value, line: Line) -> Result<Value, Stop> {
+    pub(crate) fn free(&mut self, pointer: Value, line: Line) -> Result<Value, Stop> {
         if pointer.word != 0 {
             let number = self.freed(pointer, line)?;
             self.release(number);
@@ -133,7 +133,7 @@ impl State {
         self.move_bytes(old.min(size), to, from)
     }
 
-    pub fn realloc(&mut self, old: Value, size: Value, line: Line) -> Result<Value, Stop> {
+    pub(crate) fn realloc(&mut self, old: Value, size: Value, line: Line) -> Result<Value, Stop> {
         if old.word == 0 {
             return self.allocate(size.word, line);
         }

@@ -42,7 +42,7 @@ impl State {
     }
 
     /// A call of a routine with so many arguments from a temporary on.
-    pub fn call_library(
+    pub(crate) fn call_library(
         &mut self,
         routine: Routine,
         line: Line,
@@ -132,7 +132,7 @@ impl State {
     }
 
     /// A call of `printf` with a format and so many arguments from a temporary on.
-    pub fn print(
+    pub(crate) fn print(
         &mut self,
         format: &[u8],
         line: Line,

@@ -13,18 +13,23 @@ const OBJECTS: u64 = 0x1000_0000;
 /// The budgets of a run.
 #[derive(Clone, Copy)]
 pub struct Budgets {
+    /// The bytes of the heap.
     pub heap: u64,
+    /// The bytes of the stack of objects.
     pub stack: u64,
+    /// The bytes that all calls that wait may be charged.
     pub calls: u64,
+    /// The live blocks.
     pub blocks: u64,
+    /// The keys that blocks, calls and allocations may take.
     pub keys: u64,
-    /// The turns that it may begin.
+    /// The turns of loops and calls that the run may begin.
     pub turns: u64,
 }
 
 /// Where the regions of objects stand: the first addresses of the stack and of the heap, and the first behind the heap.
 #[derive(Clone, Copy)]
-pub struct Places {
+pub(crate) struct Places {
     pub stack: u64,
     pub heap: u64,
     pub end: u64,
@@ -33,13 +38,21 @@ pub struct Places {
 /// What ends a run but its own exit.
 #[derive(Clone, Copy, PartialEq, Eq)]
 pub enum Cause {
+    /// An access is outside of its bounds.
     Spatial,
+    /// An access is of an object that lives no more.
     Temporal,
+    /// A pointer that is called is none to a function of this type.
     BadCall,
+    /// A pointer that is freed is none to a block.
     BadFree,
+    /// A divisor is zero.
     Divide,
+    /// The stack of objects or the budget of calls is spent.
     Stack,
+    /// No key is left.
     Keys,
+    /// `abort` is called.
     Abort,
 }
 
@@ -71,19 +84,19 @@ impl<T: Drop> From<AllocFailed<T>> for Stop {
 }
 
 /// The run ends at a line.
-pub fn ended(cause: Cause, line: Line) -> Stop {
+pub(crate) fn ended(cause: Cause, line: Line) -> Stop {
     Stop::Ended(cause, line.number())
 }
 
 /// What a temporary holds: a value, and the number of its contents where it is a structure that stands for no place.
 #[derive(Clone, Copy)]
-pub struct Temporary {
+pub(crate) struct Temporary {
     pub value: Value,
     pub contents: Option<usize>,
 }
 
 /// A value without contents.
-pub fn plain(value: Value) -> Temporary {
+pub(crate) fn plain(value: Value) -> Temporary {
     Temporary {
         value,
         contents: None,
@@ -92,7 +105,7 @@ pub fn plain(value: Value) -> Temporary {
 
 /// Where what belongs to the function that runs begins: the homes and the values of its variables, and its temporaries.
 #[derive(Clone, Copy)]
-pub struct Window {
+pub(crate) struct Window {
     pub homes: usize,
     pub plain: usize,
     pub temporaries: usize,
@@ -100,7 +113,7 @@ pub struct Window {
 
 /// A caller that waits: where it goes on, the temporary that gets the result, and what it gets back.
 #[derive(Clone, Copy)]
-pub struct Waiting {
+pub(crate) struct Waiting {
     pub function: usize,
     pub node: usize,
     pub place: usize,
@@ -112,7 +125,7 @@ pub struct Waiting {
 /// What a block is left with: its objects, so many from a number on, where the homes from before it are kept, and the
 /// top of the stack from before it.
 #[derive(Clone, Copy)]
-pub struct Entered {
+pub(crate) struct Entered {
     pub first: usize,
     pub count: usize,
     pub kept: usize,
@@ -121,7 +134,7 @@ pub struct Entered {
 
 /// What a return or the end of a block goes back to.
 #[derive(Clone, Copy)]
-pub enum Frame {
+pub(crate) enum Frame {
     Waits(Waiting),
     Entered(Entered),
 }
@@ -129,14 +142,17 @@ pub enum Frame {
 /// An access of an object that was made.
 #[derive(Clone, Copy)]
 pub struct Access {
+    /// Whether it wrote.
     pub is_write: bool,
+    /// The address of its first byte.
     pub address: u64,
+    /// How many bytes it has.
     pub size: u64,
 }
 
 /// The state of a run.
 #[derive(Drop)]
-pub struct State {
+pub(crate) struct State {
     pub alloc: Global,
     pub budgets: Budgets,
     pub places: Places,
@@ -165,7 +181,7 @@ pub struct State {
 }
 
 /// The next multiple of 16.
-pub fn rounded(number: u64) -> u64 {
+pub(crate) fn rounded(number: u64) -> u64 {
     number.saturating_add(15) / 16 * 16
 }
 
@@ -211,7 +227,7 @@ fn static_objects(alloc: Global, statics: &[StaticData]) -> Result<Vec<Object>, 
 
 impl State {
     /// The state before the run of a program.
-    pub fn new(
+    pub(crate) fn new(
         alloc: Global,
         budgets: &Budgets,
         code: &Tac,
@@ -249,12 +265,12 @@ impl State {
     }
 
     /// So much work is done.
-    pub fn tally(&mut self, work: u64) {
+    pub(crate) fn tally(&mut self, work: u64) {
         self.work = self.work.saturating_add(work);
     }
 
     /// One turn more, where one is left.
-    pub fn begin_turn(&mut self) -> Result<(), Stop> {
+    pub(crate) fn begin_turn(&mut self) -> Result<(), Stop> {
         if self.turns >= self.budgets.turns {
             return Err(Stop::Paused);
         }
@@ -263,7 +279,7 @@ impl State {
     }
 
     /// One key more, where one is left.
-    pub fn take_key(&mut self, line: Line) -> Result<(), Stop> {
+    pub(crate) fn take_key(&mut self, line: Line) -> Result<(), Stop> {
         if self.keys >= self.budgets.keys {
             return Err(ended(Cause::Keys, line));
         }
@@ -272,21 +288,21 @@ impl State {
     }
 
     /// The value of a plain variable of the function that runs.
-    pub fn plain_value(&self, variable: usize) -> Value {
+    pub(crate) fn plain_value(&self, variable: usize) -> Value {
         match self.plain.get(self.window.plain.wrapping_add(variable)) {
             Some(value) => *value,
             None => integer(0),
         }
     }
 
-    pub fn set_plain(&mut self, variable: usize, value: Value) {
+    pub(crate) fn set_plain(&mut self, variable: usize, value: Value) {
         if let Some(old) = self.plain.get_mut(self.window.plain.wrapping_add(variable)) {
             *old = value;
         }
     }
 
     /// The number of the object of a variable.
-    pub fn home(&self, variable: usize) -> Option<usize> {
+    pub(crate) fn home(&self, variable: usize) -> Option<usize> {
         match self.homes.get(self.window.homes.wrapping_add(variable)) {
             Some(home) => *home,
             None => None,
@@ -294,7 +310,7 @@ impl State {
     }
 
     /// The pointer to a whole object.
-    pub fn pointer_to(&self, number: usize) -> Value {
+    pub(crate) fn pointer_to(&self, number: usize) -> Value {
         let (address, size) = match self.objects.get(number) {
             Some(object) => (object.address, object.size),
             None => (0, 0),
@@ -310,7 +326,7 @@ impl State {
     }
 
     /// The pointer to the object of a variable.
-    pub fn home_pointer(&self, variable: usize) -> Value {
+    pub(crate) fn home_pointer(&self, variable: usize) -> Value {
         match self.home(variable) {
             Some(number) => self.pointer_to(number),
             None => integer(0),
@@ -318,12 +334,12 @@ impl State {
     }
 
     /// What a temporary of the function that runs holds.
-    pub fn get(&self, number: usize) -> Temporary {
+    pub(crate) fn get(&self, number: usize) -> Temporary {
         self.temporary_at(self.window.temporaries.wrapping_add(number))
     }
 
     /// What a temporary holds, by its place among those of all calls.
-    pub fn temporary_at(&self, place: usize) -> Temporary {
+    pub(crate) fn temporary_at(&self, place: usize) -> Temporary {
         match self.temporaries.get(place) {
             Some(temporary) => *temporary,
             None => plain(integer(0)),
@@ -331,7 +347,7 @@ impl State {
     }
 
     /// The value of an argument, one of so many in temporaries from a number on; 0 where there are fewer.
-    pub fn argument(&self, first: usize, count: usize, number: usize) -> Value {
+    pub(crate) fn argument(&self, first: usize, count: usize, number: usize) -> Value {
         if number < count {
             self.get(first.wrapping_add(number)).value
         } else {
@@ -340,7 +356,7 @@ impl State {
     }
 
     /// A temporary gets what it is given.
-    pub fn give(&mut self, number: usize, temporary: Temporary) -> Result<(), Stop> {
+    pub(crate) fn give(&mut self, number: usize, temporary: Temporary) -> Result<(), Stop> {
         let place = self.window.temporaries.saturating_add(number);
         for _ in self.temporaries.len()..place.saturating_add(1) {
             self.temporaries.push(plain(integer(0)))?;
@@ -352,7 +368,7 @@ impl State {
     }
 
     /// A new object.
-    pub fn make_object(
+    pub(crate) fn make_object(
         &mut self,
         storage: Storage,
         address: u64,
@@ -366,14 +382,14 @@ impl State {
     }
 
     /// An object dies.
-    pub fn kill(&mut self, number: usize) {
+    pub(crate) fn kill(&mut self, number: usize) {
         if let Some(object) = self.objects.get_mut(number) {
             object.is_live = false;
         }
     }
 
     /// Bytes are put out.
-    pub fn put(&mut self, bytes: &[u8]) -> Result<(), Stop> {
+    pub(crate) fn put(&mut self, bytes: &[u8]) -> Result<(), Stop> {
         self.tally(bytes.len() as u64);
         self.output.extend_from_slice(bytes)?;
         Ok(())

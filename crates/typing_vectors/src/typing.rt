@@ -5,6 +5,7 @@ use anyhow::{Result, bail};
 use c_lexer::{Tokens, lex};
 use c_parser::{parse, release};
 use c_pre::expand;
+use c_faults::Fault;
 use c_syntax::Unit;
 use c_tree::Program;
 use c_typer::{UnitRefusal, type_unit};
@@ -38,17 +39,23 @@ fn put_typed(rt: &HostRuntime, question: Question, program: &Program) -> Result<
     Ok(())
 }
 
+fn put_fault(rt: &HostRuntime, fault: Fault) -> Result<()> {
+    println!(rt; "rule {} line {}", fault.rule.number(), fault.line.number())?;
+    Ok(())
+}
+
+fn put_limit(rt: &HostRuntime, which: Limited, count: u128) -> Result<()> {
+    println!(rt; "{} {count}", name_of(which))?;
+    Ok(())
+}
+
 fn put_refusal(rt: &HostRuntime, refusal: UnitRefusal) -> Result<()> {
     match refusal {
-        UnitRefusal::Fault(fault) => {
-            let rule = fault.rule.number();
-            println!(rt; "rule {rule} line {}", fault.line.number())?;
-        }
-        UnitRefusal::TooLarge(which, count) => println!(rt; "{} {count}", name_of(which))?,
+        UnitRefusal::Fault(fault) => put_fault(rt, fault),
+        UnitRefusal::TooLarge(which, count) => put_limit(rt, which, count),
         UnitRefusal::RoomTooLarge(number) => bail!("function {number} has no room"),
         UnitRefusal::Memory => bail!("out of memory"),
     }
-    Ok(())
 }
 
 fn put_unit(rt: &HostRuntime, question: Question, end: Line, unit: &Unit) -> Result<()> {

@@ -2,10 +2,10 @@
 
 use crate::statics::put_statics;
 use anyhow::{Result, bail};
+use c_faults::Fault;
 use c_lexer::{Tokens, lex};
 use c_parser::{parse, release};
 use c_pre::expand;
-use c_faults::Fault;
 use c_syntax::Unit;
 use c_tree::Program;
 use c_typer::{UnitRefusal, type_unit};

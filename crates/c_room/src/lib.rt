@@ -1,5 +1,5 @@
 //! The bytes of the budget `calls` that a call of a function takes: the height of its expressions, and the bytes of the
-//! structures that calls pass.
+//! structures that calls pass. And the labels of a switch, among which one is found fast.
 #![tactic(auto)]
 
 pub mod demand;

@@ -1,3 +1,4 @@
+mod Different
 mod Printed
 mod Opened
 mod Looked

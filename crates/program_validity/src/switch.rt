@@ -1,12 +1,13 @@
 //! Labels of a switch (C99 6.8.4.2).
 
 ghost use Rattle.std.specs.Prelude.{◌≡◌, ◌++◌, ◌&&◌, map, IfOk};
-ghost use Rattle.std.specs.List.{list_all, list_any};
+ghost use Rattle.std.specs.List.{list_all};
 ghost use Rattle.c_tree.specs.Statements.{items_in};
-ghost use Rattle.c_tree.specs.ValidProgram.{are_different, is_label, labels_of, same_label};
+ghost use Rattle.c_tree.specs.ValidProgram.{are_different, is_label, labels_of};
 ghost use Rattle.c_room.specs.Items.{item_of};
 
 use crate::node::is_constant;
+use c_room::SwitchLabels;
 use c_tree::{CaseLabel, Kind, SwitchItem};
 use std::alloc::{AllocError, Global};
 
@@ -30,36 +31,19 @@ fn all_labels(kind: Kind, labels: &[CaseLabel]) -> bool
     true
 }
 
-fn same_label(first: CaseLabel, second: CaseLabel) -> bool
-    ensures { result ≡ same_label first second }
+// Each label is looked up among those before it.
+#[tactic(auto, using(crate::proofs::Different::all_different))]
+fn are_different(alloc: Global, labels: &[CaseLabel]) -> Result<bool, AllocError>
+    ensures { IfOk result (λ different. different ≡ are_different labels.now) }
 {
-    match (first, second) {
-        (CaseLabel::Case(v), CaseLabel::Case(w)) => v == w,
-        (CaseLabel::Default, CaseLabel::Default) => true,
-        _ => false,
-    }
-}
-
-fn is_among(label: CaseLabel, labels: &[CaseLabel]) -> bool
-    ensures { result ≡ list_any (same_label label) labels.now }
-{
-    for other in labels {
-        if same_label(label, *other) {
-            return true;
+    let mut earlier = SwitchLabels::new(alloc);
+    for label in labels {
+        if earlier.has(*label) {
+            return Ok(false);
         }
+        earlier.push(*label)?;
     }
-    false
-}
-
-fn are_different(labels: &[CaseLabel]) -> bool
-    ensures { result ≡ are_different labels.now }
-{
-    for i in 0..labels.len() {
-        if is_among(labels[i], &labels[i + 1..]) {
-            return false;
-        }
-    }
-    true
+    Ok(true)
 }
 
 fn push_labels(all: &mut Vec<CaseLabel>, labels: &[CaseLabel]) -> Result<(), AllocError>
@@ -87,5 +71,6 @@ pub fn are_labels(alloc: Global, kind: Kind, items: &[SwitchItem]) -> Result<boo
         && are_different (labels_of (items_in (map item_of items.now))))) }
 {
     let labels = labels_of(alloc, items)?;
-    Ok(all_labels(kind, &labels) && are_different(&labels))
+    let different = are_different(alloc, &labels)?;
+    Ok(all_labels(kind, &labels) && different)
 }

@@ -1,53 +1,9 @@
--- The function values of the rules of the grammar.
-use Rattle.std.specs.Prelude.{ℕ, Bool, Result, List, Option}
-use Rattle.std.specs.Fn.{Once}
-use Rattle.std.specs.declared.alloc.Global.{Global}
-use denote.Ref.{MutBor, Bor}
-use Rattle.c_syntax.specs.declared.position.Position.{Position}
-use Rattle.c_syntax.specs.declared.tree.Declarator.{Declarator}
-use Rattle.c_syntax.specs.declared.tree.Expression.{Expression}
-use Rattle.c_syntax.specs.declared.tree.Specifier.{Specifier}
-use Rattle.c_syntax.specs.View.{declarator_of, expression_of, specifiers_in}
-use Rattle.c_syntax.specs.Levels.{declarator_levels, expression_levels, specifiers_levels}
-use Rattle.c_grammar.specs.declared.cursor.Cursor.{Cursor}
-use Rattle.c_grammar.specs.declared.cursor.Fault.{Fault}
-use Rattle.c_grammar.specs.declared.declarator_kind.DeclaratorKind.{DeclaratorKind}
-use Rattle.c_grammar.specs.Nested.{readers}
+-- The reader of what has fewer levels than the rules of the grammar.
+use Rattle.std.specs.Prelude.{ℕ}
 use Rattle.c_expressions.specs.declared.grammar.Grammar.{Grammar}
-use Rattle.c_expressions.specs.declared.leveled.Leveled.{Leveled}
-use Rattle.c_expressions.specs.LeveledReads.{IsSize, ReadsLeveled}
+use Rattle.c_expressions.specs.LeveledReads.{IsSize}
 
--- what a function value is given, with what it is asked for, and what it gives, with the cursor behind
-abbrev pub Given : Type 0 → Type 0
-Given A = Global × (Bor (List (List ℕ)) × (MutBor Cursor × (ℕ × A)))
-
-abbrev pub Gives : Type 0 → Type 0
-Gives A = Result (Leveled A) Fault × (MutBor Cursor × Unit {0})
-
--- the function values of these rules read what has fewer levels than the rules' number
-pub record Deeper {E S D : Type 0} (rules : Grammar E S D)
-    (for_expressions : Once E (Given (Option Position × (ℕ × Unit {0}))) (Gives Expression))
-    (for_specifiers : Once S (Given (Bool × Unit {0})) (Gives (List Specifier)))
-    (for_declarators : Once D (Given (DeclaratorKind × Unit {0})) (Gives Declarator)) : Type 0 where
+-- it may be asked for what has fewer levels than the rules' number
+pub record Deeper {R : Type 0} (reads : R → ℕ → Type 0) (rules : Grammar R) : Type 0 where
   pub fits : IsSize rules.levels
-  pub reads_expression : (alloc : Global) (names : Bor (List (List ℕ))) (old : MutBor Cursor) (opened : Option Position)
-      (m : ℕ) → for_expressions.pre rules.expression (alloc, (names, (old, (rules.levels, (opened, (m, tt))))))
-  pub expressions : (alloc : Global) (names : Bor (List (List ℕ))) (old new : MutBor Cursor) (opened : Option Position)
-      (m : ℕ) (r : Result (Leveled Expression) Fault)
-      → for_expressions.post rules.expression (alloc, (names, (old, (rules.levels, (opened, (m, tt)))))) (r, (new, tt))
-      → ReadsLeveled expression_of expression_levels rules.levels
-      ((readers names.now rules.levels).expression opened m old.now.rest.now) r new.now.rest.now
-  pub reads_specifiers : (alloc : Global) (names : Bor (List (List ℕ))) (old : MutBor Cursor) (allowed : Bool)
-      → for_specifiers.pre rules.specifiers (alloc, (names, (old, (rules.levels, (allowed, tt)))))
-  pub specifiers : (alloc : Global) (names : Bor (List (List ℕ))) (old new : MutBor Cursor) (allowed : Bool)
-      (r : Result (Leveled (List Specifier)) Fault)
-      → for_specifiers.post rules.specifiers (alloc, (names, (old, (rules.levels, (allowed, tt))))) (r, (new, tt))
-      → ReadsLeveled specifiers_in specifiers_levels rules.levels
-      ((readers names.now rules.levels).specifiers allowed old.now.rest.now) r new.now.rest.now
-  pub reads_declarator : (alloc : Global) (names : Bor (List (List ℕ))) (old : MutBor Cursor) (d : DeclaratorKind)
-      → for_declarators.pre rules.declarator (alloc, (names, (old, (rules.levels, (d, tt)))))
-  pub declarators : (alloc : Global) (names : Bor (List (List ℕ))) (old new : MutBor Cursor) (d : DeclaratorKind)
-      (r : Result (Leveled Declarator) Fault)
-      → for_declarators.post rules.declarator (alloc, (names, (old, (rules.levels, (d, tt))))) (r, (new, tt))
-      → ReadsLeveled declarator_of declarator_levels rules.levels
-      ((readers names.now rules.levels).declarator d old.now.rest.now) r new.now.rest.now
+  pub may_read : reads rules.deeper rules.levels

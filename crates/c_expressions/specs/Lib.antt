@@ -2,3 +2,4 @@ pub mod Built
 pub mod LeveledReads
 pub mod Steps
 pub mod Deeper
+pub mod Functions

@@ -15,6 +15,7 @@ ghost use Rattle.c_syntax.specs.Levels.{declarator_levels};
 use crate::declarator_tree::{
     array, function, named, nameless, open_array, parenthesized, pointer,
 };
+use crate::deeper::ReadsDeeper;
 use crate::grammar::Grammar;
 use crate::leveled::{Leveled, beside};
 use crate::specifier::begins_specifiers;
@@ -23,7 +24,7 @@ use c_grammar::declarator_kind::DeclaratorKind;
 use c_grammar::least_precedence;
 use c_grammar::typedef_names::TypedefNames;
 use c_lexer::{Punctuator, TokenKind};
-use c_syntax::{Boxed, Declarator, Expression, Items, Position, Positioned, Specifier};
+use c_syntax::{Boxed, Declarator, Position, Positioned};
 use std::alloc::Global;
 
 /// Whether a declarator of this kind may have a name.
@@ -70,35 +71,7 @@ fn begins_suffix(rest: &[Positioned], left: &Leveled<Boxed<Declarator>>, limit: 
     begins && left.levels < limit
 }
 
-impl<
-    't,
-    'a,
-    E: FnOnce(
-        Global,
-        &TypedefNames<'a>,
-        &mut Cursor<'_, 'a>,
-        usize,
-        Option<Position>,
-        u8,
-    ) -> Result<Leveled<Boxed<Expression<'a>>>, Fault>
-        + Copy,
-    S: FnOnce(
-        Global,
-        &TypedefNames<'a>,
-        &mut Cursor<'_, 'a>,
-        usize,
-        bool,
-    ) -> Result<Leveled<Items<Specifier<'a>>>, Fault>
-        + Copy,
-    D: FnOnce(
-        Global,
-        &TypedefNames<'a>,
-        &mut Cursor<'_, 'a>,
-        usize,
-        DeclaratorKind,
-    ) -> Result<Leveled<Boxed<Declarator<'a>>>, Fault>
-        + Copy,
-> Grammar<'t, 'a, E, S, D> {
+impl<'t, 'a, R: ReadsDeeper<'a>> Grammar<'t, 'a, R> {
     /// Reads what follows the `(` of parameters (C99 6.7.5.3).
     fn function(
         &self,
@@ -106,7 +79,7 @@ impl<
         left: Leveled<Boxed<Declarator<'a>>>,
         position: Position,
     ) -> Result<Leveled<Boxed<Declarator<'a>>>, Fault>
-        requires deeper { Deeper self.now E.FnOnce S.FnOnce D.FnOnce }
+        requires deeper { Deeper R.reads self.now }
         requires known { Below self.now.levels left.levels (declarator_levels (declarator_of left.tree)) }
         ensures { ReadsLeveled declarator_of declarator_levels (suc self.now.levels)
             (spec.function_from self.now.names.now (readers self.now.names.now self.now.levels) self.now.levels
@@ -126,7 +99,7 @@ impl<
         kind: DeclaratorKind,
         position: Position,
     ) -> Result<Leveled<Boxed<Declarator<'a>>>, Fault>
-        requires deeper { Deeper self.now E.FnOnce S.FnOnce D.FnOnce }
+        requires deeper { Deeper R.reads self.now }
         requires some { 0 < self.now.levels }
         ensures { ReadsLeveled declarator_of declarator_levels (suc self.now.levels)
             (spec.parenthesis_from self.now.names.now (readers self.now.names.now self.now.levels) self.now.levels kind
@@ -148,7 +121,7 @@ impl<
         tokens: &mut Cursor<'_, 'a>,
         kind: DeclaratorKind,
     ) -> Result<Leveled<Boxed<Declarator<'a>>>, Fault>
-        requires deeper { Deeper self.now E.FnOnce S.FnOnce D.FnOnce }
+        requires deeper { Deeper R.reads self.now }
         ensures { ReadsLeveled declarator_of declarator_levels (suc self.now.levels)
             (spec.direct_from self.now.names.now (readers self.now.names.now self.now.levels) self.now.levels kind
             tokens.old.rest.now) result tokens.new.rest.now }
@@ -183,7 +156,7 @@ impl<
         left: Leveled<Boxed<Declarator<'a>>>,
         position: Position,
     ) -> Result<Leveled<Boxed<Declarator<'a>>>, Fault>
-        requires deeper { Deeper self.now E.FnOnce S.FnOnce D.FnOnce }
+        requires deeper { Deeper R.reads self.now }
         requires known { Below self.now.levels left.levels (declarator_levels (declarator_of left.tree)) }
         ensures { ReadsLeveled declarator_of declarator_levels (suc self.now.levels)
             (spec.array_from self.now.names.now (readers self.now.names.now self.now.levels) self.now.levels
@@ -207,7 +180,7 @@ impl<
         tokens: &mut Cursor<'_, 'a>,
         left: Leveled<Boxed<Declarator<'a>>>,
     ) -> Result<Leveled<Boxed<Declarator<'a>>>, Fault>
-        requires deeper { Deeper self.now E.FnOnce S.FnOnce D.FnOnce }
+        requires deeper { Deeper R.reads self.now }
         requires known { Below self.now.levels left.levels (declarator_levels (declarator_of left.tree)) }
         ensures { ReadsLeveled declarator_of declarator_levels (suc self.now.levels)
             (suffix_next self.now.names.now (readers self.now.names.now self.now.levels) self.now.levels
@@ -230,7 +203,7 @@ impl<
         tokens: &mut Cursor<'_, 'a>,
         first: Leveled<Boxed<Declarator<'a>>>,
     ) -> Result<Leveled<Boxed<Declarator<'a>>>, Fault>
-        requires deeper { Deeper self.now E.FnOnce S.FnOnce D.FnOnce }
+        requires deeper { Deeper R.reads self.now }
         requires known { Below (suc self.now.levels) first.levels (declarator_levels (declarator_of first.tree)) }
         ensures { ReadsLeveled declarator_of declarator_levels (suc self.now.levels)
             (spec.suffixes_from self.now.names.now (readers self.now.names.now self.now.levels) self.now.levels
@@ -253,7 +226,7 @@ impl<
         tokens: &mut Cursor<'_, 'a>,
         kind: DeclaratorKind,
     ) -> Result<Leveled<Boxed<Declarator<'a>>>, Fault>
-        requires deeper { Deeper self.now E.FnOnce S.FnOnce D.FnOnce }
+        requires deeper { Deeper R.reads self.now }
         ensures { ReadsLeveled declarator_of declarator_levels (suc self.now.levels)
             (spec.suffixed_from self.now.names.now (readers self.now.names.now self.now.levels) self.now.levels kind
             tokens.old.rest.now) result tokens.new.rest.now }
@@ -270,7 +243,7 @@ impl<
         kind: DeclaratorKind,
         position: Position,
     ) -> Result<Leveled<Boxed<Declarator<'a>>>, Fault>
-        requires deeper { Deeper self.now E.FnOnce S.FnOnce D.FnOnce }
+        requires deeper { Deeper R.reads self.now }
         ensures { ReadsLeveled declarator_of declarator_levels (suc self.now.levels)
             (spec.pointer_from self.now.names.now (readers self.now.names.now self.now.levels) self.now.levels kind
             position tokens.old.rest.now) result tokens.new.rest.now }
@@ -287,7 +260,7 @@ impl<
         tokens: &mut Cursor<'_, 'a>,
         kind: DeclaratorKind,
     ) -> Result<Leveled<Boxed<Declarator<'a>>>, Fault>
-        requires deeper { Deeper self.now E.FnOnce S.FnOnce D.FnOnce }
+        requires deeper { Deeper R.reads self.now }
         ensures { ReadsLeveled declarator_of declarator_levels (suc self.now.levels)
             (spec.declarator_at self.now.names.now (readers self.now.names.now self.now.levels) self.now.levels kind
             tokens.old.rest.now) result tokens.new.rest.now }

@@ -10,51 +10,21 @@ ghost use Rattle.c_expressions.specs.Deeper.{Deeper};
 ghost use Rattle.c_syntax.specs.View.{specifier_of, enumerator_of};
 ghost use Rattle.c_syntax.specs.Levels.{specifier_levels, enumerator_levels};
 
+use crate::deeper::ReadsDeeper;
 use crate::grammar::Grammar;
 use crate::leveled::{Leveled, before_comma, beside, leaf, no_trees, with_next};
 use crate::specifier_tree::{plain, valued};
 use crate::structure::begins_body;
 use c_grammar::cursor::{Cursor, Fault, next_is};
-use c_grammar::declarator_kind::DeclaratorKind;
 use c_grammar::least_precedence;
-use c_grammar::typedef_names::TypedefNames;
 use c_lexer::Punctuator;
-use c_syntax::{Boxed, Declarator, Enumerator, Expression, Items, Position, Specifier, Spelled};
-use std::alloc::Global;
+use c_syntax::{Enumerator, Items, Position, Specifier, Spelled};
 
-impl<
-    't,
-    'a,
-    E: FnOnce(
-        Global,
-        &TypedefNames<'a>,
-        &mut Cursor<'_, 'a>,
-        usize,
-        Option<Position>,
-        u8,
-    ) -> Result<Leveled<Boxed<Expression<'a>>>, Fault>
-        + Copy,
-    S: FnOnce(
-        Global,
-        &TypedefNames<'a>,
-        &mut Cursor<'_, 'a>,
-        usize,
-        bool,
-    ) -> Result<Leveled<Items<Specifier<'a>>>, Fault>
-        + Copy,
-    D: FnOnce(
-        Global,
-        &TypedefNames<'a>,
-        &mut Cursor<'_, 'a>,
-        usize,
-        DeclaratorKind,
-    ) -> Result<Leveled<Boxed<Declarator<'a>>>, Fault>
-        + Copy,
-> Grammar<'t, 'a, E, S, D> {
+impl<'t, 'a, R: ReadsDeeper<'a>> Grammar<'t, 'a, R> {
     /// Reads an enumerator (C99 6.7.2.2).
     #[tactic(auto, unfolding(c_grammar::specs::SpecifierReader::enumerator_from))]
     fn enumerator(&self, tokens: &mut Cursor<'_, 'a>) -> Result<Leveled<Enumerator<'a>>, Fault>
-        requires deeper { Deeper self.now E.FnOnce S.FnOnce D.FnOnce }
+        requires deeper { Deeper R.reads self.now }
         requires some { 0 < self.now.levels }
         ensures { ReadsLeveled enumerator_of enumerator_levels self.now.levels
             (spec.enumerator_from self.now.names.now (readers self.now.names.now self.now.levels) self.now.levels
@@ -74,7 +44,7 @@ impl<
         &self,
         tokens: &mut Cursor<'_, 'a>,
     ) -> Result<Leveled<(Items<(Position, Enumerator<'a>)>, Option<Position>)>, Fault>
-        requires deeper { Deeper self.now E.FnOnce S.FnOnce D.FnOnce }
+        requires deeper { Deeper R.reads self.now }
         requires some { 0 < self.now.levels }
         ensures { ReadsLeveled enumerators_behind enumerators_behind_levels self.now.levels
             (behind_commas_to_brace (spec.enumerator_from self.now.names.now
@@ -103,7 +73,7 @@ impl<
         position: Position,
         tag: Option<Spelled<'a>>,
     ) -> Result<Leveled<Specifier<'a>>, Fault>
-        requires deeper { Deeper self.now E.FnOnce S.FnOnce D.FnOnce }
+        requires deeper { Deeper R.reads self.now }
         requires some { 0 < self.now.levels }
         ensures { ReadsLeveled specifier_of specifier_levels (suc self.now.levels)
             (spec.enumeration_body_from self.now.names.now (readers self.now.names.now self.now.levels) self.now.levels
@@ -131,7 +101,7 @@ impl<
         tokens: &mut Cursor<'_, 'a>,
         position: Position,
     ) -> Result<Leveled<Specifier<'a>>, Fault>
-        requires deeper { Deeper self.now E.FnOnce S.FnOnce D.FnOnce }
+        requires deeper { Deeper R.reads self.now }
         ensures { ReadsLeveled specifier_of specifier_levels (suc self.now.levels)
             (spec.enumeration_from self.now.names.now (readers self.now.names.now self.now.levels) self.now.levels
             position tokens.old.rest.now) result tokens.new.rest.now }

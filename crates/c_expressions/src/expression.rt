@@ -14,55 +14,25 @@ ghost use Rattle.c_lexer.specs.declared.punctuator.Punctuator.TheVariants as pun
 ghost use Rattle.c_syntax.specs.View.{expression_of, arguments_of};
 ghost use Rattle.c_syntax.specs.Levels.{expression_levels, arguments_levels};
 
+use crate::deeper::ReadsDeeper;
 use crate::expression_tree::{assignment, binary, call, conditional, member, postfix, subscript};
 use crate::grammar::Grammar;
 use crate::leveled::{Leveled, as_items, beside, leaf, no_trees, with_next};
 use c_grammar::cursor::{Cursor, Fault, next_is};
-use c_grammar::declarator_kind::DeclaratorKind;
 use c_grammar::least_precedence;
 use c_grammar::operation::{Operation, binds, needs, operation_of};
-use c_grammar::typedef_names::TypedefNames;
 use c_lexer::{Punctuator, TokenKind};
 use c_syntax::operators::{binary_precedence, precedence};
-use c_syntax::{Arguments, Boxed, Declarator, Expression, Items, Position, Positioned, Specifier};
-use std::alloc::Global;
+use c_syntax::{Arguments, Boxed, Expression, Items, Position, Positioned};
 
-impl<
-    't,
-    'a,
-    E: FnOnce(
-        Global,
-        &TypedefNames<'a>,
-        &mut Cursor<'_, 'a>,
-        usize,
-        Option<Position>,
-        u8,
-    ) -> Result<Leveled<Boxed<Expression<'a>>>, Fault>
-        + Copy,
-    S: FnOnce(
-        Global,
-        &TypedefNames<'a>,
-        &mut Cursor<'_, 'a>,
-        usize,
-        bool,
-    ) -> Result<Leveled<Items<Specifier<'a>>>, Fault>
-        + Copy,
-    D: FnOnce(
-        Global,
-        &TypedefNames<'a>,
-        &mut Cursor<'_, 'a>,
-        usize,
-        DeclaratorKind,
-    ) -> Result<Leveled<Boxed<Declarator<'a>>>, Fault>
-        + Copy,
-> Grammar<'t, 'a, E, S, D> {
+impl<'t, 'a, R: ReadsDeeper<'a>> Grammar<'t, 'a, R> {
     /// Reads arguments behind the first, each behind its comma.
     #[tactic(auto, unfolding(c_grammar::specs::Reader::behind_commas))]
     fn more_arguments(
         &self,
         tokens: &mut Cursor<'_, 'a>,
     ) -> Result<Leveled<Items<(Position, Boxed<Expression<'a>>)>>, Fault>
-        requires deeper { Deeper self.now E.FnOnce S.FnOnce D.FnOnce }
+        requires deeper { Deeper R.reads self.now }
         requires some { 0 < self.now.levels }
         ensures { ReadsLeveled arguments_behind arguments_behind_levels self.now.levels
             (behind_commas ((readers self.now.names.now self.now.levels).expression None least.assignment)
@@ -85,7 +55,7 @@ impl<
     /// Reads what stands between the parentheses of a call (C99 6.5.2.2).
     #[tactic(auto, unfolding(c_grammar::specs::ExpressionReader::arguments_from))]
     fn arguments(&self, tokens: &mut Cursor<'_, 'a>) -> Result<Leveled<Arguments<'a>>, Fault>
-        requires deeper { Deeper self.now E.FnOnce S.FnOnce D.FnOnce }
+        requires deeper { Deeper R.reads self.now }
         requires some { 0 < self.now.levels }
         ensures { ReadsLeveled arguments_of arguments_levels self.now.levels
             (spec.arguments_from self.now.names.now (readers self.now.names.now self.now.levels) self.now.levels
@@ -119,7 +89,7 @@ impl<
         position: Position,
         punctuator: Punctuator,
     ) -> Result<Leveled<Boxed<Expression<'a>>>, Fault>
-        requires deeper { Deeper self.now E.FnOnce S.FnOnce D.FnOnce }
+        requires deeper { Deeper R.reads self.now }
         requires known { Below self.now.levels left.levels (expression_levels (expression_of left.tree)) }
         ensures { ReadsLeveled expression_of expression_levels (suc self.now.levels)
             (spec.operation_from self.now.names.now (readers self.now.names.now self.now.levels) self.now.levels
@@ -139,7 +109,7 @@ impl<
         position: Position,
         punctuator: Punctuator,
     ) -> Result<Leveled<Boxed<Expression<'a>>>, Fault>
-        requires deeper { Deeper self.now E.FnOnce S.FnOnce D.FnOnce }
+        requires deeper { Deeper R.reads self.now }
         requires known { Below self.now.levels left.levels (expression_levels (expression_of left.tree)) }
         ensures { ReadsLeveled expression_of expression_levels (suc self.now.levels)
             (spec.operation_from self.now.names.now (readers self.now.names.now self.now.levels) self.now.levels
@@ -158,7 +128,7 @@ impl<
         left: Leveled<Boxed<Expression<'a>>>,
         position: Position,
     ) -> Result<Leveled<Boxed<Expression<'a>>>, Fault>
-        requires deeper { Deeper self.now E.FnOnce S.FnOnce D.FnOnce }
+        requires deeper { Deeper R.reads self.now }
         requires known { Below self.now.levels left.levels (expression_levels (expression_of left.tree)) }
         ensures { ReadsLeveled expression_of expression_levels (suc self.now.levels)
             (spec.operation_from self.now.names.now (readers self.now.names.now self.now.levels) self.now.levels
@@ -180,7 +150,7 @@ impl<
         left: Leveled<Boxed<Expression<'a>>>,
         position: Position,
     ) -> Result<Leveled<Boxed<Expression<'a>>>, Fault>
-        requires deeper { Deeper self.now E.FnOnce S.FnOnce D.FnOnce }
+        requires deeper { Deeper R.reads self.now }
         requires known { Below self.now.levels left.levels (expression_levels (expression_of left.tree)) }
         ensures { ReadsLeveled expression_of expression_levels (suc self.now.levels)
             (spec.operation_from self.now.names.now (readers self.now.names.now self.now.levels) self.now.levels
@@ -200,7 +170,7 @@ impl<
         left: Leveled<Boxed<Expression<'a>>>,
         position: Position,
     ) -> Result<Leveled<Boxed<Expression<'a>>>, Fault>
-        requires deeper { Deeper self.now E.FnOnce S.FnOnce D.FnOnce }
+        requires deeper { Deeper R.reads self.now }
         requires known { Below self.now.levels left.levels (expression_levels (expression_of left.tree)) }
         ensures { ReadsLeveled expression_of expression_levels (suc self.now.levels)
             (spec.operation_from self.now.names.now (readers self.now.names.now self.now.levels) self.now.levels
@@ -221,7 +191,7 @@ impl<
         position: Position,
         punctuator: Punctuator,
     ) -> Result<Leveled<Boxed<Expression<'a>>>, Fault>
-        requires deeper { Deeper self.now E.FnOnce S.FnOnce D.FnOnce }
+        requires deeper { Deeper R.reads self.now }
         requires known { Below self.now.levels left.levels (expression_levels (expression_of left.tree)) }
         ensures { ReadsLeveled expression_of expression_levels (suc self.now.levels)
             (spec.operation_from self.now.names.now (readers self.now.names.now self.now.levels) self.now.levels
@@ -241,7 +211,7 @@ impl<
         punctuator: Punctuator,
         operation: Operation,
     ) -> Result<Leveled<Boxed<Expression<'a>>>, Fault>
-        requires deeper { Deeper self.now E.FnOnce S.FnOnce D.FnOnce }
+        requires deeper { Deeper R.reads self.now }
         requires known { Below self.now.levels left.levels (expression_levels (expression_of left.tree)) }
         ensures { ReadsLeveled expression_of expression_levels (suc self.now.levels)
             (spec.operation_from self.now.names.now (readers self.now.names.now self.now.levels) self.now.levels
@@ -268,7 +238,7 @@ impl<
         position: Position,
         punctuator: Punctuator,
     ) -> Result<Leveled<Boxed<Expression<'a>>>, Fault>
-        requires deeper { Deeper self.now E.FnOnce S.FnOnce D.FnOnce }
+        requires deeper { Deeper R.reads self.now }
         requires known { Below self.now.levels left.levels (expression_levels (expression_of left.tree)) }
         ensures { ReadsLeveled expression_of expression_levels (suc self.now.levels)
             (spec.operation_from self.now.names.now (readers self.now.names.now self.now.levels) self.now.levels
@@ -287,7 +257,7 @@ impl<
         tokens: &mut Cursor<'_, 'a>,
         left: Leveled<Boxed<Expression<'a>>>,
     ) -> Result<Leveled<Boxed<Expression<'a>>>, Fault>
-        requires deeper { Deeper self.now E.FnOnce S.FnOnce D.FnOnce }
+        requires deeper { Deeper R.reads self.now }
         requires known { Below self.now.levels left.levels (expression_levels (expression_of left.tree)) }
         ensures { ReadsLeveled expression_of expression_levels (suc self.now.levels)
             (operation_next self.now.names.now (readers self.now.names.now self.now.levels) self.now.levels
@@ -330,7 +300,7 @@ impl<
         least: u8,
         first: Leveled<Boxed<Expression<'a>>>,
     ) -> Result<Leveled<Boxed<Expression<'a>>>, Fault>
-        requires deeper { Deeper self.now E.FnOnce S.FnOnce D.FnOnce }
+        requires deeper { Deeper R.reads self.now }
         requires known { Below (suc self.now.levels) first.levels (expression_levels (expression_of first.tree)) }
         ensures { ReadsLeveled expression_of expression_levels (suc self.now.levels)
             (spec.operations_from self.now.names.now (readers self.now.names.now self.now.levels) self.now.levels
@@ -353,7 +323,7 @@ impl<
         opened: Option<Position>,
         least: u8,
     ) -> Result<Leveled<Boxed<Expression<'a>>>, Fault>
-        requires deeper { Deeper self.now E.FnOnce S.FnOnce D.FnOnce }
+        requires deeper { Deeper R.reads self.now }
         ensures { ReadsLeveled expression_of expression_levels (suc self.now.levels)
             (spec.first_operand self.now.names.now (readers self.now.names.now self.now.levels) self.now.levels opened
             least tokens.old.rest.now) result tokens.new.rest.now }
@@ -373,7 +343,7 @@ impl<
         opened: Option<Position>,
         least: u8,
     ) -> Result<Leveled<Boxed<Expression<'a>>>, Fault>
-        requires deeper { Deeper self.now E.FnOnce S.FnOnce D.FnOnce }
+        requires deeper { Deeper R.reads self.now }
         ensures { ReadsLeveled expression_of expression_levels (suc self.now.levels)
             (spec.expression_at self.now.names.now (readers self.now.names.now self.now.levels) self.now.levels opened
             least tokens.old.rest.now) result tokens.new.rest.now }

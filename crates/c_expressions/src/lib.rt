@@ -3,6 +3,7 @@
 
 mod declarator;
 mod declarator_tree;
+pub mod deeper;
 mod enumeration;
 mod expression;
 mod expression_tree;

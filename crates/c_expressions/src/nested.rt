@@ -6,6 +6,7 @@ ghost use Rattle.c_expressions.specs.LeveledReads.{ReadsLeveled};
 ghost use Rattle.c_syntax.specs.View.{expression_of, specifiers_in, declarator_of};
 ghost use Rattle.c_syntax.specs.Levels.{expression_levels, specifiers_levels, declarator_levels};
 
+use crate::deeper::Functions;
 use crate::grammar::Grammar;
 use crate::leveled::Leveled;
 use c_grammar::cursor::{Cursor, Fault};
@@ -35,9 +36,11 @@ pub fn expression<'a>(
         alloc,
         names,
         levels: levels - 1,
-        expression,
-        specifiers,
-        declarator,
+        deeper: Functions {
+            expression,
+            specifiers,
+            declarator,
+        },
     }
     .expression_at(tokens, opened, least)
 }
@@ -62,9 +65,11 @@ pub fn specifiers<'a>(
         alloc,
         names,
         levels: levels - 1,
-        expression,
-        specifiers,
-        declarator,
+        deeper: Functions {
+            expression,
+            specifiers,
+            declarator,
+        },
     }
     .specifiers_at(tokens, allowed)
 }
@@ -88,9 +93,11 @@ pub fn declarator<'a>(
         alloc,
         names,
         levels: levels - 1,
-        expression,
-        specifiers,
-        declarator,
+        deeper: Functions {
+            expression,
+            specifiers,
+            declarator,
+        },
     }
     .declarator_at(tokens, kind)
 }

@@ -15,6 +15,7 @@ ghost use Rattle.c_syntax.specs.Words.{word_at};
 ghost use Rattle.c_syntax.specs.View.{expression_of, typed_of};
 ghost use Rattle.c_syntax.specs.Levels.{expression_levels, typed_levels};
 
+use crate::deeper::ReadsDeeper;
 use crate::expression_tree::{
     cast, character, identifier, integer, parenthesized, sizeof_expression, sizeof_type, strings,
     unary,
@@ -25,12 +26,9 @@ use crate::specifier::begins_specifiers;
 use c_grammar::cursor::{Cursor, Fault, is_punctuator, is_same};
 use c_grammar::declarator_kind::DeclaratorKind;
 use c_grammar::least_precedence;
-use c_grammar::typedef_names::TypedefNames;
 use c_lexer::{Keyword, Punctuator, Spelling, TokenKind};
 use c_syntax::operators::operand_precedence;
-use c_syntax::{
-    Boxed, Declarator, Expression, Items, Position, Positioned, Specifier, TypedDeclarator,
-};
+use c_syntax::{Boxed, Expression, Position, Positioned, TypedDeclarator};
 use std::alloc::Global;
 
 /// Reads string literals, of which the first was taken (C99 6.5.1).
@@ -47,35 +45,7 @@ fn string_literals<'a>(
     strings(alloc, spelling, position, others)
 }
 
-impl<
-    't,
-    'a,
-    E: FnOnce(
-        Global,
-        &TypedefNames<'a>,
-        &mut Cursor<'_, 'a>,
-        usize,
-        Option<Position>,
-        u8,
-    ) -> Result<Leveled<Boxed<Expression<'a>>>, Fault>
-        + Copy,
-    S: FnOnce(
-        Global,
-        &TypedefNames<'a>,
-        &mut Cursor<'_, 'a>,
-        usize,
-        bool,
-    ) -> Result<Leveled<Items<Specifier<'a>>>, Fault>
-        + Copy,
-    D: FnOnce(
-        Global,
-        &TypedefNames<'a>,
-        &mut Cursor<'_, 'a>,
-        usize,
-        DeclaratorKind,
-    ) -> Result<Leveled<Boxed<Declarator<'a>>>, Fault>
-        + Copy,
-> Grammar<'t, 'a, E, S, D> {
+impl<'t, 'a, R: ReadsDeeper<'a>> Grammar<'t, 'a, R> {
     /// Reads what follows the `(` of an expression in parentheses (C99 6.5.1).
     #[tactic(auto, unfolding(c_grammar::specs::ExpressionReader::parenthesized_from))]
     pub(crate) fn parenthesized(
@@ -83,7 +53,7 @@ impl<
         tokens: &mut Cursor<'_, 'a>,
         position: Position,
     ) -> Result<Leveled<Boxed<Expression<'a>>>, Fault>
-        requires deeper { Deeper self.now E.FnOnce S.FnOnce D.FnOnce }
+        requires deeper { Deeper R.reads self.now }
         ensures { ReadsLeveled expression_of expression_levels (suc self.now.levels)
             (spec.parenthesized_from self.now.names.now (readers self.now.names.now self.now.levels) self.now.levels
             position tokens.old.rest.now) result tokens.new.rest.now }
@@ -98,7 +68,7 @@ impl<
         &self,
         tokens: &mut Cursor<'_, 'a>,
     ) -> Result<Leveled<Boxed<TypedDeclarator<'a>>>, Fault>
-        requires deeper { Deeper self.now E.FnOnce S.FnOnce D.FnOnce }
+        requires deeper { Deeper R.reads self.now }
         ensures { ReadsLeveled typed_of typed_levels self.now.levels
             (common.typed_from (readers self.now.names.now self.now.levels) kind.Abstract tokens.old.rest.now) result
             tokens.new.rest.now }
@@ -114,7 +84,7 @@ impl<
         tokens: &mut Cursor<'_, 'a>,
         position: Position,
     ) -> Result<Leveled<Boxed<Expression<'a>>>, Fault>
-        requires deeper { Deeper self.now E.FnOnce S.FnOnce D.FnOnce }
+        requires deeper { Deeper R.reads self.now }
         ensures { ReadsLeveled expression_of expression_levels (suc self.now.levels)
             (spec.cast_from self.now.names.now (readers self.now.names.now self.now.levels) self.now.levels position
             tokens.old.rest.now) result tokens.new.rest.now }
@@ -133,7 +103,7 @@ impl<
         least: u8,
         position: Position,
     ) -> Result<Leveled<Boxed<Expression<'a>>>, Fault>
-        requires deeper { Deeper self.now E.FnOnce S.FnOnce D.FnOnce }
+        requires deeper { Deeper R.reads self.now }
         ensures { ReadsLeveled expression_of expression_levels (suc self.now.levels)
             (spec.parenthesis_from self.now.names.now (readers self.now.names.now self.now.levels) self.now.levels least
             position tokens.old.rest.now) result tokens.new.rest.now }
@@ -155,7 +125,7 @@ impl<
         position: Position,
         left: Position,
     ) -> Result<Leveled<Boxed<Expression<'a>>>, Fault>
-        requires deeper { Deeper self.now E.FnOnce S.FnOnce D.FnOnce }
+        requires deeper { Deeper R.reads self.now }
         ensures { ReadsExpression (suc self.now.levels)
             (sizeof_type_from (readers self.now.names.now self.now.levels) position left tokens.old.rest.now) result
             tokens.new.rest.now }
@@ -173,7 +143,7 @@ impl<
         position: Position,
         left: Position,
     ) -> Result<Leveled<Boxed<Expression<'a>>>, Fault>
-        requires deeper { Deeper self.now E.FnOnce S.FnOnce D.FnOnce }
+        requires deeper { Deeper R.reads self.now }
         ensures { ReadsLeveled expression_of expression_levels (suc self.now.levels)
             (spec.sizeof_parenthesis_from self.now.names.now (readers self.now.names.now self.now.levels)
             self.now.levels position left tokens.old.rest.now) result tokens.new.rest.now }
@@ -192,7 +162,7 @@ impl<
         tokens: &mut Cursor<'_, 'a>,
         position: Position,
     ) -> Result<Leveled<Boxed<Expression<'a>>>, Fault>
-        requires deeper { Deeper self.now E.FnOnce S.FnOnce D.FnOnce }
+        requires deeper { Deeper R.reads self.now }
         ensures { ReadsLeveled expression_of expression_levels (suc self.now.levels)
             (spec.sizeof_from self.now.names.now (readers self.now.names.now self.now.levels) self.now.levels position
             tokens.old.rest.now) result tokens.new.rest.now }
@@ -215,7 +185,7 @@ impl<
         operator: Punctuator,
         position: Position,
     ) -> Result<Leveled<Boxed<Expression<'a>>>, Fault>
-        requires deeper { Deeper self.now E.FnOnce S.FnOnce D.FnOnce }
+        requires deeper { Deeper R.reads self.now }
         ensures { ReadsLeveled expression_of expression_levels (suc self.now.levels)
             (unary_from (readers self.now.names.now self.now.levels) operator position tokens.old.rest.now) result
             tokens.new.rest.now }
@@ -234,7 +204,7 @@ impl<
         position: Position,
         rest: &'r [Positioned<'a>],
     ) -> Result<Leveled<Boxed<Expression<'a>>>, Fault>
-        requires deeper { Deeper self.now E.FnOnce S.FnOnce D.FnOnce }
+        requires deeper { Deeper R.reads self.now }
         requires next { tokens.old.rest.now ≡ word_at (kinds.Punctuator punctuator) position ∷ rest.now }
         ensures { ReadsLeveled expression_of expression_levels (suc self.now.levels)
             (spec.operand_by_punctuator self.now.names.now (readers self.now.names.now self.now.levels) self.now.levels
@@ -258,7 +228,7 @@ impl<
         tokens: &mut Cursor<'_, 'a>,
         least: u8,
     ) -> Result<Leveled<Boxed<Expression<'a>>>, Fault>
-        requires deeper { Deeper self.now E.FnOnce S.FnOnce D.FnOnce }
+        requires deeper { Deeper R.reads self.now }
         ensures { ReadsLeveled expression_of expression_levels (suc self.now.levels)
             (spec.operand_from self.now.names.now (readers self.now.names.now self.now.levels) self.now.levels least
             tokens.old.rest.now) result tokens.new.rest.now }

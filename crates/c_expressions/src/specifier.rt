@@ -12,16 +12,13 @@ ghost use Rattle.c_syntax.specs.Levels.{specifier_levels, specifiers_levels};
 ghost use Rattle.c_syntax.specs.Tree as t;
 ghost use Rattle.c_syntax.specs.View.{specifier_of, specifiers_in};
 
+use crate::deeper::ReadsDeeper;
 use crate::grammar::Grammar;
 use crate::leveled::{Leveled, as_items, beside, leaf, no_trees, where_true, with_tree};
 use c_grammar::cursor::{Cursor, Fault, spelled};
-use c_grammar::declarator_kind::DeclaratorKind;
 use c_grammar::typedef_names::TypedefNames;
 use c_lexer::{Keyword, TokenKind};
-use c_syntax::{
-    Boxed, Declarator, Expression, Items, Position, Positioned, Specifier, Spelled, TypeWords,
-};
-use std::alloc::Global;
+use c_syntax::{Items, Position, Positioned, Specifier, Spelled, TypeWords};
 
 /// Whether the keyword may begin specifiers.
 fn is_specifier_keyword(keyword: Keyword) -> bool
@@ -73,35 +70,7 @@ fn typedef_name<'a>(name: Spelled<'a>) -> Leveled<Specifier<'a>>
     leaf(Specifier::TypedefName(name))
 }
 
-impl<
-    't,
-    'a,
-    E: FnOnce(
-        Global,
-        &TypedefNames<'a>,
-        &mut Cursor<'_, 'a>,
-        usize,
-        Option<Position>,
-        u8,
-    ) -> Result<Leveled<Boxed<Expression<'a>>>, Fault>
-        + Copy,
-    S: FnOnce(
-        Global,
-        &TypedefNames<'a>,
-        &mut Cursor<'_, 'a>,
-        usize,
-        bool,
-    ) -> Result<Leveled<Items<Specifier<'a>>>, Fault>
-        + Copy,
-    D: FnOnce(
-        Global,
-        &TypedefNames<'a>,
-        &mut Cursor<'_, 'a>,
-        usize,
-        DeclaratorKind,
-    ) -> Result<Leveled<Boxed<Declarator<'a>>>, Fault>
-        + Copy,
-> Grammar<'t, 'a, E, S, D> {
+impl<'t, 'a, R: ReadsDeeper<'a>> Grammar<'t, 'a, R> {
     /// Reads what follows a keyword that goes on with specifiers.
     fn specifier_by_keyword(
         &self,
@@ -109,7 +78,7 @@ impl<
         keyword: Keyword,
         position: Position,
     ) -> Result<Leveled<Specifier<'a>>, Fault>
-        requires deeper { Deeper self.now E.FnOnce S.FnOnce D.FnOnce }
+        requires deeper { Deeper R.reads self.now }
         ensures { ReadsLeveled specifier_of specifier_levels (suc self.now.levels)
             (spec.specifier_by_keyword self.now.names.now (readers self.now.names.now self.now.levels) self.now.levels
             keyword position tokens.old.rest.now) result tokens.new.rest.now }
@@ -123,7 +92,7 @@ impl<
 
     /// Reads a specifier by its first word.
     fn specifier(&self, tokens: &mut Cursor<'_, 'a>) -> Result<Leveled<Specifier<'a>>, Fault>
-        requires deeper { Deeper self.now E.FnOnce S.FnOnce D.FnOnce }
+        requires deeper { Deeper R.reads self.now }
         ensures { ReadsLeveled specifier_of specifier_levels (suc self.now.levels)
             (specifier_next self.now.names.now (readers self.now.names.now self.now.levels) self.now.levels
             tokens.old.rest.now) result tokens.new.rest.now }
@@ -192,7 +161,7 @@ impl<
         tokens: &mut Cursor<'_, 'a>,
         allowed: bool,
     ) -> Result<Leveled<Items<Specifier<'a>>>, Fault>
-        requires deeper { Deeper self.now E.FnOnce S.FnOnce D.FnOnce }
+        requires deeper { Deeper R.reads self.now }
         ensures { ReadsLeveled specifiers_in specifiers_levels (suc self.now.levels)
             (spec.specifiers_at self.now.names.now (readers self.now.names.now self.now.levels) self.now.levels allowed
             tokens.old.rest.now) result tokens.new.rest.now }

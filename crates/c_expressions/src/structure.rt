@@ -13,17 +13,14 @@ ghost use Rattle.c_syntax.specs.View.{specifier_of, member_of};
 ghost use Rattle.c_syntax.specs.View.{members_in};
 ghost use Rattle.c_syntax.specs.Levels.{specifier_levels, member_levels, members_levels};
 
+use crate::deeper::ReadsDeeper;
 use crate::grammar::Grammar;
 use crate::leveled::{Leveled, as_items, beside, leaf, no_trees, with_next, with_tree};
 use crate::specifier_tree::{member_declaration, structure_body};
 use c_grammar::cursor::{Cursor, Fault, next_is};
 use c_grammar::declarator_kind::DeclaratorKind;
-use c_grammar::typedef_names::TypedefNames;
 use c_lexer::{Keyword, Punctuator};
-use c_syntax::{
-    Boxed, Declarator, Expression, Items, Member, Position, Positioned, Specifier, Spelled,
-};
-use std::alloc::Global;
+use c_syntax::{Boxed, Declarator, Items, Member, Position, Positioned, Specifier, Spelled};
 
 /// Whether `{` is next, and there is a level for what it begins.
 pub(crate) fn begins_body(levels: usize, rest: &[Positioned]) -> bool
@@ -32,41 +29,13 @@ pub(crate) fn begins_body(levels: usize, rest: &[Positioned]) -> bool
     levels >= 1 && next_is(rest, Punctuator::LeftBrace)
 }
 
-impl<
-    't,
-    'a,
-    E: FnOnce(
-        Global,
-        &TypedefNames<'a>,
-        &mut Cursor<'_, 'a>,
-        usize,
-        Option<Position>,
-        u8,
-    ) -> Result<Leveled<Boxed<Expression<'a>>>, Fault>
-        + Copy,
-    S: FnOnce(
-        Global,
-        &TypedefNames<'a>,
-        &mut Cursor<'_, 'a>,
-        usize,
-        bool,
-    ) -> Result<Leveled<Items<Specifier<'a>>>, Fault>
-        + Copy,
-    D: FnOnce(
-        Global,
-        &TypedefNames<'a>,
-        &mut Cursor<'_, 'a>,
-        usize,
-        DeclaratorKind,
-    ) -> Result<Leveled<Boxed<Declarator<'a>>>, Fault>
-        + Copy,
-> Grammar<'t, 'a, E, S, D> {
+impl<'t, 'a, R: ReadsDeeper<'a>> Grammar<'t, 'a, R> {
     /// Reads declarators behind the first, each behind its comma.
     fn more_declarators(
         &self,
         tokens: &mut Cursor<'_, 'a>,
     ) -> Result<Leveled<Items<(Position, Boxed<Declarator<'a>>)>>, Fault>
-        requires deeper { Deeper self.now E.FnOnce S.FnOnce D.FnOnce }
+        requires deeper { Deeper R.reads self.now }
         requires some { 0 < self.now.levels }
         ensures { ReadsLeveled declarators_behind declarators_behind_levels self.now.levels
             (behind_commas ((readers self.now.names.now self.now.levels).declarator kind.Named)
@@ -89,7 +58,7 @@ impl<
     /// Reads a declaration of members (C99 6.7.2.1).
     #[tactic(auto, unfolding(c_grammar::specs::SpecifierReader::member_from))]
     fn member_declaration(&self, tokens: &mut Cursor<'_, 'a>) -> Result<Leveled<Member<'a>>, Fault>
-        requires deeper { Deeper self.now E.FnOnce S.FnOnce D.FnOnce }
+        requires deeper { Deeper R.reads self.now }
         requires some { 0 < self.now.levels }
         ensures { ReadsLeveled member_of member_levels self.now.levels
             (spec.member_from self.now.names.now (readers self.now.names.now self.now.levels) self.now.levels
@@ -105,7 +74,7 @@ impl<
 
     /// Reads declarations of members up to `}`, at least one (C99 6.7.2.1).
     fn members(&self, tokens: &mut Cursor<'_, 'a>) -> Result<Leveled<Items<Member<'a>>>, Fault>
-        requires deeper { Deeper self.now E.FnOnce S.FnOnce D.FnOnce }
+        requires deeper { Deeper R.reads self.now }
         requires some { 0 < self.now.levels }
         ensures { ReadsLeveled members_in members_levels self.now.levels
             (spec.members_from self.now.names.now (readers self.now.names.now self.now.levels) self.now.levels
@@ -133,7 +102,7 @@ impl<
         position: Position,
         tag: Option<Spelled<'a>>,
     ) -> Result<Leveled<Specifier<'a>>, Fault>
-        requires deeper { Deeper self.now E.FnOnce S.FnOnce D.FnOnce }
+        requires deeper { Deeper R.reads self.now }
         requires some { 0 < self.now.levels }
         ensures { ReadsLeveled specifier_of specifier_levels (suc self.now.levels)
             (spec.structure_body_from self.now.names.now (readers self.now.names.now self.now.levels) self.now.levels
@@ -153,7 +122,7 @@ impl<
         keyword: Keyword,
         position: Position,
     ) -> Result<Leveled<Specifier<'a>>, Fault>
-        requires deeper { Deeper self.now E.FnOnce S.FnOnce D.FnOnce }
+        requires deeper { Deeper R.reads self.now }
         ensures { ReadsLeveled specifier_of specifier_levels (suc self.now.levels)
             (spec.structure_from self.now.names.now (readers self.now.names.now self.now.levels) self.now.levels keyword
             position tokens.old.rest.now) result tokens.new.rest.now }

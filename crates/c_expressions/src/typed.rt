@@ -14,15 +14,13 @@ ghost use Rattle.c_syntax.specs.View.{declarator_of};
 ghost use Rattle.c_syntax.specs.Tree as t;
 ghost use Rattle.c_syntax.specs.Levels.{typed_levels, parameters_levels};
 
+use crate::deeper::ReadsDeeper;
 use crate::grammar::Grammar;
 use crate::leveled::{Leveled, as_items, beside, leaf, no_trees, with_next};
 use c_grammar::cursor::{Cursor, Fault, next_is};
 use c_grammar::declarator_kind::DeclaratorKind;
-use c_grammar::typedef_names::TypedefNames;
 use c_lexer::{Keyword, Punctuator};
-use c_syntax::{
-    Boxed, Declarator, Expression, Items, Parameters, Position, Specifier, TypedDeclarator,
-};
+use c_syntax::{Boxed, Declarator, Items, Parameters, Position, Specifier, TypedDeclarator};
 use std::alloc::{AllocError, Global};
 
 /// The position of the word `void`.
@@ -111,35 +109,7 @@ fn typed_with<'a>(
     }
 }
 
-impl<
-    't,
-    'a,
-    E: FnOnce(
-        Global,
-        &TypedefNames<'a>,
-        &mut Cursor<'_, 'a>,
-        usize,
-        Option<Position>,
-        u8,
-    ) -> Result<Leveled<Boxed<Expression<'a>>>, Fault>
-        + Copy,
-    S: FnOnce(
-        Global,
-        &TypedefNames<'a>,
-        &mut Cursor<'_, 'a>,
-        usize,
-        bool,
-    ) -> Result<Leveled<Items<Specifier<'a>>>, Fault>
-        + Copy,
-    D: FnOnce(
-        Global,
-        &TypedefNames<'a>,
-        &mut Cursor<'_, 'a>,
-        usize,
-        DeclaratorKind,
-    ) -> Result<Leveled<Boxed<Declarator<'a>>>, Fault>
-        + Copy,
-> Grammar<'t, 'a, E, S, D> {
+impl<'t, 'a, R: ReadsDeeper<'a>> Grammar<'t, 'a, R> {
     /// Reads specifiers and a declarator: a type name (C99 6.7.6) or a parameter (6.7.5).
     #[tactic(auto, unfolding(c_grammar::specs::Readers::typed_from))]
     pub fn typed(
@@ -147,7 +117,7 @@ impl<
         tokens: &mut Cursor<'_, 'a>,
         kind: DeclaratorKind,
     ) -> Result<Leveled<TypedDeclarator<'a>>, Fault>
-        requires deeper { Deeper self.now E.FnOnce S.FnOnce D.FnOnce }
+        requires deeper { Deeper R.reads self.now }
         ensures { ReadsLeveled typed_of typed_levels self.now.levels
             (spec.typed_from (readers self.now.names.now self.now.levels) kind tokens.old.rest.now) result
             tokens.new.rest.now }
@@ -162,7 +132,7 @@ impl<
         &self,
         tokens: &mut Cursor<'_, 'a>,
     ) -> Result<Leveled<Items<(Position, TypedDeclarator<'a>)>>, Fault>
-        requires deeper { Deeper self.now E.FnOnce S.FnOnce D.FnOnce }
+        requires deeper { Deeper R.reads self.now }
         requires some { 0 < self.now.levels }
         ensures { ReadsLeveled parameters_behind parameters_behind_levels self.now.levels
             (behind_commas (spec.typed_from (readers self.now.names.now self.now.levels) kind.Either)
@@ -182,7 +152,7 @@ impl<
     /// Reads what stands between the parentheses of a function declarator (C99 6.7.5.3).
     #[tactic(auto, unfolding(c_grammar::specs::Readers::parameters_from))]
     pub fn parameters(&self, tokens: &mut Cursor<'_, 'a>) -> Result<Leveled<Parameters<'a>>, Fault>
-        requires deeper { Deeper self.now E.FnOnce S.FnOnce D.FnOnce }
+        requires deeper { Deeper R.reads self.now }
         requires some { 0 < self.now.levels }
         ensures { ReadsLeveled parameters_of parameters_levels self.now.levels
             (spec.parameters_from (readers self.now.names.now self.now.levels) tokens.old.rest.now) result

@@ -21,6 +21,7 @@ use shadow_space::ShadowForm;
 use std::alloc::{AllocError, Global};
 
 // What a block is made of: the register with its size, those that get the pointer to it, and the line of the call.
+#[derive(Clone, Copy)]
 struct BlockRequest {
     size: u32,
     into: Held,

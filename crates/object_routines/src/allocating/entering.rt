@@ -35,6 +35,7 @@ pub struct EntryRegisters {
 
 // What a block is entered with: the registers with the end of the object stack and the bytes of the objects, those that
 // get what it is entered with, and the line.
+#[derive(Clone, Copy)]
 struct Entrance {
     top: u32,
     bytes: u32,

@@ -21,6 +21,7 @@ use shadow_space::ShadowForm;
 use std::alloc::{AllocError, Global};
 
 // The old block's pointer, the registers that get the new one's, and the line of the call.
+#[derive(Clone, Copy)]
 struct Exchange {
     old: Held,
     into: Held,

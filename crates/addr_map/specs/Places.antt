@@ -131,6 +131,6 @@ order_of Calls = 12
 order_of RuntimeCalls = 13
 
 -- the sizes of a map
-pub record AreMapped (m : MapSizes) : Type 0 where
-  pub budgets : AreInRange m.budgets
-  pub globals : m.global_bytes ≤ 0x400000
+pub record AreMapped (map : MapSizes) : Type 0 where
+  pub budgets : AreInRange map.budgets
+  pub globals : map.global_bytes ≤ 0x400000

@@ -34,9 +34,9 @@ pub record IsPrefix {A : Type 0} (front whole : List A) : Type 0 where
   pub split : whole ≡ front ++ rest
 
 -- What y shows begins with what x shows. Where the run of x has ended, y shows just the same.
-pub record IsEarlier (x y : Shown) : Type 0 where
-  pub output : IsPrefix x.output y.output
-  pub errors : IsPrefix x.errors y.errors
-  pub taken : x.taken ≤ y.taken
-  pub accesses : IsPrefix x.accesses y.accesses
-  pub ended : (e : End) → x.ending ≡ Some e → y ≡ x
+pub record IsEarlier (earlier later : Shown) : Type 0 where
+  pub output : IsPrefix earlier.output later.output
+  pub errors : IsPrefix earlier.errors later.errors
+  pub taken : earlier.taken ≤ later.taken
+  pub accesses : IsPrefix earlier.accesses later.accesses
+  pub ended : (e : End) → earlier.ending ≡ Some e → later ≡ earlier

@@ -15,10 +15,10 @@ seen_after step seen s = λ n. seen (run step n s)
 -- A pass from steps to steps, as a simulation: where two states match, and the first comes to a state that is fine,
 -- some
 -- steps of the second, maybe none, lead to a state that matches again; and states that match meet.
-pub record Simulates {S T : Type 0} (c : ℕ) (step : S → S) (seen : S → Moment) (step' : T → T) (seen' : T → Moment)
+pub record Simulates {S T : Type 0} (factor : ℕ) (step : S → S) (seen : S → Moment) (step' : T → T) (seen' : T → Moment)
     (IsFine : S → Type 0) (Matches : S → T → Type 0) : Type 0 where
   pub one : (s : S) (t : T) → Matches s t → IsFine (step s) → (j : ℕ) × Matches (step s) (run step' j t)
-  pub meets : (s : S) (t : T) → Matches s t → Meets c (seen s) (seen' t)
+  pub meets : (s : S) (t : T) → Matches s t → Meets factor (seen s) (seen' t)
 
 -- Steps of which some states are stuck: a step begins at most one turn, a state that has ended stays as it is, and one
 -- that is stuck stays stuck, shows no ending and has no turns.

@@ -11,15 +11,15 @@ use Rattle.c_rules.specs.Fine.{IsFine}
 use Rattle.c_call_rules.specs.Calls.{Callee, of_function, of_pointer, of_routine}
 
 -- a number has a signature in a list
-pub record HasSignature (list : List Signature) (number : ℕ) (s : Signature) : Type 0 where
+pub record HasSignature (list : List Signature) (number : ℕ) (signature : Signature) : Type 0 where
   pub there : has_number list number ≡ true
-  pub same : get_or list number no_signature ≡ s
+  pub same : get_or list number no_signature ≡ signature
 
 -- a valid pointer to a function of the type with a number
-pub record IsFinePointer (scope : Scope) (number : ℕ) (e : Expression) (s : Signature) : Type 0 where
-  pub valid : is_valid scope e ≡ true
-  pub kind : kind_of e ≡ pointer
-  pub type : HasSignature scope.types number s
+pub record IsFinePointer (scope : Scope) (number : ℕ) (expression : Expression) (signature : Signature) : Type 0 where
+  pub valid : is_valid scope expression ≡ true
+  pub kind : kind_of expression ≡ pointer
+  pub type : HasSignature scope.types number signature
 
 abbrev pub IsFineCallee : Scope → Callee → Signature → Type 0
 IsFineCallee scope (of_function n) s = HasSignature scope.functions n s

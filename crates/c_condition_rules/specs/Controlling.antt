@@ -13,9 +13,9 @@ IfCondition scope (Ok e) = is_condition scope e ≡ true
 IfCondition scope (Err f) = Unit {0}
 
 -- a valid value of a promoted integer type, as the labels of its switch are
-pub record IsSwitchValue (scope : Scope) (structures : List (Option TypeExtent)) (v : Value) : Type 0 where
-  pub valid : (is_valid scope v.tree && is_promoted (kind_of v.tree)) ≡ true
-  pub kind : kind_of_type structures v.type ≡ Some (kind_of v.tree)
+pub record IsSwitchValue (scope : Scope) (structures : List (Option TypeExtent)) (value : Value) : Type 0 where
+  pub valid : (is_valid scope value.tree && is_promoted (kind_of value.tree)) ≡ true
+  pub kind : kind_of_type structures value.type ≡ Some (kind_of value.tree)
 
 abbrev pub IfSwitchValue : Scope → List (Option TypeExtent) → Answer Value → Type 0
 IfSwitchValue scope structures (Ok v) = IsSwitchValue scope structures v

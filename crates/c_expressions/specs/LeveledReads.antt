@@ -14,9 +14,9 @@ use Rattle.c_grammar.specs.Reads.{Fails}
 use Rattle.c_expressions.specs.declared.leveled.Leveled.{Leveled}
 
 -- the number of levels that is said is the real one, and below n
-pub record Below (n : ℕ) (said real : ℕ) : Type 0 where
+pub record Below (levels : ℕ) (said real : ℕ) : Type 0 where
   pub said_levels : said ≡ real
-  pub low : said < n
+  pub low : said < levels
 
 -- the same of a value with its levels, which are fewer than n
 abbrev pub ReadsLeveled : {A B : Type 0} → (A → B) → (B → ℕ) → ℕ → Outcome B → Result (Leveled A) Fault → Words → Type 0

@@ -10,9 +10,9 @@ use Rattle.c_lexer.specs.Text.{newlines}
 use Rattle.c_lexer.specs.Words.{word_of, spelling_of}
 
 -- it is the word that its bytes spell, and a number is an integer constant that has a type
-pub record IsWord (w : TokenKind) : Type 0 where
-  pub spelled : word_of (spelling_of w) ≡ Some w
-  pub valid : is_valid w ≡ true
+pub record IsWord (kind : TokenKind) : Type 0 where
+  pub spelled : word_of (spelling_of kind) ≡ Some kind
+  pub valid : is_valid kind ≡ true
 
 -- what a literal stands for is there
 abbrev pub HasMeaning : TokenKind → Type 0
@@ -22,7 +22,7 @@ HasMeaning (kinds.StringLiteral z) = IsSome (bytes_of_literal z)
 HasMeaning _ = Unit {0}
 
 -- a token of this text
-pub record IsTokenOf (text : List ℕ) (t : Token) : Type 0 where
-  pub kind : IsWord t.kind
-  pub low : 1 ≤ t.line
-  pub high : t.line ≤ suc (newlines text)
+pub record IsTokenOf (text : List ℕ) (token : Token) : Type 0 where
+  pub kind : IsWord token.kind
+  pub low : 1 ≤ token.line
+  pub high : token.line ≤ suc (newlines text)

@@ -35,11 +35,12 @@ placed_in texts f c = record
 -- its temporaries are no more than the values that are needed at once while the highest of its expressions is
 -- evaluated,
 -- and one for its result
-pub record LowersFunction (texts : List (List ℕ)) (result : Kind) (height : ℕ) (f : Function) (c : CodeFunction) : Type
+pub record LowersFunction (texts : List (List ℕ)) (result : Kind) (height : ℕ) (function : Function)
+    (c : CodeFunction) : Type
     0 where
-  pub header : header_of_code c ≡ header_of f
+  pub header : header_of_code c ≡ header_of function
   pub homes : (n : ℕ) (i : Instruction) → slice_get c.code n ≡ Some i → temporaries i ≤ max 1 height
-  pub body : LowersBody (placed_in texts f c) result c.entry f.body
+  pub body : LowersBody (placed_in texts function c) result c.entry function.body
 
 abbrev pub result_in : List Kind → Option Function → Kind
 result_in results None = Void
@@ -57,12 +58,13 @@ LowersAt texts result height (Some f) None = ⊥
 LowersAt texts result height (Some f) (Some c) = LowersFunction texts result height f c
 
 -- the code of a program: its functions by number, and its static objects as they are before the run
-pub record IsLowered (p : Program) (t : Tac) : Type 0 where
-  pub headers : map header_of_code t.functions ≡ map header_of p.functions
-  pub results : t.results ≡ map (λ (f : FunctionType). f.result) p.function_types
-  pub main : t.main ≡ p.main
-  pub bytes : t.global_bytes ≡ statics_end p.statics 0
+pub record IsLowered (program : Program) (code : Tac) : Type 0 where
+  pub headers : map header_of_code code.functions ≡ map header_of program.functions
+  pub results : code.results ≡ map (λ (f : FunctionType). f.result) program.function_types
+  pub main : code.main ≡ program.main
+  pub bytes : code.global_bytes ≡ statics_end program.statics 0
   pub statics : (budgets : BudgetSizes)
-      → objects_before t (setting_of p budgets) ≡ initial_objects p (setting_of p budgets)
-  pub functions : (f : ℕ) → LowersAt t.texts (result_in t.results (function_at p.functions f))
-      (height_in p.statics f (function_at p.functions f)) (function_at p.functions f) (slice_get t.functions f)
+      → objects_before code (setting_of program budgets) ≡ initial_objects program (setting_of program budgets)
+  pub functions : (f : ℕ) → LowersAt code.texts (result_in code.results (function_at program.functions f))
+      (height_in program.statics f (function_at program.functions f)) (function_at program.functions f)
+      (slice_get code.functions f)

@@ -17,9 +17,9 @@ use Rattle.c_parser.specs.declared.fault.ParseFault.TheVariants.{Memory, Unsuppo
 use Rattle.c_parser.specs.Unsupported.{first_unsupported}
 
 -- a well-formed file that is written with these tokens (C99 6.9)
-pub record IsTreeOf (tokens : List Token) (u : Unit) : Type 0 where
-  pub formed : IsWellFormed u
-  pub same : unit_words u ≡ positioned tokens
+pub record IsTreeOf (tokens : List Token) (unit : Unit) : Type 0 where
+  pub formed : IsWellFormed unit
+  pub same : unit_words unit ≡ positioned tokens
 
 -- no well-formed file is
 abbrev pub HasNoTree : List Token → Type 0

@@ -35,10 +35,10 @@ pub data IsSized (structures : List (Option TypeExtent)) (type : List TypeWord) 
   unsized : is_unsized structures type ≡ true → bytes ≡ 0 → IsSized structures type bytes
 
 -- a valid lvalue: what it designates has the bytes and the kind that its type tells
-pub record IsFinePlace (scope : Scope) (structures : List (Option TypeExtent)) (p : Place) : Type 0 where
-  pub valid : is_valid_lvalue scope p.tree ≡ true
-  pub sized : IsSized structures p.type (size_of_kind (lvalue_kind p.tree))
-  pub kind : lvalue_kind p.tree ≡ object_kind (size_of_kind (lvalue_kind p.tree)) p.type
+pub record IsFinePlace (scope : Scope) (structures : List (Option TypeExtent)) (place : Place) : Type 0 where
+  pub valid : is_valid_lvalue scope place.tree ≡ true
+  pub sized : IsSized structures place.type (size_of_kind (lvalue_kind place.tree))
+  pub kind : lvalue_kind place.tree ≡ object_kind (size_of_kind (lvalue_kind place.tree)) place.type
 
 -- the kind of an array or a structure whose size is not known where it is named
 abbrev pub is_unsized_kind : Kind → Bool
@@ -46,26 +46,26 @@ is_unsized_kind (kind.Array bytes) = bytes == 0
 is_unsized_kind (kind.Structure bytes) = bytes == 0
 is_unsized_kind k = false
 
-pub data WasSized (structures : List (Option TypeExtent)) (type : List TypeWord) (k : Kind) : Type 0 where
-  complete_as : target_of structures type ≡ Object (size_of_kind k) → WasSized structures type k
-  unsized_as : is_unsized_kind k ≡ true → WasSized structures type k
+pub data WasSized (structures : List (Option TypeExtent)) (type : List TypeWord) (kind : Kind) : Type 0 where
+  complete_as : target_of structures type ≡ Object (size_of_kind kind) → WasSized structures type kind
+  unsized_as : is_unsized_kind kind ≡ true → WasSized structures type kind
 
 -- a valid lvalue that was named where fewer structures may have been complete
-pub record IsEarlierPlace (scope : Scope) (structures : List (Option TypeExtent)) (p : Place) : Type 0 where
-  pub valid : is_valid_lvalue scope p.tree ≡ true
-  pub sized : WasSized structures p.type (lvalue_kind p.tree)
-  pub kind : lvalue_kind p.tree ≡ object_kind (size_of_kind (lvalue_kind p.tree)) p.type
+pub record IsEarlierPlace (scope : Scope) (structures : List (Option TypeExtent)) (place : Place) : Type 0 where
+  pub valid : is_valid_lvalue scope place.tree ≡ true
+  pub sized : WasSized structures place.type (lvalue_kind place.tree)
+  pub kind : lvalue_kind place.tree ≡ object_kind (size_of_kind (lvalue_kind place.tree)) place.type
 
 -- the name of a plain variable of this kind
-pub record IsFineVariable (scope : Scope) (structures : List (Option TypeExtent)) (x : Variable) : Type 0 where
-  pub value : IsFine scope structures (variable_value x)
-  pub plain : is_plain scope x.name.variable (kind_of x.tree) ≡ true
+pub record IsFineVariable (scope : Scope) (structures : List (Option TypeExtent)) (variable : Variable) : Type 0 where
+  pub value : IsFine scope structures (variable_value variable)
+  pub plain : is_plain scope variable.name.variable (kind_of variable.tree) ≡ true
 
 -- a function stands as a pointer to it
-pub record IsFineFunction (scope : Scope) (f : Value) : Type 0 where
-  pub valid : is_valid scope f.tree ≡ true
-  pub kind : kind_of f.tree ≡ pointer
-  pub bare : is_converted f.tree ≡ false
+pub record IsFineFunction (scope : Scope) (value : Value) : Type 0 where
+  pub valid : is_valid scope value.tree ≡ true
+  pub kind : kind_of value.tree ≡ pointer
+  pub bare : is_converted value.tree ≡ false
 
 abbrev pub IsFineOperand : Scope → List (Option TypeExtent) → Operand → Type 0
 IsFineOperand scope structures (a_value v) = IsFine scope structures v
@@ -99,13 +99,13 @@ IfFineOperand scope structures (Ok o) = IsFineOperand scope structures o
 IfFineOperand scope structures (Err f) = Unit {0}
 
 -- a member that lies in the structure or union with a number, which is complete
-pub record IsMemberOf (structures : List (Option TypeExtent)) (number : ℕ) (m : Member) : Type 0 where
-  pub sized : target_of structures m.type ≡ Object m.size
-  pub small : nat_le (m.offset + m.size) (2 ^ 32) ≡ true
+pub record IsMemberOf (structures : List (Option TypeExtent)) (number : ℕ) (member : Member) : Type 0 where
+  pub sized : target_of structures member.type ≡ Object member.size
+  pub small : nat_le (member.offset + member.size) (2 ^ 32) ≡ true
   pub whole : TypeExtent
   pub complete : structure_extent structures number ≡ Some whole
   pub object : is_size whole.size ≡ true
-  pub inside : nat_le (m.offset + m.size) whole.size ≡ true
+  pub inside : nat_le (member.offset + member.size) whole.size ≡ true
 
 -- what was found in a structure, if a type is one, is a member of it
 abbrev pub IsFound : List (Option TypeExtent) → (number : Option ℕ) → Option Member → Type 0

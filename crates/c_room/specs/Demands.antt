@@ -10,9 +10,9 @@ use Rattle.c_room.specs.declared.demand.InTurn.{InTurn}
 use Rattle.c_room.specs.Numbers.{fitting, plus, greater}
 
 -- a demand that is of so many values at once and so many bytes of structures
-pub record IsDemand (d : Demand) (needed bytes : ℕ) : Type 0 where
-  pub height : d.height ≡ fitting needed
-  pub passed : d.passed ≡ fitting bytes
+pub record IsDemand (demand : Demand) (needed bytes : ℕ) : Type 0 where
+  pub height : demand.height ≡ fitting needed
+  pub passed : demand.passed ≡ fitting bytes
 
 -- of no expression
 abbrev pub nothing : Demand

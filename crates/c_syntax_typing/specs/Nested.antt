@@ -26,23 +26,23 @@ Typing F T R = Once F (MutBor Typer × (Bool × (Bor T × Unit {0}))) (Result R 
 
 -- a function value that types this expression
 pub record TypesExpression {F : Type 0} (typing : Typing F code_expression.Expression code_operand.Operand) (f : F)
-    (e : Expression) : Type 0 where
+    (expression : Expression) : Type 0 where
   pub callable : (old : MutBor Typer) (is_evaluated : Bool) (tree : Bor code_expression.Expression)
-      → expression_of tree.now ≡ e → typing.pre f (old, (is_evaluated, (tree, tt)))
+      → expression_of tree.now ≡ expression → typing.pre f (old, (is_evaluated, (tree, tt)))
   pub types : (old new : MutBor Typer) (is_evaluated : Bool) (tree : Bor code_expression.Expression)
-      (result : Result code_operand.Operand Refusal) → expression_of tree.now ≡ e
+      (result : Result code_operand.Operand Refusal) → expression_of tree.now ≡ expression
       → typing.post f (old, (is_evaluated, (tree, tt))) (result, (new, tt))
-      → Types operand_of (state_of new.now) result (typed is_evaluated e (state_of old.now))
+      → Types operand_of (state_of new.now) result (typed is_evaluated expression (state_of old.now))
 
 -- one that types this declarator
 pub record TypesDeclarator {F : Type 0} (typing : Typing F code_declarator.Declarator code_shape.Shape) (f : F)
-    (d : Declarator) : Type 0 where
+    (declarator : Declarator) : Type 0 where
   pub callable : (old : MutBor Typer) (in_definition : Bool) (tree : Bor code_declarator.Declarator)
-      → declarator_of tree.now ≡ d → typing.pre f (old, (in_definition, (tree, tt)))
+      → declarator_of tree.now ≡ declarator → typing.pre f (old, (in_definition, (tree, tt)))
   pub types : (old new : MutBor Typer) (in_definition : Bool) (tree : Bor code_declarator.Declarator)
-      (result : Result code_shape.Shape Refusal) → declarator_of tree.now ≡ d
+      (result : Result code_shape.Shape Refusal) → declarator_of tree.now ≡ declarator
       → typing.post f (old, (in_definition, (tree, tt))) (result, (new, tt))
-      → Types shape_of (state_of new.now) result (shape in_definition d (state_of old.now))
+      → Types shape_of (state_of new.now) result (shape in_definition declarator (state_of old.now))
 
 -- one that types these specifiers
 pub record TypesSpecifiers {F : Type 0}
@@ -57,30 +57,30 @@ pub record TypesSpecifiers {F : Type 0}
 
 -- the function value of these rules for expressions types those of fewer levels than n
 pub record DeeperExpressions {E D S : Type 0} (rules : Nested E D S)
-    (for_expressions : Typing E code_expression.Expression code_operand.Operand) (n : ℕ) : Type 0 where
-  pub expressions : (e : Expression) → expression_levels e < n → TypesExpression for_expressions rules.expression e
+    (for_expressions : Typing E code_expression.Expression code_operand.Operand) (levels : ℕ) : Type 0 where
+  pub expressions : (e : Expression) → expression_levels e < levels → TypesExpression for_expressions rules.expression e
 
 -- the one for declarators
 pub record DeeperDeclarators {E D S : Type 0} (rules : Nested E D S)
-    (for_declarators : Typing D code_declarator.Declarator code_shape.Shape) (n : ℕ) : Type 0 where
-  pub declarators : (d : Declarator) → declarator_levels d < n → TypesDeclarator for_declarators rules.declarator d
+    (for_declarators : Typing D code_declarator.Declarator code_shape.Shape) (levels : ℕ) : Type 0 where
+  pub declarators : (d : Declarator) → declarator_levels d < levels → TypesDeclarator for_declarators rules.declarator d
 
 -- those for declarators and specifiers
 pub record DeeperNames {E D S : Type 0} (rules : Nested E D S)
     (for_declarators : Typing D code_declarator.Declarator code_shape.Shape)
-    (for_specifiers : Typing S (List code_specifier.Specifier) code_specification.Specification) (n : ℕ)
+    (for_specifiers : Typing S (List code_specifier.Specifier) code_specification.Specification) (levels : ℕ)
     : Type 0 where
-  pub declarators : (d : Declarator) → declarator_levels d < n → TypesDeclarator for_declarators rules.declarator d
-  pub specifiers : (specs : Specifiers) → specifiers_levels specs < n
+  pub declarators : (d : Declarator) → declarator_levels d < levels → TypesDeclarator for_declarators rules.declarator d
+  pub specifiers : (specs : Specifiers) → specifiers_levels specs < levels
       → TypesSpecifiers for_specifiers rules.specifiers specs
 
 -- all three
 pub record Deeper {E D S : Type 0} (rules : Nested E D S)
     (for_expressions : Typing E code_expression.Expression code_operand.Operand)
     (for_declarators : Typing D code_declarator.Declarator code_shape.Shape)
-    (for_specifiers : Typing S (List code_specifier.Specifier) code_specification.Specification) (n : ℕ)
+    (for_specifiers : Typing S (List code_specifier.Specifier) code_specification.Specification) (levels : ℕ)
     : Type 0 where
-  pub expressions : (e : Expression) → expression_levels e < n → TypesExpression for_expressions rules.expression e
-  pub declarators : (d : Declarator) → declarator_levels d < n → TypesDeclarator for_declarators rules.declarator d
-  pub specifiers : (specs : Specifiers) → specifiers_levels specs < n
+  pub expressions : (e : Expression) → expression_levels e < levels → TypesExpression for_expressions rules.expression e
+  pub declarators : (d : Declarator) → declarator_levels d < levels → TypesDeclarator for_declarators rules.declarator d
+  pub specifiers : (specs : Specifiers) → specifiers_levels specs < levels
       → TypesSpecifiers for_specifiers rules.specifiers specs

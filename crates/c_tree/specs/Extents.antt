@@ -11,10 +11,10 @@ pub record TypeExtent : Type 0 where
   pub size : ℕ
   pub alignment : ℕ
 
-pub record IsExtent (e : TypeExtent) : Type 0 where
-  pub size : e.size ≤ 2 ^ 32 + 1
-  pub least : 1 ≤ e.alignment
-  pub greatest : e.alignment ≤ 8
+pub record IsExtent (extent : TypeExtent) : Type 0 where
+  pub size : extent.size ≤ 2 ^ 32 + 1
+  pub least : 1 ≤ extent.alignment
+  pub greatest : extent.alignment ≤ 8
 
 abbrev pub capped : ℕ → ℕ
 capped n = min n (2 ^ 32 + 1)

@@ -54,22 +54,22 @@ StandsFor code n (Update u k f Unchecked line at key d a b m) = Checked code n (
 StandsFor code n i = Has code n i
 
 -- an instruction of the code with checks, and one of the code without that needs no fewer temporaries
-pub record NeedsNoMore (code : List Instruction) (i : Instruction) : Type 0 where
+pub record NeedsNoMore (code : List Instruction) (instruction : Instruction) : Type 0 where
   pub node : ℕ
   pub other : Instruction
   pub has : Has code node other
-  pub most : temporaries i ≤ temporaries other
+  pub most : temporaries instruction ≤ temporaries other
 
 -- what a call lays out, the keys, the blocks and the counted loops stay; for each check there is a node more
-pub record FunctionIn (c c' : CodeFunction) : Type 0 where
-  pub header : header_of_code c' ≡ header_of_code c
-  pub entry : c'.entry ≡ c.entry
-  pub keys : c'.keys ≡ c.keys
-  pub blocks : c'.blocks ≡ c.blocks
-  pub loops : c'.loops ≡ c.loops
-  pub size : length c'.code ≡ length c.code + sum_over checks_needed c.code
-  pub code : (n : ℕ) (i : Instruction) → Has c.code n i → StandsFor c'.code n i
-  pub homes : (n : ℕ) (i : Instruction) → Has c'.code n i → NeedsNoMore c.code i
+pub record FunctionIn (before after : CodeFunction) : Type 0 where
+  pub header : header_of_code after ≡ header_of_code before
+  pub entry : after.entry ≡ before.entry
+  pub keys : after.keys ≡ before.keys
+  pub blocks : after.blocks ≡ before.blocks
+  pub loops : after.loops ≡ before.loops
+  pub size : length after.code ≡ length before.code + sum_over checks_needed before.code
+  pub code : (n : ℕ) (i : Instruction) → Has before.code n i → StandsFor after.code n i
+  pub homes : (n : ℕ) (i : Instruction) → Has after.code n i → NeedsNoMore before.code i
 
 abbrev pub InsertedAt : Option CodeFunction → Option CodeFunction → Type 0
 InsertedAt None None = Unit {0}
@@ -77,12 +77,12 @@ InsertedAt None (Some c') = ⊥
 InsertedAt (Some c) None = ⊥
 InsertedAt (Some c) (Some c') = FunctionIn c c'
 
-pub record Inserted (t t' : Tac) : Type 0 where
-  pub headers : map header_of_code t'.functions ≡ map header_of_code t.functions
-  pub results : t'.results ≡ t.results
-  pub main : t'.main ≡ t.main
-  pub statics : t'.statics ≡ t.statics
-  pub bytes : t'.global_bytes ≡ t.global_bytes
-  pub texts : t'.texts ≡ t.texts
-  pub functions : (u : ℕ) → InsertedAt (slice_get t.functions u) (slice_get t'.functions u)
-  pub count : checks t' ≡ checks t + checks_to_insert t
+pub record Inserted (before after : Tac) : Type 0 where
+  pub headers : map header_of_code after.functions ≡ map header_of_code before.functions
+  pub results : after.results ≡ before.results
+  pub main : after.main ≡ before.main
+  pub statics : after.statics ≡ before.statics
+  pub bytes : after.global_bytes ≡ before.global_bytes
+  pub texts : after.texts ≡ before.texts
+  pub functions : (u : ℕ) → InsertedAt (slice_get before.functions u) (slice_get after.functions u)
+  pub count : checks after ≡ checks before + checks_to_insert before

@@ -7,14 +7,14 @@ use Rattle.reg_plan.specs.Effects.{read_by, is_read, made_by, is_among}
 use Rattle.reg_plan.specs.Flow.{IsNamed}
 
 -- what an instruction reads and makes has numbers below a bound
-pub record HasNames (p : FlatProgram) (f : ℕ) (i : FlatInstruction) (count : ℕ) : Type 0 where
-  pub read : (y : ℕ) → is_read (read_by p f i) y ≡ true → y < count
-  pub made : (y : ℕ) → is_among (made_by p i) y ≡ true → y < count
+pub record HasNames (program : FlatProgram) (function : ℕ) (instruction : FlatInstruction) (count : ℕ) : Type 0 where
+  pub read : (y : ℕ) → is_read (read_by program function instruction) y ≡ true → y < count
+  pub made : (y : ℕ) → is_among (made_by program instruction) y ≡ true → y < count
 
 -- functions and instructions have numbers of 32 bits
-pub record IsSmall (p : FlatProgram) : Type 0 where
-  pub functions : length p.functions < 2 ^ 32
-  pub bodies : (k : ℕ) (f : FlatFunction) → slice_get p.functions k ≡ Some f → length f.body < 2 ^ 32
+pub record IsSmall (program : FlatProgram) : Type 0 where
+  pub functions : length program.functions < 2 ^ 32
+  pub bodies : (k : ℕ) (f : FlatFunction) → slice_get program.functions k ≡ Some f → length f.body < 2 ^ 32
 
 abbrev pub AreNamed : FlatProgram → (number : ℕ) → Type 0
 AreNamed p n = (k : ℕ) (f : FlatFunction) → k < n → slice_get p.functions k ≡ Some f

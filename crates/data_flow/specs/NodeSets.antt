@@ -26,9 +26,9 @@ pub record Lists (s : NodeSet) (nodes : List ℕ) : Type 0 where
   pub all : (v : ℕ) → is_in s v ≡ true → Has nodes v
 
 -- One node is visited: it comes to the set and to the end of its list, unless it is there.
-pub record Visits (s s' : NodeSet) (nodes nodes' : List ℕ) (v : ℕ) : Type 0 where
-  pub lists : Lists s' nodes'
+pub record Visits (before after : NodeSet) (nodes nodes' : List ℕ) (visit : ℕ) : Type 0 where
+  pub lists : Lists after nodes'
   pub kept : (k x : ℕ) → slice_get nodes k ≡ Some x → slice_get nodes' k ≡ Some x
-  pub has : Has nodes' v
-  pub new : (k x : ℕ) → slice_get nodes' k ≡ Some x → (slice_get nodes k ≡ Some x) ⊎ (x ≡ v)
-  pub total : absent s' + length nodes' ≡ absent s + length nodes
+  pub has : Has nodes' visit
+  pub new : (k x : ℕ) → slice_get nodes' k ≡ Some x → (slice_get nodes k ≡ Some x) ⊎ (x ≡ visit)
+  pub total : absent after + length nodes' ≡ absent before + length nodes

@@ -110,28 +110,28 @@ abbrev pub SegmentFits : WrittenSegment → Type 0
 SegmentFits p = (length p.bytes ≤ p.size) × (p.address + p.size ≤ 2 ^ 64) × (p.address < 2 ^ 64)
 
 -- segments that pass all tests of an image
-pub record SegmentsFit (p : WrittenImage) : Type 0 where
-  pub entry : p.entry < 2 ^ 64
-  pub jump_table : SegmentFits p.jump_table
-  pub code : SegmentFits p.code
-  pub objects : SegmentFits p.objects
-  pub runtime : SegmentFits p.runtime
-  pub together : content_fault (content p) ≡ None
+pub record SegmentsFit (image : WrittenImage) : Type 0 where
+  pub entry : image.entry < 2 ^ 64
+  pub jump_table : SegmentFits image.jump_table
+  pub code : SegmentFits image.code
+  pub objects : SegmentFits image.objects
+  pub runtime : SegmentFits image.runtime
+  pub together : content_fault (content image) ≡ None
 
 -- Each segment has no more bytes in the file than in memory, they stand one after another, take at most 512 MiB
 -- together,
 -- and the run begins at an instruction of the first.
-pub record IsInOrder (p : WrittenImage) : Type 0 where
-  pub jump_table_bytes : length p.jump_table.bytes ≤ p.jump_table.size
-  pub code_bytes : length p.code.bytes ≤ p.code.size
-  pub objects_bytes : length p.objects.bytes ≤ p.objects.size
-  pub runtime_bytes : length p.runtime.bytes ≤ p.runtime.size
-  pub jump_table_first : p.jump_table.address + p.jump_table.size ≤ p.code.address
-  pub code_next : p.code.address + p.code.size ≤ p.objects.address
-  pub objects_next : p.objects.address + p.objects.size ≤ p.runtime.address
-  pub runtime_last : p.runtime.address + p.runtime.size ≤ 2 ^ 64
-  pub runtime_address : p.runtime.address < 2 ^ 64
-  pub together : p.jump_table.size + p.code.size + p.objects.size + p.runtime.size ≤ 536870912
-  pub aligned : p.entry % 4 ≡ 0
-  pub entry_from : p.jump_table.address ≤ p.entry
-  pub entry_below : p.entry < p.jump_table.address + p.jump_table.size
+pub record IsInOrder (image : WrittenImage) : Type 0 where
+  pub jump_table_bytes : length image.jump_table.bytes ≤ image.jump_table.size
+  pub code_bytes : length image.code.bytes ≤ image.code.size
+  pub objects_bytes : length image.objects.bytes ≤ image.objects.size
+  pub runtime_bytes : length image.runtime.bytes ≤ image.runtime.size
+  pub jump_table_first : image.jump_table.address + image.jump_table.size ≤ image.code.address
+  pub code_next : image.code.address + image.code.size ≤ image.objects.address
+  pub objects_next : image.objects.address + image.objects.size ≤ image.runtime.address
+  pub runtime_last : image.runtime.address + image.runtime.size ≤ 2 ^ 64
+  pub runtime_address : image.runtime.address < 2 ^ 64
+  pub together : image.jump_table.size + image.code.size + image.objects.size + image.runtime.size ≤ 536870912
+  pub aligned : image.entry % 4 ≡ 0
+  pub entry_from : image.jump_table.address ≤ image.entry
+  pub entry_below : image.entry < image.jump_table.address + image.jump_table.size

@@ -36,26 +36,26 @@ views_of map functions types entry = record {
 }
 
 -- what holds of them between actions
-pub record AreSpacesGood (map : MapSizes) (IsGood : Bytes → Type 0) (m : Bytes) : Type 0 where
-  pub shadow : IsGood m
-  pub locks : AreLocksGood map m
-  pub table : IsTableGood map m
+pub record AreSpacesGood (map : MapSizes) (IsGood : Bytes → Type 0) (memory : Bytes) : Type 0 where
+  pub shadow : IsGood memory
+  pub locks : AreLocksGood map memory
+  pub table : IsTableGood map memory
 
 -- ---- states
 
 -- what a run of flat code has shown is what one of the source has
-pub record IsShown (x : Source) (f : State) : Type 0 where
-  pub input : f.input ≡ x.input
-  pub output : f.output ≡ x.output
-  pub taken : f.taken ≡ x.taken
-  pub accesses : f.accesses ≡ x.accesses
+pub record IsShown (source : Source) (state : State) : Type 0 where
+  pub input : state.input ≡ source.input
+  pub output : state.output ≡ source.output
+  pub taken : state.taken ≡ source.taken
+  pub accesses : state.accesses ≡ source.accesses
 
 -- a state of flat code stands for one of the source
-pub record IsFor (g : Views) (k : Keys) (IsGood : Bytes → Type 0) (x : Source) (f : State) : Type 0 where
-  pub objects : StandsFor g k x.objects f.memory
-  pub spaces : AreSpacesGood g.sizes IsGood f.memory
-  pub keys : k.made ≡ x.keys
-  pub shown : IsShown x f
+pub record IsFor (views : Views) (k : Keys) (IsGood : Bytes → Type 0) (source : Source) (state : State) : Type 0 where
+  pub objects : StandsFor views k source.objects state.memory
+  pub spaces : AreSpacesGood views.sizes IsGood state.memory
+  pub keys : k.made ≡ source.keys
+  pub shown : IsShown source state
 
 -- ---- values in registers
 
@@ -90,35 +90,37 @@ IsGivenIn g k (Pointer h) v values = Spells g k v h values
 -- ---- what an action leaves
 
 -- of object space all that no object has which lives then, and of the runtime's spaces all behind the table of blocks
-pub record StaysElsewhere (map : MapSizes) (objects : Objects) (m m' : Bytes) : Type 0 where
+pub record StaysElsewhere (map : MapSizes) (objects : Objects) (before after : Bytes) : Type 0 where
   pub low : (a : ℕ) → a < spaces_begin
       → ((n : ℕ) → (object_at objects n).is_live ≡ true
       → (a < (object_at objects n).address) ⊎ ((object_at objects n).address + (object_at objects n).size ≤ a))
-      → m' a ≡ m a
-  pub behind : (a : ℕ) → region_start map StructureValues ≤ a → m' a ≡ m a
+      → after a ≡ before a
+  pub behind : (a : ℕ) → region_start map StructureValues ≤ a → after a ≡ before a
 
 -- objects made before keep their keys and lock words
-pub record KeepsHeld (objects : Objects) (k k' : Keys) : Type 0 where
-  pub own : (n : ℕ) → n < length objects → k'.own n ≡ k.own n
-  pub held : (n : ℕ) → n < length objects → k'.held n ≡ k.held n
+pub record KeepsHeld (objects : Objects) (before after : Keys) : Type 0 where
+  pub own : (n : ℕ) → n < length objects → after.own n ≡ before.own n
+  pub held : (n : ℕ) → n < length objects → after.held n ≡ before.held n
 
 -- it went on: the state stands for that of the source, and a value is held where it is given
-pub record HasGiven (g : Views) (k : Keys) (IsGood : Bytes → Type 0) (result : Holder) (scratch : ℕ) (x : Source)
-    (f : State) (v : Value) (x' : Source) (f' : State) : Type 0 where
+pub record HasGiven (views : Views) (k : Keys) (IsGood : Bytes
+    → Type 0) (result : Holder) (scratch : ℕ) (before : Source)
+    (f : State) (value : Value) (after : Source) (f' : State) : Type 0 where
   pub keys : Keys
-  pub held : KeepsHeld x.objects k keys
-  pub stands : IsFor g keys IsGood x' f'
-  pub given : IsGivenIn g keys result v f'.values
+  pub held : KeepsHeld before.objects k keys
+  pub stands : IsFor views keys IsGood after f'
+  pub given : IsGivenIn views keys result value f'.values
   pub turns : f'.turns ≡ f.turns
-  pub elsewhere : StaysElsewhere g.sizes x'.objects f.memory f'.memory
+  pub elsewhere : StaysElsewhere views.sizes after.objects f.memory f'.memory
   pub others : OthersStay (registers_of result) scratch f f'
 
 -- it ended the run, with the status and the report of an ending
-pub record HasEnded (e : Ending) (x' : Source) (status : ℕ) (report : List ℕ) (f f' : State) : Type 0 where
-  pub status_is : status ≡ code_of e
-  pub report_is : report ≡ report_of e
-  pub shown : IsShown x' f'
-  pub turns : f'.turns ≡ f.turns
+pub record HasEnded (ending : Ending) (source : Source) (status : ℕ) (report : List ℕ)
+    (before after : State) : Type 0 where
+  pub status_is : status ≡ code_of ending
+  pub report_is : report ≡ report_of ending
+  pub shown : IsShown source after
+  pub turns : after.turns ≡ before.turns
 
 -- just as the run of the source does
 abbrev pub Leaves : Views → Keys → (IsGood : Bytes → Type 0) → (result : Holder) → (scratch : ℕ) → Source → State

@@ -20,39 +20,39 @@ DoesInRuntime map r P steps Q =
     (λ s. Either (Q s) Never)
 
 -- so many bytes of object space from an address on
-pub record IsObjectRange (map : MapSizes) (a n : ℕ) : Type 0 where
-  pub first : objects_begin ≤ a
-  pub last : a + n ≤ region_end map Heap
+pub record IsObjectRange (map : MapSizes) (address bytes : ℕ) : Type 0 where
+  pub first : objects_begin ≤ address
+  pub last : address + bytes ≤ region_end map Heap
 
 -- ---- bytes alone
 
 -- registers hold where to, where from and how many
-pub record IsToMove (map : MapSizes) (to from bytes n : ℕ) (s : State) : Type 0 where
-  pub size_is : s.values bytes ≡ n
-  pub to_range : IsObjectRange map (s.values to) n
-  pub from_range : IsObjectRange map (s.values from) n
+pub record IsToMove (map : MapSizes) (to from bytes n : ℕ) (state : State) : Type 0 where
+  pub size_is : state.values bytes ≡ n
+  pub to_range : IsObjectRange map (state.values to) n
+  pub from_range : IsObjectRange map (state.values from) n
 
 -- moved as by memmove, also where the ranges overlap
-pub record HasMovedBytes (to from n scratch : ℕ) (s s' : State) : Type 0 where
-  pub there : (i : ℕ) → i < n → s'.memory (s.values to + i) ≡ s.memory (s.values from + i)
-  pub beside : KeepsBut (s.values to) n s.memory s'.memory
-  pub shows : ShowsNothing s s'
-  pub others : OthersStay [] scratch s s'
+pub record HasMovedBytes (to from n scratch : ℕ) (before after : State) : Type 0 where
+  pub there : (i : ℕ) → i < n → after.memory (before.values to + i) ≡ before.memory (before.values from + i)
+  pub beside : KeepsBut (before.values to) n before.memory after.memory
+  pub shows : ShowsNothing before after
+  pub others : OthersStay [] scratch before after
 
 abbrev pub IsByteMoveRoutine : MapSizes → (to from bytes scratch : ℕ) → List FlatInstruction → Type 0
 IsByteMoveRoutine map to from bytes t r =
     (n : ℕ) → DoesInRuntime map r (IsToMove map to from bytes n) (16 + 7 * n) (HasMovedBytes to from n t)
 
 -- registers hold where to, a number whose low byte it is, and how many
-pub record IsToFill (map : MapSizes) (to bytes n : ℕ) (s : State) : Type 0 where
-  pub size_is : s.values bytes ≡ n
-  pub to_range : IsObjectRange map (s.values to) n
+pub record IsToFill (map : MapSizes) (to bytes n : ℕ) (state : State) : Type 0 where
+  pub size_is : state.values bytes ≡ n
+  pub to_range : IsObjectRange map (state.values to) n
 
-pub record HasFilled (to byte n scratch : ℕ) (s s' : State) : Type 0 where
-  pub there : (i : ℕ) → i < n → s'.memory (s.values to + i) ≡ s.values byte % 256
-  pub beside : KeepsBut (s.values to) n s.memory s'.memory
-  pub shows : ShowsNothing s s'
-  pub others : OthersStay [] scratch s s'
+pub record HasFilled (to byte n scratch : ℕ) (before after : State) : Type 0 where
+  pub there : (i : ℕ) → i < n → after.memory (before.values to + i) ≡ before.values byte % 256
+  pub beside : KeepsBut (before.values to) n before.memory after.memory
+  pub shows : ShowsNothing before after
+  pub others : OthersStay [] scratch before after
 
 abbrev pub IsFillRoutine : MapSizes → (to byte bytes scratch : ℕ) → List FlatInstruction → Type 0
 IsFillRoutine map to byte bytes t r =
@@ -61,13 +61,14 @@ IsFillRoutine map to byte bytes t r =
 -- ---- bytes with the entries of whole words
 
 pub record HasMovedTagged (map : MapSizes) (entry : View) (IsGood : Bytes → Type 0) (to from n scratch : ℕ)
-    (s s' : State) : Type 0 where
+    (before after : State) : Type 0 where
   pub moved : (functions : ℕ) (types : ℕ → ℕ)
-      → IsMoved (views_of map functions types entry) n (s.values to) (s.values from) s.memory s'.memory
-  pub good : AreSpacesGood map IsGood s'.memory
-  pub behind : (a : ℕ) → region_start map StructureValues ≤ a → s'.memory a ≡ s.memory a
-  pub shows : ShowsNothing s s'
-  pub others : OthersStay [] scratch s s'
+      → IsMoved (views_of map functions types entry) n (before.values to)
+      (before.values from) before.memory after.memory
+  pub good : AreSpacesGood map IsGood after.memory
+  pub behind : (a : ℕ) → region_start map StructureValues ≤ a → after.memory a ≡ before.memory a
+  pub shows : ShowsNothing before after
+  pub others : OthersStay [] scratch before after
 
 -- within 40 steps and 16 for each byte
 abbrev pub IsTaggedMoveRoutine : MapSizes → View → (Bytes → Type 0) → (to from bytes scratch : ℕ)

@@ -13,18 +13,18 @@ use Rattle.flat_routines.specs.Objects.StandsFor.{Keys}
 use Rattle.flat_actions.specs.Actions.{Basis, Pointer, IsHeldBy, IsFor, context_in, views_of, work_of}
 
 -- a state of the source with more work done
-pub record IsWorked (x x' : Source) : Type 0 where
-  pub work : x.work ≤ x'.work
-  pub same : x' ≡ record x { work = x'.work }
+pub record IsWorked (before after : Source) : Type 0 where
+  pub work : before.work ≤ after.work
+  pub same : after ≡ record before { work = after.work }
 
 -- the register of the cursor has the address behind these bytes, which stand in memory from an address on
-pub record HasScanned (word : ℕ) (bytes : List ℕ) (cursor scratch : ℕ) (f f' : State) : Type 0 where
-  pub cursor_is : f'.values cursor ≡ word + length bytes
+pub record HasScanned (word : ℕ) (bytes : List ℕ) (cursor scratch : ℕ) (before after : State) : Type 0 where
+  pub cursor_is : after.values cursor ≡ word + length bytes
   pub small : word + length bytes < 2 ^ 63
-  pub there : (i : ℕ) → i < length bytes → f.memory (word + i) ≡ get_or bytes i 0
-  pub memory : f'.memory ≡ f.memory
-  pub shows : ShowsNothing f f'
-  pub others : OthersStay (cursor ∷ []) scratch f f'
+  pub there : (i : ℕ) → i < length bytes → before.memory (word + i) ≡ get_or bytes i 0
+  pub memory : after.memory ≡ before.memory
+  pub shows : ShowsNothing before after
+  pub others : OthersStay (cursor ∷ []) scratch before after
 
 abbrev pub IsScanned : (word cursor scratch : ℕ) → Source → State → Completed (List ℕ) → Outcome → Type 0
 IsScanned word cursor t x f (Gives bytes x') (Continues f') = IsWorked x x' × HasScanned word bytes cursor t f f'

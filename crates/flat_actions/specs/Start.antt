@@ -17,38 +17,38 @@ use Rattle.lock_space.specs.Locks.{IsLockStart}
 use Rattle.heap_space.specs.Table.{total_cell}
 
 -- all objects are static and live, and their bytes stand where they do
-pub record AreStatics (map : MapSizes) (functions : ℕ) (objects : Objects) (m : Bytes) : Type 0 where
+pub record AreStatics (map : MapSizes) (functions : ℕ) (objects : Objects) (memory : Bytes) : Type 0 where
   pub sound : IsSound functions objects
   pub disjoint : AreDisjoint objects
   pub static : (n : ℕ) → (object_at objects n).storage ≡ Static
   pub live : (n : ℕ) → n < length objects → (object_at objects n).is_live ≡ true
   pub placed : (n : ℕ) → n < length objects → IsPlaced map (object_at objects n)
   pub bytes : (n : ℕ) → n < length objects → (j : ℕ) → j < (object_at objects n).size
-      → m ((object_at objects n).address + j) ≡ get_or (object_at objects n).bytes j 0
+      → memory ((object_at objects n).address + j) ≡ get_or (object_at objects n).bytes j 0
 
 abbrev pub no_entry : StartEntry
 no_entry = record { at = 0; base = 0; bound = 0; key = 0; lock = 0 }
 
 -- one of the entries is of a word, with this metadata
-pub record HasEntry (es : List StartEntry) (a : ℕ) (e : Metadata) : Type 0 where
+pub record HasEntry (es : List StartEntry) (address : ℕ) (entry : Metadata) : Type 0 where
   pub index : ℕ
   pub below : index < length es
-  pub word : (get_or es index no_entry).at ≡ a
-  pub is : metadata_of (get_or es index no_entry) ≡ e
+  pub word : (get_or es index no_entry).at ≡ address
+  pub is : metadata_of (get_or es index no_entry) ≡ entry
 
 -- the entries are just those of the words that hold tags
-pub record AreEntriesOf (g : Views) (objects : Objects) (es : List StartEntry) : Type 0 where
+pub record AreEntriesOf (views : Views) (objects : Objects) (es : List StartEntry) : Type 0 where
   pub tagged : (n w : ℕ) → n < length objects → w < (object_at objects n).size / 8
       → get_or (object_at objects n).tags w Untagged ≢ Untagged
       → HasEntry es ((object_at objects n).address + 8 * w)
-      (spell g (start_keys g) (get_or (object_at objects n).tags w Untagged))
+      (spell views (start_keys views) (get_or (object_at objects n).tags w Untagged))
   pub untagged : (n w : ℕ) → n < length objects → w < (object_at objects n).size / 8
       → get_or (object_at objects n).tags w Untagged ≡ Untagged
       → IsNoneOf ((object_at objects n).address + 8 * w) (words_of es)
 
 -- the shadow space as its form gives it, and no key and no block
 pub record AreSpacesAtStart (map : MapSizes) (entry : View) (IsGood : Bytes → Type 0) (es : List StartEntry)
-    (m : Bytes) : Type 0 where
-  pub shadow : IsStarted map entry IsGood es m
-  pub locks : IsLockStart map m
-  pub blocks : load 8 m (total_cell map) ≡ 0
+    (memory : Bytes) : Type 0 where
+  pub shadow : IsStarted map entry IsGood es memory
+  pub locks : IsLockStart map memory
+  pub blocks : load 8 memory (total_cell map) ≡ 0

@@ -6,9 +6,9 @@ use Rattle.flat_meaning.specs.State.{Values, State, Frame, Stage, Stands, Over, 
 abbrev pub AreWords : Values → Type 0
 AreWords values = (x : ℕ) → values x < 2 ^ 64
 
-pub record IsOfWords (s : State) : Type 0 where
-  pub values : AreWords s.values
-  pub memory : AreBytes s.memory
+pub record IsOfWords (state : State) : Type 0 where
+  pub values : AreWords state.values
+  pub memory : AreBytes state.memory
 
 abbrev pub WaitWithWords : List Frame → Type 0
 WaitWithWords [] = Unit {0}

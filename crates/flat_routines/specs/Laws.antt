@@ -15,13 +15,14 @@ AgreeAtEnd n d f s (Halts status report v) (Halts status' report' s') =
 AgreeAtEnd n d f s _ _ = ⊥
 
 -- the code comes from one place to another within so many steps, with an outcome that agrees
-pub record Arrives (c : Context) (n d : ℕ) (f : ℕ → ℕ) (code : List FlatInstruction) (bound pc : ℕ) (s : State)
+pub record Arrives (context : Context) (count d : ℕ) (f : ℕ → ℕ) (code : List FlatInstruction) (bound pc : ℕ)
+    (state : State)
     (place : ℕ) (x : Outcome) : Type 0 where
   pub steps : ℕ
   pub within : steps ≤ bound
   pub outcome : Outcome
-  pub comes : local_run c code steps (Goes pc s) ≡ left_at place outcome
-  pub agree : AgreeAtEnd n d f s x outcome
+  pub comes : local_run context code steps (Goes pc state) ≡ left_at place outcome
+  pub agree : AgreeAtEnd count d f state x outcome
 
 -- the work that is done, and how many bytes the report has
 abbrev pub work_of : Outcome → ℕ

@@ -46,10 +46,10 @@ abbrev pub held_registers : Held → List ℕ
 held_registers h = h.value ∷ entry_registers h.tag
 
 -- an aligned word of object space
-pub record IsObjectWord (map : MapSizes) (a : ℕ) : Type 0 where
-  pub first : objects_begin ≤ a
-  pub last : a + 8 ≤ region_end map Heap
-  pub aligned : a % 8 ≡ 0
+pub record IsObjectWord (map : MapSizes) (address : ℕ) : Type 0 where
+  pub first : objects_begin ≤ address
+  pub last : address + 8 ≤ region_end map Heap
+  pub aligned : address % 8 ≡ 0
 
 -- all but the shadow space stays, and the shadow space stays
 abbrev pub KeepsButShadow : MapSizes → Bytes → Bytes → Type 0
@@ -59,9 +59,9 @@ abbrev pub KeepsShadow : MapSizes → Bytes → Bytes → Type 0
 KeepsShadow map = Keeps spaces_begin (region_size map Shadow)
 
 -- nothing was taken from the input, put out or shown as an access, and no turn was begun
-pub record ShowsNothing (s s' : State) : Type 0 where
-  pub input : s'.input ≡ s.input
-  pub output : s'.output ≡ s.output
-  pub taken : s'.taken ≡ s.taken
-  pub accesses : s'.accesses ≡ s.accesses
-  pub turns : s'.turns ≡ s.turns
+pub record ShowsNothing (before after : State) : Type 0 where
+  pub input : after.input ≡ before.input
+  pub output : after.output ≡ before.output
+  pub taken : after.taken ≡ before.taken
+  pub accesses : after.accesses ≡ before.accesses
+  pub turns : after.turns ≡ before.turns

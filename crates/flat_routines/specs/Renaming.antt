@@ -71,16 +71,16 @@ all_fit n d len i [] = true
 all_fit n d len i (x ∷ xs) = fits n d len i x && all_fit n d len (i + 1) xs
 
 -- registers for the first n, of which those from d on are nothing else's
-pub record IsRenaming (n d : ℕ) (f : ℕ → ℕ) : Type 0 where
-  pub apart : (j k : ℕ) → j < n → d ≤ k → k < n → f j ≡ f k → j ≡ k
+pub record IsRenaming (count d : ℕ) (f : ℕ → ℕ) : Type 0 where
+  pub apart : (j k : ℕ) → j < count → d ≤ k → k < count → f j ≡ f k → j ≡ k
 
 -- only the registers for those from d on may have changed
-pub record ChangesOnly (n d : ℕ) (f : ℕ → ℕ) (s s' : State) : Type 0 where
-  pub others : (x : ℕ) → ((k : ℕ) → d ≤ k → k < n → x ≢ f k) → s'.values x ≡ s.values x
+pub record ChangesOnly (count d : ℕ) (f : ℕ → ℕ) (before after : State) : Type 0 where
+  pub others : (x : ℕ) → ((k : ℕ) → d ≤ k → k < count → x ≢ f k) → after.values x ≡ before.values x
 
 -- two states agree: the first n registers have the values of theirs, and all but registers is the same
-pub record Agrees (n : ℕ) (f : ℕ → ℕ) (v s : State) : Type 0 where
-  pub values : (j : ℕ) → j < n → v.values j ≡ s.values (f j)
+pub record Agrees (count : ℕ) (f : ℕ → ℕ) (v s : State) : Type 0 where
+  pub values : (j : ℕ) → j < count → v.values j ≡ s.values (f j)
   pub rest : s ≡ record v { values = s.values }
 
 -- a state as it is seen by these registers

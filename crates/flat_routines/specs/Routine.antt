@@ -25,20 +25,20 @@ left_at pc (Halts status report s) = Ends status report s
 
 -- within so many steps the code comes to a place, or the run ends, and Q holds then. No access on the way is of a byte
 -- that may not be used
-pub record Reaches (c : Context) (code : List FlatInstruction) (bound : ℕ) (start : Local) (place : ℕ)
+pub record Reaches (context : Context) (code : List FlatInstruction) (bound : ℕ) (start : Local) (place : ℕ)
     (Q : Outcome → Type 0) : Type 0 where
   pub steps : ℕ
   pub within : steps ≤ bound
   pub outcome : Outcome
-  pub comes : local_run c code steps start ≡ left_at place outcome
+  pub comes : local_run context code steps start ≡ left_at place outcome
   pub holds : Q outcome
 
 -- From each state of words in which P holds the routine, wherever it stands in a function, comes to its end or ends the
 -- run within B steps, and Q holds then.
-pub record Does (c : Context) (r : List FlatInstruction) (P : State → Type 0) (B : State → ℕ)
+pub record Does (context : Context) (instructions : List FlatInstruction) (P : State → Type 0) (B : State → ℕ)
     (Q : State → Outcome → Type 0) : Type 0 where
-  pub from : (code : List FlatInstruction) (pc : ℕ) (s : State) → HasAt code pc r → IsOfWords s → P s
-      → Reaches c code (B s) (Goes pc s) (pc + length r) (Q s)
+  pub from : (code : List FlatInstruction) (pc : ℕ) (s : State) → HasAt code pc instructions → IsOfWords s → P s
+      → Reaches context code (B s) (Goes pc s) (pc + length instructions) (Q s)
 
 -- one fact where the run goes on, another where it is over
 abbrev pub Either : (State → Type 0) → ((status : ℕ) → (report : List ℕ) → State → Type 0) → Outcome → Type 0

@@ -7,7 +7,8 @@
 //!
 //! `specs/Objects/StandsFor` says what a flat memory stands for: the objects of a source, by their bytes, the entries
 //! of their words, keys and lock words, over the ways in which the runtime's spaces are read (`Views`);
-//! `specs/Objects/Changes` what actions do to a memory. `specs/Spaces/Quiet` says when code uses the spaces of the runtime alone.
+//! `specs/Objects/Changes` what actions do to a memory. `specs/Spaces/Quiet` says when code uses the spaces of the
+//! runtime alone.
 #![tactic(auto)]
 
 pub mod laws;

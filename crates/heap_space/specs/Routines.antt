@@ -27,21 +27,22 @@ abbrev pub IsFound : (answer : Option ℕ) → (size found : ℕ) → Type 0
 IsFound None size found = found ≡ 0
 IsFound (Some n) size found = (found ≡ 1) × (size ≡ n)
 
-pub record HasFound (map : MapSizes) (start key size found scratch : ℕ) (s s' : State) : Type 0 where
-  pub answer : IsFound (size_of (s.values start) (s.values key) (block_rows map s.memory)) (s'.values size)
-      (s'.values found)
-  pub memory : s'.memory ≡ s.memory
-  pub shows : ShowsNothing s s'
-  pub others : OthersStay (size ∷ found ∷ []) scratch s s'
+pub record HasFound (map : MapSizes) (start key size found scratch : ℕ) (before after : State) : Type 0 where
+  pub answer : IsFound (size_of (before.values start) (before.values key) (block_rows map before.memory))
+      (after.values size)
+      (after.values found)
+  pub memory : after.memory ≡ before.memory
+  pub shows : ShowsNothing before after
+  pub others : OthersStay (size ∷ found ∷ []) scratch before after
 
 -- ---- a block is removed
 
-pub record HasRemoved (map : MapSizes) (start scratch : ℕ) (s s' : State) : Type 0 where
-  pub rows : block_rows map s'.memory ≡ without_row (s.values start) (block_rows map s.memory)
-  pub good : IsTableGood map s'.memory
-  pub memory : KeepsButTable map s.memory s'.memory
-  pub shows : ShowsNothing s s'
-  pub others : OthersStay [] scratch s s'
+pub record HasRemoved (map : MapSizes) (start scratch : ℕ) (before after : State) : Type 0 where
+  pub rows : block_rows map after.memory ≡ without_row (before.values start) (block_rows map before.memory)
+  pub good : IsTableGood map after.memory
+  pub memory : KeepsButTable map before.memory after.memory
+  pub shows : ShowsNothing before after
+  pub others : OthersStay [] scratch before after
 
 -- ---- a block is placed
 
@@ -54,13 +55,14 @@ IsPlacedIn map (Some p) size key a m m' =
 abbrev pub place_of : MapSizes → (size : ℕ) → List BlockRow → Option ℕ
 place_of map size rows = row_place (region_start map Heap) (region_end map Heap) map.budgets.blocks size rows
 
-pub record HasPlaced (map : MapSizes) (size key into scratch : ℕ) (s s' : State) : Type 0 where
-  pub placed : IsPlacedIn map (place_of map (s.values size) (block_rows map s.memory)) (s.values size) (s.values key)
-      (s'.values into) s.memory s'.memory
-  pub good : IsTableGood map s'.memory
-  pub memory : KeepsButTable map s.memory s'.memory
-  pub shows : ShowsNothing s s'
-  pub others : OthersStay (into ∷ []) scratch s s'
+pub record HasPlaced (map : MapSizes) (size key into scratch : ℕ) (before after : State) : Type 0 where
+  pub placed : IsPlacedIn map (place_of map (before.values size) (block_rows map before.memory)) (before.values size)
+      (before.values key)
+      (after.values into) before.memory after.memory
+  pub good : IsTableGood map after.memory
+  pub memory : KeepsButTable map before.memory after.memory
+  pub shows : ShowsNothing before after
+  pub others : OthersStay (into ∷ []) scratch before after
 
 -- ---- with so many live blocks, within a number of steps for each
 

@@ -29,10 +29,11 @@ block_rows map m = rows_from m (row_cell map 0) (block_total map m)
 
 -- What holds of the memory whenever a routine is called: there are no more rows than blocks may live, their rooms stand
 -- in the heap in order, and each row has the end of its room.
-pub record IsTableGood (map : MapSizes) (m : Bytes) : Type 0 where
-  pub few : block_total map m ≤ map.budgets.blocks
-  pub in_order : AreInOrder (region_start map Heap) (region_end map Heap) (block_rows map m)
-  pub ends : (i : ℕ) → i < block_total map m → load 8 m (row_cell map i + 24) ≡ row_end (row_at m (row_cell map i))
+pub record IsTableGood (map : MapSizes) (memory : Bytes) : Type 0 where
+  pub few : block_total map memory ≤ map.budgets.blocks
+  pub in_order : AreInOrder (region_start map Heap) (region_end map Heap) (block_rows map memory)
+  pub ends : (i : ℕ) → i < block_total map memory → load 8 memory (row_cell map i + 24) ≡ row_end (row_at memory
+      (row_cell map i))
 
 -- the bytes of the table
 abbrev pub KeepsButTable : MapSizes → Bytes → Bytes → Type 0

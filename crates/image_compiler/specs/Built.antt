@@ -27,9 +27,9 @@ abbrev pub flat_code : MapSizes → Tac → FlatProgram
 flat_code m r = program_of operators m r homes
 
 -- what is asked of checked code: its flat code can be planned, and is of instructions that the machine has
-pub record IsExpandable (map : MapSizes) (r : Tac) : Type 0 where
-  pub plannable : AreAllSmall map r → ArePlannable (flat_code map r)
-  pub encodable : AreAllSmall map r → IsEncodable (flat_code map r)
+pub record IsExpandable (map : MapSizes) (code : Tac) : Type 0 where
+  pub plannable : AreAllSmall map code → ArePlannable (flat_code map code)
+  pub encodable : AreAllSmall map code → IsEncodable (flat_code map code)
 
 -- the plans that give out registers, for all functions of a program
 abbrev pub ArePlans : FlatProgram → List FunctionPlan → Type 0
@@ -42,15 +42,15 @@ pub record IsPlannedImage (map : MapSizes) (code : FlatProgram) (file : List ℕ
   pub image : IsImage map code plans [] [] file
 
 -- that of checked code
-pub record IsImageOf (map : MapSizes) (r : Tac) (file : List ℕ) : Type 0 where
-  pub small : AreAllSmall map r
-  pub image : IsPlannedImage map (flat_code map r) file
+pub record IsImageOf (map : MapSizes) (code : Tac) (file : List ℕ) : Type 0 where
+  pub small : AreAllSmall map code
+  pub image : IsPlannedImage map (flat_code map code) file
 
 -- no machine code is generated for flat code under such plans, for a cause
-pub record HasCause (map : MapSizes) (code : FlatProgram) (e : GenerateError) : Type 0 where
+pub record HasCause (map : MapSizes) (code : FlatProgram) (error : GenerateError) : Type 0 where
   pub plans : List FunctionPlan
   pub planned : ArePlans code plans
-  pub cause : IsCause map code plans e
+  pub cause : IsCause map code plans error
 
 -- memory may be wanting before there are plans
 abbrev pub IsNotGenerated : MapSizes → FlatProgram → GenerateError → Type 0
@@ -58,9 +58,9 @@ IsNotGenerated m code generate.Memory = Unit {0}
 IsNotGenerated m code e = HasCause m code e
 
 -- none is generated for checked code
-pub record HasNoCode (map : MapSizes) (r : Tac) (e : GenerateError) : Type 0 where
-  pub small : AreAllSmall map r
-  pub cause : HasCause map (flat_code map r) e
+pub record HasNoCode (map : MapSizes) (code : Tac) (error : GenerateError) : Type 0 where
+  pub small : AreAllSmall map code
+  pub cause : HasCause map (flat_code map code) error
 
 -- when each error comes of checked code
 abbrev pub Refuses : MapSizes → Tac → CompileError → Type 0
@@ -89,10 +89,10 @@ pub record IsBuilt (Is : Tac → Type 0) (map : MapSizes) (built : Built) : Type
   pub checks_are : built.checks ≡ min (2 ^ 64 - 1) (checks checked)
 
 -- or why nothing is
-pub record IsRefused (Is : Tac → Type 0) (map : MapSizes) (e : CompileError) : Type 0 where
+pub record IsRefused (Is : Tac → Type 0) (map : MapSizes) (error : CompileError) : Type 0 where
   pub checked : Tac
   pub is : Is checked
-  pub refuses : Refuses map checked e
+  pub refuses : Refuses map checked error
 
 -- code is too large only of a text with so many nodes
 abbrev pub NeedsNodes : CompileError → Program → Type 0

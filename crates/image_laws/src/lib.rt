@@ -1,6 +1,7 @@
 //! What stands between a typed program and its image: laws alone, a module a subject.
 //!
-//! `lowering`: what code a compiled program has. `plans`: its flat code can be planned. `images`: its image does what the
+//! `lowering`: what code a compiled program has. `plans`: its flat code can be planned. `images`: its image does what
+//! the
 //! program means. `code_sizes` and `sizes`: how large its code is.
 #![tactic(auto)]
 

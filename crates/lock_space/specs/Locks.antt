@@ -40,20 +40,20 @@ abbrev pub listed_lock : MapSizes → Bytes → (i : ℕ) → ℕ
 listed_lock map m i = (first_lock map i + load 8 m (listed_cell map i)) % 2 ^ 64
 
 -- a lock word, not the global one, that holds no key
-pub record IsFree (map : MapSizes) (m : Bytes) (a : ℕ) : Type 0 where
-  pub lock : IsLock map a
-  pub not_global : a ≢ global_lock map
-  pub empty : load 8 m a ≡ 0
+pub record IsFree (map : MapSizes) (memory : Bytes) (address : ℕ) : Type 0 where
+  pub lock : IsLock map address
+  pub not_global : address ≢ global_lock map
+  pub empty : load 8 memory address ≡ 0
 
 -- What holds of the memory whenever a routine is called: the free lock words are just those in the list, each once.
-pub record AreLocksGood (map : MapSizes) (m : Bytes) : Type 0 where
-  pub within : used_locks map m ≤ lock_total map
-  pub free : (i : ℕ) → used_locks map m ≤ i → i < lock_total map → IsFree map m (listed_lock map m i)
-  pub once : (i j : ℕ) → used_locks map m ≤ i → i < lock_total map → used_locks map m ≤ j → j < lock_total map
-      → listed_lock map m i ≡ listed_lock map m j → i ≡ j
-  pub listed : (a : ℕ) → IsFree map m a
-      → (i : ℕ) × (used_locks map m ≤ i) × (i < lock_total map) × (listed_lock map m i ≡ a)
-  pub global : load 8 m (global_lock map) ≡ 1
+pub record AreLocksGood (map : MapSizes) (memory : Bytes) : Type 0 where
+  pub within : used_locks map memory ≤ lock_total map
+  pub free : (i : ℕ) → used_locks map memory ≤ i → i < lock_total map → IsFree map memory (listed_lock map memory i)
+  pub once : (i j : ℕ) → used_locks map memory ≤ i → i < lock_total map → used_locks map memory ≤ j → j < lock_total map
+      → listed_lock map memory i ≡ listed_lock map memory j → i ≡ j
+  pub listed : (a : ℕ) → IsFree map memory a
+      → (i : ℕ) × (used_locks map memory ≤ i) × (i < lock_total map) × (listed_lock map memory i ≡ a)
+  pub global : load 8 memory (global_lock map) ≡ 1
 
 -- ---- the bytes of the lock space: the lock words, the cells and the list
 
@@ -67,6 +67,6 @@ abbrev pub KeepsLocks : MapSizes → Bytes → Bytes → Type 0
 KeepsLocks map = Keeps (region_start map Locks) (lock_space_size map)
 
 -- the lock space when a run begins: the global lock word holds 1, and all else is zero
-pub record IsLockStart (map : MapSizes) (m : Bytes) : Type 0 where
-  pub global : load 8 m (global_lock map) ≡ 1
-  pub zeros : (a : ℕ) → region_start map Locks + 8 ≤ a → a < region_start map Blocks → m a ≡ 0
+pub record IsLockStart (map : MapSizes) (memory : Bytes) : Type 0 where
+  pub global : load 8 memory (global_lock map) ≡ 1
+  pub zeros : (a : ℕ) → region_start map Locks + 8 ≤ a → a < region_start map Blocks → memory a ≡ 0

@@ -22,11 +22,11 @@ OtherLocksStay map a m m' = (b : ℕ) → IsLock map b → b ≢ a → load 8 m'
 
 -- ---- the key that will be made next
 
-pub record HasNext (map : MapSizes) (key scratch : ℕ) (s s' : State) : Type 0 where
-  pub next_key : s'.values key ≡ key_counter map s.memory
-  pub memory : s'.memory ≡ s.memory
-  pub shows : ShowsNothing s s'
-  pub others : OthersStay (key ∷ []) scratch s s'
+pub record HasNext (map : MapSizes) (key scratch : ℕ) (before after : State) : Type 0 where
+  pub next_key : after.values key ≡ key_counter map before.memory
+  pub memory : after.memory ≡ before.memory
+  pub shows : ShowsNothing before after
+  pub others : OthersStay (key ∷ []) scratch before after
 
 -- fewer than 2 ^ 62 keys were made
 abbrev pub FewKeys : MapSizes → Bytes → Type 0
@@ -34,41 +34,41 @@ FewKeys map m = key_counter map m < 2 ^ 62 + 2
 
 -- ---- a new key in a free lock word
 
-pub record HasFresh (map : MapSizes) (key lock scratch : ℕ) (s s' : State) : Type 0 where
-  pub new_key : s'.values key ≡ key_counter map s.memory
-  pub counter : key_counter map s'.memory ≡ suc (key_counter map s.memory)
-  pub was_free : IsFree map s.memory (s'.values lock)
-  pub locked : load 8 s'.memory (s'.values lock) ≡ key_counter map s.memory
-  pub other_locks : OtherLocksStay map (s'.values lock) s.memory s'.memory
-  pub good : AreLocksGood map s'.memory
-  pub memory : KeepsButLocks map s.memory s'.memory
-  pub shows : ShowsNothing s s'
-  pub others : OthersStay (key ∷ lock ∷ []) scratch s s'
+pub record HasFresh (map : MapSizes) (key lock scratch : ℕ) (before after : State) : Type 0 where
+  pub new_key : after.values key ≡ key_counter map before.memory
+  pub counter : key_counter map after.memory ≡ suc (key_counter map before.memory)
+  pub was_free : IsFree map before.memory (after.values lock)
+  pub locked : load 8 after.memory (after.values lock) ≡ key_counter map before.memory
+  pub other_locks : OtherLocksStay map (after.values lock) before.memory after.memory
+  pub good : AreLocksGood map after.memory
+  pub memory : KeepsButLocks map before.memory after.memory
+  pub shows : ShowsNothing before after
+  pub others : OthersStay (key ∷ lock ∷ []) scratch before after
 
 -- some lock word is free
-pub record CanFresh (map : MapSizes) (m : Bytes) : Type 0 where
-  pub good : AreLocksGood map m
+pub record CanFresh (map : MapSizes) (memory : Bytes) : Type 0 where
+  pub good : AreLocksGood map memory
   pub some : ℕ
-  pub some_free : IsFree map m some
-  pub few : FewKeys map m
+  pub some_free : IsFree map memory some
+  pub few : FewKeys map memory
 
 -- ---- a lock word that is used no more
 
-pub record HasReleased (map : MapSizes) (lock scratch : ℕ) (s s' : State) : Type 0 where
-  pub counter : key_counter map s'.memory ≡ key_counter map s.memory
-  pub released : load 8 s'.memory (s.values lock) ≡ 0
-  pub other_locks : OtherLocksStay map (s.values lock) s.memory s'.memory
-  pub good : AreLocksGood map s'.memory
-  pub memory : KeepsButLocks map s.memory s'.memory
-  pub shows : ShowsNothing s s'
-  pub others : OthersStay [] scratch s s'
+pub record HasReleased (map : MapSizes) (lock scratch : ℕ) (before after : State) : Type 0 where
+  pub counter : key_counter map after.memory ≡ key_counter map before.memory
+  pub released : load 8 after.memory (before.values lock) ≡ 0
+  pub other_locks : OtherLocksStay map (before.values lock) before.memory after.memory
+  pub good : AreLocksGood map after.memory
+  pub memory : KeepsButLocks map before.memory after.memory
+  pub shows : ShowsNothing before after
+  pub others : OthersStay [] scratch before after
 
 -- a lock word, not the global one, that holds a key
-pub record CanRelease (map : MapSizes) (m : Bytes) (a : ℕ) : Type 0 where
-  pub good : AreLocksGood map m
-  pub lock : IsLock map a
-  pub not_global : a ≢ global_lock map
-  pub used : load 8 m a ≢ 0
+pub record CanRelease (map : MapSizes) (memory : Bytes) (address : ℕ) : Type 0 where
+  pub good : AreLocksGood map memory
+  pub lock : IsLock map address
+  pub not_global : address ≢ global_lock map
+  pub used : load 8 memory address ≢ 0
 
 -- ---- within 3, 14 and 11 steps
 

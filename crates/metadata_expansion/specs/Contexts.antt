@@ -20,10 +20,10 @@ abbrev pub block_in : FunctionContext → Instruction → List FlatInstruction
 block_in x i = block operators x.map.now x.program.now x.function.now i
 
 -- the registers, joins and places are those of the function
-pub record IsLaid (l : Layout) : Type 0 where
-  pub registers : HasRegisters l.context
-  pub joins : AreJoins l.joins.now l.context.function.now
-  pub places : ArePlaces l.places.now l.context.map.now l.context.program.now l.context.function.now
+pub record IsLaid (layout : Layout) : Type 0 where
+  pub registers : HasRegisters layout.context
+  pub joins : AreJoins layout.joins.now layout.context.function.now
+  pub places : ArePlaces layout.places.now layout.context.map.now layout.context.program.now layout.context.function.now
 
 -- the place of a node
 abbrev pub place_in : Layout → (node : ℕ) → ℕ

@@ -32,10 +32,10 @@ abbrev pub ways_in : List ℕ → (node : ℕ) → ℕ
 ways_in ns n = times_in n ns
 
 -- the table has them but those from some instructions
-pub record AreCounted (c : CodeFunction) (left : List Instruction) (table : List Arrivals) : Type 0 where
-  pub size : length table ≡ length c.code
+pub record AreCounted (function : CodeFunction) (left : List Instruction) (table : List Arrivals) : Type 0 where
+  pub size : length table ≡ length function.code
   pub each : (n : ℕ) (a : Arrivals) → slice_get table n ≡ Some a
-      → and_more a (edges_to left n) ≡ and_more Never (ways_to c n)
+      → and_more a (edges_to left n) ≡ and_more Never (ways_to function n)
 
 abbrev pub AreJoins : Joins → CodeFunction → Type 0
 AreJoins joins c = AreCounted c [] joins.arrivals

@@ -8,5 +8,5 @@ use Rattle.metadata_expansion.specs.declared.layout.Places.{Places}
 use Rattle.metadata_plan.specs.OperatorLists.Operators.{operators}
 
 -- the last node's place comes first
-pub record ArePlaces (p : Places) (map : MapSizes) (t : Tac) (c : CodeFunction) : Type 0 where
-  pub of : (n : ℕ) → get_or (reverse p.descending) n p.begin ≡ place_of operators map t c n
+pub record ArePlaces (places : Places) (map : MapSizes) (code : Tac) (function : CodeFunction) : Type 0 where
+  pub of : (n : ℕ) → get_or (reverse places.descending) n places.begin ≡ place_of operators map code function n

@@ -8,15 +8,15 @@ use Rattle.metadata_expansion.specs.declared.registers.Registers.{Registers}
 use Rattle.metadata_expansion.specs.Homes.{argument_count, free_count}
 use Rattle.metadata_expansion.specs.Numbers.{callee}
 
-pub record AreRegisters (r : Registers) (c : CodeFunction) : Type 0 where
-  pub variables : (x : ℕ) → get_or r.variables x r.words ≡ variable_register c x
-  pub words : r.words ≡ words_in (all_variables c)
-  pub temporaries : r.temporaries ≡ most_temporaries c.code
-  pub free : r.free ≡ first_free c
-  pub small : r.free + free_count c < 2 ^ 32
+pub record AreRegisters (registers : Registers) (function : CodeFunction) : Type 0 where
+  pub variables : (x : ℕ) → get_or registers.variables x registers.words ≡ variable_register function x
+  pub words : registers.words ≡ words_in (all_variables function)
+  pub temporaries : registers.temporaries ≡ most_temporaries function.code
+  pub free : registers.free ≡ first_free function
+  pub small : registers.free + free_count function < 2 ^ 32
 
 -- an instruction names no more than those of its function
-pub record IsAmong (c : CodeFunction) (i : Instruction) : Type 0 where
-  pub temporaries : temporaries i ≤ most_temporaries c.code
-  pub arguments : argument_count i ≤ free_count c
-  pub callee : callee i < 2 ^ 32
+pub record IsAmong (function : CodeFunction) (instruction : Instruction) : Type 0 where
+  pub temporaries : temporaries instruction ≤ most_temporaries function.code
+  pub arguments : argument_count instruction ≤ free_count function
+  pub callee : callee instruction < 2 ^ 32

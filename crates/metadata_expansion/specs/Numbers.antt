@@ -50,15 +50,15 @@ register_count c = first_free c + free_count c
 abbrev pub body_size : MapSizes → Tac → CodeFunction → ℕ
 body_size m t c = begin_size operators m t c + size_from operators m t c 0 c.code
 
-pub record AreSmall (map : MapSizes) (t : Tac) (c : CodeFunction) : Type 0 where
-  pub registers : register_count c < 2 ^ 32
-  pub instructions : body_size map t c < 2 ^ 31
-  pub room : c.room < 2 ^ 32
-  pub callees : greatest_callee c.code < 2 ^ 32
-  pub words : greatest_word c.code < 2 ^ 64
-  pub lines : greatest_line c.code < 2 ^ 32
+pub record AreSmall (map : MapSizes) (code : Tac) (function : CodeFunction) : Type 0 where
+  pub registers : register_count function < 2 ^ 32
+  pub instructions : body_size map code function < 2 ^ 31
+  pub room : function.room < 2 ^ 32
+  pub callees : greatest_callee function.code < 2 ^ 32
+  pub words : greatest_word function.code < 2 ^ 64
+  pub lines : greatest_line function.code < 2 ^ 32
 
-pub record AreAllSmall (map : MapSizes) (t : Tac) : Type 0 where
-  pub functions : (u : ℕ) (c : CodeFunction) → slice_get t.functions u ≡ Some c → AreSmall map t c
-  pub count : length t.functions < 2 ^ 32
-  pub main : t.main < length t.functions
+pub record AreAllSmall (map : MapSizes) (code : Tac) : Type 0 where
+  pub functions : (u : ℕ) (c : CodeFunction) → slice_get code.functions u ≡ Some c → AreSmall map code c
+  pub count : length code.functions < 2 ^ 32
+  pub main : code.main < length code.functions

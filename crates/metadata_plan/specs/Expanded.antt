@@ -31,40 +31,44 @@ LeadOn body address pc (n ∷ []) = Leads body pc (address n)
 LeadOn body address pc (x ∷ y ∷ ns) = Leads body pc (address y) × Leads body (pc + 1) (address x)
 
 -- the block of an instruction stands at a place
-pub record IsPut (o : OperatorCode) (map : MapSizes) (t : Tac) (c : CodeFunction) (body : List FlatInstruction)
-    (address : ℕ → ℕ) (place : ℕ) (i : Instruction) : Type 0 where
-  pub has : HasAt body place (block o map t c i)
-  pub leads : LeadOn body address (place + length (block o map t c i)) (successors i)
+pub record IsPut (operators : OperatorCode) (map : MapSizes) (code : Tac) (function : CodeFunction)
+    (body : List FlatInstruction)
+    (address : ℕ → ℕ) (place : ℕ) (instruction : Instruction) : Type 0 where
+  pub has : HasAt body place (block operators map code function instruction)
+  pub leads : LeadOn body address (place + length (block operators map code function instruction))
+      (successors instruction)
 
 -- a function and its expansion, with the place of each node's block
-pub record IsExpandedFunction (o : OperatorCode) (map : MapSizes) (t : Tac) (c : CodeFunction) (address : ℕ → ℕ)
+pub record IsExpandedFunction (operators : OperatorCode) (map : MapSizes) (code : Tac) (function : CodeFunction)
+    (address : ℕ → ℕ)
     (f : FlatFunction) : Type 0 where
-  pub parameters : f.parameters ≡ words_in c.parameters
+  pub parameters : f.parameters ≡ words_in function.parameters
   pub results : f.results ≡ 1
-  pub room : f.room ≡ c.room
+  pub room : f.room ≡ function.room
   pub of_program : f.is_runtime ≡ false
-  pub zeroed : HasAt f.body 0 (prologue c)
-  pub begins : Leads f.body (length (prologue c)) (address c.entry)
-  pub blocks : (n : ℕ) (i : Instruction) → slice_get c.code n ≡ Some i → IsPut o map t c f.body address (address n) i
+  pub zeroed : HasAt f.body 0 (prologue function)
+  pub begins : Leads f.body (length (prologue function)) (address function.entry)
+  pub blocks : (n : ℕ) (i : Instruction) → slice_get function.code n ≡ Some i
+      → IsPut operators map code function f.body address (address n) i
 
 abbrev pub ExpandsAt : OperatorCode → MapSizes → Tac → CodeFunction → (address : ℕ → ℕ) → Option FlatFunction → Type 0
 ExpandsAt o m t c address None = ⊥
 ExpandsAt o m t c address (Some f) = IsExpandedFunction o m t c address f
 
 -- the function with which a run begins is one of the runtime
-pub record IsEntry (map : MapSizes) (t : Tac) (f : FlatFunction) : Type 0 where
-  pub parameters : f.parameters ≡ 0
-  pub of_runtime : f.is_runtime ≡ true
-  pub room : f.room ≤ region_size map RuntimeCalls
-  pub body : f.body ≡ entry_code map t
+pub record IsEntry (map : MapSizes) (code : Tac) (function : FlatFunction) : Type 0 where
+  pub parameters : function.parameters ≡ 0
+  pub of_runtime : function.is_runtime ≡ true
+  pub room : function.room ≤ region_size map RuntimeCalls
+  pub body : function.body ≡ entry_code map code
 
 abbrev pub EntersAt : MapSizes → Tac → Option FlatFunction → Type 0
 EntersAt m t None = ⊥
 EntersAt m t (Some f) = IsEntry m t f
 
 -- The functions of the text have their numbers. The address is the place of each node's block in its function.
-pub record IsExpanded (o : OperatorCode) (map : MapSizes) (t : Tac) (address : (function node : ℕ) → ℕ)
-    (p : FlatProgram) : Type 0 where
-  pub functions : (u : ℕ) (c : CodeFunction) → slice_get t.functions u ≡ Some c
-      → ExpandsAt o map t c (address u) (function_in p u)
-  pub entry : EntersAt map t (function_in p p.entry)
+pub record IsExpanded (operators : OperatorCode) (map : MapSizes) (code : Tac) (address : (function node : ℕ) → ℕ)
+    (program : FlatProgram) : Type 0 where
+  pub functions : (u : ℕ) (c : CodeFunction) → slice_get code.functions u ≡ Some c
+      → ExpandsAt operators map code c (address u) (function_in program u)
+  pub entry : EntersAt map code (function_in program program.entry)

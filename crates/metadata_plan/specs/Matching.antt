@@ -27,12 +27,12 @@ abbrev pub factor : ℕ
 factor = 21
 
 -- the registers of a function hold the values of its temporaries and plain variables, which are integers
-pub record Holds (c : CodeFunction) (temps : Temps) (plain : List Value) (values : flat.Values) : Type 0 where
-  pub temporaries : (i : ℕ) → i < most_temporaries c.code
-      → temps i ≡ rvalue (integer (values (temporary_register c i)))
-  pub variables : (x : ℕ) → x < length (all_variables c)
-      → get_or plain x (integer 0) ≡ integer (values (variable_register c x))
-  pub count : length plain ≡ length (all_variables c)
+pub record Holds (function : CodeFunction) (temps : Temps) (plain : List Value) (values : flat.Values) : Type 0 where
+  pub temporaries : (i : ℕ) → i < most_temporaries function.code
+      → temps i ≡ rvalue (integer (values (temporary_register function i)))
+  pub variables : (x : ℕ) → x < length (all_variables function)
+      → get_or plain x (integer 0) ≡ integer (values (variable_register function x))
+  pub count : length plain ≡ length (all_variables function)
 
 -- no variable is an object
 abbrev pub AreNoObjects : List Home → Type 0
@@ -45,29 +45,30 @@ pub record HaveNoObjects (homes : List Home) : Type 0 where
 
 -- both have the same input, output and accesses, and flat code has begun as many turns, with those before its first
 -- call
-pub record IsAlike (s : State) (v : flat.State) : Type 0 where
-  pub input : v.input ≡ s.input
-  pub output : v.output ≡ s.output
-  pub taken : v.taken ≡ s.taken
-  pub accesses : v.accesses ≡ s.accesses
-  pub turns : s.turns ≤ v.turns
+pub record IsAlike (state : State) (v : flat.State) : Type 0 where
+  pub input : v.input ≡ state.input
+  pub output : v.output ≡ state.output
+  pub taken : v.taken ≡ state.taken
+  pub accesses : v.accesses ≡ state.accesses
+  pub turns : state.turns ≤ v.turns
 
 -- a caller waits as a record does: behind its call the code leads to its node, and its result comes to the register of
 -- its temporary
-pub record WaitsAs (g : Setting) (t : Tac) (address : (function node : ℕ) → ℕ) (p : FlatProgram) (w : Waiting)
-    (x : flat.Frame) (xs : List flat.Frame) : Type 0 where
-  pub function : x.function ≡ w.function
+pub record WaitsAs (setting : Setting) (t : Tac) (address : (function node : ℕ)
+    → ℕ) (program : FlatProgram) (waiting : Waiting)
+    (frame : flat.Frame) (xs : List flat.Frame) : Type 0 where
+  pub function : frame.function ≡ waiting.function
   pub code : CodeFunction
-  pub there : slice_get t.functions w.function ≡ Some code
-  pub leads : Leads (body_of (function_in p w.function)) x.next (address w.function w.node)
-  pub low : w.place < most_temporaries code.code
-  pub into : x.into ≡ temporary_register code w.place
-  pub holds : Holds code w.temps w.caller.plain x.values
-  pub safe : IsSafeFrom t code w.node
-  pub homes : HaveNoObjects w.caller.frame
-  pub stacked : w.caller.stacked ≡ stack_first g
-  pub charge : w.caller.charged ≡ charged p w.function xs
-  pub fits : w.caller.charged ≤ g.sizes.budgets.calls
+  pub there : slice_get t.functions waiting.function ≡ Some code
+  pub leads : Leads (body_of (function_in program waiting.function)) frame.next (address waiting.function waiting.node)
+  pub low : waiting.place < most_temporaries code.code
+  pub into : frame.into ≡ temporary_register code waiting.place
+  pub holds : Holds code waiting.temps waiting.caller.plain frame.values
+  pub safe : IsSafeFrom t code waiting.node
+  pub homes : HaveNoObjects waiting.caller.frame
+  pub stacked : waiting.caller.stacked ≡ stack_first setting
+  pub charge : waiting.caller.charged ≡ charged program waiting.function xs
+  pub fits : waiting.caller.charged ≤ setting.sizes.budgets.calls
 
 -- under `main` waits the function with which the run began, to exit with the result
 abbrev pub EntryWaits : FlatProgram → flat.Frame → Type 0
@@ -81,47 +82,52 @@ AllWait g t address p [] (x ∷ y ∷ xs) = ⊥
 AllWait g t address p (Waits w ∷ ws) (x ∷ xs) = WaitsAs g t address p w x xs × AllWait g t address p ws xs
 AllWait g t address p (Entered b ∷ ws) (x ∷ xs) = ⊥
 
-pub record Wait (g : Setting) (t : Tac) (address : (function node : ℕ) → ℕ) (p : FlatProgram) (ws : List Frame)
+pub record Wait (setting : Setting) (code : Tac) (address : (function node : ℕ)
+    → ℕ) (program : FlatProgram) (ws : List Frame)
     (xs : List flat.Frame) : Type 0 where
-  pub by : AllWait g t address p ws xs
+  pub by : AllWait setting code address program ws xs
 
 -- both stand at a node of a function. The calls of the program's functions are charged their records, and the memory
 -- stands for the objects
-pub record IsAt (views : Views) (g : Setting) (t : Tac) (address : (function node : ℕ) → ℕ) (p : FlatProgram)
-    (u n : ℕ) (temps : Temps) (ws : List Frame) (s : State) (f pc : ℕ) (v : flat.State) (xs : List flat.Frame) : Type 0
+pub record IsAt (views : Views) (setting : Setting) (t : Tac) (address : (function node : ℕ)
+    → ℕ) (program : FlatProgram)
+    (u n : ℕ) (temps : Temps) (ws : List Frame) (state : State) (f pc : ℕ) (v : flat.State)
+    (xs : List flat.Frame) : Type 0
   where
     pub function : f ≡ u
     pub place : pc ≡ address u n
     pub code : CodeFunction
     pub there : slice_get t.functions u ≡ Some code
-    pub holds : Holds code temps s.plain v.values
+    pub holds : Holds code temps state.plain v.values
     pub safe : IsSafeFrom t code n
-    pub alike : IsAlike s v
-    pub work : v.work ≤ factor * s.work
-    pub homes : HaveNoObjects s.frame
-    pub stacked : s.stacked ≡ stack_first g
-    pub charge : s.charged ≡ charged p u xs
-    pub fits : s.charged ≤ g.sizes.budgets.calls
+    pub alike : IsAlike state v
+    pub work : v.work ≤ factor * state.work
+    pub homes : HaveNoObjects state.frame
+    pub stacked : state.stacked ≡ stack_first setting
+    pub charge : state.charged ≡ charged program u xs
+    pub fits : state.charged ≤ setting.sizes.budgets.calls
     pub keys : Keys
-    pub stands : StandsFor views keys s.objects v.memory
-    pub wait : Wait g t address p ws xs
+    pub stands : StandsFor views keys state.objects v.memory
+    pub wait : Wait setting t address program ws xs
 
 -- both are at the start
-pub record IsFirst (views : Views) (g : Setting) (t : Tac) (p : FlatProgram) (s : State) (x : flat.Stage) : Type 0 where
+pub record IsFirst (views : Views) (setting : Setting) (code : Tac) (program : FlatProgram) (state : State)
+    (x : flat.Stage) : Type 0 where
   pub input : List ℕ
   pub memory : Bytes
   pub keys : Keys
-  pub fresh_is : s ≡ fresh g (objects_before t g) input
-  pub started_is : x ≡ started p memory input
-  pub stands : StandsFor views keys (objects_before t g) memory
+  pub fresh_is : state ≡ fresh setting (objects_before code setting) input
+  pub started_is : x ≡ started program memory input
+  pub stands : StandsFor views keys (objects_before code setting) memory
 
 -- both have ended, with the same status and report
-pub record HaveEnded (status : ℕ) (report : List ℕ) (expected : ℕ) (reported : List ℕ) (s : State) (v : flat.State) :
+pub record HaveEnded (status : ℕ) (report : List ℕ) (expected : ℕ) (reported : List ℕ) (state : State)
+    (v : flat.State) :
     Type 0 where
   pub status_is : status ≡ expected
   pub report_is : report ≡ reported
-  pub alike : IsAlike s v
-  pub work : v.work ≤ factor * (s.work + length reported)
+  pub alike : IsAlike state v
+  pub work : v.work ≤ factor * (state.work + length reported)
 
 abbrev pub MatchesBy : Views → Setting → Tac → (address : (function node : ℕ) → ℕ) → FlatProgram → Stage → flat.Stage
     → Type 0
@@ -132,7 +138,8 @@ MatchesBy views g t address p (Over e s) (flat.Over status report v) =
     HaveEnded status report (code_of e) (report_of e) s v
 MatchesBy views g t address p _ _ = ⊥
 
-pub record Matches (views : Views) (g : Setting) (t : Tac) (address : (function node : ℕ) → ℕ) (p : FlatProgram)
-    (a : Stage) (x : flat.Stage) : Type 0 where
-  pub matches : MatchesBy views g t address p a x
+pub record Matches (views : Views) (setting : Setting) (code : Tac) (address : (function node : ℕ)
+    → ℕ) (program : FlatProgram)
+    (stage : Stage) (x : flat.Stage) : Type 0 where
+  pub matches : MatchesBy views setting code address program stage x
   pub words : HasWords x

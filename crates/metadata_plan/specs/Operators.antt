@@ -36,24 +36,31 @@ pub record Position : Type 0 where
 
 -- The run comes to a place of its function with at most so many instructions' weight of work, and nothing but registers
 -- changes: one gets a value, and all others below scratch stay.
-pub record Computes (map : MapSizes) (p : FlatProgram) (x : Position) (place into value scratch most : ℕ) : Type 0 where
+pub record Computes (map : MapSizes) (program : FlatProgram) (position : Position)
+    (place into value scratch most : ℕ) : Type 0 where
   pub steps : ℕ
   pub after : Values
   pub work : ℕ
-  pub few : work ≤ most * weight_of (function_in p x.function)
-  pub comes : run (step map p) steps (Stands x.function x.place x.state x.frames)
-      ≡ Stands x.function place (record x.state { values = after; work = x.state.work + work }) x.frames
+  pub few : work ≤ most * weight_of (function_in program position.function)
+  pub comes : run (step map program) steps (Stands position.function position.place position.state position.frames)
+      ≡ Stands position.function place (record position.state { values = after; work = position.state.work + work })
+      position.frames
   pub gives : after into ≡ value
-  pub others : (y : ℕ) → y < scratch → y ≢ into → after y ≡ x.state.values y
+  pub others : (y : ℕ) → y < scratch → y ≢ into → after y ≡ position.state.values y
 
 -- the run ends, with the same of its work, and once more for each byte of the report
-pub record EndsBy (map : MapSizes) (p : FlatProgram) (x : Position) (e : Ending) (most : ℕ) : Type 0 where
+pub record EndsBy (map : MapSizes) (program : FlatProgram) (position : Position) (ending : Ending)
+    (most : ℕ) : Type 0 where
   pub steps : ℕ
   pub after : Values
   pub work : ℕ
-  pub few : work ≤ (most + length (report_of e)) * weight_of (function_in p x.function)
-  pub comes : run (step map p) steps (Stands x.function x.place x.state x.frames)
-      ≡ Over (code_of e) (report_of e) (record x.state { values = after; work = x.state.work + work })
+  pub few : work ≤ (most + length (report_of ending)) * weight_of (function_in program position.function)
+  pub comes : run (step map program) steps (Stands position.function position.place position.state position.frames)
+      ≡ Over (code_of ending) (report_of ending) (record position.state {
+        values = after;
+        work = position.state.work +
+            work;
+      })
 
 -- how many instructions a binary operator takes at most: of those by which an update adds 1, fewer
 abbrev pub binary_most : BinaryOperator → ℕ
@@ -62,30 +69,31 @@ binary_most Subtract = 3
 binary_most _ = 4
 
 -- the code stands in a function where the run is, whose state is one of words
-pub record IsHere (p : FlatProgram) (x : Position) (code : List FlatInstruction) : Type 0 where
-  pub has : HasAt (body_of (function_in p x.function)) x.place code
-  pub words : IsOfWords x.state
+pub record IsHere (program : FlatProgram) (position : Position) (code : List FlatInstruction) : Type 0 where
+  pub has : HasAt (body_of (function_in program position.function)) position.place code
+  pub words : IsOfWords position.state
 
 -- Wherever it stands, the code of an operator comes to its end with the operator's value.
-pub record AreOperators (o : OperatorCode) : Type 0 where
+pub record AreOperators (operators : OperatorCode) : Type 0 where
   pub constant : (map : MapSizes) (p : FlatProgram) (x : Position) (into word scratch : ℕ) → into < scratch
-      → word < 2 ^ 64 → IsHere p x (o.constant into word scratch)
-      → Computes map p x (x.place + length (o.constant into word scratch)) into word scratch 5
+      → word < 2 ^ 64 → IsHere p x (operators.constant into word scratch)
+      → Computes map p x (x.place + length (operators.constant into word scratch)) into word scratch 5
   pub unary : (map : MapSizes) (p : FlatProgram) (x : Position) (op : UnaryOperator) (t : IntType)
-      (into from scratch : ℕ) → into < scratch → from < scratch → IsHere p x (o.unary op t into from scratch)
-      → Computes map p x (x.place + length (o.unary op t into from scratch)) into
+      (into from scratch : ℕ) → into < scratch → from < scratch → IsHere p x (operators.unary op t into from scratch)
+      → Computes map p x (x.place + length (operators.unary op t into from scratch)) into
       (unary_value op t (x.state.values from)) scratch 6
   pub binary : (map : MapSizes) (p : FlatProgram) (x : Position) (op : BinaryOperator) (t : IntType)
       (into left right scratch line value : ℕ) → into < scratch → left < scratch → right < scratch
-      → IsHere p x (o.binary op t into left right scratch line)
+      → IsHere p x (operators.binary op t into left right scratch line)
       → binary_value op t (x.state.values left) (x.state.values right) ≡ Some value
-      → Computes map p x (x.place + length (o.binary op t into left right scratch line)) into value scratch
+      → Computes map p x (x.place + length (operators.binary op t into left right scratch line)) into value scratch
       (binary_most op)
   pub divides : (map : MapSizes) (p : FlatProgram) (x : Position) (op : BinaryOperator) (t : IntType)
       (into left right scratch line : ℕ) → into < scratch → left < scratch → right < scratch
-      → IsHere p x (o.binary op t into left right scratch line)
+      → IsHere p x (operators.binary op t into left right scratch line)
       → binary_value op t (x.state.values left) (x.state.values right) ≡ None
       → EndsBy map p x (Divide line) (binary_most op)
   pub convert : (map : MapSizes) (p : FlatProgram) (x : Position) (t : IntType) (into from scratch : ℕ)
-      → into < scratch → from < scratch → IsHere p x (o.convert t into from scratch)
-      → Computes map p x (x.place + length (o.convert t into from scratch)) into (fit t (x.state.values from)) scratch 2
+      → into < scratch → from < scratch → IsHere p x (operators.convert t into from scratch)
+      → Computes map p x (x.place + length (operators.convert t into from scratch)) into (fit t
+      (x.state.values from)) scratch 2

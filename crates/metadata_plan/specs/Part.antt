@@ -104,17 +104,17 @@ abbrev pub IsSafeFrom : Tac → CodeFunction → (node : ℕ) → Type 0
 IsSafeFrom t c n = (k : ℕ) → SafeWithin (is_integer_instruction t (length (all_variables c))) c.code k n
 
 -- a function of integers: what no path from its entry reaches may be anything
-pub record IsIntegerFunction (t : Tac) (c : CodeFunction) : Type 0 where
-  pub variables : are_integers (all_variables c) ≡ true
-  pub entered : have_no_objects c.entered ≡ true
-  pub safe : IsSafeFrom t c c.entry
+pub record IsIntegerFunction (code : Tac) (function : CodeFunction) : Type 0 where
+  pub variables : are_integers (all_variables function) ≡ true
+  pub entered : have_no_objects function.entered ≡ true
+  pub safe : IsSafeFrom code function function.entry
 
 abbrev pub has_no_statics : List StaticData → Bool
 has_no_statics [] = true
 has_no_statics (d ∷ ds) = false
 
 -- a program of integers; `main` is there and takes no arguments
-pub record IsIntegerCode (t : Tac) : Type 0 where
-  pub statics : has_no_statics t.statics ≡ true
-  pub main : takes (function_in t t.main) 0 ≡ true
-  pub functions : (u : ℕ) (c : CodeFunction) → slice_get t.functions u ≡ Some c → IsIntegerFunction t c
+pub record IsIntegerCode (code : Tac) : Type 0 where
+  pub statics : has_no_statics code.statics ≡ true
+  pub main : takes (function_in code code.main) 0 ≡ true
+  pub functions : (u : ℕ) (c : CodeFunction) → slice_get code.functions u ≡ Some c → IsIntegerFunction code c

@@ -10,12 +10,12 @@ use Rattle.obj_memory.specs.Heap.{block_room, object_room, is_live_block, has_ro
 
 -- a tag names an object of the list, and its bounds are words and, where there is anything between them, lie in that
 -- object
-pub record IsTagOf (objects : Objects) (object : ℕ) (b : Bounds) : Type 0 where
+pub record IsTagOf (objects : Objects) (object : ℕ) (bounds : Bounds) : Type 0 where
   pub made : object < length objects
-  pub base : (object_at objects object).address ≤ b.base
-  pub bound : b.bound ≤ (object_at objects object).address + (object_at objects object).size
-  pub base_word : b.base < 2 ^ 64
-  pub bound_word : b.bound < 2 ^ 64
+  pub base : (object_at objects object).address ≤ bounds.base
+  pub bound : bounds.bound ≤ (object_at objects object).address + (object_at objects object).size
+  pub base_word : bounds.base < 2 ^ 64
+  pub bound_word : bounds.bound < 2 ^ 64
 
 -- a tag that is none, that of one of so many functions, or one of an object
 abbrev pub IsSoundTag : (functions : ℕ) → Objects → Tag → Type 0
@@ -24,21 +24,21 @@ IsSoundTag functions objects (OfFunction f) = f < functions
 IsSoundTag functions objects (OfObject o b) = IsTagOf objects o b
 
 -- an object has all its bytes and tags, stands at a multiple of 16, and holds sound tags
-pub record IsSoundObject (functions : ℕ) (objects : Objects) (o : ObjectState) : Type 0 where
-  pub aligned : o.address % 16 ≡ 0
-  pub bytes : length o.bytes ≡ o.size
-  pub values : (k : ℕ) → get_or o.bytes k 0 < 256
-  pub tags : length o.tags ≡ o.size / 8
-  pub tag : (k : ℕ) → IsSoundTag functions objects (get_or o.tags k Untagged)
+pub record IsSoundObject (functions : ℕ) (objects : Objects) (object : ObjectState) : Type 0 where
+  pub aligned : object.address % 16 ≡ 0
+  pub bytes : length object.bytes ≡ object.size
+  pub values : (k : ℕ) → get_or object.bytes k 0 < 256
+  pub tags : length object.tags ≡ object.size / 8
+  pub tag : (k : ℕ) → IsSoundTag functions objects (get_or object.tags k Untagged)
 
 -- every object has its bytes and tags, and every tag that is stored is sound
 pub record IsSound (functions : ℕ) (objects : Objects) : Type 0 where
   pub at : (n : ℕ) → IsSoundObject functions objects (object_at objects n)
 
 -- some bytes from a place on lie in an object of the list
-pub record IsPlace (objects : Objects) (p : Place) (size : ℕ) : Type 0 where
-  pub made : p.object < length objects
-  pub room : p.offset + size ≤ (object_at objects p.object).size
+pub record IsPlace (objects : Objects) (place : Place) (size : ℕ) : Type 0 where
+  pub made : place.object < length objects
+  pub room : place.offset + size ≤ (object_at objects place.object).size
 
 -- what every action leaves: objects stay where they are, and the dead stay dead
 pub record Continues (old new : Objects) : Type 0 where
@@ -49,10 +49,10 @@ pub record Continues (old new : Objects) : Type 0 where
   pub dead : (n : ℕ) → n < length old → (object_at old n).is_live ≡ false → (object_at new n).is_live ≡ false
 
 -- an access through a pointer that is allowed at a place: some bytes of a live object, at the pointer's address
-pub record IsAllowed (objects : Objects) (v : Value) (size : ℕ) (p : Place) : Type 0 where
+pub record IsAllowed (objects : Objects) (value : Value) (size : ℕ) (p : Place) : Type 0 where
   pub place : IsPlace objects p size
   pub live : (object_at objects p.object).is_live ≡ true
-  pub address : (object_at objects p.object).address + p.offset ≡ v.word
+  pub address : (object_at objects p.object).address + p.offset ≡ value.word
 
 -- two objects that differ in bytes and tags alone
 pub record IsSameBut (old new : ObjectState) : Type 0 where
@@ -67,10 +67,10 @@ pub record KeepsObjects (old new : Objects) : Type 0 where
   pub at : (n : ℕ) → IsSameBut (object_at old n) (object_at new n)
 
 -- some bytes at one place and some at another are in two objects, or one lies before the other
-pub data AreApart (p : Place) (size : ℕ) (q : Place) (count : ℕ) : Type 0 where
-  InOthers : q.object ≢ p.object → AreApart p size q count
-  Before : q.offset + count ≤ p.offset → AreApart p size q count
-  Behind : p.offset + size ≤ q.offset → AreApart p size q count
+pub data AreApart (before : Place) (size : ℕ) (after : Place) (count : ℕ) : Type 0 where
+  InOthers : after.object ≢ before.object → AreApart before size after count
+  Before : after.offset + count ≤ before.offset → AreApart before size after count
+  Behind : before.offset + size ≤ after.offset → AreApart before size after count
 
 -- a range of addresses ends before a block, or begins behind it
 abbrev pub IsClearOf : (start room : ℕ) → ObjectState → Type 0

@@ -32,29 +32,33 @@ IsLive plan pc y = is_live plan pc y ≡ true
 
 -- The live ranges are closed backwards over all paths: what an instruction reads is live before it, what it makes is
 -- live behind it, and what else is live behind it is live before it.
-pub record AreClosed (p : FlatProgram) (f : ℕ) (body : List FlatInstruction) (plan : FunctionPlan) : Type 0 where
-  pub read : (pc y : ℕ) → ReadsAt p f body pc y → IsLive plan pc y
-  pub made : (pc q y : ℕ) → LeadsAt body pc q → MakesAt p body pc y → IsLive plan q y
-  pub rest : (pc q y : ℕ) → LeadsAt body pc q → IsLive plan q y → (MakesAt p body pc y → ⊥) → IsLive plan pc y
+pub record AreClosed (program : FlatProgram) (function : ℕ) (body : List FlatInstruction)
+    (plan : FunctionPlan) : Type 0 where
+  pub read : (pc y : ℕ) → ReadsAt program function body pc y → IsLive plan pc y
+  pub made : (pc q y : ℕ) → LeadsAt body pc q → MakesAt program body pc y → IsLive plan q y
+  pub rest : (pc q y : ℕ) → LeadsAt body pc q → IsLive plan q y → (MakesAt program body pc y → ⊥) → IsLive plan pc y
 
 -- the home of a virtual register is a word of the activation record behind the first, which has the return address
-pub record HasHome (f : FlatFunction) (y : ℕ) : Type 0 where
+pub record HasHome (function : FlatFunction) (y : ℕ) : Type 0 where
   pub word : ℕ
-  pub is : slice_get f.homes y ≡ Some word
-  pub inside : 8 * word + 16 ≤ f.room
+  pub is : slice_get function.homes y ≡ Some word
+  pub inside : 8 * word + 16 ≤ function.room
 
 -- A plan is accepted where the live ranges are closed; two that are live before one instruction have different homes,
 -- and different registers if they have any; each that is live has a home and a place, and the register is one that is
 -- given out; and at the entry no others than the parameters are live.
-pub record IsAccepted (p : FlatProgram) (number : ℕ) (f : FlatFunction) (plan : FunctionPlan) : Type 0 where
-  pub closed : AreClosed p number f.body plan
-  pub homes : (pc x y w : ℕ) → pc < length f.body → IsLive plan pc x → IsLive plan pc y → slice_get f.homes x ≡ Some w
-      → slice_get f.homes y ≡ Some w → x ≡ y
-  pub registers : (pc x y r : ℕ) → pc < length f.body → IsLive plan pc x → IsLive plan pc y
+pub record IsAccepted (program : FlatProgram) (number : ℕ) (function : FlatFunction)
+    (plan : FunctionPlan) : Type 0 where
+  pub closed : AreClosed program number function.body plan
+  pub homes : (pc x y w : ℕ) → pc < length function.body → IsLive plan pc x → IsLive plan pc y
+      → slice_get function.homes x ≡ Some w
+      → slice_get function.homes y ≡ Some w → x ≡ y
+  pub registers : (pc x y r : ℕ) → pc < length function.body → IsLive plan pc x → IsLive plan pc y
       → slice_get plan.places.items x ≡ Some (Register r) → slice_get plan.places.items y ≡ Some (Register r) → x ≡ y
-  pub inside : (pc y : ℕ) → pc < length f.body → IsLive plan pc y → HasHome f y
-  pub places : (pc y : ℕ) → pc < length f.body → IsLive plan pc y
+  pub inside : (pc y : ℕ) → pc < length function.body → IsLive plan pc y → HasHome function y
+  pub places : (pc y : ℕ) → pc < length function.body → IsLive plan pc y
       → (place : Place) × (slice_get plan.places.items y ≡ Some place)
-  pub given : (pc y r : ℕ) → pc < length f.body → IsLive plan pc y → slice_get plan.places.items y ≡ Some (Register r)
+  pub given : (pc y r : ℕ) → pc < length function.body → IsLive plan pc y
+      → slice_get plan.places.items y ≡ Some (Register r)
       → r < REGISTERS
-  pub entry : (y : ℕ) → 0 < length f.body → IsLive plan 0 y → y < f.parameters
+  pub entry : (y : ℕ) → 0 < length function.body → IsLive plan 0 y → y < function.parameters

@@ -29,21 +29,22 @@ pub record AddsSuccessor (old new : Problem) (made : ℕ → Type 0) (place : �
 
 -- the problem has an edge for each place where an instruction leads, and the facts of what it reads and makes; all of
 -- the first so many instructions, and no others
-pub record Represents (p : FlatProgram) (f : ℕ) (body : List FlatInstruction) (done : ℕ) (problem : Problem) : Type
+pub record Represents (program : FlatProgram) (function : ℕ) (body : List FlatInstruction) (done : ℕ)
+    (problem : Problem) : Type
     0 where
   pub edges : (pc q : ℕ) → pc < done → LeadsAt body pc q → IsRelated problem.edges q pc
   pub edges_only : (q pc : ℕ) → IsRelated problem.edges q pc → LeadsAt body pc q
-  pub read : (pc y : ℕ) → pc < done → ReadsAt p f body pc y → IsRelated problem.generated y pc
-  pub made : (pc q y : ℕ) → pc < done → LeadsAt body pc q → MakesAt p body pc y → IsRelated problem.generated y q
+  pub read : (pc y : ℕ) → pc < done → ReadsAt program function body pc y → IsRelated problem.generated y pc
+  pub made : (pc q y : ℕ) → pc < done → LeadsAt body pc q → MakesAt program body pc y → IsRelated problem.generated y q
   pub generated_only : (y v : ℕ) → IsRelated problem.generated y v
-      → ReadsAt p f body v y ⊎ ((pc : ℕ) × LeadsAt body pc v × MakesAt p body pc y)
-  pub killed : (pc y : ℕ) → pc < done → MakesAt p body pc y → IsRelated problem.killed y pc
-  pub killed_only : (y pc : ℕ) → IsRelated problem.killed y pc → MakesAt p body pc y
+      → ReadsAt program function body v y ⊎ ((pc : ℕ) × LeadsAt body pc v × MakesAt program body pc y)
+  pub killed : (pc y : ℕ) → pc < done → MakesAt program body pc y → IsRelated problem.killed y pc
+  pub killed_only : (y pc : ℕ) → IsRelated problem.killed y pc → MakesAt program body pc y
 
 -- what an instruction reads or makes has a number below a bound
-pub record IsNamed (p : FlatProgram) (f : ℕ) (body : List FlatInstruction) (count : ℕ) : Type 0 where
-  pub read : (pc y : ℕ) → ReadsAt p f body pc y → y < count
-  pub made : (pc y : ℕ) → MakesAt p body pc y → y < count
+pub record IsNamed (program : FlatProgram) (function : ℕ) (body : List FlatInstruction) (count : ℕ) : Type 0 where
+  pub read : (pc y : ℕ) → ReadsAt program function body pc y → y < count
+  pub made : (pc y : ℕ) → MakesAt program body pc y → y < count
 
 -- how many nodes and facts a problem has
 pub record HasSizes (problem : Problem) (nodes facts : ℕ) : Type 0 where

@@ -16,7 +16,8 @@ LeadsAt body pc q = (i : FlatInstruction) × (slice_get body pc ≡ Some i) × L
 
 -- A value is needed before an instruction that reads it, behind one that makes it, and before one that leads to where
 -- it is needed and does not make it. These are the least sets that are closed so.
-pub data IsNeeded (p : FlatProgram) (f : ℕ) (body : List FlatInstruction) : ℕ → ℕ → Type 0 where
-  Read : (pc y : ℕ) → ReadsAt p f body pc y → IsNeeded p f body pc y
-  Made : (pc q y : ℕ) → LeadsAt body pc q → MakesAt p body pc y → IsNeeded p f body q y
-  Before : (pc q y : ℕ) → LeadsAt body pc q → IsNeeded p f body q y → (MakesAt p body pc y → ⊥) → IsNeeded p f body pc y
+pub data IsNeeded (program : FlatProgram) (function : ℕ) (body : List FlatInstruction) : ℕ → ℕ → Type 0 where
+  Read : (pc y : ℕ) → ReadsAt program function body pc y → IsNeeded program function body pc y
+  Made : (pc q y : ℕ) → LeadsAt body pc q → MakesAt program body pc y → IsNeeded program function body q y
+  Before : (pc q y : ℕ) → LeadsAt body pc q → IsNeeded program function body q y → (MakesAt program body pc y → ⊥)
+      → IsNeeded program function body pc y

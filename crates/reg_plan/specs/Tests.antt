@@ -19,38 +19,39 @@ pub record Flows (plan : FunctionPlan) (made : Span) (from to : ℕ) : Type 0 wh
   pub rest : (y : ℕ) → IsLive plan to y → is_among made y ≡ false → IsLive plan from y
 
 -- the live ranges are closed at an instruction
-pub record IsClosedAt (p : FlatProgram) (f : ℕ) (count : ℕ) (plan : FunctionPlan) (pc : ℕ) (i : FlatInstruction) : Type
+pub record IsClosedAt (program : FlatProgram) (function : ℕ) (count : ℕ) (plan : FunctionPlan) (pc : ℕ)
+    (instruction : FlatInstruction) : Type
     0 where
-  pub read : (y : ℕ) → is_read (read_by p f i) y ≡ true → IsLive plan pc y
-  pub flows : (q : ℕ) → Leads i pc q → q < count → Flows plan (made_by p i) pc q
+  pub read : (y : ℕ) → is_read (read_by program function instruction) y ≡ true → IsLive plan pc y
+  pub flows : (q : ℕ) → Leads instruction pc q → q < count → Flows plan (made_by program instruction) pc q
 
 -- the plans of all functions are accepted
-pub record AreAccepted (p : FlatProgram) (plans : List FunctionPlan) : Type 0 where
-  pub size : length plans ≡ length p.functions
-  pub each : (k : ℕ) (f : FlatFunction) (plan : FunctionPlan) → slice_get p.functions k ≡ Some f
-      → slice_get plans k ≡ Some plan → IsAccepted p k f plan
+pub record AreAccepted (program : FlatProgram) (plans : List FunctionPlan) : Type 0 where
+  pub size : length plans ≡ length program.functions
+  pub each : (k : ℕ) (f : FlatFunction) (plan : FunctionPlan) → slice_get program.functions k ≡ Some f
+      → slice_get plans k ≡ Some plan → IsAccepted program k f plan
 
 -- two live ranges have an instruction in common, one of the first so many
 abbrev pub Meet : (count : ℕ) → List LiveInterval → List LiveInterval → Type 0
 Meet count a b = (pc : ℕ) × (pc < count) × (covers a pc ≡ true) × (covers b pc ≡ true)
 
 -- two virtual registers may be live together: they have different homes and no register in common
-pub record AreApart (f : FlatFunction) (plan : FunctionPlan) (x y : ℕ) : Type 0 where
-  pub homes : (w : ℕ) → slice_get f.homes x ≡ Some w → slice_get f.homes y ≡ Some w → ⊥
-  pub registers : (r : ℕ) → slice_get plan.places.items x ≡ Some (Register r)
+pub record AreApart (function : FlatFunction) (plan : FunctionPlan) (register y : ℕ) : Type 0 where
+  pub homes : (w : ℕ) → slice_get function.homes register ≡ Some w → slice_get function.homes y ≡ Some w → ⊥
+  pub registers : (r : ℕ) → slice_get plan.places.items register ≡ Some (Register r)
       → slice_get plan.places.items y ≡ Some (Register r) → ⊥
 
 -- one that is live somewhere has a home and a place
-pub record IsPlaced (f : FlatFunction) (plan : FunctionPlan) (y : ℕ) : Type 0 where
-  pub home : HasHome f y
+pub record IsPlaced (function : FlatFunction) (plan : FunctionPlan) (y : ℕ) : Type 0 where
+  pub home : HasHome function y
   pub place : Place
   pub is : slice_get plan.places.items y ≡ Some place
   pub given : (r : ℕ) → slice_get plan.places.items y ≡ Some (Register r) → r < REGISTERS
 
 -- what the plan says of a virtual register: where it is live it has a home and a place; it is live at the entry only
 -- if it is a parameter; and it is kept apart from those before it
-pub record IsKept (f : FlatFunction) (plan : FunctionPlan) (count : ℕ) (x : ℕ) : Type 0 where
-  pub placed : (pc : ℕ) → pc < count → IsLive plan pc x → IsPlaced f plan x
-  pub entry : 0 < count → IsLive plan 0 x → x < f.parameters
-  pub apart : (y : ℕ) → y < x → Meet count (range_of plan.live.items x) (range_of plan.live.items y)
-      → AreApart f plan x y
+pub record IsKept (function : FlatFunction) (plan : FunctionPlan) (count : ℕ) (register : ℕ) : Type 0 where
+  pub placed : (pc : ℕ) → pc < count → IsLive plan pc register → IsPlaced function plan register
+  pub entry : 0 < count → IsLive plan 0 register → register < function.parameters
+  pub apart : (y : ℕ) → y < register → Meet count (range_of plan.live.items register) (range_of plan.live.items y)
+      → AreApart function plan register y

@@ -15,7 +15,8 @@ use Rattle.flat_meaning.specs.Meaning.{is_runtime_function}
 use Rattle.reg_plan.specs.declared.plan.FunctionPlan.{FunctionPlan}
 use Rattle.machine_laws.specs.Calls.Calls.{row}
 use Rattle.machine_laws.specs.Layout.Lists.{items_of}
-use Rattle.machine_laws.specs.Segments.Segments.{is_of, function_words, words_if, words_below, begin_if, begin, rows_below}
+use Rattle.machine_laws.specs.Segments.Segments.{is_of, function_words, words_if, words_below, begin_if, begin}
+use Rattle.machine_laws.specs.Segments.Segments.{rows_below}
 use Rattle.rv_codegen.specs.Generated.{AreBelow}
 
 pub none_below : (m : MapSizes) (p : FlatProgram) (plans : List FunctionPlan) (rows : List Instr)

@@ -15,26 +15,28 @@ use Rattle.rv_codegen.specs.declared.code.GenerateError.TheVariants.{TooLarge, R
 use Rattle.rv_codegen.specs.declared.code.GenerateError.TheVariants.{FunctionTooLong, Memory}
 
 -- what is generated from: a plan for each function, and numbers of functions and instructions that fit their types
-pub record IsReady (p : FlatProgram) (plans : List FunctionPlan) : Type 0 where
-  pub plans_are : length plans ≡ length p.functions
-  pub functions : length p.functions < 2 ^ 32
-  pub bodies : (f : ℕ) (g : FlatFunction) → function_in p f ≡ Some g → length g.body < 2 ^ 32
+pub record IsReady (program : FlatProgram) (plans : List FunctionPlan) : Type 0 where
+  pub plans_are : length plans ≡ length program.functions
+  pub functions : length program.functions < 2 ^ 32
+  pub bodies : (f : ℕ) (g : FlatFunction) → function_in program f ≡ Some g → length g.body < 2 ^ 32
 
 -- the functions below a number are generated
-pub record AreBelow (map : MapSizes) (p : FlatProgram) (plans : List FunctionPlan) (number : ℕ) (rows : List Instr)
+pub record AreBelow (map : MapSizes) (program : FlatProgram) (plans : List FunctionPlan) (number : ℕ)
+    (rows : List Instr)
     (runtime compiled : List ℕ) : Type 0 where
-  pub rows_are : rows ≡ rows_below map p plans number
-  pub runtime_is : runtime ≡ words_below map p plans true number
-  pub compiled_is : compiled ≡ words_below map p plans false number
-  pub assemblable : (f : ℕ) → f < number → IsAssemblable (items_of map p plans f)
+  pub rows_are : rows ≡ rows_below map program plans number
+  pub runtime_is : runtime ≡ words_below map program plans true number
+  pub compiled_is : compiled ≡ words_below map program plans false number
+  pub assemblable : (f : ℕ) → f < number → IsAssemblable (items_of map program plans f)
 
 -- the code of a program
-pub record IsGenerated (map : MapSizes) (p : FlatProgram) (plans : List FunctionPlan) (start : ℕ) (table compiled : List
+pub record IsGenerated (map : MapSizes) (program : FlatProgram) (plans : List FunctionPlan) (start : ℕ)
+    (table compiled : List
     ℕ) : Type 0 where
-  pub start_is : start ≡ start_address p
-  pub table_is : table ≡ table_words map p plans
-  pub compiled_is : compiled ≡ code_words map p plans
-  pub fits : FitsSegments map p plans
+  pub start_is : start ≡ start_address program
+  pub table_is : table ≡ table_words map program plans
+  pub compiled_is : compiled ≡ code_words map program plans
+  pub fits : FitsSegments map program plans
 
 -- when each answer comes that gives no code
 abbrev pub IsCause : MapSizes → FlatProgram → List FunctionPlan → GenerateError → Type 0

@@ -14,11 +14,11 @@ use Rattle.rv_sim.specs.Run.{Configuration, runs, calls}
 -- The state, the rest of the input and what the two sinks have taken are those of a moment, where o and e are what the
 -- sinks had taken when nothing was shown. A sink that does not tell its content is None throughout.
 pub record IsSeen (o e : Option (List ℕ)) (state : MachineState) (rest : List ℕ) (output errors : Option (List ℕ))
-    (c : Configuration) : Type 0 where
-  pub state_is : state ≡ c.state
-  pub rest_is : rest ≡ c.input
-  pub output_is : output ≡ gained o c.output
-  pub errors_is : errors ≡ gained e c.errors
+    (machine : Configuration) : Type 0 where
+  pub state_is : state ≡ machine.state
+  pub rest_is : rest ≡ machine.input
+  pub output_is : output ≡ gained o machine.output
+  pub errors_is : errors ≡ gained e machine.errors
 
 -- Of the bytes that were wanted behind those shown a sink has the first: kept, and not lost.
 pub record KeepsPart (told : Option (List ℕ)) (shown wanted : List ℕ) (now : Option (List ℕ)) : Type 0 where
@@ -30,20 +30,20 @@ pub record KeepsPart (told : Option (List ℕ)) (shown wanted : List ℕ) (now :
 -- A sink failed in an environment call at the moment c: the machine and the input stand as at c, and each sink has the
 -- first of the bytes that the call sends.
 pub record IsCut (o e : Option (List ℕ)) (state : MachineState) (rest : List ℕ) (output errors : Option (List ℕ))
-    (c : Configuration) : Type 0 where
-  pub state_is : state ≡ c.state
-  pub rest_is : rest ≡ c.input
-  pub output_part : KeepsPart o c.output (calls c).0.output output
-  pub errors_part : KeepsPart e c.errors (calls c).0.errors errors
+    (machine : Configuration) : Type 0 where
+  pub state_is : state ≡ machine.state
+  pub rest_is : rest ≡ machine.input
+  pub output_part : KeepsPart o machine.output (calls machine).0.output output
+  pub errors_part : KeepsPart e machine.errors (calls machine).0.errors errors
 
 -- the next instruction is an environment call
 abbrev pub Asks : MachineState → Type 0
 Asks s = step s ≡ (s, Ask)
 
 -- The outside failed after k instructions, fewer than the limit, at an environment call.
-pub record IsFaultAt (limit : ℕ) (c : Configuration) (state : MachineState) (k : ℕ) (Left : Type 0) : Type 0 where
+pub record IsFaultAt (limit : ℕ) (machine : Configuration) (state : MachineState) (k : ℕ) (Left : Type 0) : Type 0 where
   pub within : k < limit
-  pub goes : (runs k c).1 ≡ None
+  pub goes : (runs k machine).1 ≡ None
   pub asks : Asks state
   pub left : Left
 
@@ -71,19 +71,19 @@ ByFault (Some (Exited status)) I O P = P
 ByFault (Some (Trap kind pc)) I O P = P
 
 -- the call asks for a byte of the input: a read of descriptor 0, of at least one byte, all of which may be written
-pub record AsksInput (s : MachineState) : Type 0 where
-  pub number : register s a7 ≡ 63
-  pub descriptor : register s a0 ≡ 0
-  pub some : 0 < register s a2
-  pub buffer : may_write s.memory (register s a1) (register s a2) ≡ true
+pub record AsksInput (state : MachineState) : Type 0 where
+  pub number : register state a7 ≡ 63
+  pub descriptor : register state a0 ≡ 0
+  pub some : 0 < register state a2
+  pub buffer : may_write state.memory (register state a1) (register state a2) ≡ true
 
 -- the call sends bytes to a sink: a write to this descriptor, of at least one byte, all of which may be read
-pub record SendsTo (descriptor : ℕ) (s : MachineState) : Type 0 where
-  pub number : register s a7 ≡ 64
-  pub descriptor_is : register s a0 ≡ descriptor
-  pub some : 0 < register s a2
+pub record SendsTo (descriptor : ℕ) (state : MachineState) : Type 0 where
+  pub number : register state a7 ≡ 64
+  pub descriptor_is : register state a0 ≡ descriptor
+  pub some : 0 < register state a2
   pub bytes : List ℕ
-  pub buffer : bytes_at s.memory (register s a1) (register s a2) ≡ Some bytes
+  pub buffer : bytes_at state.memory (register state a1) (register state a2) ≡ Some bytes
 
 -- InputFault comes of a call that asks for a byte of the input, and the input's count of faults rose with it; it stands
 -- else

@@ -7,21 +7,22 @@ use Rattle.rv_sim.specs.Run.{Configuration, Turn, turn, calls, read_call, write_
 use Rattle.rv_sim.specs.Seen.{IsSeen, IsCut, KeepsPart, Asks, ByFault}
 
 -- a call to read, or to write, came to t, and leaves the rest of the moment c
-pub record IsRead (result : Option Stop) (t : Turn) (state : MachineState) (rest : List ℕ) (c : Configuration) : Type
+pub record IsRead (result : Option Stop) (turn : Turn) (state : MachineState) (rest : List ℕ)
+    (machine : Configuration) : Type
     0 where
-  pub stop_is : result ≡ t.1
-  pub state_is : state ≡ t.0.state
-  pub rest_is : rest ≡ t.0.input
-  pub output_stays : t.0.output ≡ c.output
-  pub errors_stay : t.0.errors ≡ c.errors
+  pub stop_is : result ≡ turn.1
+  pub state_is : state ≡ turn.0.state
+  pub rest_is : rest ≡ turn.0.input
+  pub output_stays : turn.0.output ≡ machine.output
+  pub errors_stay : turn.0.errors ≡ machine.errors
 
-pub record IsWritten (o e : Option (List ℕ)) (result : Option Stop) (t : Turn) (state : MachineState)
-    (output errors : Option (List ℕ)) (c : Configuration) : Type 0 where
-  pub stop_is : result ≡ t.1
-  pub state_is : state ≡ t.0.state
-  pub output_is : output ≡ gained o t.0.output
-  pub errors_is : errors ≡ gained e t.0.errors
-  pub input_stays : t.0.input ≡ c.input
+pub record IsWritten (o e : Option (List ℕ)) (result : Option Stop) (turn : Turn) (state : MachineState)
+    (output errors : Option (List ℕ)) (machine : Configuration) : Type 0 where
+  pub stop_is : result ≡ turn.1
+  pub state_is : state ≡ turn.0.state
+  pub output_is : output ≡ gained o turn.0.output
+  pub errors_is : errors ≡ gained e turn.0.errors
+  pub input_stays : turn.0.input ≡ machine.input
 
 -- the same where the outside may have failed
 abbrev pub ReadOrFault : Option Stop → Configuration → MachineState → List ℕ → Type 0

@@ -19,30 +19,30 @@ DoesAnywhere map r P steps Q =
     → Does (record { sizes = map; is_runtime = runtime; charge = charge; weight = weight }) r P (λ s. steps)
     (λ s. Either (Q s) Never)
 
-pub record HasRead (entry : View) (at : ℕ) (into : Entry) (scratch : ℕ) (s s' : State) : Type 0 where
-  pub read : metadata_in s'.values into ≡ entry s.memory (s.values at)
-  pub memory : s'.memory ≡ s.memory
-  pub shows : ShowsNothing s s'
-  pub others : OthersStay (entry_registers into) scratch s s'
+pub record HasRead (entry : View) (at : ℕ) (into : Entry) (scratch : ℕ) (before after : State) : Type 0 where
+  pub read : metadata_in after.values into ≡ entry before.memory (before.values at)
+  pub memory : after.memory ≡ before.memory
+  pub shows : ShowsNothing before after
+  pub others : OthersStay (entry_registers into) scratch before after
 
 pub record HasWritten (map : MapSizes) (entry : View) (IsGood : Bytes → Type 0) (at : ℕ) (from : Entry) (scratch : ℕ)
-    (s s' : State) : Type 0 where
-  pub written : entry s'.memory (s.values at) ≡ metadata_in s.values from
-  pub other_words : (a : ℕ) → IsObjectWord map a → a ≢ s.values at → entry s'.memory a ≡ entry s.memory a
-  pub good : IsGood s'.memory
-  pub memory : KeepsButShadow map s.memory s'.memory
-  pub shows : ShowsNothing s s'
-  pub others : OthersStay [] scratch s s'
+    (before after : State) : Type 0 where
+  pub written : entry after.memory (before.values at) ≡ metadata_in before.values from
+  pub other_words : (a : ℕ) → IsObjectWord map a → a ≢ before.values at → entry after.memory a ≡ entry before.memory a
+  pub good : IsGood after.memory
+  pub memory : KeepsButShadow map before.memory after.memory
+  pub shows : ShowsNothing before after
+  pub others : OthersStay [] scratch before after
 
 pub record HasCleared (map : MapSizes) (entry : View) (IsGood : Bytes → Type 0) (first count scratch : ℕ)
-    (s s' : State) : Type 0 where
-  pub cleared : (k : ℕ) → k < count → entry s'.memory (s.values first + 8 * k) ≡ no_metadata
-  pub other_words : (a : ℕ) → IsObjectWord map a → (a < s.values first) ⊎ (s.values first + 8 * count ≤ a)
-      → entry s'.memory a ≡ entry s.memory a
-  pub good : IsGood s'.memory
-  pub memory : KeepsButShadow map s.memory s'.memory
-  pub shows : ShowsNothing s s'
-  pub others : OthersStay [] scratch s s'
+    (before after : State) : Type 0 where
+  pub cleared : (k : ℕ) → k < count → entry after.memory (before.values first + 8 * k) ≡ no_metadata
+  pub other_words : (a : ℕ) → IsObjectWord map a → (a < before.values first) ⊎ (before.values first + 8 * count ≤ a)
+      → entry after.memory a ≡ entry before.memory a
+  pub good : IsGood after.memory
+  pub memory : KeepsButShadow map before.memory after.memory
+  pub shows : ShowsNothing before after
+  pub others : OthersStay [] scratch before after
 
 -- so many words of object space, whose bytes are these
 pub record IsWordRange (map : MapSizes) (first bytes count : ℕ) : Type 0 where

@@ -17,18 +17,18 @@ abbrev pub words_of : List StartEntry → List ℕ
 words_of es = map (λ e. e.at) es
 
 -- a word of static objects
-pub record IsGlobalWord (map : MapSizes) (a : ℕ) : Type 0 where
-  pub first : objects_begin ≤ a
-  pub last : a + 8 ≤ region_end map Globals
-  pub aligned : a % 8 ≡ 0
+pub record IsGlobalWord (map : MapSizes) (address : ℕ) : Type 0 where
+  pub first : objects_begin ≤ address
+  pub last : address + 8 ≤ region_end map Globals
+  pub aligned : address % 8 ≡ 0
 
 -- an entry of four words, of one of these
-pub record IsStartEntry (map : MapSizes) (e : StartEntry) : Type 0 where
-  pub word : IsGlobalWord map e.at
-  pub base : e.base < 2 ^ 64
-  pub bound : e.bound < 2 ^ 64
-  pub key : e.key < 2 ^ 64
-  pub lock : e.lock < 2 ^ 64
+pub record IsStartEntry (map : MapSizes) (entry : StartEntry) : Type 0 where
+  pub word : IsGlobalWord map entry.at
+  pub base : entry.base < 2 ^ 64
+  pub bound : entry.bound < 2 ^ 64
+  pub key : entry.key < 2 ^ 64
+  pub lock : entry.lock < 2 ^ 64
 
 -- each is one, and none is of the word of another
 abbrev pub AreStartEntries : MapSizes → List StartEntry → Type 0
@@ -45,11 +45,11 @@ AreRead entry m [] = Unit {0}
 AreRead entry m (e ∷ es) = (entry m e.at ≡ metadata_of e) × AreRead entry m es
 
 -- and every other word of object space as none
-pub record IsStarted (map : MapSizes) (entry : View) (IsGood : Bytes → Type 0) (es : List StartEntry) (m : Bytes)
+pub record IsStarted (map : MapSizes) (entry : View) (IsGood : Bytes → Type 0) (es : List StartEntry) (memory : Bytes)
     : Type 0 where
-  pub good : IsGood m
-  pub read : AreRead entry m es
-  pub others : (a : ℕ) → IsObjectWord map a → IsNoneOf a (words_of es) → entry m a ≡ no_metadata
+  pub good : IsGood memory
+  pub read : AreRead entry memory es
+  pub others : (a : ℕ) → IsObjectWord map a → IsNoneOf a (words_of es) → entry memory a ≡ no_metadata
 
 abbrev pub StartsShadow : MapSizes → View → (Bytes → Type 0) → List StartEntry → List ℕ → Type 0
 StartsShadow map entry IsGood es bytes = (m : Bytes) → BeginsWith map bytes m → IsStarted map entry IsGood es m

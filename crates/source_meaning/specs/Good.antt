@@ -86,9 +86,9 @@ pub record IsHeld (objects : Objects) (n : ℕ) (kind : Kind) : Type 0 where
   pub size : (object_at objects n).size ≡ size_of_kind kind
 
 -- the home of a variable that is an object
-pub record HasHome (frame : List Home) (objects : Objects) (x : ℕ) (kind : Kind) : Type 0 where
+pub record HasHome (frame : List Home) (objects : Objects) (variable : ℕ) (kind : Kind) : Type 0 where
   pub object : ℕ
-  pub home : get_or frame x NoObject ≡ InObject object
+  pub home : get_or frame variable NoObject ≡ InObject object
   pub held : IsHeld objects object kind
 
 abbrev pub AreLow : Objects → Type 0
@@ -158,28 +158,29 @@ EndsMade old new = (n : ℕ) → length old ≤ n → (object_at new n).is_live 
     → is_allocated (object_at new n).storage ≡ true
 
 -- a good state is left for another, in which the same names are of the same objects
-pub record Leaves (sc : Context) (s s' : State) : Type 0 where
-  pub good : IsGood sc s'
-  pub lives : LivesOn s.objects s'.objects
-  pub frame : s'.frame ≡ s.frame
-  pub ended : EndsMade s.objects s'.objects
+pub record Leaves (sc : Context) (before after : State) : Type 0 where
+  pub good : IsGood sc after
+  pub lives : LivesOn before.objects after.objects
+  pub frame : after.frame ≡ before.frame
+  pub ended : EndsMade before.objects after.objects
 
 -- where a run ends or pauses, objects, plain values and accesses are kept
-pub record Stops (functions : ℕ) (sizes : MapSizes) (old : Objects) (s' : State) : Type 0 where
-  pub kept : IsKept functions s'.objects s'.accesses
-  pub plain : AreTagged functions s'.plain s'.objects
-  pub low : AreLow s'.objects
-  pub lives : LivesOn old s'.objects
-  pub apart : AreDisjoint s'.objects
-  pub placed : ArePlaced sizes s'.objects
+pub record Stops (functions : ℕ) (sizes : MapSizes) (old : Objects) (state : State) : Type 0 where
+  pub kept : IsKept functions state.objects state.accesses
+  pub plain : AreTagged functions state.plain state.objects
+  pub low : AreLow state.objects
+  pub lives : LivesOn old state.objects
+  pub apart : AreDisjoint state.objects
+  pub placed : ArePlaced sizes state.objects
 
 abbrev pub After : {A : Type 0} → Context → State → (A → Objects → Type 0) → Outcome A → Type 0
 After sc s Q (Gives a s') = Leaves sc s s' × Q a s'.objects
 After sc s Q (Ended e s') = Stops (function_count sc) sc.sizes s.objects s'
 After sc s Q (Paused s') = Stops (function_count sc) sc.sizes s.objects s'
 
-pub record Sure {A : Type 0} (sc : Context) (P : Objects → Type 0) (r : Run A) (Q : A → Objects → Type 0) : Type 0 where
-  pub by : (s : State) → IsGood sc s → P s.objects → After sc s Q (r s)
+pub record Sure {A : Type 0} (sc : Context) (P : Objects → Type 0) (run : Run A) (Q : A → Objects
+    → Type 0) : Type 0 where
+  pub by : (s : State) → IsGood sc s → P s.objects → After sc s Q (run s)
 
 -- nothing is known
 abbrev pub Any : Objects → Type 0
@@ -189,9 +190,9 @@ abbrev pub IsTagged : (functions : ℕ) → Value → Objects → Type 0
 IsTagged functions v objects = IsSoundTag functions objects v.tag
 
 -- contents are sound, and have some bytes from an offset on
-pub record HasContents (functions size offset : ℕ) (c : ObjectState) (objects : Objects) : Type 0 where
-  pub sound : IsSoundObject functions objects c
-  pub room : offset + size ≤ c.size
+pub record HasContents (functions size offset : ℕ) (object : ObjectState) (objects : Objects) : Type 0 where
+  pub sound : IsSoundObject functions objects object
+  pub room : offset + size ≤ object.size
 
 -- the value of a structure of some bytes: a pointer to them, or its contents
 abbrev pub StructureIs : (functions size : ℕ) → Option ObjectState → Value → Objects → Type 0
@@ -205,10 +206,10 @@ OfKind functions (Structure n) v o = StructureIs functions n v.contents v.value 
 OfKind functions (Array n) v o = v.contents ≡ None
 
 -- what an expression of a kind gives: its tag is sound, it is of its kind, and of a structure its bytes are there
-pub record ValueIs (functions : ℕ) (kind : Kind) (v : Rvalue) (objects : Objects) : Type 0 where
-  pub tag : IsSoundTag functions objects v.value.tag
-  pub structure : OfKind functions kind v objects
-  pub word : IsOfKind functions kind v.value
+pub record ValueIs (functions : ℕ) (kind : Kind) (value : Rvalue) (objects : Objects) : Type 0 where
+  pub tag : IsSoundTag functions objects value.value.tag
+  pub structure : OfKind functions kind value objects
+  pub word : IsOfKind functions kind value.value
 
 abbrev pub TakenIs : (functions size : ℕ) → Option ObjectState → Value → Objects → Type 0
 TakenIs functions n None v o = ⊥
@@ -220,10 +221,10 @@ TakenOf functions (OfScalar k) v o = v.contents ≡ None
 TakenOf functions (Structure n) v o = TakenIs functions n v.contents v.value o
 TakenOf functions (Array n) v o = v.contents ≡ None
 
-pub record ArgumentIs (functions : ℕ) (kind : Kind) (v : Rvalue) (objects : Objects) : Type 0 where
-  pub tag : IsSoundTag functions objects v.value.tag
-  pub structure : TakenOf functions kind v objects
-  pub word : IsOfKind functions kind v.value
+pub record ArgumentIs (functions : ℕ) (kind : Kind) (value : Rvalue) (objects : Objects) : Type 0 where
+  pub tag : IsSoundTag functions objects value.value.tag
+  pub structure : TakenOf functions kind value objects
+  pub word : IsOfKind functions kind value.value
 
 abbrev pub ArgumentsAre : (functions : ℕ) → List Kind → List Rvalue → Objects → Type 0
 ArgumentsAre functions [] [] o = Unit {0}
@@ -236,10 +237,10 @@ RvalueReach functions OnName size c v o = (c ≡ None) × IsNamed o v size
 RvalueReach functions OnPointer size c v o = c ≡ None
 RvalueReach functions OnValue size c v o = StructureIs functions size c v o
 
-pub record LvalueIs (functions : ℕ) (b : Basis) (kind : Kind) (q : Rvalue) (objects : Objects) : Type 0 where
-  pub tag : IsSoundTag functions objects q.value.tag
-  pub reach : RvalueReach functions b (size_of_kind kind) q.contents q.value objects
-  pub word : IsWord functions q.value.word
+pub record LvalueIs (functions : ℕ) (basis : Basis) (kind : Kind) (value : Rvalue) (objects : Objects) : Type 0 where
+  pub tag : IsSoundTag functions objects value.value.tag
+  pub reach : RvalueReach functions basis (size_of_kind kind) value.contents value.value objects
+  pub word : IsWord functions value.value.word
 
 -- an access is judged where a pointer leads to it
 abbrev pub on_pointer : Basis → Bool
@@ -332,13 +333,13 @@ EndsBut old new homes = (n : ℕ) → length old ≤ n → (object_at new n).is_
     → (is_allocated (object_at new n).storage ≡ true) ⊎ IsIn n homes
 
 -- a block that declares some variables is entered: these have homes too, in objects that are new
-pub record IsEntered (base : Scope) (sizes : MapSizes) (all vars : List Variable) (numbers : List ℕ) (s : State)
-    (b : Block) (s' : State) : Type 0 where
-  pub block : b ≡ record { homes = b.homes; frame = s.frame; stacked = s.stacked }
-  pub good : IsGood (context_of base sizes all (opened numbers 0 all vars)) s'
-  pub lives : LivesOn s.objects s'.objects
-  pub new : AllFrom (length s.objects) b.homes
-  pub ends : EndsBut s.objects s'.objects b.homes
+pub record IsEntered (base : Scope) (sizes : MapSizes) (all vars : List Variable) (numbers : List ℕ) (before : State)
+    (b : Block) (after : State) : Type 0 where
+  pub block : b ≡ record { homes = b.homes; frame = before.frame; stacked = before.stacked }
+  pub good : IsGood (context_of base sizes all (opened numbers 0 all vars)) after
+  pub lives : LivesOn before.objects after.objects
+  pub new : AllFrom (length before.objects) b.homes
+  pub ends : EndsBut before.objects after.objects b.homes
 
 abbrev pub EntersBy : Scope → (sizes : MapSizes) → (all vars : List Variable) → (numbers : List ℕ) → State
     → Outcome Block → Type 0
@@ -356,11 +357,11 @@ program_context p sizes around = record {
 }
 
 -- a call is set up: the callee's variables have homes, in objects that are new
-pub record IsSetUp (sc : Context) (old : Objects) (s' : State) : Type 0 where
-  pub good : IsGood sc s'
-  pub lives : LivesOn old s'.objects
-  pub new : AllFrom (length old) s'.frame
-  pub ends : EndsBut old s'.objects s'.frame
+pub record IsSetUp (sc : Context) (old : Objects) (state : State) : Type 0 where
+  pub good : IsGood sc state
+  pub lives : LivesOn old state.objects
+  pub new : AllFrom (length old) state.frame
+  pub ends : EndsBut old state.objects state.frame
 
 abbrev pub SetsUpBy : Context → Objects → Outcome (Unit {0}) → Type 0
 SetsUpBy sc old (Gives a s') = IsSetUp sc old s'

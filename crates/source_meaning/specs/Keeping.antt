@@ -16,11 +16,11 @@ use Rattle.source_meaning.specs.State.{State}
 use Rattle.source_meaning.specs.Actions.{integer}
 
 -- the bytes of an access are bytes of one object
-pub record LiesInObject (objects : Objects) (a : Access) : Type 0 where
+pub record LiesInObject (objects : Objects) (access : Access) : Type 0 where
   pub object : ℕ
   pub made : object < length objects
-  pub start : (object_at objects object).address ≤ a.address
-  pub end : a.address + a.size ≤ (object_at objects object).address + (object_at objects object).size
+  pub start : (object_at objects object).address ≤ access.address
+  pub end : access.address + access.size ≤ (object_at objects object).address + (object_at objects object).size
 
 abbrev pub AllLie : Objects → List Access → Type 0
 AllLie objects [] = Unit {0}
@@ -39,9 +39,9 @@ region_of Automatic = Stack
 region_of Allocated = Heap
 
 -- an object stands in the region of its storage duration, with all bytes that it takes there
-pub record IsInRegion (sizes : MapSizes) (o : ObjectState) : Type 0 where
-  pub start : region_start sizes (region_of o.storage) ≤ o.address
-  pub end : o.address + object_room o.storage o.size ≤ region_end sizes (region_of o.storage)
+pub record IsInRegion (sizes : MapSizes) (object : ObjectState) : Type 0 where
+  pub start : region_start sizes (region_of object.storage) ≤ object.address
+  pub end : object.address + object_room object.storage object.size ≤ region_end sizes (region_of object.storage)
 
 -- each object of the list, a dead one too, stands in its region
 abbrev pub ArePlaced : (sizes : MapSizes) → Objects → Type 0
@@ -53,12 +53,12 @@ AreTagged functions values objects = (x : ℕ) → IsSoundTag functions objects 
 
 -- what holds of the objects, plain values and accesses of a state that a run came to: all tags are sound, live objects
 -- share no address that they take, all stand in their regions, and so end at 0x60000000 at most, where the heap does
-pub record IsSoundState (functions : ℕ) (sizes : MapSizes) (s : State) : Type 0 where
-  pub kept : IsKept functions s.objects s.accesses
-  pub plain : AreTagged functions s.plain s.objects
-  pub apart : AreDisjoint s.objects
-  pub placed : ArePlaced sizes s.objects
-  pub low : (n : ℕ) → (object_at s.objects n).address + (object_at s.objects n).size ≤ 1610612736
+pub record IsSoundState (functions : ℕ) (sizes : MapSizes) (state : State) : Type 0 where
+  pub kept : IsKept functions state.objects state.accesses
+  pub plain : AreTagged functions state.plain state.objects
+  pub apart : AreDisjoint state.objects
+  pub placed : ArePlaced sizes state.objects
+  pub low : (n : ℕ) → (object_at state.objects n).address + (object_at state.objects n).size ≤ 1610612736
 
 -- objects live on that no `free` ends
 pub record LivesOn (old new : Objects) : Type 0 where
@@ -67,18 +67,18 @@ pub record LivesOn (old new : Objects) : Type 0 where
       → (object_at old n).is_live ≡ true → (object_at new n).is_live ≡ true
 
 -- a pointer is to some bytes of a live object
-pub record IsDirect (objects : Objects) (v : Value) (size : ℕ) : Type 0 where
+pub record IsDirect (objects : Objects) (value : Value) (size : ℕ) : Type 0 where
   pub object : ℕ
   pub bounds : Bounds
-  pub tag : v.tag ≡ OfObject object bounds
+  pub tag : value.tag ≡ OfObject object bounds
   pub made : object < length objects
   pub live : (object_at objects object).is_live ≡ true
-  pub start : (object_at objects object).address ≤ v.word
-  pub end : v.word + size ≤ (object_at objects object).address + (object_at objects object).size
+  pub start : (object_at objects object).address ≤ value.word
+  pub end : value.word + size ≤ (object_at objects object).address + (object_at objects object).size
 
 -- of one that no `free` ends
-pub record IsNamed (objects : Objects) (v : Value) (size : ℕ) : Type 0 where
-  pub direct : IsDirect objects v size
+pub record IsNamed (objects : Objects) (value : Value) (size : ℕ) : Type 0 where
+  pub direct : IsDirect objects value size
   pub named : is_allocated (object_at objects direct.object).storage ≡ false
 
 -- Live objects share no address that they take, and stand in their regions: those that no `free` ends lie below the top

@@ -41,9 +41,9 @@ program_pointers p = record {
 }
 
 -- a static object with what its initializer leaves
-pub record IsData (ps : Pointers) (o : StaticObject) (d : StaticData) : Type 0 where
-  pub size : d.size ≡ size_of_kind o.kind
-  pub constant : IsConstant ps o (record { bytes = d.bytes; tags = d.tags })
+pub record IsData (ps : Pointers) (object : StaticObject) (data : StaticData) : Type 0 where
+  pub size : data.size ≡ size_of_kind object.kind
+  pub constant : IsConstant ps object (record { bytes = data.bytes; tags = data.tags })
 
 abbrev pub AreData : Pointers → List StaticObject → List StaticData → Type 0
 AreData ps [] [] = Unit {0}
@@ -67,6 +67,7 @@ OnNotConstant (Err Memory) P = Unit {0}
 OnNotConstant (Err (NotConstant line)) P = P line
 
 -- they are the objects before the run, whatever the budgets
-pub record AreInitial (p : Program) (ds : List StaticData) : Type 0 where
+pub record AreInitial (program : Program) (ds : List StaticData) : Type 0 where
   pub by : (budgets : BudgetSizes)
-      → placed_data (statics_first (setting_of p budgets)) ds 0 ≡ initial_objects p (setting_of p budgets)
+      → placed_data (statics_first (setting_of program budgets)) ds 0 ≡ initial_objects program
+          (setting_of program budgets)

@@ -22,5 +22,5 @@ KeepsLivesBy s (Stands u n temps frames z) = (o : ℕ) → (object_at s.objects 
 KeepsLivesBy s (Over e z) = Unit {0}
 KeepsLivesBy s Stuck = Unit {0}
 
-pub record KeepsLivesAt (s : State) (x : Stage) : Type 0 where
-  pub by : KeepsLivesBy s x
+pub record KeepsLivesAt (state : State) (stage : Stage) : Type 0 where
+  pub by : KeepsLivesBy state stage

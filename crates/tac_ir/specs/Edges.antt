@@ -76,5 +76,5 @@ AlongBy i u frames (Stands v n temps others s) = ((v ≡ u) × LeadsTo i n)
 AlongBy i u frames (Over e s) = Unit {0}
 AlongBy i u frames Stuck = Unit {0}
 
-pub record GoesAlong (i : Instruction) (u : ℕ) (frames : List Frame) (x : Stage) : Type 0 where
-  pub by : AlongBy i u frames x
+pub record GoesAlong (instruction : Instruction) (function : ℕ) (frames : List Frame) (stage : Stage) : Type 0 where
+  pub by : AlongBy instruction function frames stage

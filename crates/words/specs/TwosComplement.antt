@@ -15,9 +15,9 @@ abbrev pub signed : (k x : ℕ) → ℤ
 signed k x = if is_negative k x then pos x -ℤ pos (2 ^ k) else pos x
 
 -- the integers of k bits, from - 2 ^ (k - 1) on
-pub record IsSigned (k : ℕ) (z : ℤ) : Type 0 where
-  pub low : neg_ℤ (pos (2 ^ (k - 1))) ≤ℤ z
-  pub high : z <ℤ pos (2 ^ (k - 1))
+pub record IsSigned (width : ℕ) (integer : ℤ) : Type 0 where
+  pub low : neg_ℤ (pos (2 ^ (width - 1))) ≤ℤ integer
+  pub high : integer <ℤ pos (2 ^ (width - 1))
 
 -- the word that stands for an integer, or for one that differs from it by a multiple of 2 ^ k
 abbrev pub twos_complement : (k : ℕ) → ℤ → ℕ
@@ -36,7 +36,7 @@ abbrev pub sign_extended : (k m x : ℕ) → ℕ
 sign_extended k m x = if is_negative k x then x + (2 ^ m - 2 ^ k) else x
 
 -- a word of k bits, and a width that is no less
-pub record IsExtendable (k m x : ℕ) : Type 0 where
-  pub some : 0 < k
-  pub wide : k ≤ m
-  pub fits : x < 2 ^ k
+pub record IsExtendable (width m x : ℕ) : Type 0 where
+  pub some : 0 < width
+  pub wide : width ≤ m
+  pub fits : x < 2 ^ width

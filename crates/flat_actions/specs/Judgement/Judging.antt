@@ -19,19 +19,20 @@ use Rattle.flat_routines.specs.Metadata.{ShowsNothing}
 use Rattle.flat_routines.specs.Objects.StandsFor.{Views, Keys, Spells, StandsFor}
 
 -- the memory stands for the objects, and registers hold a pointer and a size
-pub record IsToJudge (g : Views) (k : Keys) (objects : Objects) (v : Value) (size : ℕ) (h : Held) (n : ℕ) (s : State)
+pub record IsToJudge (views : Views) (keys : Keys) (objects : Objects) (value : Value) (size : ℕ) (held : Held)
+    (bytes : ℕ) (state : State)
     : Type 0 where
-  pub stands : StandsFor g k objects s.memory
-  pub sound : IsSoundTag g.functions objects v.tag
-  pub spells : Spells g k v h s.values
-  pub size_is : s.values n ≡ size
+  pub stands : StandsFor views keys objects state.memory
+  pub sound : IsSoundTag views.functions objects value.tag
+  pub spells : Spells views keys value held state.values
+  pub size_is : state.values bytes ≡ size
   pub some : 1 ≤ size
 
 -- nothing but registers from scratch on changed
-pub record IsSameBut (scratch : ℕ) (s s' : State) : Type 0 where
-  pub memory : s'.memory ≡ s.memory
-  pub shows : ShowsNothing s s'
-  pub others : OthersStay [] scratch s s'
+pub record IsSameBut (scratch : ℕ) (before after : State) : Type 0 where
+  pub memory : after.memory ≡ before.memory
+  pub shows : ShowsNothing before after
+  pub others : OthersStay [] scratch before after
 
 -- the run is over with an ending
 abbrev pub EndsWith : Ending → (scratch status : ℕ) → (report : List ℕ) → (s s' : State) → Type 0

@@ -19,10 +19,11 @@ use Rattle.flat_actions.specs.Judgement.Judging.{IsSameBut, EndsWith}
 -- ---- what they are given
 
 -- the memory stands for the objects, and registers hold a pointer
-pub record IsToTest (g : Views) (k : Keys) (objects : Objects) (v : Value) (h : Held) (s : State) : Type 0 where
-  pub stands : StandsFor g k objects s.memory
-  pub sound : IsSoundTag g.functions objects v.tag
-  pub spells : Spells g k v h s.values
+pub record IsToTest (views : Views) (keys : Keys) (objects : Objects) (value : Value) (held : Held)
+    (state : State) : Type 0 where
+  pub stands : StandsFor views keys objects state.memory
+  pub sound : IsSoundTag views.functions objects value.tag
+  pub spells : Spells views keys value held state.values
 
 -- an operand is a number, or a register below the first that a routine may use for itself
 abbrev pub IsBelow : (scratch : ℕ) → RightOperand → Type 0

@@ -11,25 +11,25 @@ use Rattle.flat_routines.specs.Metadata.{no_metadata, IsObjectWord}
 use Rattle.flat_routines.specs.Objects.StandsFor.{Views, Keys, IsPlaced, IsLock, global_lock, IsHere, IsTable}
 
 -- lock words, the counter of keys and the table of blocks stay
-pub record KeepsTables (g : Views) (m m' : Bytes) : Type 0 where
-  pub locks : (a : ℕ) → IsLock g.sizes a → load 8 m' a ≡ load 8 m a
-  pub counter : g.counter m' ≡ g.counter m
-  pub blocks : g.blocks m' ≡ g.blocks m
+pub record KeepsTables (views : Views) (before after : Bytes) : Type 0 where
+  pub locks : (a : ℕ) → IsLock views.sizes a → load 8 after a ≡ load 8 before a
+  pub counter : views.counter after ≡ views.counter before
+  pub blocks : views.blocks after ≡ views.blocks before
 
 -- one object became another in its place, and all but its bytes and entries stays
-pub record Changes (g : Views) (k : Keys) (o o' : ObjectState) (m m' : Bytes) : Type 0 where
-  pub here : IsHere g k m' o'
-  pub bytes : (a : ℕ) → a < spaces_begin → (a < o.address) ⊎ (o.address + o.size ≤ a) → m' a ≡ m a
-  pub entries : (a : ℕ) → IsObjectWord g.sizes a → (a < o.address) ⊎ (o.address + o.size ≤ a)
-      → g.entry m' a ≡ g.entry m a
-  pub tables : KeepsTables g m m'
+pub record Changes (views : Views) (keys : Keys) (before after : ObjectState) (m m' : Bytes) : Type 0 where
+  pub here : IsHere views keys m' after
+  pub bytes : (a : ℕ) → a < spaces_begin → (a < before.address) ⊎ (before.address + before.size ≤ a) → m' a ≡ m a
+  pub entries : (a : ℕ) → IsObjectWord views.sizes a → (a < before.address) ⊎ (before.address + before.size ≤ a)
+      → views.entry m' a ≡ views.entry m a
+  pub tables : KeepsTables views m m'
 
 -- bytes were put from an address on, and all else stays
-pub record IsPut (g : Views) (new : List ℕ) (a : ℕ) (m m' : Bytes) : Type 0 where
-  pub there : (i : ℕ) → i < length new → m' (a + i) ≡ get_or new i 0
-  pub beside : (b : ℕ) → b < spaces_begin → (b < a) ⊎ (a + length new ≤ b) → m' b ≡ m b
-  pub entries : (w : ℕ) → IsObjectWord g.sizes w → g.entry m' w ≡ g.entry m w
-  pub tables : KeepsTables g m m'
+pub record IsPut (views : Views) (new : List ℕ) (address : ℕ) (before after : Bytes) : Type 0 where
+  pub there : (i : ℕ) → i < length new → after (address + i) ≡ get_or new i 0
+  pub beside : (b : ℕ) → b < spaces_begin → (b < address) ⊎ (address + length new ≤ b) → after b ≡ before b
+  pub entries : (w : ℕ) → IsObjectWord views.sizes w → views.entry after w ≡ views.entry before w
+  pub tables : KeepsTables views before after
 
 -- whether the word at an address is moved with a range from s to d
 abbrev pub IsMovedWord : (size d s w : ℕ) → Type 0
@@ -39,64 +39,66 @@ abbrev pub IsKeptWord : (size d s w : ℕ) → Type 0
 IsKeptWord size d s w = (d % 8 ≢ s % 8) ⊎ ((w < d) ⊎ (d + size < w + 8))
 
 -- a range of bytes was moved from s to d, with the entries of its whole words where both are equal modulo 8
-pub record IsMoved (g : Views) (size d s : ℕ) (m m' : Bytes) : Type 0 where
-  pub there : (i : ℕ) → i < size → m' (d + i) ≡ m (s + i)
-  pub beside : (a : ℕ) → a < spaces_begin → (a < d) ⊎ (d + size ≤ a) → m' a ≡ m a
-  pub entries : (w : ℕ) → IsObjectWord g.sizes w → IsMovedWord size d s w → g.entry m' w ≡ g.entry m (w - d + s)
-  pub others : (w : ℕ) → IsObjectWord g.sizes w → IsKeptWord size d s w → g.entry m' w ≡ g.entry m w
-  pub tables : KeepsTables g m m'
+pub record IsMoved (views : Views) (size d s : ℕ) (before after : Bytes) : Type 0 where
+  pub there : (i : ℕ) → i < size → after (d + i) ≡ before (s + i)
+  pub beside : (a : ℕ) → a < spaces_begin → (a < d) ⊎ (d + size ≤ a) → after a ≡ before a
+  pub entries : (w : ℕ) → IsObjectWord views.sizes w → IsMovedWord size d s w
+      → views.entry after w ≡ views.entry before (w - d + s)
+  pub others : (w : ℕ) → IsObjectWord views.sizes w → IsKeptWord size d s w → views.entry after w ≡ views.entry before w
+  pub tables : KeepsTables views before after
 
 -- bytes, entries and lock words but one are as they were for all that was live
-pub record KeepsLive (g : Views) (objects : Objects) (lock : ℕ) (m m' : Bytes) : Type 0 where
+pub record KeepsLive (views : Views) (objects : Objects) (lock : ℕ) (before after : Bytes) : Type 0 where
   pub bytes : (n : ℕ) → (object_at objects n).is_live ≡ true → (j : ℕ) → j < (object_at objects n).size
-      → m' ((object_at objects n).address + j) ≡ m ((object_at objects n).address + j)
+      → after ((object_at objects n).address + j) ≡ before ((object_at objects n).address + j)
   pub entries : (n : ℕ) → (object_at objects n).is_live ≡ true → (w : ℕ) → w < (object_at objects n).size / 8
-      → g.entry m' ((object_at objects n).address + 8 * w) ≡ g.entry m ((object_at objects n).address + 8 * w)
-  pub locks : (a : ℕ) → IsLock g.sizes a → a ≢ lock → load 8 m' a ≡ load 8 m a
+      → views.entry after ((object_at objects n).address + 8 * w) ≡ views.entry before
+      ((object_at objects n).address + 8 * w)
+  pub locks : (a : ℕ) → IsLock views.sizes a → a ≢ lock → load 8 after a ≡ load 8 before a
 
 -- a new object, of zero bytes and no tags, in memory too
-pub record IsFresh (g : Views) (m : Bytes) (o : ObjectState) : Type 0 where
-  pub storage : o.storage ≢ Static
-  pub placed : IsPlaced g.sizes o
-  pub live : o.is_live ≡ true
-  pub zeros : (j : ℕ) → get_or o.bytes j 0 ≡ 0
-  pub no_tags : (w : ℕ) → get_or o.tags w Untagged ≡ Untagged
-  pub bytes : (j : ℕ) → j < o.size → m (o.address + j) ≡ 0
-  pub entries : (w : ℕ) → w < o.size / 8 → g.entry m (o.address + 8 * w) ≡ no_metadata
+pub record IsFresh (views : Views) (memory : Bytes) (object : ObjectState) : Type 0 where
+  pub storage : object.storage ≢ Static
+  pub placed : IsPlaced views.sizes object
+  pub live : object.is_live ≡ true
+  pub zeros : (j : ℕ) → get_or object.bytes j 0 ≡ 0
+  pub no_tags : (w : ℕ) → get_or object.tags w Untagged ≡ Untagged
+  pub bytes : (j : ℕ) → j < object.size → memory (object.address + j) ≡ 0
+  pub entries : (w : ℕ) → w < object.size / 8 → views.entry memory (object.address + 8 * w) ≡ no_metadata
 
 -- Objects were made under a lock word that none used, with the next key. All of an entered block are made at once.
-pub record AreBorn (g : Views) (k k' : Keys) (old new : Objects) (lock : ℕ) (m m' : Bytes) : Type 0 where
+pub record AreBorn (views : Views) (before after : Keys) (old new : Objects) (lock : ℕ) (m m' : Bytes) : Type 0 where
   pub some : length old < length new
   pub same : (n : ℕ) → n < length old → object_at new n ≡ object_at old n
-  pub fresh : (n : ℕ) → length old ≤ n → n < length new → IsFresh g m' (object_at new n)
-  pub sound : IsSound g.functions new
+  pub fresh : (n : ℕ) → length old ≤ n → n < length new → IsFresh views m' (object_at new n)
+  pub sound : IsSound views.functions new
   pub disjoint : AreDisjoint new
   pub alone : (n : ℕ) → length old ≤ n → n < length new → (object_at new n).storage ≡ Allocated
       → length new ≡ suc (length old)
-  pub made : k'.made ≡ suc k.made
-  pub own : (n : ℕ) → n < length old → k'.own n ≡ k.own n
-  pub held : (n : ℕ) → n < length old → k'.held n ≡ k.held n
-  pub new_own : (n : ℕ) → length old ≤ n → k'.own n ≡ k.made
-  pub new_held : (n : ℕ) → length old ≤ n → k'.held n ≡ record { key = 2 + k.made; lock = lock }
-  pub lock_word : IsLock g.sizes lock
-  pub not_global : lock ≢ global_lock g.sizes
-  pub free : (n : ℕ) → (object_at old n).is_live ≡ true → (k.held n).lock ≢ lock
-  pub locked : load 8 m' lock ≡ 2 + k.made
-  pub counter : g.counter m' ≡ 2 + k'.made
-  pub keeps : KeepsLive g old lock m m'
-  pub table : IsTable k' new (g.blocks m')
+  pub made : after.made ≡ suc before.made
+  pub own : (n : ℕ) → n < length old → after.own n ≡ before.own n
+  pub held : (n : ℕ) → n < length old → after.held n ≡ before.held n
+  pub new_own : (n : ℕ) → length old ≤ n → after.own n ≡ before.made
+  pub new_held : (n : ℕ) → length old ≤ n → after.held n ≡ record { key = 2 + before.made; lock = lock }
+  pub lock_word : IsLock views.sizes lock
+  pub not_global : lock ≢ global_lock views.sizes
+  pub free : (n : ℕ) → (object_at old n).is_live ≡ true → (before.held n).lock ≢ lock
+  pub locked : load 8 m' lock ≡ 2 + before.made
+  pub counter : views.counter m' ≡ 2 + after.made
+  pub keeps : KeepsLive views old lock m m'
+  pub table : IsTable after new (views.blocks m')
 
 -- all objects under a lock word died
-pub record AreDead (g : Views) (k : Keys) (old new : Objects) (lock : ℕ) (m m' : Bytes) : Type 0 where
+pub record AreDead (views : Views) (keys : Keys) (old new : Objects) (lock : ℕ) (before after : Bytes) : Type 0 where
   pub count : length new ≡ length old
   pub at : (n : ℕ) → (object_at new n ≡ object_at old n)
       ⊎ (object_at new n ≡ record (object_at old n) { is_live = false })
-  pub gone : (n : ℕ) → (object_at new n).is_live ≡ true → (k.held n).lock ≢ lock
-  pub stays : (n : ℕ) → (object_at old n).is_live ≡ true → (k.held n).lock ≢ lock → object_at new n ≡ object_at old n
-  pub sound : IsSound g.functions new
+  pub gone : (n : ℕ) → (object_at new n).is_live ≡ true → (keys.held n).lock ≢ lock
+  pub stays : (n : ℕ) → (object_at old n).is_live ≡ true → (keys.held n).lock ≢ lock → object_at new n ≡ object_at old n
+  pub sound : IsSound views.functions new
   pub disjoint : AreDisjoint new
-  pub not_global : lock ≢ global_lock g.sizes
-  pub free : load 8 m' lock ≡ 0
-  pub counter : g.counter m' ≡ g.counter m
-  pub keeps : KeepsLive g old lock m m'
-  pub table : IsTable k new (g.blocks m')
+  pub not_global : lock ≢ global_lock views.sizes
+  pub free : load 8 after lock ≡ 0
+  pub counter : views.counter after ≡ views.counter before
+  pub keeps : KeepsLive views old lock before after
+  pub table : IsTable keys new (views.blocks after)

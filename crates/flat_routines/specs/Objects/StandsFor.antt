@@ -53,83 +53,85 @@ spell g k (OfFunction f) =
 spell g k (OfObject n b) = record { base = b.base; bound = b.bound; key = (k.held n).key; lock = (k.held n).lock }
 
 -- registers hold a value and its tag: the companions of a pointer variable and of a temporary
-pub record Spells (g : Views) (k : Keys) (v : Value) (h : Held) (values : Values) : Type 0 where
-  pub word : values h.value ≡ v.word
-  pub tag : metadata_in values h.tag ≡ spell g k v.tag
+pub record Spells (views : Views) (keys : Keys) (value : Value) (held : Held) (values : Values) : Type 0 where
+  pub word : values held.value ≡ value.word
+  pub tag : metadata_in values held.tag ≡ spell views keys value.tag
 
 -- ---- the objects and their keys, whatever the memory
 
 -- a live object lies in object space
-pub record IsPlaced (map : MapSizes) (o : ObjectState) : Type 0 where
-  pub first : objects_begin ≤ o.address
-  pub last : o.address + o.size ≤ region_end map Heap
+pub record IsPlaced (map : MapSizes) (object : ObjectState) : Type 0 where
+  pub first : objects_begin ≤ object.address
+  pub last : object.address + object.size ≤ region_end map Heap
 
 -- a lock word, and the one of all static objects
-pub record IsLock (map : MapSizes) (a : ℕ) : Type 0 where
-  pub first : region_start map Locks ≤ a
-  pub last : a + 8 ≤ region_start map Locks + 8 * lock_count map
-  pub aligned : a % 8 ≡ 0
+pub record IsLock (map : MapSizes) (address : ℕ) : Type 0 where
+  pub first : region_start map Locks ≤ address
+  pub last : address + 8 ≤ region_start map Locks + 8 * lock_count map
+  pub aligned : address % 8 ≡ 0
 
 abbrev pub global_lock : MapSizes → ℕ
 global_lock map = region_start map Locks
 
 -- static objects have key 1 and the global lock word; every other has the key that was made for it, counted from 2, and
 -- another lock word
-pub record IsKeyed (map : MapSizes) (k : Keys) (n : ℕ) (o : ObjectState) : Type 0 where
-  pub lock : IsLock map (k.held n).lock
-  pub static : o.storage ≡ Static → ((k.held n).key ≡ 1) × ((k.held n).lock ≡ global_lock map)
-  pub other : o.storage ≢ Static
-      → ((k.held n).key ≡ 2 + k.own n) × (k.own n < k.made) × ((k.held n).lock ≢ global_lock map)
+pub record IsKeyed (map : MapSizes) (keys : Keys) (count : ℕ) (object : ObjectState) : Type 0 where
+  pub lock : IsLock map (keys.held count).lock
+  pub static : object.storage ≡ Static → ((keys.held count).key ≡ 1) × ((keys.held count).lock ≡ global_lock map)
+  pub other : object.storage ≢ Static
+      → ((keys.held count).key ≡ 2 + keys.own count) × (keys.own count < keys.made) ×
+      ((keys.held count).lock ≢ global_lock map)
 
-pub record AreKeyed (map : MapSizes) (k : Keys) (objects : Objects) : Type 0 where
-  pub each : (n : ℕ) → n < length objects → IsKeyed map k n (object_at objects n)
+pub record AreKeyed (map : MapSizes) (keys : Keys) (objects : Objects) : Type 0 where
+  pub each : (n : ℕ) → n < length objects → IsKeyed map keys n (object_at objects n)
   -- a block of the heap shares its key with no object
   pub alone : (n j : ℕ) → n < length objects → j < length objects → n ≢ j → (object_at objects n).storage ≡ Allocated
-      → (k.held n).key ≢ (k.held j).key
+      → (keys.held n).key ≢ (keys.held j).key
 
 -- ---- the memory
 
 -- the bytes of a live object, and the entries of its whole words
-pub record IsHere (g : Views) (k : Keys) (m : Bytes) (o : ObjectState) : Type 0 where
-  pub bytes : (j : ℕ) → j < o.size → m (o.address + j) ≡ get_or o.bytes j 0
-  pub tags : (w : ℕ) → w < o.size / 8 → g.entry m (o.address + 8 * w) ≡ spell g k (get_or o.tags w Untagged)
+pub record IsHere (views : Views) (keys : Keys) (memory : Bytes) (object : ObjectState) : Type 0 where
+  pub bytes : (j : ℕ) → j < object.size → memory (object.address + j) ≡ get_or object.bytes j 0
+  pub tags : (w : ℕ) → w < object.size / 8 → views.entry memory (object.address + 8 * w) ≡ spell views keys
+      (get_or object.tags w Untagged)
 
 -- A lock word holds the key of an object exactly where that object is live. The global one holds 1, and one that no
 -- live
 -- object uses 0.
-pub record AreLocked (map : MapSizes) (k : Keys) (objects : Objects) (m : Bytes) : Type 0 where
-  pub live : (n : ℕ) → (object_at objects n).is_live ≡ true → load 8 m (k.held n).lock ≡ (k.held n).key
+pub record AreLocked (map : MapSizes) (keys : Keys) (objects : Objects) (memory : Bytes) : Type 0 where
+  pub live : (n : ℕ) → (object_at objects n).is_live ≡ true → load 8 memory (keys.held n).lock ≡ (keys.held n).key
   pub dead : (n : ℕ) → n < length objects → (object_at objects n).is_live ≡ false
-      → load 8 m (k.held n).lock ≢ (k.held n).key
-  pub global : load 8 m (global_lock map) ≡ 1
+      → load 8 memory (keys.held n).lock ≢ (keys.held n).key
+  pub global : load 8 memory (global_lock map) ≡ 1
   pub unused : (a : ℕ) → IsLock map a → a ≢ global_lock map
-      → ((n : ℕ) → (object_at objects n).is_live ≡ true → (k.held n).lock ≢ a) → load 8 m a ≡ 0
+      → ((n : ℕ) → (object_at objects n).is_live ≡ true → (keys.held n).lock ≢ a) → load 8 memory a ≡ 0
 
 abbrev pub no_row : BlockRow
 no_row = record { start = 0; size = 0; key = 0 }
 
 -- a row is that of a live block
-pub record IsRowOf (k : Keys) (objects : Objects) (row : BlockRow) (n : ℕ) : Type 0 where
-  pub live : (object_at objects n).is_live ≡ true
-  pub block : (object_at objects n).storage ≡ Allocated
-  pub start : row.start ≡ (object_at objects n).address
-  pub size : row.size ≡ (object_at objects n).size
-  pub key : row.key ≡ (k.held n).key
+pub record IsRowOf (keys : Keys) (objects : Objects) (row : BlockRow) (count : ℕ) : Type 0 where
+  pub live : (object_at objects count).is_live ≡ true
+  pub block : (object_at objects count).storage ≡ Allocated
+  pub start : row.start ≡ (object_at objects count).address
+  pub size : row.size ≡ (object_at objects count).size
+  pub key : row.key ≡ (keys.held count).key
 
 -- the rows are those of the live blocks, by address
-pub record IsTable (k : Keys) (objects : Objects) (rows : List BlockRow) : Type 0 where
+pub record IsTable (keys : Keys) (objects : Objects) (rows : List BlockRow) : Type 0 where
   pub by_address : (i j : ℕ) → i < j → j < length rows → (get_or rows i no_row).start < (get_or rows j no_row).start
-  pub block_of : (i : ℕ) → i < length rows → (n : ℕ) × IsRowOf k objects (get_or rows i no_row) n
+  pub block_of : (i : ℕ) → i < length rows → (n : ℕ) × IsRowOf keys objects (get_or rows i no_row) n
   pub row_of : (n : ℕ) → (object_at objects n).is_live ≡ true → (object_at objects n).storage ≡ Allocated
-      → (i : ℕ) × (i < length rows) × IsRowOf k objects (get_or rows i no_row) n
+      → (i : ℕ) × (i < length rows) × IsRowOf keys objects (get_or rows i no_row) n
 
 -- The memory stands for the objects.
-pub record StandsFor (g : Views) (k : Keys) (objects : Objects) (m : Bytes) : Type 0 where
-  pub sound : IsSound g.functions objects
+pub record StandsFor (views : Views) (keys : Keys) (objects : Objects) (memory : Bytes) : Type 0 where
+  pub sound : IsSound views.functions objects
   pub disjoint : AreDisjoint objects
-  pub placed : (n : ℕ) → (object_at objects n).is_live ≡ true → IsPlaced g.sizes (object_at objects n)
-  pub keyed : AreKeyed g.sizes k objects
-  pub here : (n : ℕ) → (object_at objects n).is_live ≡ true → IsHere g k m (object_at objects n)
-  pub locks : AreLocked g.sizes k objects m
-  pub counted : g.counter m ≡ 2 + k.made
-  pub table : IsTable k objects (g.blocks m)
+  pub placed : (n : ℕ) → (object_at objects n).is_live ≡ true → IsPlaced views.sizes (object_at objects n)
+  pub keyed : AreKeyed views.sizes keys objects
+  pub here : (n : ℕ) → (object_at objects n).is_live ≡ true → IsHere views keys memory (object_at objects n)
+  pub locks : AreLocked views.sizes keys objects memory
+  pub counted : views.counter memory ≡ 2 + keys.made
+  pub table : IsTable keys objects (views.blocks memory)

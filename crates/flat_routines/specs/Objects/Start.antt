@@ -13,14 +13,14 @@ start_keys g = record { made = 0; own = λ n. 0; held = λ n. record { key = 1; 
 -- All objects are static and live and stand in the memory with their bytes and entries. The global lock word holds 1
 -- and
 -- every other 0, the counter of keys is 2, and no block is live.
-pub record IsStart (g : Views) (objects : Objects) (m : Bytes) : Type 0 where
-  pub sound : IsSound g.functions objects
+pub record IsStart (views : Views) (objects : Objects) (memory : Bytes) : Type 0 where
+  pub sound : IsSound views.functions objects
   pub disjoint : AreDisjoint objects
   pub static : (n : ℕ) → (object_at objects n).storage ≡ Static
   pub live : (n : ℕ) → n < length objects → (object_at objects n).is_live ≡ true
-  pub placed : (n : ℕ) → n < length objects → IsPlaced g.sizes (object_at objects n)
-  pub here : (n : ℕ) → n < length objects → IsHere g (start_keys g) m (object_at objects n)
-  pub global : load 8 m (global_lock g.sizes) ≡ 1
-  pub unused : (a : ℕ) → IsLock g.sizes a → a ≢ global_lock g.sizes → load 8 m a ≡ 0
-  pub counter : g.counter m ≡ 2
-  pub blocks : g.blocks m ≡ []
+  pub placed : (n : ℕ) → n < length objects → IsPlaced views.sizes (object_at objects n)
+  pub here : (n : ℕ) → n < length objects → IsHere views (start_keys views) memory (object_at objects n)
+  pub global : load 8 memory (global_lock views.sizes) ≡ 1
+  pub unused : (a : ℕ) → IsLock views.sizes a → a ≢ global_lock views.sizes → load 8 memory a ≡ 0
+  pub counter : views.counter memory ≡ 2
+  pub blocks : views.blocks memory ≡ []

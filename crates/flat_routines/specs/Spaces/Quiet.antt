@@ -11,9 +11,9 @@ use Rattle.flat_meaning.specs.Meaning.{Context, address_in}
 use Rattle.flat_routines.specs.Effects.{effect}
 
 -- so many bytes from an address on lie in the spaces of the runtime
-pub record IsInSpaces (c : Context) (a n : ℕ) : Type 0 where
-  pub begins : spaces_begin ≤ a
-  pub ends : a + n ≤ region_end c.sizes Cells
+pub record IsInSpaces (context : Context) (address count : ℕ) : Type 0 where
+  pub begins : spaces_begin ≤ address
+  pub ends : address + count ≤ region_end context.sizes Cells
 
 -- an instruction computes, or loads or stores there
 abbrev pub IsQuiet : Context → FlatInstruction → State → Type 0

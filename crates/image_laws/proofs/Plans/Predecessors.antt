@@ -39,7 +39,8 @@ use Rattle.image_laws.proofs.Plans.Flow.{Flow, one_is, one_has, reads_nothing, n
 use Rattle.image_laws.proofs.Plans.Flow.{flow_leads}
 use Rattle.image_laws.proofs.Plans.Roles.{Role, OfVariable, variable_role, temporary_role, variable_count}
 use Rattle.image_laws.proofs.Plans.Blocks.{Last, Needs, NeedsRight, NeedsArgument, block_flow}
-use Rattle.image_laws.proofs.Plans.Places.{get_append, get_left, get_right, has_get, jump_onward, jump_makes, jump_reads}
+use Rattle.image_laws.proofs.Plans.Places.{get_append, get_left, get_right, has_get, jump_onward, jump_makes}
+use Rattle.image_laws.proofs.Plans.Places.{jump_reads}
 use Rattle.image_laws.proofs.Plans.Places.{IsWay, jumps_at, IsJumped, entry_jumped, way_jumped, IsOfNode, body_at}
 use Rattle.image_laws.proofs.Plans.Places.{part_has}
 

@@ -24,7 +24,8 @@ use Rattle.metadata_expansion.specs.Homes.{homes}
 use Rattle.metadata_expansion.specs.Numbers.{AreSmall, AreAllSmall}
 use Rattle.metadata_plan.specs.OperatorLists.Operators.{operators}
 use Rattle.program_lowering.specs.ProgramCode.Weights.{codes_weight}
-use Rattle.image_laws.specs.CodeSizes.Sizes.{constant_words, instruction_words, body_words, most_words, most_if, most_below}
+use Rattle.image_laws.specs.CodeSizes.Sizes.{constant_words, instruction_words, body_words, most_words, most_if}
+use Rattle.image_laws.specs.CodeSizes.Sizes.{most_below}
 use Rattle.image_laws.proofs.Sizes.Words.{words, frame_words}
 use Rattle.image_laws.proofs.Sizes.Numbers.{few_constant, short_constant}
 use Rattle.image_laws.proofs.Sizes.Operators.{words_append}

@@ -16,7 +16,8 @@ use Rattle.c_tree.specs.Statements.{Statements, no_statements, statements, Switc
 use Rattle.c_tree.specs.Valid.{Scope, within, is_condition}
 use Rattle.c_tree.specs.ValidProgram as valid
 use Rattle.program_lowering.specs.StatementParts.Objects.{is_object, any_object}
-use Rattle.program_lowering.specs.StatementParts.Weights.{declared_weight, first_weight, condition_weight, part_weight, weight_where}
+use Rattle.program_lowering.specs.StatementParts.Weights.{declared_weight, first_weight, condition_weight, part_weight}
+use Rattle.program_lowering.specs.StatementParts.Weights.{weight_where}
 use Rattle.program_lowering.specs.StatementParts.Weights.{objects_weight}
 use Rattle.program_lowering.proofs.StatementParts.Opened.{any_is}
 use Rattle.program_lowering.specs.StatementCode.Weights.{labels_weight, statement_weight, each_weight, items_weight}

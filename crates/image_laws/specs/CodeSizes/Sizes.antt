@@ -100,7 +100,7 @@ more_words p r (flat.End e) = 2 * length (report_of e)
 more_words p r i = 0
 
 -- no call hands over more than so many values, and none gives back more; no report takes more words than such a call
-pub record HandsOver (p : FlatProgram) (values : ℕ) : Type 0 where
-  pub parameters : (f : ℕ) (g : FlatFunction) → function_in p f ≡ Some g → g.parameters ≤ values
-  pub each : (f pc : ℕ) (i : FlatInstruction) → instruction_at p f pc ≡ Some i
-      → more_words p (results_of (function_in p f)) i ≤ 84 + 12 * values
+pub record HandsOver (program : FlatProgram) (values : ℕ) : Type 0 where
+  pub parameters : (f : ℕ) (g : FlatFunction) → function_in program f ≡ Some g → g.parameters ≤ values
+  pub each : (f pc : ℕ) (i : FlatInstruction) → instruction_at program f pc ≡ Some i
+      → more_words program (results_of (function_in program f)) i ≤ 84 + 12 * values

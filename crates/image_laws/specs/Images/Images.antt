@@ -23,23 +23,23 @@ use Rattle.rv_sim.specs.Start.{start_of}
 abbrev pub most_parameters : ℕ
 most_parameters = 127
 
-pub record HaveFewParameters (p : Program) : Type 0 where
-  pub each : (u : ℕ) (f : Function) → function_at p.functions u ≡ Some f → length f.parameters ≤ most_parameters
+pub record HaveFewParameters (program : Program) : Type 0 where
+  pub each : (u : ℕ) (f : Function) → function_at program.functions u ≡ Some f → length f.parameters ≤ most_parameters
 
 -- the sizes of the map of a program: budgets, and the bytes of its static objects
 abbrev pub sizes_of : Program → BudgetSizes → MapSizes
 sizes_of p budgets = (setting_of p budgets).sizes
 
 -- the code of a program, lowered and with its checks put in
-pub record IsChecked (p : Program) (r : Tac) : Type 0 where
+pub record IsChecked (program : Program) (code : Tac) : Type 0 where
   pub lowered : Tac
-  pub is_lowered : IsLowered p lowered
-  pub inserted : Inserted lowered r
+  pub is_lowered : IsLowered program lowered
+  pub inserted : Inserted lowered code
 
 -- its flat code, which checked code with numbers that fit expands to
-pub record IsFlat (p : Program) (map : MapSizes) (code : FlatProgram) : Type 0 where
+pub record IsFlat (program : Program) (map : MapSizes) (code : FlatProgram) : Type 0 where
   pub checked : Tac
-  pub is_checked : IsChecked p checked
+  pub is_checked : IsChecked program checked
   pub small : AreAllSmall map checked
   pub expanded : code ≡ program_of operators map checked homes
 
@@ -57,10 +57,10 @@ abbrev pub most_bytes : ℕ
 most_bytes = 67108864
 
 -- The image can be read, and its machine shows what the program means, on each input.
-pub record DoesWhatIsMeant (p : Program) (budgets : BudgetSizes) (file : List ℕ) : Type 0 where
+pub record DoesWhatIsMeant (program : Program) (budgets : BudgetSizes) (file : List ℕ) : Type 0 where
   pub size : length file ≤ most_bytes
   pub readable : image_fault file ≡ None
   pub follows : (input : List ℕ)
-      → Follows cost (meaning p budgets input) (behaviour (start_of (content_of file)) input)
+      → Follows cost (meaning program budgets input) (behaviour (start_of (content_of file)) input)
   pub faithful : (input : List ℕ)
-      → Faithful promised_cost (meaning p budgets input) (behaviour (start_of (content_of file)) input)
+      → Faithful promised_cost (meaning program budgets input) (behaviour (start_of (content_of file)) input)

@@ -11,7 +11,8 @@ ghost use Rattle.reg_plan.specs.Tests.{AreAccepted};
 ghost use Rattle.machine_laws.specs.Segments.Segments.{function_words, code_bytes};
 ghost use Rattle.rv_codegen.specs.declared.code.GenerateError.TheVariants.{TooLarge};
 ghost use Rattle.rv_codegen.specs.Generated.{IsCause};
-ghost use Rattle.image_laws.specs.CodeSizes.Sizes.{instruction_words, more_words, most_words, most_below, instructions_below};
+ghost use Rattle.image_laws.specs.CodeSizes.Sizes.{instruction_words, more_words, most_words, most_below};
+ghost use Rattle.image_laws.specs.CodeSizes.Sizes.{instructions_below};
 ghost use Rattle.image_laws.specs.CodeSizes.Sizes.{HandsOver};
 
 /// The code of a function has at most the words of its instructions, each by its kind and its numbers, six for each

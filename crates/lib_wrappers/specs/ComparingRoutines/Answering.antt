@@ -11,17 +11,18 @@ use Rattle.flat_routines.specs.Objects.StandsFor.{Views, Keys}
 use Rattle.flat_actions.specs.Actions.{Holder, IsGivenIn}
 
 -- only work was done in the source
-pub record IsWorking (x x' : Source) : Type 0 where
+pub record IsWorking (before after : Source) : Type 0 where
   pub work : ℕ
-  pub same : x' ≡ at_work work x
+  pub same : after ≡ at_work work before
 
 -- it went on: a value is held, and nothing but registers changed
-pub record HasAnswered (g : Views) (k : Keys) (result : Holder) (x : Source) (f : State) (v : Value) (x' : Source)
+pub record HasAnswered (views : Views) (keys : Keys) (result : Holder) (before : Source) (f : State) (value : Value)
+    (after : Source)
     (f' : State) : Type 0 where
-  pub source : IsWorking x x'
+  pub source : IsWorking before after
   pub memory : f'.memory ≡ f.memory
   pub shows : ShowsNothing f f'
-  pub given : IsGivenIn g k result v f'.values
+  pub given : IsGivenIn views keys result value f'.values
 
 -- just as the run of the source does
 abbrev pub IsAnswered : Views → Keys → (result : Holder) → Source → State → Completed Value → Outcome → Type 0

@@ -38,27 +38,28 @@ pub record Cells : Type 1 where
   pub Changes : Bytes → Bytes → Type 0
   pub IsGood : Bytes → Type 0
 
-pub record AreCells (q : Cells) : Type 0 where
-  pub known : (a : ℕ) → q.IsCell a → q.IsKnown a
-  pub same : (m : Bytes) → q.Changes m m
-  pub both : (m m1 m2 : Bytes) → q.Changes m m1 → q.Changes m1 m2 → q.Changes m m2
+pub record AreCells (cells : Cells) : Type 0 where
+  pub known : (a : ℕ) → cells.IsCell a → cells.IsKnown a
+  pub same : (m : Bytes) → cells.Changes m m
+  pub both : (m m1 m2 : Bytes) → cells.Changes m m1 → cells.Changes m1 m2 → cells.Changes m m2
 
 -- ---- one cell
 
 -- The registers of the loop, from its first one on: how many cells are left, where to, where from, the step from one
 -- cell to the next; those behind are the body's.
-pub record HasCopied (q : Cells) (t : ℕ) (s s' : State) : Type 0 where
-  pub copied : q.content s'.memory (s.values (t + 1)) ≡ q.content s.memory (s.values (t + 2))
-  pub stays : (a : ℕ) → q.IsKnown a → a ≢ s.values (t + 1) → q.content s'.memory a ≡ q.content s.memory a
-  pub changes : q.Changes s.memory s'.memory
-  pub good : q.IsGood s'.memory
-  pub shows : ShowsNothing s s'
-  pub others : OthersStay [] (t + 4) s s'
+pub record HasCopied (cells : Cells) (t : ℕ) (before after : State) : Type 0 where
+  pub copied : cells.content after.memory (before.values (t + 1)) ≡ cells.content before.memory (before.values (t + 2))
+  pub stays : (a : ℕ) → cells.IsKnown a → a ≢ before.values (t + 1)
+      → cells.content after.memory a ≡ cells.content before.memory a
+  pub changes : cells.Changes before.memory after.memory
+  pub good : cells.IsGood after.memory
+  pub shows : ShowsNothing before after
+  pub others : OthersStay [] (t + 4) before after
 
-pub record IsToCopy (q : Cells) (t : ℕ) (s : State) : Type 0 where
-  pub to_cell : q.IsCell (s.values (t + 1))
-  pub from_cell : q.IsCell (s.values (t + 2))
-  pub good : q.IsGood s.memory
+pub record IsToCopy (cells : Cells) (t : ℕ) (state : State) : Type 0 where
+  pub to_cell : cells.IsCell (state.values (t + 1))
+  pub from_cell : cells.IsCell (state.values (t + 2))
+  pub good : cells.IsGood state.memory
 
 -- a body copies one cell within so many steps
 abbrev pub CopiesOne : Context → Cells → (t steps : ℕ) → List FlatInstruction → Type 0
@@ -98,27 +99,29 @@ move_cells z t body = choose_order (unit_of z) (shift_of z) t ++ copy_loop t bod
 -- ---- what it does
 
 -- so many cells from two addresses on
-pub record AreRanges (z : CellSize) (IsCell : ℕ → Type 0) (n d s : ℕ) : Type 0 where
-  pub to_cells : (j : ℕ) → j < n → IsCell (d + unit_of z * j)
-  pub from_cells : (j : ℕ) → j < n → IsCell (s + unit_of z * j)
-  pub to_small : 0 < n → d + unit_of z * n < 2 ^ 63
-  pub from_small : 0 < n → s + unit_of z * n < 2 ^ 63
+pub record AreRanges (size : CellSize) (IsCell : ℕ → Type 0) (n d s : ℕ) : Type 0 where
+  pub to_cells : (j : ℕ) → j < n → IsCell (d + unit_of size * j)
+  pub from_cells : (j : ℕ) → j < n → IsCell (s + unit_of size * j)
+  pub to_small : 0 < n → d + unit_of size * n < 2 ^ 63
+  pub from_small : 0 < n → s + unit_of size * n < 2 ^ 63
 
-pub record IsToMoveCells (q : Cells) (n d s t : ℕ) (x : State) : Type 0 where
-  pub left : x.values t ≡ n
-  pub to_is : x.values (t + 1) ≡ d
-  pub from_is : x.values (t + 2) ≡ s
-  pub ranges : AreRanges q.size q.IsCell n d s
-  pub good : q.IsGood x.memory
+pub record IsToMoveCells (cells : Cells) (n d s t : ℕ) (state : State) : Type 0 where
+  pub left : state.values t ≡ n
+  pub to_is : state.values (t + 1) ≡ d
+  pub from_is : state.values (t + 2) ≡ s
+  pub ranges : AreRanges cells.size cells.IsCell n d s
+  pub good : cells.IsGood state.memory
 
 -- the cells were moved as by memmove, and no other changed
-pub record AreMovedCells (q : Cells) (n d s : ℕ) (m m' : Bytes) : Type 0 where
-  pub moved : (j : ℕ) → j < n → q.content m' (d + unit_of q.size * j) ≡ q.content m (s + unit_of q.size * j)
-  pub stays : (a : ℕ) → q.IsKnown a → ((j : ℕ) → j < n → a ≢ d + unit_of q.size * j) → q.content m' a ≡ q.content m a
+pub record AreMovedCells (cells : Cells) (n d s : ℕ) (before after : Bytes) : Type 0 where
+  pub moved : (j : ℕ) → j < n → cells.content after (d + unit_of cells.size * j) ≡ cells.content before
+      (s + unit_of cells.size * j)
+  pub stays : (a : ℕ) → cells.IsKnown a → ((j : ℕ) → j < n → a ≢ d + unit_of cells.size * j)
+      → cells.content after a ≡ cells.content before a
 
-pub record HasMovedCells (q : Cells) (n d s t : ℕ) (x y : State) : Type 0 where
-  pub cells : AreMovedCells q n d s x.memory y.memory
-  pub changes : q.Changes x.memory y.memory
-  pub good : q.IsGood y.memory
-  pub shows : ShowsNothing x y
-  pub others : OthersStay [] t x y
+pub record HasMovedCells (q : Cells) (n d s t : ℕ) (before after : State) : Type 0 where
+  pub cells : AreMovedCells q n d s before.memory after.memory
+  pub changes : q.Changes before.memory after.memory
+  pub good : q.IsGood after.memory
+  pub shows : ShowsNothing before after
+  pub others : OthersStay [] t before after

@@ -10,9 +10,9 @@ use Rattle.flat_routines.specs.declared.registers.Held.{Held}
 use Rattle.flat_actions.specs.Actions.{Basis, Nowhere, Pointer, IsActionIn}
 
 -- both pointers are to so many bytes of live objects
-pub record AreDirect (size : ℕ) (x : Source) (vs : List Value) : Type 0 where
-  pub to : IsDirect x.objects (argument 0 vs) size
-  pub from : IsDirect x.objects (argument 1 vs) size
+pub record AreDirect (size : ℕ) (source : Source) (vs : List Value) : Type 0 where
+  pub to : IsDirect source.objects (argument 0 vs) size
+  pub from : IsDirect source.objects (argument 1 vs) size
 
 -- A structure of so many bytes is moved from one object that its pointer names to another, within 41 steps and 16 for
 -- each byte. Nothing is judged: at no line can the run end.

@@ -13,15 +13,15 @@ use Rattle.flat_routines.specs.Routine.{until_code}
 use Rattle.flat_actions.specs.Ranges.{DoesInRuntime}
 
 -- just these bytes were put out, and so many more counted
-pub record HasPrinted (bytes : List ℕ) (count scratch : ℕ) (s s' : State) : Type 0 where
-  pub output : s'.output ≡ s.output ++ bytes
-  pub counted : s'.values count ≡ (s.values count + length bytes) % 2 ^ 64
-  pub memory : s'.memory ≡ s.memory
-  pub input : s'.input ≡ s.input
-  pub taken : s'.taken ≡ s.taken
-  pub accesses : s'.accesses ≡ s.accesses
-  pub turns : s'.turns ≡ s.turns
-  pub others : OthersStay (count ∷ []) scratch s s'
+pub record HasPrinted (bytes : List ℕ) (count scratch : ℕ) (before after : State) : Type 0 where
+  pub output : after.output ≡ before.output ++ bytes
+  pub counted : after.values count ≡ (before.values count + length bytes) % 2 ^ 64
+  pub memory : after.memory ≡ before.memory
+  pub input : after.input ≡ before.input
+  pub taken : after.taken ≡ before.taken
+  pub accesses : after.accesses ≡ before.accesses
+  pub turns : after.turns ≡ before.turns
+  pub others : OthersStay (count ∷ []) scratch before after
 
 -- within 4 steps and 15 for each digit of the number in a register
 abbrev pub IsDigitsRoutine : MapSizes → (base value count scratch : ℕ) → List FlatInstruction → Type 0

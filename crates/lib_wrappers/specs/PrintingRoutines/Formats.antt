@@ -77,10 +77,10 @@ ArePuts map t w (piece.Directive d ∷ ps) (h ∷ hs) i code =
 abbrev pub counted_code : (into count : ℕ) → List FlatInstruction
 counted_code into c = Operate32 Addw into c (Number 0) ∷ []
 
-pub record IsPrintCode (g : Basis) (line : ℕ) (ps : List Piece) (hs : List Holder) (into t w : ℕ)
+pub record IsPrintCode (basis : Basis) (line : ℕ) (ps : List Piece) (hs : List Holder) (into t w : ℕ)
     (code : List FlatInstruction) : Type 0 where
   pub scanning : List FlatInstruction
   pub putting : List FlatInstruction
-  pub scans : AreScans g line t w ps hs 0 scanning
-  pub puts : ArePuts g.map t w ps hs 0 putting
+  pub scans : AreScans basis line t w ps hs 0 scanning
+  pub puts : ArePuts basis.map t w ps hs 0 putting
   pub code_is : code ≡ scanning ++ ((Constant t 0 ∷ []) ++ (putting ++ counted_code into t))

@@ -66,9 +66,10 @@ PutThese map t w (String h ∷ ps) i code =
     × IsPutRoutine map h.value (cursor_of t i) w first × PutThese map t w ps (i + 1) rest
 
 -- behind what is done comes all that is left
-pub record ScansSoFar (g : Basis) (line t w : ℕ) (ps left : List Printed) (i : ℕ) (code : List FlatInstruction) :
+pub record ScansSoFar (basis : Basis) (line t w : ℕ) (ps left : List Printed) (i : ℕ) (code : List FlatInstruction) :
     Type 0 where
-  pub on : (rest : List FlatInstruction) → ScanThese g line t w left i rest → ScanThese g line t w ps 0 (code ++ rest)
+  pub on : (rest : List FlatInstruction) → ScanThese basis line t w left i rest
+      → ScanThese basis line t w ps 0 (code ++ rest)
 
 pub record PutsSoFar (map : MapSizes) (t w : ℕ) (ps left : List Printed) (i : ℕ) (code : List FlatInstruction) : Type 0
   where

@@ -17,11 +17,11 @@ use Rattle.flat_actions.specs.Ranges.{IsByteMoveRoutine, IsFillRoutine}
 use Rattle.flat_actions.specs.Scanning.{IsScanRoutine}
 
 -- these bytes were written from an address on
-pub record HasWritten (new : List ℕ) (word scratch : ℕ) (f f' : State) : Type 0 where
-  pub there : (i : ℕ) → i < length new → f'.memory (word + i) ≡ get_or new i 0
-  pub beside : KeepsBut word (length new) f.memory f'.memory
-  pub shows : ShowsNothing f f'
-  pub others : OthersStay [] scratch f f'
+pub record HasWritten (new : List ℕ) (word scratch : ℕ) (before after : State) : Type 0 where
+  pub there : (i : ℕ) → i < length new → after.memory (word + i) ≡ get_or new i 0
+  pub beside : KeepsBut word (length new) before.memory after.memory
+  pub shows : ShowsNothing before after
+  pub others : OthersStay [] scratch before after
 
 -- ---- a whole string
 

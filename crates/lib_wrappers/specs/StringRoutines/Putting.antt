@@ -20,19 +20,19 @@ bytes_from zero m a = []
 bytes_from (suc n) m a = m a ∷ bytes_from n m (a + 1)
 
 -- registers hold where so many bytes begin and where they end, and flat code may use each of them
-pub record IsToPut (map : MapSizes) (from to n : ℕ) (s : State) : Type 0 where
-  pub end_is : s.values to ≡ s.values from + n
-  pub allowed : (i : ℕ) → i < n → is_allowed map (s.values from + i) 1 ≡ true
+pub record IsToPut (map : MapSizes) (from to n : ℕ) (state : State) : Type 0 where
+  pub end_is : state.values to ≡ state.values from + n
+  pub allowed : (i : ℕ) → i < n → is_allowed map (state.values from + i) 1 ≡ true
 
 -- just these were put out
-pub record HasPut (from n scratch : ℕ) (s s' : State) : Type 0 where
-  pub output : s'.output ≡ s.output ++ bytes_from n s.memory (s.values from)
-  pub memory : s'.memory ≡ s.memory
-  pub input : s'.input ≡ s.input
-  pub taken : s'.taken ≡ s.taken
-  pub accesses : s'.accesses ≡ s.accesses
-  pub turns : s'.turns ≡ s.turns
-  pub others : OthersStay [] scratch s s'
+pub record HasPut (from n scratch : ℕ) (before after : State) : Type 0 where
+  pub output : after.output ≡ before.output ++ bytes_from n before.memory (before.values from)
+  pub memory : after.memory ≡ before.memory
+  pub input : after.input ≡ before.input
+  pub taken : after.taken ≡ before.taken
+  pub accesses : after.accesses ≡ before.accesses
+  pub turns : after.turns ≡ before.turns
+  pub others : OthersStay [] scratch before after
 
 -- within 2 steps and 5 for each byte
 abbrev pub IsPutRoutine : MapSizes → (from to scratch : ℕ) → List FlatInstruction → Type 0

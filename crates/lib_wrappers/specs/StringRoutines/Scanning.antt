@@ -33,9 +33,9 @@ scan_at_most_turns h c line limit t =
     Move c h.value ∷ Operate Add (t + 1) h.value (Register limit) ∷ scan_loop c t h.tag.bound line (at_limit c (t + 1))
 
 -- the first byte is judged as an access of its own, in bounds and in life, before anything else
-pub record IsFirstJudged (h : Held) (line scratch : ℕ) (turns items : List FlatInstruction) : Type 0 where
+pub record IsFirstJudged (held : Held) (line scratch : ℕ) (turns items : List FlatInstruction) : Type 0 where
   pub judging : List FlatInstruction
-  pub judges : IsJudgeRoutine h scratch line (scratch + 1) judging
+  pub judges : IsJudgeRoutine held scratch line (scratch + 1) judging
   pub items_are : items ≡ Constant scratch 1 ∷ (judging ++ turns)
 
 -- the length is the cursor's distance from the start

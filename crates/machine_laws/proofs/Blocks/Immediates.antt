@@ -24,7 +24,8 @@ use Rattle.flat_meaning.specs.declared.instruction.RightOperand.TheVariants as r
 use Rattle.flat_meaning.specs.State.{Values}
 use Rattle.flat_meaning.specs.Meaning.{right_value}
 use Rattle.machine_laws.specs.View.Views.{View, gets, accesses_by, perform, GoesOn}
-use Rattle.machine_laws.specs.Blocks.Immediates.{is_immediate, with_immediate, with_shift, with_immediate32, with_shift32}
+use Rattle.machine_laws.specs.Blocks.Immediates.{is_immediate, with_immediate, with_shift, with_immediate32}
+use Rattle.machine_laws.specs.Blocks.Immediates.{with_shift32}
 use Rattle.machine_laws.specs.Blocks.Immediates.{immediate, immediate32, immediate_of, immediate32_of}
 use Rattle.machine_laws.proofs.Blocks.Pieces.{small_sext}
 

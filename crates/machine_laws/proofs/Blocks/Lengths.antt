@@ -12,7 +12,8 @@ use Rattle.flat_meaning.specs.declared.instruction.RightOperand.{RightOperand}
 use Rattle.flat_meaning.specs.declared.instruction.RightOperand.TheVariants as right
 use Rattle.machine_laws.specs.declared.location.Location.{Location}
 use Rattle.machine_laws.specs.declared.location.Location.TheVariants.{Register, Frame}
-use Rattle.machine_laws.specs.Blocks.Blocks.{wide, digits, constant, load_at, store_at, fetch, keep, fetch_right, operands}
+use Rattle.machine_laws.specs.Blocks.Blocks.{wide, digits, constant, load_at, store_at, fetch, keep, fetch_right}
+use Rattle.machine_laws.specs.Blocks.Blocks.{operands}
 use Rattle.machine_laws.specs.Blocks.Blocks.{operator_block, IsShort, RightIsShort}
 use Rattle.machine_laws.specs.Blocks.Effects.{IsIn, RightIsIn}
 

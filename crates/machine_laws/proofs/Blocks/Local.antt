@@ -34,7 +34,8 @@ use Rattle.machine_laws.specs.Blocks.Effects.{RightIsIn, RightIsKept, IsIn, kept
 use Rattle.machine_laws.proofs.Blocks.Pieces.{performs_append, go_append, constant_gives, gives_ready, ready_then}
 use Rattle.machine_laws.proofs.Blocks.Pieces.{ready_kept, ready_frame, fetches, fetches_ready, used_no_six, one_more}
 use Rattle.machine_laws.proofs.Blocks.Pieces.{gives_computes, keeps, small_sext, low_apart, ready_none}
-use Rattle.machine_laws.proofs.Blocks.Immediates.{Makes, MakesIfSome, gets_value, immediate_of_makes, immediate32_of_makes}
+use Rattle.machine_laws.proofs.Blocks.Immediates.{Makes, MakesIfSome, gets_value, immediate_of_makes}
+use Rattle.machine_laws.proofs.Blocks.Immediates.{immediate32_of_makes}
 
 pub used_nonzero : (room : ℕ) (x : Location) → IsIn room x → used x 5 ≢ 0
 used_nonzero room (Register r) h e = omega (arith, h.low)

@@ -22,12 +22,14 @@ use Rattle.rv_sim.specs.Accesses.{objects_only}
 use Rattle.flat_meaning.specs.Memory.{Bytes, load, store, KeepsBut}
 use Rattle.flat_meaning.proofs.Stored.{put_same, put_other, load_stored, load_beside, store_beside}
 use Rattle.machine_laws.specs.View.Segments.{IsOfData}
-use Rattle.machine_laws.specs.View.Views.{View, with_value, gets, address_in, accesses_by, perform, performs, GoesOn, AllGoOn}
+use Rattle.machine_laws.specs.View.Views.{View, with_value, gets, address_in, accesses_by, perform, performs, GoesOn}
+use Rattle.machine_laws.specs.View.Views.{AllGoOn}
 use Rattle.machine_laws.proofs.View.Leaving.{no_access}
 use Rattle.machine_laws.specs.declared.location.Location.{Location}
 use Rattle.machine_laws.specs.declared.location.Location.TheVariants.{Register, Frame}
 use Rattle.machine_laws.specs.Blocks.Blocks.{upper, lower, wide, digits, constant, load_at, store_at, used, fetch, keep}
-use Rattle.machine_laws.specs.Blocks.Effects.{IsSaved, IsIn, AreApart, kept, IsNoScratch, IsOfSpaces, Gives, Readies, Computes}
+use Rattle.machine_laws.specs.Blocks.Effects.{IsSaved, IsIn, AreApart, kept, IsNoScratch, IsOfSpaces, Gives, Readies}
+use Rattle.machine_laws.specs.Blocks.Effects.{Computes}
 use Rattle.machine_laws.specs.Blocks.Effects.{Stores, Puts, HasFrame}
 
 -- ---- lists of instructions

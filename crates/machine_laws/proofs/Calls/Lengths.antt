@@ -11,7 +11,8 @@ use Rattle.machine_laws.specs.declared.location.Location.{Location}
 use Rattle.machine_laws.specs.declared.location.Location.TheVariants.{Register, Frame}
 use Rattle.machine_laws.specs.Blocks.Blocks.{load_at, store_at, used, fetch, keep, constant}
 use Rattle.machine_laws.specs.Blocks.Effects.{IsSaved, IsIn, AreApart}
-use Rattle.machine_laws.proofs.Blocks.Lengths.{load_length, store_length, fetch_length, keep_length, short_constant_length}
+use Rattle.machine_laws.proofs.Blocks.Lengths.{load_length, store_length, fetch_length, keep_length}
+use Rattle.machine_laws.proofs.Blocks.Lengths.{short_constant_length}
 use Rattle.machine_laws.specs.Calls.Effects.{AreOwn}
 use Rattle.machine_laws.specs.Calls.Calls.{Keeping, give, take, save_one, restore_one, save, restore, advance, retreat}
 use Rattle.machine_laws.specs.Calls.Calls.{return_block, entry_block}

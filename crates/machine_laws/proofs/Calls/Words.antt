@@ -13,7 +13,8 @@ use Rattle.machine_laws.specs.declared.location.Location.{Location}
 use Rattle.machine_laws.specs.declared.location.Location.TheVariants.{Register, Frame}
 use Rattle.machine_laws.specs.Blocks.Blocks.{load_at, store_at, used, fetch, keep}
 use Rattle.machine_laws.specs.Blocks.Effects.{IsIn, AreApart, kept, IsNoScratch, IsOfSpaces, HasFrame}
-use Rattle.machine_laws.proofs.Blocks.Pieces.{performs_append, go_append, load_gives, store_stores, gives_computes, keeps}
+use Rattle.machine_laws.proofs.Blocks.Pieces.{performs_append, go_append, load_gives, store_stores, gives_computes}
+use Rattle.machine_laws.proofs.Blocks.Pieces.{keeps}
 use Rattle.machine_laws.proofs.Blocks.Pieces.{fetches, of_frame, saved_apart, low_apart}
 use Rattle.machine_laws.proofs.Blocks.Local.{used_nonzero}
 use Rattle.machine_laws.specs.Calls.Calls.{Keeping, give, take, save_one, restore_one, save, restore}

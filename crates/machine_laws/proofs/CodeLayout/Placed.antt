@@ -27,7 +27,8 @@ use Rattle.machine_laws.specs.Blocks.Blocks.{used, used_right}
 use Rattle.machine_laws.specs.Calls.Calls.{Keeping, entry_block}
 use Rattle.machine_laws.specs.Following.Code.{keeping, block, GoesOn, JumpStands, BranchStands}
 use Rattle.machine_laws.proofs.Following.Sound.{get_below, get_some}
-use Rattle.machine_laws.specs.Layout.Lists.{plain, label_for, tail_of, items_at, items_from, index_from, items_of, index_of}
+use Rattle.machine_laws.specs.Layout.Lists.{plain, label_for, tail_of, items_at, items_from, index_from, items_of}
+use Rattle.machine_laws.specs.Layout.Lists.{index_of}
 use Rattle.machine_laws.specs.Layout.Lists.{ArePlaced}
 use Rattle.machine_laws.proofs.CodeLayout.Table.{AllOfTable, block_fits, keeping_fits, used_field, used_right_field}
 

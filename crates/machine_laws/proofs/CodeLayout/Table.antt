@@ -33,13 +33,15 @@ use Rattle.machine_laws.specs.declared.location.Location.{Location}
 use Rattle.machine_laws.specs.declared.location.Location.TheVariants.{Register, Frame}
 use Rattle.machine_laws.specs.Blocks.Places.{location, location_at}
 use Rattle.machine_laws.specs.Blocks.Blocks.{wide, digits, constant, load_at, store_at, used, fetch, keep, used_right}
-use Rattle.machine_laws.specs.Blocks.Immediates.{is_immediate, with_immediate, with_shift, with_immediate32, with_shift32}
+use Rattle.machine_laws.specs.Blocks.Immediates.{is_immediate, with_immediate, with_shift, with_immediate32}
+use Rattle.machine_laws.specs.Blocks.Immediates.{with_shift32}
 use Rattle.machine_laws.specs.Blocks.Immediates.{immediate, immediate32, immediate_of, immediate32_of}
 use Rattle.machine_laws.specs.Blocks.Blocks.{fetch_right, operator_block}
 use Rattle.machine_laws.specs.Blocks.Blocks.{operands, asks, received_block, report_bytes, report_block, local_block}
 use Rattle.machine_laws.specs.Calls.Calls.{Keeping, give, take, save_one, restore_one, save, restore, advance, retreat}
 use Rattle.machine_laws.specs.Calls.Calls.{call_block, entry_block, return_block}
-use Rattle.machine_laws.specs.Following.Code.{keeping_of, keeping, CallShape, wanted, call_part, back_part, charged_from, block}
+use Rattle.machine_laws.specs.Following.Code.{keeping_of, keeping, CallShape, wanted, call_part, back_part}
+use Rattle.machine_laws.specs.Following.Code.{charged_from, block}
 
 abbrev pub AllOfTable : List Instr → Type 0
 AllOfTable [] = Unit {0}

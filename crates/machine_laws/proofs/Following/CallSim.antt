@@ -23,7 +23,8 @@ use Rattle.machine_laws.specs.View.Views.{View, Fits, AllStand, performs}
 use Rattle.machine_laws.proofs.View.Straight.{runs_then}
 use Rattle.machine_laws.specs.Blocks.Effects.{kept, HasFrame}
 use Rattle.machine_laws.specs.Calls.Calls.{call_block, entry_block}
-use Rattle.machine_laws.specs.Following.Code.{keeping, block, IsLaid, IsEncodable, CallShape, shape_of, wanted, call_part}
+use Rattle.machine_laws.specs.Following.Code.{keeping, block, IsLaid, IsEncodable, CallShape, shape_of, wanted}
+use Rattle.machine_laws.specs.Following.Code.{call_part}
 use Rattle.machine_laws.specs.Following.Code.{back_part}
 use Rattle.machine_laws.specs.Following.Matching.{object_bytes, space_bytes, record_of, IsAt}
 use Rattle.machine_laws.specs.Following.Matching.{Meets}

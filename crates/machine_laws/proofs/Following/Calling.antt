@@ -13,7 +13,8 @@ use Rattle.machine_laws.specs.View.Views.{View, performs, AllGoOn}
 use Rattle.machine_laws.proofs.View.Leaving.{no_access}
 use Rattle.machine_laws.specs.Blocks.Blocks.{constant}
 use Rattle.machine_laws.specs.Blocks.Effects.{kept, HasFrame}
-use Rattle.machine_laws.proofs.Blocks.Pieces.{performs_append, go_append, constant_gives, with_same, with_other, low_apart}
+use Rattle.machine_laws.proofs.Blocks.Pieces.{performs_append, go_append, constant_gives, with_same, with_other}
+use Rattle.machine_laws.proofs.Blocks.Pieces.{low_apart}
 use Rattle.machine_laws.specs.Calls.Calls.{Keeping, save, give, advance, retreat, call_block}
 use Rattle.machine_laws.specs.Calls.Effects.{AreKept, HasArguments}
 use Rattle.machine_laws.proofs.Calls.Words.{moved_frame, kept_above, saves, gives_all}

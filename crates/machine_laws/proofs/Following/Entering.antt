@@ -12,7 +12,8 @@ use Rattle.machine_laws.specs.View.Views.{View, Layout, Fits, StandsAt, AllStand
 use Rattle.machine_laws.proofs.View.Leaving.{jalr}
 use Rattle.machine_laws.specs.Blocks.Blocks.{wide, store_at}
 use Rattle.machine_laws.specs.Blocks.Effects.{kept, HasFrame}
-use Rattle.machine_laws.proofs.Blocks.Pieces.{performs_append, go_append, wide_gives, store_stores, with_same, with_other}
+use Rattle.machine_laws.proofs.Blocks.Pieces.{performs_append, go_append, wide_gives, store_stores, with_same}
+use Rattle.machine_laws.proofs.Blocks.Pieces.{with_other}
 use Rattle.machine_laws.proofs.Blocks.Pieces.{of_frame}
 use Rattle.machine_laws.specs.Calls.Calls.{Keeping, take, entry_block, row}
 use Rattle.machine_laws.specs.Calls.Effects.{AreKept, HasArguments}

@@ -52,7 +52,8 @@ use Rattle.machine_laws.proofs.Blocks.Local.{load_puts, store_saves, charged_put
 use Rattle.machine_laws.specs.Calls.Calls.{Keeping}
 use Rattle.machine_laws.proofs.Calls.Words.{kept_above}
 use Rattle.machine_laws.specs.Following.Code.{keeping, block, charged_from, IsLaid, IsEncodable, JumpStands}
-use Rattle.machine_laws.specs.Following.Matching.{object_bytes, space_bytes, IsOfFlat, record_of, IsAt, ShowsSame, Meets}
+use Rattle.machine_laws.specs.Following.Matching.{object_bytes, space_bytes, IsOfFlat, record_of, IsAt, ShowsSame}
+use Rattle.machine_laws.specs.Following.Matching.{Meets}
 use Rattle.machine_laws.specs.Following.Start.{layout_of}
 use Rattle.machine_laws.proofs.Following.Runs.{Comes, straight_comes, then_comes, jumps, branches}
 use Rattle.machine_laws.proofs.Following.Regions.{AreRegions, allowed_data, allowed_flat, allowed_before}

@@ -37,14 +37,16 @@ use Rattle.machine_laws.proofs.Blocks.Pieces.{fetches, performs_append, with_sam
 use Rattle.machine_laws.proofs.Blocks.Local.{used_nonzero}
 use Rattle.machine_laws.proofs.Blocks.Reports.{reports_are_short}
 use Rattle.machine_laws.specs.Following.Code.{keeping, block, IsLaid, IsEncodable}
-use Rattle.machine_laws.specs.Following.Matching.{object_bytes, space_bytes, record_of, IsAt, ShowsSame, Meets, HasEnded}
+use Rattle.machine_laws.specs.Following.Matching.{object_bytes, space_bytes, record_of, IsAt, ShowsSame, Meets}
+use Rattle.machine_laws.specs.Following.Matching.{HasEnded}
 use Rattle.machine_laws.specs.Following.Start.{layout_of}
 use Rattle.machine_laws.proofs.Following.Runs.{Comes, straight_comes, all_append}
 use Rattle.machine_laws.proofs.Following.Regions.{AreRegions, flat_before}
 use Rattle.machine_laws.proofs.Following.Sound.{IsSound}
 use Rattle.machine_laws.proofs.Following.Standing.{frame_of, made, moves, before_untouched, record_behind, among_one}
 use Rattle.machine_laws.proofs.Following.Locals.{among_none, Steps}
-use Rattle.machine_laws.proofs.Following.Asks.{asking, asking_asks, IsAsking, immediate, immediate_other, small_immediate}
+use Rattle.machine_laws.proofs.Following.Asks.{asking, asking_asks, IsAsking, immediate, immediate_other}
+use Rattle.machine_laws.proofs.Following.Asks.{small_immediate}
 use Rattle.machine_laws.proofs.Following.Asks.{stored_byte, reports, receiving, receives}
 
 -- where registers of values stay, and of memory all but so many bytes before the record, so does what is kept

@@ -29,7 +29,8 @@ use Rattle.machine_laws.specs.Blocks.Effects.{kept}
 use Rattle.machine_laws.specs.Calls.Calls.{Keeping, return_block, back_block, retreat, restore, take}
 use Rattle.machine_laws.specs.Blocks.Blocks.{constant}
 use Rattle.rv_isa.specs.declared.instruction.RegOp.TheVariants.{Sub}
-use Rattle.machine_laws.specs.Following.Code.{keeping, block, IsLaid, IsEncodable, CallShape, wanted, call_part, back_part}
+use Rattle.machine_laws.specs.Following.Code.{keeping, block, IsLaid, IsEncodable, CallShape, wanted, call_part}
+use Rattle.machine_laws.specs.Following.Code.{back_part}
 use Rattle.machine_laws.specs.Following.Matching.{object_bytes, space_bytes, record_of, Waits, Wait, IsAt}
 use Rattle.machine_laws.specs.Following.Matching.{Meets}
 use Rattle.machine_laws.specs.Following.Start.{layout_of}

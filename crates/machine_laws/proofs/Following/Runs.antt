@@ -16,7 +16,8 @@ use Rattle.rv_asm.specs.declared.form.Form.TheVariants.{Short, Near, Far}
 use Rattle.rv_asm.specs.Forms.{Reaches, distance, branch_size}
 use Rattle.rv_asm.specs.Words.{offset, opposite, jump_instrs, branch_instrs}
 use Rattle.rv_sim.specs.Run.{Configuration, runs}
-use Rattle.machine_laws.specs.View.Views.{View, Layout, Fits, StandsAt, AllStand, AllGoOn, Shows, StaysOutside, with_value}
+use Rattle.machine_laws.specs.View.Views.{View, Layout, Fits, StandsAt, AllStand, AllGoOn, Shows, StaysOutside}
+use Rattle.machine_laws.specs.View.Views.{with_value}
 use Rattle.machine_laws.specs.View.Views.{performs}
 use Rattle.machine_laws.proofs.View.Straight.{straight, runs_then}
 use Rattle.machine_laws.proofs.View.Leaving.{jal, jalr, branch, no_access}

@@ -16,7 +16,8 @@ use Rattle.reg_plan.specs.Needs.{MakesAt}
 use Rattle.reg_plan.specs.Accepted.{is_live, covers, intervals_of, HasHome, IsAccepted}
 use Rattle.reg_plan.specs.Tests.{AreAccepted}
 use Rattle.machine_laws.specs.declared.location.Location.TheVariants.{Frame}
-use Rattle.machine_laws.specs.Blocks.Places.{saved_register, home_offset, home_of, location_at, home, location, frame_register}
+use Rattle.machine_laws.specs.Blocks.Places.{saved_register, home_offset, home_of, location_at, home, location}
+use Rattle.machine_laws.specs.Blocks.Places.{frame_register}
 use Rattle.machine_laws.specs.Blocks.Effects.{IsSaved, IsIn, AreApart}
 use Rattle.machine_laws.specs.Calls.Calls.{Keeping}
 use Rattle.machine_laws.specs.Calls.Effects.{AreKept}

@@ -42,13 +42,15 @@ use Rattle.machine_laws.specs.Following.Matching.{object_bytes, space_bytes, rec
 use Rattle.machine_laws.specs.Following.Start.{layout_of}
 use Rattle.machine_laws.proofs.Following.Bounds.{Weighs, weighs, end_most, constant_bound, move_bound, operate_bound}
 use Rattle.machine_laws.proofs.Following.Bounds.{operate32_bound}
-use Rattle.machine_laws.proofs.Following.Bounds.{branch_bound, charged_bound, put_bound, exit_bound, turn_bound, end_bound}
+use Rattle.machine_laws.proofs.Following.Bounds.{branch_bound, charged_bound, put_bound, exit_bound, turn_bound}
+use Rattle.machine_laws.proofs.Following.Bounds.{end_bound}
 use Rattle.machine_laws.proofs.Following.Regions.{AreRegions}
 use Rattle.machine_laws.proofs.Following.Sound.{IsSound}
 use Rattle.machine_laws.proofs.Following.Standing.{among_one, function_there, frame_of, IsKind, kind}
 use Rattle.machine_laws.proofs.Following.Locals.{Becomes, constant_steps, move_steps}
 use Rattle.machine_laws.proofs.Following.Locals.{operate_steps, operate32_steps, jump_steps, turn_steps}
-use Rattle.machine_laws.proofs.Following.Locals.{turn_takes_one, branch_steps, charged_steps, place_in, made_in, right_in}
+use Rattle.machine_laws.proofs.Following.Locals.{turn_takes_one, branch_steps, charged_steps, place_in, made_in}
+use Rattle.machine_laws.proofs.Following.Locals.{right_in}
 use Rattle.machine_laws.proofs.Following.Locals.{among_from, operator_reads, or_last}
 use Rattle.machine_laws.proofs.Following.Outside.{put_steps, exit_steps, end_steps}
 use Rattle.machine_laws.proofs.Following.Calling.{Aims}

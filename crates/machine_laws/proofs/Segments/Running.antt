@@ -24,7 +24,8 @@ use Rattle.machine_laws.proofs.Following.Follows.{machine_follows}
 use Rattle.machine_laws.specs.Layout.Lists.{bytes_of, address_in}
 use Rattle.machine_laws.proofs.CodeLayout.Bytes.{bytes_length}
 use Rattle.machine_laws.proofs.CodeLayout.Laid.{laid}
-use Rattle.machine_laws.specs.Segments.Segments.{start_address, begin, function_words, code_words, table_words, FitsSegments}
+use Rattle.machine_laws.specs.Segments.Segments.{start_address, begin, function_words, code_words, table_words}
+use Rattle.machine_laws.specs.Segments.Segments.{FitsSegments}
 use Rattle.machine_laws.proofs.Segments.Placed.{place, placed, start_is_there}
 
 pub segments_fit : (m : MapSizes) (p : FlatProgram) (plans : List FunctionPlan) → AreMapped m

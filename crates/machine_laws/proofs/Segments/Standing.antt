@@ -11,7 +11,8 @@ use Rattle.flat_meaning.specs.Calls.{function_in}
 use Rattle.reg_plan.specs.declared.plan.FunctionPlan.{FunctionPlan}
 use Rattle.machine_laws.specs.Calls.Calls.{row}
 use Rattle.machine_laws.specs.Following.Start.{start_block}
-use Rattle.machine_laws.specs.Segments.Segments.{is_of, function_words, words_if, words_below, begin, rows_below, code_words}
+use Rattle.machine_laws.specs.Segments.Segments.{is_of, function_words, words_if, words_below, begin, rows_below}
+use Rattle.machine_laws.specs.Segments.Segments.{code_words}
 use Rattle.machine_laws.specs.Segments.Segments.{table_words}
 use Rattle.machine_laws.proofs.Segments.Parts.{StandsIn, stands_last, stands_left, stands_right, stands_mapped}
 

@@ -27,7 +27,8 @@ use Rattle.machine_laws.specs.View.Segments.{segments, IsOfData}
 use Rattle.machine_laws.specs.View.Views.{View, Layout, Fits, StandsAt, Shows, StaysOutside, Sends, SendsErrors, Takes}
 use Rattle.machine_laws.specs.View.Views.{with_value, access_in, accesses_by, bytes_from}
 use Rattle.machine_laws.proofs.View.Places.{sent_data, received_data, store_data}
-use Rattle.machine_laws.proofs.View.Straight.{Sees, Reaches, given, passes_reaches, next_is, apart_of, length_with, reads_with}
+use Rattle.machine_laws.proofs.View.Straight.{Sees, Reaches, given, passes_reaches, next_is, apart_of, length_with}
+use Rattle.machine_laws.proofs.View.Straight.{reads_with}
 use Rattle.machine_laws.proofs.View.Straight.{runs_one, accesses_are}
 
 pub no_access : (accesses : List Access) (pc : ℕ) → accesses ++ accesses_by pc None ≡ accesses

@@ -10,7 +10,8 @@ use Rattle.flat_meaning.proofs.Stored.{store_beside}
 use Rattle.rv_sim.specs.Memory.{SegmentState, holds, covers, place_of, load, store, fetch, bytes_at, may_write}
 use Rattle.machine_laws.specs.View.Segments.{code_segment, data_segment, segments, AreApart, Hold, IsOfData}
 use Rattle.machine_laws.specs.View.Views.{bytes_from}
-use Rattle.machine_laws.proofs.View.Numbers.{StandAt, number_is_load, with_number_at, length-with_number_at, stored_stands}
+use Rattle.machine_laws.proofs.View.Numbers.{StandAt, number_is_load, with_number_at, length-with_number_at}
+use Rattle.machine_laws.proofs.View.Numbers.{stored_stands}
 
 -- an address in a segment, before it and behind it
 pub within : (s : SegmentState) (a : ℕ) → s.address ≤ a → a < s.address + length s.bytes → holds s a ≡ true

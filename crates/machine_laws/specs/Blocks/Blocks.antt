@@ -19,7 +19,8 @@ use Rattle.flat_meaning.specs.declared.instruction.FlatInstruction.TheVariants a
 use Rattle.machine_laws.specs.declared.location.Location.{Location}
 use Rattle.machine_laws.specs.declared.location.Location.TheVariants.{Register, Frame}
 use Rattle.machine_laws.specs.Blocks.Immediates.{immediate_of, immediate32_of}
-use Rattle.machine_laws.specs.Blocks.Places.{program_frame, argument_words, left_scratch, right_scratch, address_scratch}
+use Rattle.machine_laws.specs.Blocks.Places.{program_frame, argument_words, left_scratch, right_scratch}
+use Rattle.machine_laws.specs.Blocks.Places.{address_scratch}
 
 -- ---- constants
 

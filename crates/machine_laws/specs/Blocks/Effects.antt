@@ -107,8 +107,8 @@ module _ (object_bytes space_bytes : ℕ) where
 
 -- the register of an activation record has its first address, and the record lies in the runtime's spaces; it is none
 -- of those for operands and results
-pub record HasFrame (space_bytes base fp room : ℕ) (v : View) : Type 0 where
-  pub is : v.registers base ≡ fp
+pub record HasFrame (space_bytes base fp room : ℕ) (view : View) : Type 0 where
+  pub is : view.registers base ≡ fp
   pub base_low : 0 < base
   pub base_high : base < 5
   pub low : spaces_begin ≤ fp

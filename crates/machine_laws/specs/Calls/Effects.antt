@@ -11,14 +11,14 @@ use Rattle.machine_laws.specs.Calls.Calls.{Keeping, give}
 
 -- the values that are live together have places and homes of their own within the record; one that is kept in no
 -- register is kept in its home
-pub record AreKept (k : Keeping) (live : ℕ → Bool) : Type 0 where
-  pub inside : (y : ℕ) → live y ≡ true → IsIn k.room (k.place y)
-  pub low : (y : ℕ) → live y ≡ true → 8 ≤ k.home y
-  pub high : (y : ℕ) → live y ≡ true → k.home y + 8 ≤ k.room
-  pub own : (y o : ℕ) → live y ≡ true → k.place y ≡ Frame o → o ≡ k.home y
+pub record AreKept (keeping : Keeping) (live : ℕ → Bool) : Type 0 where
+  pub inside : (y : ℕ) → live y ≡ true → IsIn keeping.room (keeping.place y)
+  pub low : (y : ℕ) → live y ≡ true → 8 ≤ keeping.home y
+  pub high : (y : ℕ) → live y ≡ true → keeping.home y + 8 ≤ keeping.room
+  pub own : (y o : ℕ) → live y ≡ true → keeping.place y ≡ Frame o → o ≡ keeping.home y
   pub homes : (x y : ℕ) → live x ≡ true → live y ≡ true → x ≢ y
-      → (k.home x + 8 ≤ k.home y) ⊎ (k.home y + 8 ≤ k.home x)
-  pub apart : (x y : ℕ) → live x ≡ true → live y ≡ true → x ≢ y → AreApart (k.place x) (k.place y)
+      → (keeping.home x + 8 ≤ keeping.home y) ⊎ (keeping.home y + 8 ≤ keeping.home x)
+  pub apart : (x y : ℕ) → live x ≡ true → live y ≡ true → x ≢ y → AreApart (keeping.place x) (keeping.place y)
 
 -- what is wanted has places of its own
 pub record AreOwn (room : ℕ) (place : ℕ → Location) (wanted : ℕ → Bool) : Type 0 where
@@ -26,8 +26,8 @@ pub record AreOwn (room : ℕ) (place : ℕ → Location) (wanted : ℕ → Bool
   pub apart : (x y : ℕ) → wanted x ≡ true → wanted y ≡ true → x ≢ y → AreApart (place x) (place y)
 
 -- the words of arguments, of which there are at least so many, lie before the activation record
-pub record HasArguments (v : View) (area count fp : ℕ) : Type 0 where
-  pub is : v.registers 3 ≡ area
+pub record HasArguments (view : View) (area count fp : ℕ) : Type 0 where
+  pub is : view.registers 3 ≡ area
   pub low : spaces_begin ≤ area
   pub below : area + 8 * count ≤ fp
 

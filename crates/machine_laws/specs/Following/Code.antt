@@ -129,7 +129,7 @@ GoesOn (flat.JumpBack back) = ⊥
 GoesOn i = Unit {0}
 
 -- a jump stands at an address, whatever form it has, and leads to another
-pub record JumpStands (l : Layout) (from to : ℕ) : Type 0 where
+pub record JumpStands (layout : Layout) (from to : ℕ) : Type 0 where
   pub form : Form
   pub begin : ℕ
   pub p : ℕ
@@ -141,10 +141,10 @@ pub record JumpStands (l : Layout) (from to : ℕ) : Type 0 where
   pub p_low : p < 2 ^ 28
   pub t_low : t < 2 ^ 28
   pub reach : Reaches form p t
-  pub stands : AllStand l from (jump_instrs form 0 p t)
+  pub stands : AllStand layout from (jump_instrs form 0 p t)
 
 -- a branch of two registers stands at an address, leads to another, and else on to what stands behind it
-pub record BranchStands (l : Layout) (op : BranchOp) (a b from next to : ℕ) : Type 0 where
+pub record BranchStands (layout : Layout) (op : BranchOp) (a b from next to : ℕ) : Type 0 where
   pub form : Form
   pub begin : ℕ
   pub p : ℕ
@@ -157,61 +157,63 @@ pub record BranchStands (l : Layout) (op : BranchOp) (a b from next to : ℕ) : 
   pub p_low : p + 3 < 2 ^ 28
   pub t_low : t < 2 ^ 28
   pub reach : Reaches form p t
-  pub stands : AllStand l from (branch_instrs form op a b p t)
+  pub stands : AllStand layout from (branch_instrs form op a b p t)
 
 -- Where the code of a program stands: the block of each instruction at an address, the next one's behind it; jumps and
 -- branches to the addresses of their targets, where these are of the function; before the first instruction the entry
 -- block, to which the function's entry of the jump table leads. What the functions of the program have lies in compiled
 -- code, what those of the runtime have lies before it.
-pub record IsLaid (map : MapSizes) (p : FlatProgram) (plans : List FunctionPlan) (l : Layout)
+pub record IsLaid (map : MapSizes) (program : FlatProgram) (plans : List FunctionPlan) (layout : Layout)
     (address : (function pc : ℕ) → ℕ) (entry : (function : ℕ) → ℕ) : Type 0 where
-  pub blocks : (f pc : ℕ) (i : FlatInstruction) → instruction_at p f pc ≡ Some i
-      → AllStand l (address f pc) (block map p plans f pc i)
-  pub next : (f pc : ℕ) (i : FlatInstruction) → instruction_at p f pc ≡ Some i → GoesOn i
-      → address f (pc + 1) ≡ address f pc + 4 * length (block map p plans f pc i)
-  pub forward : (f pc past : ℕ) → instruction_at p f pc ≡ Some (flat.JumpForward past)
-      → JumpStands l (address f pc) (address f (pc + 1 + past))
-  pub back : (f pc n : ℕ) → instruction_at p f pc ≡ Some (flat.JumpBack n)
-      → JumpStands l (address f pc) (address f (pc - n))
+  pub blocks : (f pc : ℕ) (i : FlatInstruction) → instruction_at program f pc ≡ Some i
+      → AllStand layout (address f pc) (block map program plans f pc i)
+  pub next : (f pc : ℕ) (i : FlatInstruction) → instruction_at program f pc ≡ Some i → GoesOn i
+      → address f (pc + 1) ≡ address f pc + 4 * length (block map program plans f pc i)
+  pub forward : (f pc past : ℕ) → instruction_at program f pc ≡ Some (flat.JumpForward past)
+      → JumpStands layout (address f pc) (address f (pc + 1 + past))
+  pub back : (f pc n : ℕ) → instruction_at program f pc ≡ Some (flat.JumpBack n)
+      → JumpStands layout (address f pc) (address f (pc - n))
   pub branch : (f pc : ℕ) (op : BranchOp) (y : ℕ) (z : RightOperand) (past : ℕ)
-      → instruction_at p f pc ≡ Some (flat.Branch op y z past) → BranchStands l op
-      (used ((keeping p plans f).place y) left_scratch) (used_right (keeping p plans f).place z)
-      (address f pc + 4 * length (block map p plans f pc (flat.Branch op y z past))) (address f (pc + 1))
+      → instruction_at program f pc ≡ Some (flat.Branch op y z past) → BranchStands layout op
+      (used ((keeping program plans f).place y) left_scratch) (used_right (keeping program plans f).place z)
+      (address f pc + 4 * length (block map program plans f pc (flat.Branch op y z past))) (address f (pc + 1))
       (address f (pc + 1 + past))
-  pub entries : (f : ℕ) (g : FlatFunction) → function_in p f ≡ Some g
-      → AllStand l (entry f) (entry_block (keeping p plans f) g.parameters)
-  pub first : (f : ℕ) (g : FlatFunction) → function_in p f ≡ Some g
-      → address f 0 ≡ entry f + 4 * length (entry_block (keeping p plans f) g.parameters)
-  pub rows : (f : ℕ) (g : FlatFunction) → function_in p f ≡ Some g → AllStand l (function_address f) (row (entry f))
-  pub whole : (f : ℕ) (g : FlatFunction) → function_in p f ≡ Some g → entry f % 4 ≡ 0
-  pub aligned : (f pc : ℕ) (i : FlatInstruction) → instruction_at p f pc ≡ Some i → address f pc % 4 ≡ 0
-  pub low : (f : ℕ) (g : FlatFunction) → function_in p f ≡ Some g → entry f < 2 ^ 31 - 2 ^ 11
-  pub numbered : (f : ℕ) (g : FlatFunction) → function_in p f ≡ Some g → function_address f < code_begin
-  pub of_code : (f pc : ℕ) (i : FlatInstruction) → instruction_at p f pc ≡ Some i
-      → is_runtime_function (function_in p f) ≡ false
+  pub entries : (f : ℕ) (g : FlatFunction) → function_in program f ≡ Some g
+      → AllStand layout (entry f) (entry_block (keeping program plans f) g.parameters)
+  pub first : (f : ℕ) (g : FlatFunction) → function_in program f ≡ Some g
+      → address f 0 ≡ entry f + 4 * length (entry_block (keeping program plans f) g.parameters)
+  pub rows : (f : ℕ) (g : FlatFunction) → function_in program f ≡ Some g
+      → AllStand layout (function_address f) (row (entry f))
+  pub whole : (f : ℕ) (g : FlatFunction) → function_in program f ≡ Some g → entry f % 4 ≡ 0
+  pub aligned : (f pc : ℕ) (i : FlatInstruction) → instruction_at program f pc ≡ Some i → address f pc % 4 ≡ 0
+  pub low : (f : ℕ) (g : FlatFunction) → function_in program f ≡ Some g → entry f < 2 ^ 31 - 2 ^ 11
+  pub numbered : (f : ℕ) (g : FlatFunction) → function_in program f ≡ Some g → function_address f < code_begin
+  pub of_code : (f pc : ℕ) (i : FlatInstruction) → instruction_at program f pc ≡ Some i
+      → is_runtime_function (function_in program f) ≡ false
       → (code_begin ≤ address f pc)
-      × (address f pc + 4 * length (block map p plans f pc i) ≤ code_begin + code_size)
-  pub of_runtime : (f pc : ℕ) (i : FlatInstruction) → instruction_at p f pc ≡ Some i
-      → is_runtime_function (function_in p f) ≡ true
-      → address f pc + 4 * length (block map p plans f pc i) ≤ code_begin
+      × (address f pc + 4 * length (block map program plans f pc i) ≤ code_begin + code_size)
+  pub of_runtime : (f pc : ℕ) (i : FlatInstruction) → instruction_at program f pc ≡ Some i
+      → is_runtime_function (function_in program f) ≡ true
+      → address f pc + 4 * length (block map program plans f pc i) ≤ code_begin
 
 -- what the meaning of flat code does not ask, and the machine's instructions need: offsets of loads and stores fit
 -- their fields, numbers have 32 bits with their sign, reports and statuses are bytes, each record has room for its
 -- return address, and the words of arguments are enough
-pub record IsEncodable (p : FlatProgram) : Type 0 where
+pub record IsEncodable (program : FlatProgram) : Type 0 where
   pub load_offset : (f pc : ℕ) (op : LoadOp) (x y offset : ℕ)
-      → instruction_at p f pc ≡ Some (flat.Load op x y offset) → offset < 2 ^ 11
+      → instruction_at program f pc ≡ Some (flat.Load op x y offset) → offset < 2 ^ 11
   pub store_offset : (f pc : ℕ) (op : StoreOp) (y offset x : ℕ)
-      → instruction_at p f pc ≡ Some (flat.Store op y offset x) → offset < 2 ^ 11
-  pub constant : (f pc x n : ℕ) → instruction_at p f pc ≡ Some (flat.Constant x n) → IsShort n
+      → instruction_at program f pc ≡ Some (flat.Store op y offset x) → offset < 2 ^ 11
+  pub constant : (f pc x n : ℕ) → instruction_at program f pc ≡ Some (flat.Constant x n) → IsShort n
   pub operate : (f pc : ℕ) (op : RegOp) (x y : ℕ) (z : RightOperand)
-      → instruction_at p f pc ≡ Some (flat.Operate op x y z) → RightIsShort z
+      → instruction_at program f pc ≡ Some (flat.Operate op x y z) → RightIsShort z
   pub operate32 : (f pc : ℕ) (op : RegOp32) (x y : ℕ) (z : RightOperand)
-      → instruction_at p f pc ≡ Some (flat.Operate32 op x y z) → RightIsShort z
+      → instruction_at program f pc ≡ Some (flat.Operate32 op x y z) → RightIsShort z
   pub branch : (f pc : ℕ) (op : BranchOp) (y : ℕ) (z : RightOperand) (past : ℕ)
-      → instruction_at p f pc ≡ Some (flat.Branch op y z past) → RightIsShort z
-  pub report : (f pc : ℕ) (e : Ending) → instruction_at p f pc ≡ Some (flat.End e) → All (λ b. b < 256) (report_of e)
-  pub status : (f pc : ℕ) (e : Ending) → instruction_at p f pc ≡ Some (flat.End e) → code_of e < 256
-  pub rooms : (f : ℕ) (g : FlatFunction) → function_in p f ≡ Some g → 8 ≤ g.room
-  pub parameters : (f : ℕ) (g : FlatFunction) → function_in p f ≡ Some g → g.parameters ≤ 1024
-  pub results : (f : ℕ) (g : FlatFunction) → function_in p f ≡ Some g → g.results ≤ 1024
+      → instruction_at program f pc ≡ Some (flat.Branch op y z past) → RightIsShort z
+  pub report : (f pc : ℕ) (e : Ending) → instruction_at program f pc ≡ Some (flat.End e)
+      → All (λ b. b < 256) (report_of e)
+  pub status : (f pc : ℕ) (e : Ending) → instruction_at program f pc ≡ Some (flat.End e) → code_of e < 256
+  pub rooms : (f : ℕ) (g : FlatFunction) → function_in program f ≡ Some g → 8 ≤ g.room
+  pub parameters : (f : ℕ) (g : FlatFunction) → function_in program f ≡ Some g → g.parameters ≤ 1024
+  pub results : (f : ℕ) (g : FlatFunction) → function_in program f ≡ Some g → g.results ≤ 1024

@@ -42,21 +42,22 @@ record_of m p f frames = top_of m p (is_runtime_function (function_in p f)) fram
 -- does, the
 -- first word of the record of f has the address where f comes back to, and what is live there and no result stands in
 -- its home.
-pub record Waits (map : MapSizes) (p : FlatProgram) (plans : List FunctionPlan) (address : (function pc : ℕ) → ℕ)
-    (f : ℕ) (x : Frame) (xs : List Frame) (memory : Bytes) : Type 0 where
+pub record Waits (map : MapSizes) (program : FlatProgram) (plans : List FunctionPlan) (address : (function pc : ℕ) → ℕ)
+    (f : ℕ) (frame : Frame) (xs : List Frame) (memory : Bytes) : Type 0 where
   pub place : ℕ
-  pub next_is : x.next ≡ place + 1
+  pub next_is : frame.next ≡ place + 1
   pub call : FlatInstruction
-  pub at : instruction_at p x.function place ≡ Some call
+  pub at : instruction_at program frame.function place ≡ Some call
   pub shape : CallShape
-  pub shape_is : shape_of p (keeping p plans x.function) call ≡ Some shape
-  pub into_is : shape.into ≡ x.into
-  pub results_are : shape.results ≡ results_of (function_in p f)
-  pub returns : load 8 memory (record_of map p f (x ∷ xs))
-      ≡ address x.function place + 4 * length (call_part (keeping p plans x.function) place shape)
-  pub held : (y : ℕ) → (keeping p plans x.function).live x.next y ≡ true
+  pub shape_is : shape_of program (keeping program plans frame.function) call ≡ Some shape
+  pub into_is : shape.into ≡ frame.into
+  pub results_are : shape.results ≡ results_of (function_in program f)
+  pub returns : load 8 memory (record_of map program f (frame ∷ xs))
+      ≡ address frame.function place + 4 * length (call_part (keeping program plans frame.function) place shape)
+  pub held : (y : ℕ) → (keeping program plans frame.function).live frame.next y ≡ true
       → is_among (many shape.into shape.results) y ≡ false
-      → load 8 memory (record_of map p x.function xs + (keeping p plans x.function).home y) ≡ x.values y
+      → load 8 memory (record_of map program frame.function xs +
+      (keeping program plans frame.function).home y) ≡ frame.values y
 
 abbrev pub Wait : MapSizes → FlatProgram → List FunctionPlan → (address : (function pc : ℕ) → ℕ) → (f : ℕ)
     → List Frame → (memory : Bytes) → Type 0
@@ -67,40 +68,41 @@ Wait m p plans address f (x ∷ xs) memory =
 -- Registers and memory are those of a run at an instruction of a function: the back end's registers have their
 -- addresses, the records fit their regions, what is live is kept in its place, and memory that flat code may use is its
 -- memory.
-pub record IsAt (map : MapSizes) (p : FlatProgram) (plans : List FunctionPlan) (address : (function pc : ℕ) → ℕ)
-    (f pc : ℕ) (s : State) (frames : List Frame) (v : View) : Type 0 where
-  pub zero_is : v.registers 0 ≡ 0
-  pub program_top : v.registers 2 ≡ region_start map Calls + rooms false p frames
-  pub arguments : v.registers 3 ≡ region_start map Arguments
-  pub runtime_top : v.registers 4 ≡ region_start map RuntimeCalls + rooms true p frames
-  pub program_fits : room_if false (function_in p f) + rooms false p frames ≤ map.budgets.calls
-  pub runtime_fits : room_if true (function_in p f) + rooms true p frames ≤ region_size map RuntimeCalls
-  pub held : (y : ℕ) → (keeping p plans f).live pc y ≡ true
-      → kept (record_of map p f frames) v ((keeping p plans f).place y) ≡ s.values y
-  pub same : (a : ℕ) → IsOfFlat map a → v.memory a ≡ s.memory a
-  pub wait : Wait map p plans address f frames v.memory
+pub record IsAt (map : MapSizes) (program : FlatProgram) (plans : List FunctionPlan) (address : (function pc : ℕ) → ℕ)
+    (f pc : ℕ) (state : State) (frames : List Frame) (view : View) : Type 0 where
+  pub zero_is : view.registers 0 ≡ 0
+  pub program_top : view.registers 2 ≡ region_start map Calls + rooms false program frames
+  pub arguments : view.registers 3 ≡ region_start map Arguments
+  pub runtime_top : view.registers 4 ≡ region_start map RuntimeCalls + rooms true program frames
+  pub program_fits : room_if false (function_in program f) + rooms false program frames ≤ map.budgets.calls
+  pub runtime_fits : room_if true (function_in program f) + rooms true program frames ≤ region_size map RuntimeCalls
+  pub held : (y : ℕ) → (keeping program plans f).live pc y ≡ true
+      → kept (record_of map program f frames) view ((keeping program plans f).place y) ≡ state.values y
+  pub same : (a : ℕ) → IsOfFlat map a → view.memory a ≡ state.memory a
+  pub wait : Wait map program plans address f frames view.memory
 
 -- what was shown and what is left of the input are the same
-pub record ShowsSame (c : Configuration) (s : State) : Type 0 where
-  pub input : c.input ≡ s.input
-  pub output : c.output ≡ s.output
-  pub errors : c.errors ≡ []
-  pub taken : c.taken ≡ s.taken
+pub record ShowsSame (machine : Configuration) (state : State) : Type 0 where
+  pub input : machine.input ≡ state.input
+  pub output : machine.output ≡ state.output
+  pub errors : machine.errors ≡ []
+  pub taken : machine.taken ≡ state.taken
 
 -- a configuration of the machine is where the run stands
-pub record Meets (map : MapSizes) (p : FlatProgram) (plans : List FunctionPlan) (l : Layout)
-    (address : (function pc : ℕ) → ℕ) (f pc : ℕ) (s : State) (frames : List Frame) (c : Configuration) : Type 0 where
+pub record Meets (map : MapSizes) (program : FlatProgram) (plans : List FunctionPlan) (layout : Layout)
+    (address : (function pc : ℕ) → ℕ) (f pc : ℕ) (state : State) (frames : List Frame)
+    (machine : Configuration) : Type 0 where
   pub view : View
-  pub shows : Shows l c view
+  pub shows : Shows layout machine view
   pub pc_is : view.pc ≡ address f pc
-  pub is_at : IsAt map p plans address f pc s frames view
-  pub accesses : view.accesses ≡ s.accesses
-  pub outside : ShowsSame c s
+  pub is_at : IsAt map program plans address f pc state frames view
+  pub accesses : view.accesses ≡ state.accesses
+  pub outside : ShowsSame machine state
 
 -- it has ended as the run has
-pub record HasEnded (status : ℕ) (report : List ℕ) (s : State) (t : Turn) : Type 0 where
-  pub ending : t.1 ≡ Some (Exited status)
-  pub output : t.0.output ≡ s.output
-  pub errors : t.0.errors ≡ report
-  pub taken : t.0.taken ≡ s.taken
-  pub accesses : t.0.accesses ≡ s.accesses
+pub record HasEnded (status : ℕ) (report : List ℕ) (state : State) (turn : Turn) : Type 0 where
+  pub ending : turn.1 ≡ Some (Exited status)
+  pub output : turn.0.output ≡ state.output
+  pub errors : turn.0.errors ≡ report
+  pub taken : turn.0.taken ≡ state.taken
+  pub accesses : turn.0.accesses ≡ state.accesses

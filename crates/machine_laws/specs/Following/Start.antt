@@ -26,13 +26,13 @@ start_block m p =
 
 -- The entry takes no arguments, its activation record fits, and it begins with three turns: they count as much as the
 -- instructions take that are done before the first of the entry.
-pub record IsStartable (map : MapSizes) (p : FlatProgram) : Type 0 where
+pub record IsStartable (map : MapSizes) (program : FlatProgram) : Type 0 where
   pub function : FlatFunction
-  pub there : function_in p p.entry ≡ Some function
+  pub there : function_in program program.entry ≡ Some function
   pub takes_nothing : function.parameters ≡ 0
-  pub turns : (k : ℕ) → k < 3 → instruction_at p p.entry k ≡ Some Turn
-  pub program_fits : room_if false (function_in p p.entry) ≤ map.budgets.calls
-  pub runtime_fits : room_if true (function_in p p.entry) ≤ region_size map RuntimeCalls
+  pub turns : (k : ℕ) → k < 3 → instruction_at program program.entry k ≡ Some Turn
+  pub program_fits : room_if false (function_in program program.entry) ≤ map.budgets.calls
+  pub runtime_fits : room_if true (function_in program program.entry) ≤ region_size map RuntimeCalls
 
 -- the segments of a program with these two lists of code
 abbrev pub layout_of : MapSizes → (table code : List ℕ) → Layout

@@ -73,26 +73,29 @@ index_of m p plans f pc =
     + index_from m p plans f (length body) 0 body pc
 
 -- the words of a list stand in memory from an address on, whatever the data is
-pub record HasWordsAt (l : Layout) (address : ℕ) (words : List ℕ) : Type 0 where
+pub record HasWordsAt (layout : Layout) (address : ℕ) (words : List ℕ) : Type 0 where
   pub fetched : (k w : ℕ) → slice_get words k ≡ Some w → (objects spaces : List ℕ)
-      → AreApart l.table l.code objects spaces
-      → fetch (segments l.table l.code objects spaces) (address + 4 * k) ≡ Some w
+      → AreApart layout.table layout.code objects spaces
+      → fetch (segments layout.table layout.code objects spaces) (address + 4 * k) ≡ Some w
   pub whole : address % 4 ≡ 0
   pub end : address + 4 * length words ≤ code_begin + code_size
 
 -- Each function's assembled words stand in memory: those of the program's in compiled code, the runtime's before it;
 -- and the entries of the jump table lead to them.
-pub record ArePlaced (map : MapSizes) (p : FlatProgram) (plans : List FunctionPlan) (l : Layout) (begin : ℕ → ℕ)
+pub record ArePlaced (map : MapSizes) (program : FlatProgram) (plans : List FunctionPlan) (layout : Layout) (begin : ℕ
+    → ℕ)
     (words : ℕ → List ℕ) (place : (function item : ℕ) → ℕ) : Type 0 where
-  pub assembled : (f : ℕ) (g : FlatFunction) → function_in p f ≡ Some g → Assembled (items_of map p plans f) (words f)
-  pub places : (f : ℕ) (g : FlatFunction) (there : function_in p f ≡ Some g) (k : ℕ)
+  pub assembled : (f : ℕ) (g : FlatFunction) → function_in program f ≡ Some g
+      → Assembled (items_of map program plans f) (words f)
+  pub places : (f : ℕ) (g : FlatFunction) (there : function_in program f ≡ Some g) (k : ℕ)
       → (assembled f g there).place k ≡ place f k
-  pub placed : (f : ℕ) (g : FlatFunction) → function_in p f ≡ Some g → HasWordsAt l (begin f) (words f)
-  pub rows : (f : ℕ) (g : FlatFunction) → function_in p f ≡ Some g
-      → AllStand l (function_address f) (row (begin f))
-  pub numbered : (f : ℕ) (g : FlatFunction) → function_in p f ≡ Some g → function_address f < code_begin
-  pub of_code : (f : ℕ) (g : FlatFunction) → function_in p f ≡ Some g → g.is_runtime ≡ false → code_begin ≤ begin f
-  pub of_runtime : (f : ℕ) (g : FlatFunction) → function_in p f ≡ Some g → g.is_runtime ≡ true
+  pub placed : (f : ℕ) (g : FlatFunction) → function_in program f ≡ Some g → HasWordsAt layout (begin f) (words f)
+  pub rows : (f : ℕ) (g : FlatFunction) → function_in program f ≡ Some g
+      → AllStand layout (function_address f) (row (begin f))
+  pub numbered : (f : ℕ) (g : FlatFunction) → function_in program f ≡ Some g → function_address f < code_begin
+  pub of_code : (f : ℕ) (g : FlatFunction) → function_in program f ≡ Some g → g.is_runtime ≡ false
+      → code_begin ≤ begin f
+  pub of_runtime : (f : ℕ) (g : FlatFunction) → function_in program f ≡ Some g → g.is_runtime ≡ true
       → begin f + 4 * length (words f) ≤ code_begin
 
 -- the address of each instruction

@@ -70,7 +70,7 @@ abbrev pub table_bytes : MapSizes → FlatProgram → List FunctionPlan → ℕ
 table_bytes m p plans = 4 * length (table_words m p plans)
 
 -- both segments have room for what is generated
-pub record FitsSegments (map : MapSizes) (p : FlatProgram) (plans : List FunctionPlan) : Type 0 where
-  pub assemblable : AreAssemblable map p plans
-  pub code : code_bytes map p plans ≤ code_size
-  pub table : functions_begin + table_bytes map p plans ≤ code_begin
+pub record FitsSegments (map : MapSizes) (program : FlatProgram) (plans : List FunctionPlan) : Type 0 where
+  pub assemblable : AreAssemblable map program plans
+  pub code : code_bytes map program plans ≤ code_size
+  pub table : functions_begin + table_bytes map program plans ≤ code_begin

@@ -28,11 +28,11 @@ pub record AreApart (table code objects spaces : List ℕ) : Type 0 where
   pub spaces_fit : spaces_begin + length spaces ≤ 2 ^ 63
 
 -- the two data segments, of so many bytes, have the bytes of a memory
-pub record Hold (object_bytes space_bytes : ℕ) (m : Bytes) (objects spaces : List ℕ) : Type 0 where
+pub record Hold (object_bytes space_bytes : ℕ) (memory : Bytes) (objects spaces : List ℕ) : Type 0 where
   pub objects_length : length objects ≡ object_bytes
   pub spaces_length : length spaces ≡ space_bytes
-  pub objects_are : (k : ℕ) → k < length objects → m (objects_begin + k) ≡ slice_index objects k
-  pub spaces_are : (k : ℕ) → k < length spaces → m (spaces_begin + k) ≡ slice_index spaces k
+  pub objects_are : (k : ℕ) → k < length objects → memory (objects_begin + k) ≡ slice_index objects k
+  pub spaces_are : (k : ℕ) → k < length spaces → memory (spaces_begin + k) ≡ slice_index spaces k
 
 -- so many bytes from an address on lie in one of the data segments
 abbrev pub IsOfData : (object_bytes space_bytes : ℕ) → (address size : ℕ) → Type 0

@@ -97,40 +97,40 @@ pub record Layout : Type 0 where
   pub object_bytes : ℕ
   pub space_bytes : ℕ
 
-pub record Fits (l : Layout) : Type 0 where
-  pub table_fits : functions_begin + length l.table ≤ code_begin
-  pub code_fits : code_begin + length l.code ≤ objects_begin
-  pub objects_fit : objects_begin + l.object_bytes ≤ spaces_begin
-  pub spaces_fit : spaces_begin + l.space_bytes ≤ 2 ^ 63
+pub record Fits (layout : Layout) : Type 0 where
+  pub table_fits : functions_begin + length layout.table ≤ code_begin
+  pub code_fits : code_begin + length layout.code ≤ objects_begin
+  pub objects_fit : objects_begin + layout.object_bytes ≤ spaces_begin
+  pub spaces_fit : spaces_begin + layout.space_bytes ≤ 2 ^ 63
 
 -- an instruction stands at an address of the code, whatever the data is
-pub record StandsAt (l : Layout) (pc : ℕ) (i : Instr) : Type 0 where
-  pub of_table : IsOfTable i
+pub record StandsAt (layout : Layout) (pc : ℕ) (instruction : Instr) : Type 0 where
+  pub of_table : IsOfTable instruction
   pub small : pc + 4 < 2 ^ 64
-  pub fetched : (objects spaces : List ℕ) → AreApart l.table l.code objects spaces
-      → fetch (segments l.table l.code objects spaces) pc ≡ Some (word_of i)
+  pub fetched : (objects spaces : List ℕ) → AreApart layout.table layout.code objects spaces
+      → fetch (segments layout.table layout.code objects spaces) pc ≡ Some (word_of instruction)
 
 abbrev pub AllStand : Layout → (pc : ℕ) → List Instr → Type 0
 AllStand l pc [] = Unit {0}
 AllStand l pc (i ∷ is) = StandsAt l pc i × AllStand l (pc + 4) is
 
 -- the machine is what the view shows
-pub record Shows (l : Layout) (c : Configuration) (v : View) : Type 0 where
+pub record Shows (layout : Layout) (machine : Configuration) (view : View) : Type 0 where
   pub objects : List ℕ
   pub spaces : List ℕ
-  pub memory_is : c.state.memory ≡ segments l.table l.code objects spaces
-  pub hold : Hold l.object_bytes l.space_bytes v.memory objects spaces
-  pub pc_is : c.state.pc ≡ v.pc
-  pub count : length c.state.registers ≡ 32
-  pub registers_are : (r : ℕ) → r < 32 → register c.state r ≡ v.registers r
-  pub accesses_are : c.accesses ≡ v.accesses
+  pub memory_is : machine.state.memory ≡ segments layout.table layout.code objects spaces
+  pub hold : Hold layout.object_bytes layout.space_bytes view.memory objects spaces
+  pub pc_is : machine.state.pc ≡ view.pc
+  pub count : length machine.state.registers ≡ 32
+  pub registers_are : (r : ℕ) → r < 32 → register machine.state r ≡ view.registers r
+  pub accesses_are : machine.accesses ≡ view.accesses
 
 -- input and output stay
-pub record StaysOutside (c c' : Configuration) : Type 0 where
-  pub input : c'.input ≡ c.input
-  pub output : c'.output ≡ c.output
-  pub errors : c'.errors ≡ c.errors
-  pub taken : c'.taken ≡ c.taken
+pub record StaysOutside (before after : Configuration) : Type 0 where
+  pub input : after.input ≡ before.input
+  pub output : after.output ≡ before.output
+  pub errors : after.errors ≡ before.errors
+  pub taken : after.taken ≡ before.taken
 
 -- so many bytes of a memory from an address on
 abbrev pub bytes_from : Bytes → (address size : ℕ) → List ℕ
@@ -138,22 +138,22 @@ bytes_from m a zero = []
 bytes_from m a (suc n) = m a ∷ bytes_from m (suc a) n
 
 -- bytes went to the output, and what else is outside stays
-pub record Sends (c c' : Configuration) (bytes : List ℕ) : Type 0 where
-  pub output : c'.output ≡ c.output ++ bytes
-  pub input : c'.input ≡ c.input
-  pub errors : c'.errors ≡ c.errors
-  pub taken : c'.taken ≡ c.taken
+pub record Sends (before after : Configuration) (bytes : List ℕ) : Type 0 where
+  pub output : after.output ≡ before.output ++ bytes
+  pub input : after.input ≡ before.input
+  pub errors : after.errors ≡ before.errors
+  pub taken : after.taken ≡ before.taken
 
 -- the same of the error output
-pub record SendsErrors (c c' : Configuration) (bytes : List ℕ) : Type 0 where
-  pub errors : c'.errors ≡ c.errors ++ bytes
-  pub output : c'.output ≡ c.output
-  pub input : c'.input ≡ c.input
-  pub taken : c'.taken ≡ c.taken
+pub record SendsErrors (before after : Configuration) (bytes : List ℕ) : Type 0 where
+  pub errors : after.errors ≡ before.errors ++ bytes
+  pub output : after.output ≡ before.output
+  pub input : after.input ≡ before.input
+  pub taken : after.taken ≡ before.taken
 
 -- a byte of the input was taken, and what else is outside stays
-pub record Takes (c c' : Configuration) (rest : List ℕ) : Type 0 where
-  pub input : c'.input ≡ rest
-  pub taken : c'.taken ≡ c.taken + 1
-  pub output : c'.output ≡ c.output
-  pub errors : c'.errors ≡ c.errors
+pub record Takes (before after : Configuration) (rest : List ℕ) : Type 0 where
+  pub input : after.input ≡ rest
+  pub taken : after.taken ≡ before.taken + 1
+  pub output : after.output ≡ before.output
+  pub errors : after.errors ≡ before.errors

@@ -50,7 +50,8 @@ use Rattle.flat_operators.proofs.Operators.{shift_right_gives, unary_gives, cons
 use Rattle.flat_operators.proofs.Operators.{length_conversion, length_wrapping, length_unary, length_constant}
 use Rattle.flat_operators.proofs.Operators.{length_left, length_right}
 use Rattle.metadata_plan.specs.OperatorLists.Operators.{operators}
-use Rattle.metadata_plan.proofs.OperatorLists.Plain.{ArePlain, plain_effects, plain_conversion, plain_converted, plain_constant}
+use Rattle.metadata_plan.proofs.OperatorLists.Plain.{ArePlain, plain_effects, plain_conversion, plain_converted}
+use Rattle.metadata_plan.proofs.OperatorLists.Plain.{plain_constant}
 use Rattle.metadata_plan.proofs.OperatorLists.Plain.{plain_wrapping, plain_left, plain_right, plain_unary}
 
 module _ (m : MapSizes) (p : FlatProgram) (x : Position) where

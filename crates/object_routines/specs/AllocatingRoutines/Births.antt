@@ -20,34 +20,37 @@ with_key n lock k = record {
 }
 
 -- a range of object space is zero, with no metadata, and all that stands beside it is as it was
-pub record IsZeroRange (map : MapSizes) (entry : View) (a n : ℕ) (m m' : Bytes) : Type 0 where
-  pub zeros : (i : ℕ) → i < n → m' (a + i) ≡ 0
-  pub low : (b : ℕ) → b < spaces_begin → Beside a n b → m' b ≡ m b
-  pub cleared : (w : ℕ) → w < n / 8 → entry m' (a + 8 * w) ≡ no_metadata
-  pub entries : (b : ℕ) → IsObjectWord map b → (b < a) ⊎ (a + 8 * (n / 8) ≤ b) → entry m' b ≡ entry m b
+pub record IsZeroRange (map : MapSizes) (entry : View) (address bytes : ℕ) (before after : Bytes) : Type 0 where
+  pub zeros : (i : ℕ) → i < bytes → after (address + i) ≡ 0
+  pub low : (b : ℕ) → b < spaces_begin → Beside address bytes b → after b ≡ before b
+  pub cleared : (w : ℕ) → w < bytes / 8 → entry after (address + 8 * w) ≡ no_metadata
+  pub entries : (b : ℕ) → IsObjectWord map b → (b < address) ⊎ (address + 8 * (bytes / 8) ≤ b)
+      → entry after b ≡ entry before b
 
 -- a lock word that was free has the next key
-pub record IsKeyTaken (map : MapSizes) (lock : ℕ) (m m' : Bytes) : Type 0 where
-  pub was_free : IsFree map m lock
-  pub locked : load 8 m' lock ≡ key_counter map m
-  pub others : OtherLocksStay map lock m m'
-  pub counter : key_counter map m' ≡ suc (key_counter map m)
+pub record IsKeyTaken (map : MapSizes) (lock : ℕ) (before after : Bytes) : Type 0 where
+  pub was_free : IsFree map before lock
+  pub locked : load 8 after lock ≡ key_counter map before
+  pub others : OtherLocksStay map lock before after
+  pub counter : key_counter map after ≡ suc (key_counter map before)
 
 -- a block of some bytes stands at a place, with its row, under a lock word
-pub record IsBlockMade (map : MapSizes) (entry : View) (IsGood : Bytes → Type 0) (place size lock : ℕ) (m m' : Bytes)
+pub record IsBlockMade (map : MapSizes) (entry : View) (IsGood : Bytes
+    → Type 0) (place size lock : ℕ) (before after : Bytes)
     : Type 0 where
-  pub range : IsZeroRange map entry place size m m'
-  pub key : IsKeyTaken map lock m m'
-  pub rows : block_rows map m'
-      ≡ with_row (record { start = place; size = size; key = key_counter map m }) (block_rows map m)
-  pub good : AreSpacesGood map IsGood m'
-  pub behind : (b : ℕ) → region_start map StructureValues ≤ b → m' b ≡ m b
+  pub range : IsZeroRange map entry place size before after
+  pub key : IsKeyTaken map lock before after
+  pub rows : block_rows map after
+      ≡ with_row (record { start = place; size = size; key = key_counter map before }) (block_rows map before)
+  pub good : AreSpacesGood map IsGood after
+  pub behind : (b : ℕ) → region_start map StructureValues ≤ b → after b ≡ before b
 
 -- a range of the object stack is zero, and a lock word has a new key
-pub record IsRangeMade (map : MapSizes) (entry : View) (IsGood : Bytes → Type 0) (first bytes lock : ℕ) (m m' : Bytes)
+pub record IsRangeMade (map : MapSizes) (entry : View) (IsGood : Bytes
+    → Type 0) (first bytes lock : ℕ) (before after : Bytes)
     : Type 0 where
-  pub range : IsZeroRange map entry first bytes m m'
-  pub key : IsKeyTaken map lock m m'
-  pub rows : block_rows map m' ≡ block_rows map m
-  pub good : AreSpacesGood map IsGood m'
-  pub behind : (b : ℕ) → region_start map StructureValues ≤ b → m' b ≡ m b
+  pub range : IsZeroRange map entry first bytes before after
+  pub key : IsKeyTaken map lock before after
+  pub rows : block_rows map after ≡ block_rows map before
+  pub good : AreSpacesGood map IsGood after
+  pub behind : (b : ℕ) → region_start map StructureValues ≤ b → after b ≡ before b

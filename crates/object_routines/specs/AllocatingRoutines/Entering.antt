@@ -39,20 +39,20 @@ IsHomeOf n (NoObject ∷ hs) = IsHomeOf n hs
 IsHomeOf n (InObject o ∷ hs) = (n ≡ o) ⊎ IsHomeOf n hs
 
 -- The live objects under a lock word are just those of the block, of which some live, and which are automatic.
-pub record AreOfLock (k : Keys) (x : Source) (homes : List Home) (lock : ℕ) : Type 0 where
+pub record AreOfLock (keys : Keys) (source : Source) (homes : List Home) (lock : ℕ) : Type 0 where
   pub some : ℕ
-  pub some_live : (object_at x.objects some).is_live ≡ true
+  pub some_live : (object_at source.objects some).is_live ≡ true
   pub some_home : IsHomeOf some homes
   pub under : (n : ℕ) → IsHomeOf n homes
-      → (n < length x.objects) × ((object_at x.objects n).storage ≡ Automatic) × ((k.held n).lock ≡ lock)
-  pub home : (n : ℕ) → (object_at x.objects n).is_live ≡ true → (k.held n).lock ≡ lock → IsHomeOf n homes
+      → (n < length source.objects) × ((object_at source.objects n).storage ≡ Automatic) × ((keys.held n).lock ≡ lock)
+  pub home : (n : ℕ) → (object_at source.objects n).is_live ≡ true → (keys.held n).lock ≡ lock → IsHomeOf n homes
 
 -- objects are made with keys of their own: blocks of the heap have them alone, and others later ones
-pub record AreNewlyKeyed (x x' : Source) (k k' : Keys) : Type 0 where
-  pub held : KeepsHeld x.objects k k'
-  pub continues : ObjectsContinue x.objects x'.objects
-  pub later : (n : ℕ) → length x.objects ≤ n → (object_at x'.objects n).is_live ≡ true
-      → ((object_at x'.objects n).storage ≡ Allocated)
+pub record AreNewlyKeyed (before after : Source) (k k' : Keys) : Type 0 where
+  pub held : KeepsHeld before.objects k k'
+  pub continues : ObjectsContinue before.objects after.objects
+  pub later : (n : ℕ) → length before.objects ≤ n → (object_at after.objects n).is_live ≡ true
+      → ((object_at after.objects n).storage ≡ Allocated)
       ⊎ (((k'.held n).key ≡ 2 + k'.own n) × (k.made ≤ k'.own n))
 
 -- ---- a block is entered
@@ -68,30 +68,32 @@ abbrev pub block_bytes : List Variable → ℕ
 block_bytes vs = objects_end vs 0
 
 -- what it relies on: the block has objects, all with bytes, and live objects stand as in the states of a run
-pub record CanEnter (map : MapSizes) (vs : List Variable) (x : Source) : Type 0 where
+pub record CanEnter (map : MapSizes) (vs : List Variable) (source : Source) : Type 0 where
   pub some : has_objects vs ≡ true
   pub sized : AreSized vs
-  pub separate : AreSeparate map x.stacked x.objects
-  pub bytes : HaveBytes x.objects
+  pub separate : AreSeparate map source.stacked source.objects
+  pub bytes : HaveBytes source.objects
 
 abbrev pub registers_in : EntryRegisters → List ℕ
 registers_in r = r.first ∷ r.end ∷ r.key ∷ r.lock ∷ []
 
 -- it was entered; of object space only the bytes of the block may have changed
-pub record HasEntered (g : Views) (k : Keys) (IsGood : Bytes → Type 0) (to : EntryRegisters) (scratch : ℕ) (x : Source)
-    (f : State) (homes : List Home) (x' : Source) (f' : State) : Type 0 where
+pub record HasEntered (views : Views) (k : Keys) (IsGood : Bytes
+    → Type 0) (to : EntryRegisters) (scratch : ℕ) (before : Source)
+    (f : State) (homes : List Home) (after : Source) (f' : State) : Type 0 where
   pub keys : Keys
-  pub held : KeepsHeld x.objects k keys
-  pub stands : IsFor g keys IsGood x' f'
-  pub first_is : f'.values to.first ≡ rounded_up 16 x.stacked
-  pub end_is : f'.values to.end ≡ x'.stacked
+  pub held : KeepsHeld before.objects k keys
+  pub stands : IsFor views keys IsGood after f'
+  pub first_is : f'.values to.first ≡ rounded_up 16 before.stacked
+  pub end_is : f'.values to.end ≡ after.stacked
   pub key_is : f'.values to.key ≡ 2 + k.made
-  pub share : (n : ℕ) → length x.objects ≤ n
+  pub share : (n : ℕ) → length before.objects ≤ n
       → keys.held n ≡ record { key = f'.values to.key; lock = f'.values to.lock }
-  pub of_lock : AreOfLock keys x' homes (f'.values to.lock)
+  pub of_lock : AreOfLock keys after homes (f'.values to.lock)
   pub turns : f'.turns ≡ f.turns
-  pub low : (a : ℕ) → a < spaces_begin → (a < rounded_up 16 x.stacked) ⊎ (x'.stacked ≤ a) → f'.memory a ≡ f.memory a
-  pub behind : (a : ℕ) → region_start g.sizes StructureValues ≤ a → f'.memory a ≡ f.memory a
+  pub low : (a : ℕ) → a < spaces_begin → (a < rounded_up 16 before.stacked) ⊎ (after.stacked ≤ a)
+      → f'.memory a ≡ f.memory a
+  pub behind : (a : ℕ) → region_start views.sizes StructureValues ≤ a → f'.memory a ≡ f.memory a
   pub others : OthersStay (registers_in to) scratch f f'
 
 abbrev pub IsEntered : Views → Keys → (IsGood : Bytes → Type 0) → EntryRegisters → (scratch : ℕ) → Source → State
@@ -142,13 +144,14 @@ enter_code map fresh zero top bytes to line k key =
 
 -- ---- a block is left
 
-pub record HasLeft (g : Views) (k : Keys) (IsGood : Bytes → Type 0) (scratch : ℕ) (x' : Source) (f f' : State) : Type 0
+pub record HasLeft (views : Views) (keys : Keys) (IsGood : Bytes
+    → Type 0) (scratch : ℕ) (source : Source) (before after : State) : Type 0
   where
-    pub stands : IsFor g k IsGood x' f'
-    pub turns : f'.turns ≡ f.turns
-    pub low : (a : ℕ) → a < spaces_begin → f'.memory a ≡ f.memory a
-    pub behind : (a : ℕ) → region_start g.sizes StructureValues ≤ a → f'.memory a ≡ f.memory a
-    pub others : OthersStay [] scratch f f'
+    pub stands : IsFor views keys IsGood source after
+    pub turns : after.turns ≡ before.turns
+    pub low : (a : ℕ) → a < spaces_begin → after.memory a ≡ before.memory a
+    pub behind : (a : ℕ) → region_start views.sizes StructureValues ≤ a → after.memory a ≡ before.memory a
+    pub others : OthersStay [] scratch before after
 
 -- a register holds the lock word of the block: within 11 steps its objects die
 abbrev pub IsLeaveRoutine : MapSizes → View → (Bytes → Type 0) → (lock scratch : ℕ) → List FlatInstruction → Type 0

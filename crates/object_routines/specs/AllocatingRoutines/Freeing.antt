@@ -58,13 +58,14 @@ free_code find unlist unlock h line x found =
 -- ---- what is made of the memory
 
 -- the block that starts at an address has no row any more, and its lock word holds no key
-pub record IsBlockEnded (map : MapSizes) (entry : View) (IsGood : Bytes → Type 0) (start lock : ℕ) (m m' : Bytes)
+pub record IsBlockEnded (map : MapSizes) (entry : View) (IsGood : Bytes
+    → Type 0) (start lock : ℕ) (before after : Bytes)
     : Type 0 where
-  pub low : (b : ℕ) → b < spaces_begin → m' b ≡ m b
-  pub entries : (b : ℕ) → IsObjectWord map b → entry m' b ≡ entry m b
-  pub released : load 8 m' lock ≡ 0
-  pub others : OtherLocksStay map lock m m'
-  pub counter : key_counter map m' ≡ key_counter map m
-  pub rows : block_rows map m' ≡ without_row start (block_rows map m)
-  pub good : AreSpacesGood map IsGood m'
-  pub behind : (b : ℕ) → region_start map StructureValues ≤ b → m' b ≡ m b
+  pub low : (b : ℕ) → b < spaces_begin → after b ≡ before b
+  pub entries : (b : ℕ) → IsObjectWord map b → entry after b ≡ entry before b
+  pub released : load 8 after lock ≡ 0
+  pub others : OtherLocksStay map lock before after
+  pub counter : key_counter map after ≡ key_counter map before
+  pub rows : block_rows map after ≡ without_row start (block_rows map before)
+  pub good : AreSpacesGood map IsGood after
+  pub behind : (b : ℕ) → region_start map StructureValues ≤ b → after b ≡ before b

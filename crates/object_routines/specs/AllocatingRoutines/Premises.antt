@@ -12,6 +12,6 @@ pub record HaveBytes (objects : Objects) : Type 0 where
       → 1 ≤ (object_at objects n).size
 
 -- objects stand in their regions, and the automatic ones have bytes
-pub record AreStanding (map : MapSizes) (x : Source) : Type 0 where
-  pub placed : ArePlaced map x.objects
-  pub bytes : HaveBytes x.objects
+pub record AreStanding (map : MapSizes) (source : Source) : Type 0 where
+  pub placed : ArePlaced map source.objects
+  pub bytes : HaveBytes source.objects

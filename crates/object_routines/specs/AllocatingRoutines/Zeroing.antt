@@ -20,25 +20,27 @@ use Rattle.flat_actions.specs.Actions.{AreSpacesGood}
 use Rattle.flat_actions.specs.Ranges.{IsObjectRange, DoesInRuntime}
 
 -- registers hold where a range of object space begins, at a multiple of 8, and its bytes
-pub record IsToZero (map : MapSizes) (first bytes n : ℕ) (s : State) : Type 0 where
-  pub size : s.values bytes ≡ n
-  pub aligned : s.values first % 8 ≡ 0
-  pub range : IsObjectRange map (s.values first) n
+pub record IsToZero (map : MapSizes) (first bytes n : ℕ) (state : State) : Type 0 where
+  pub size : state.values bytes ≡ n
+  pub aligned : state.values first % 8 ≡ 0
+  pub range : IsObjectRange map (state.values first) n
 
 -- the memory is zero from an address on, and all else is as it was
-pub record IsZeroed (map : MapSizes) (entry : View) (a n : ℕ) (m m' : Bytes) : Type 0 where
-  pub zeros : (i : ℕ) → i < n → m' (a + i) ≡ 0
-  pub beside : (b : ℕ) → b < spaces_begin → Beside a n b → m' b ≡ m b
-  pub cleared : (w : ℕ) → w < n / 8 → entry m' (a + 8 * w) ≡ no_metadata
-  pub entries : (b : ℕ) → IsObjectWord map b → (b < a) ⊎ (a + 8 * (n / 8) ≤ b) → entry m' b ≡ entry m b
-  pub spaces : (b : ℕ) → region_start map Locks ≤ b → m' b ≡ m b
+pub record IsZeroed (map : MapSizes) (entry : View) (address bytes : ℕ) (before after : Bytes) : Type 0 where
+  pub zeros : (i : ℕ) → i < bytes → after (address + i) ≡ 0
+  pub beside : (b : ℕ) → b < spaces_begin → Beside address bytes b → after b ≡ before b
+  pub cleared : (w : ℕ) → w < bytes / 8 → entry after (address + 8 * w) ≡ no_metadata
+  pub entries : (b : ℕ) → IsObjectWord map b → (b < address) ⊎ (address + 8 * (bytes / 8) ≤ b)
+      → entry after b ≡ entry before b
+  pub spaces : (b : ℕ) → region_start map Locks ≤ b → after b ≡ before b
 
-pub record HasZeroed (map : MapSizes) (entry : View) (IsGood : Bytes → Type 0) (first n scratch : ℕ) (s s' : State)
+pub record HasZeroed (map : MapSizes) (entry : View) (IsGood : Bytes
+    → Type 0) (first n scratch : ℕ) (before after : State)
     : Type 0 where
-  pub memory : IsZeroed map entry (s.values first) n s.memory s'.memory
-  pub good : AreSpacesGood map IsGood s'.memory
-  pub shows : ShowsNothing s s'
-  pub others : OthersStay [] scratch s s'
+  pub memory : IsZeroed map entry (before.values first) n before.memory after.memory
+  pub good : AreSpacesGood map IsGood after.memory
+  pub shows : ShowsNothing before after
+  pub others : OthersStay [] scratch before after
 
 -- within 42 steps and 5 for each byte
 abbrev pub IsZeroRoutine : MapSizes → View → (Bytes → Type 0) → (first bytes scratch : ℕ) → List FlatInstruction →

@@ -8,14 +8,19 @@ use Rattle.c_tree.specs.View.{expression_of}
 use Rattle.tac_ir.specs.declared.instruction.Instruction.TheVariants as tac
 use Rattle.c_lower.specs.Homes.{used, used_by_lvalue}
 use Rattle.program_lowering.specs.declared.expressions.emitter.Emitter.{Emitter}
-use Rattle.program_lowering.specs.ExpressionCode.Emitted.{Added, ExpressionCode, LvalueCode, ArgumentsCode, arguments_used}
-use Rattle.program_lowering.specs.ExpressionCode.Weights.{taking_weight, expression_weight, lvalue_weight, arguments_weight}
+use Rattle.program_lowering.specs.ExpressionCode.Emitted.{Added, ExpressionCode, LvalueCode, ArgumentsCode}
+use Rattle.program_lowering.specs.ExpressionCode.Emitted.{arguments_used}
+use Rattle.program_lowering.specs.ExpressionCode.Weights.{taking_weight, expression_weight, lvalue_weight}
+use Rattle.program_lowering.specs.ExpressionCode.Weights.{arguments_weight}
 use Rattle.program_lowering.specs.ExpressionCode.Last.{TakingCode, Outcomes}
-use Rattle.program_lowering.specs.ExpressionCode.Shapes.{none, one, place, two, place_and, each, callee_and, both, either, sequence}
+use Rattle.program_lowering.specs.ExpressionCode.Shapes.{none, one, place, two, place_and, each, callee_and, both}
+use Rattle.program_lowering.specs.ExpressionCode.Shapes.{either, sequence}
 use Rattle.program_lowering.specs.ExpressionCode.Shapes.{choice, operands_of, lvalue_operands}
 use Rattle.program_lowering.specs.ExpressionCode.Shapes.{OperandsCode, Finishes, LvalueFinishes}
-use Rattle.program_lowering.proofs.ExpressionCode.Growing.{emits_none, emits_then, added_emits, added_holds, fills_before}
-use Rattle.program_lowering.proofs.ExpressionCode.Steps.{used_most, weight_most, used_by_most, weight_by_most, some_used}
+use Rattle.program_lowering.proofs.ExpressionCode.Growing.{emits_none, emits_then, added_emits, added_holds}
+use Rattle.program_lowering.proofs.ExpressionCode.Growing.{fills_before}
+use Rattle.program_lowering.proofs.ExpressionCode.Steps.{used_most, weight_most, used_by_most, weight_by_most}
+use Rattle.program_lowering.proofs.ExpressionCode.Steps.{some_used}
 
 pub none_code : {a : Emitter} {d n : ℕ} → OperandsCode a a none d n n
 none_code {d = d} = record { emits = emits_none (d + 0); stands = λ p f. refl }

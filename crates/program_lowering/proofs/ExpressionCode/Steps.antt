@@ -18,10 +18,12 @@ use Rattle.c_lower.specs.Placed.{Placed, Holds}
 use Rattle.c_lower.specs.Values.{KeyIs, LowersNode, LowersPlace, count}
 use Rattle.program_lowering.specs.declared.expressions.emitter.Emitter.{Emitter}
 use Rattle.program_lowering.specs.ExpressionCode.Sizes.{nodes, lvalue_nodes, arguments_nodes, nodes_made}
-use Rattle.program_lowering.specs.ExpressionCode.Weights.{Weights, weight_of, weight_if, no_weight, takings_weight, weight_made}
+use Rattle.program_lowering.specs.ExpressionCode.Weights.{Weights, weight_of, weight_if, no_weight, takings_weight}
+use Rattle.program_lowering.specs.ExpressionCode.Weights.{weight_made}
 use Rattle.program_lowering.specs.ExpressionCode.Weights.{expression_weight, lvalue_weight, arguments_weight}
 use Rattle.program_lowering.specs.ExpressionCode.Emitted.{Added, IsReal, arguments_used}
-use Rattle.program_lowering.specs.ExpressionCode.Last.{key_in, last_in, last_at, KeyAdded, TextAdded, FormatAdded, TextIs}
+use Rattle.program_lowering.specs.ExpressionCode.Last.{key_in, last_in, last_at, KeyAdded, TextAdded, FormatAdded}
+use Rattle.program_lowering.specs.ExpressionCode.Last.{TextIs}
 use Rattle.program_lowering.specs.ExpressionCode.Shapes.{operands_in, operands_at, operands_of, lvalue_operands}
 use Rattle.program_lowering.specs.ExpressionCode.Shapes.{LowersOperands, operands_used, operands_nodes, operands_weight}
 use Rattle.program_lowering.specs.ExpressionCode.Shapes.{finish_weight, lvalue_finish_weight, Finishes, LvalueFinishes}

@@ -25,8 +25,10 @@ use Rattle.c_lower.specs.Homes.{used, used_by_lvalue}
 use Rattle.program_lowering.specs.declared.expressions.emitter.Emitter.{Emitter}
 use Rattle.program_lowering.specs.ExpressionCode.Emitted.{ExpressionCode, LvalueCode, ArgumentsCode, arguments_used}
 use Rattle.program_lowering.specs.ExpressionCode.Sizes.{nodes, lvalue_nodes, arguments_nodes}
-use Rattle.program_lowering.specs.ExpressionCode.Shapes.{Operands, two, place_and, callee_and, both, either, sequence, choice}
-use Rattle.program_lowering.specs.ExpressionCode.Shapes.{operands_in, operands_at, operands_of, lvalue_operands, operands_used}
+use Rattle.program_lowering.specs.ExpressionCode.Shapes.{Operands, two, place_and, callee_and, both, either, sequence}
+use Rattle.program_lowering.specs.ExpressionCode.Shapes.{choice}
+use Rattle.program_lowering.specs.ExpressionCode.Shapes.{operands_in, operands_at, operands_of, lvalue_operands}
+use Rattle.program_lowering.specs.ExpressionCode.Shapes.{operands_used}
 use Rattle.program_lowering.specs.ExpressionCode.Shapes.{operands_nodes, OperandsCode, Finishes, LvalueFinishes}
 use Rattle.program_lowering.specs.ExpressionCode.Last.{TakingCode}
 use Rattle.program_lowering.specs.ExpressionCode.Nodes.{node_of, lvalue_node_of}

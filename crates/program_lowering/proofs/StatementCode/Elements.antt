@@ -11,7 +11,8 @@ use Rattle.c_tree.specs.Statements.{Statement, statements_in, items_in}
 use Rattle.c_tree.specs.View.{statement_of, statement_step, item_step}
 use Rattle.program_lowering.proofs.ExpressionCode.Views.{drop_from}
 use Rattle.program_lowering.specs.StatementParts.Items.{item_of}
-use Rattle.program_lowering.specs.StatementCode.Sizes.{statement_height, each_height, items_height, statement_count, each_count}
+use Rattle.program_lowering.specs.StatementCode.Sizes.{statement_height, each_height, items_height, statement_count}
+use Rattle.program_lowering.specs.StatementCode.Sizes.{each_count}
 use Rattle.program_lowering.specs.StatementCode.Sizes.{items_count}
 use Rattle.program_lowering.specs.StatementCode.Switches.{are_decided, each_decided, items_decided}
 

@@ -13,7 +13,8 @@ use Rattle.c_lower.specs.Placed.{Placed}
 use Rattle.c_lower.specs.Statements.{LowersLabels, any_default}
 use Rattle.program_lowering.specs.declared.expressions.emitter.Emitter.{Emitter}
 use Rattle.program_lowering.specs.ExpressionCode.Emitted.{Added}
-use Rattle.program_lowering.proofs.ExpressionCode.Growing.{emits_none, emits_then, emits_within, added_emits, added_holds}
+use Rattle.program_lowering.proofs.ExpressionCode.Growing.{emits_none, emits_then, emits_within, added_emits}
+use Rattle.program_lowering.proofs.ExpressionCode.Growing.{added_holds}
 use Rattle.program_lowering.proofs.ExpressionCode.Growing.{fills_before}
 use Rattle.program_lowering.proofs.ExpressionCode.Views.{drop_from}
 use Rattle.program_lowering.specs.StatementParts.Items.{item_of}

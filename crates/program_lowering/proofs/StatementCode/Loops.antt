@@ -21,7 +21,8 @@ use Rattle.program_lowering.specs.StatementParts.Leaving.{exits_of}
 use Rattle.program_lowering.specs.StatementParts.Code.{most}
 use Rattle.program_lowering.specs.StatementParts.Weights.{objects_weight}
 use Rattle.program_lowering.specs.StatementParts.Loops.{Waits, Filled, HeadCode, ForHeadCode, ForTailCode}
-use Rattle.program_lowering.proofs.StatementParts.LoopParts.{filled_fills, filled_keeps, filled_fits, filled_weight, filled_holds}
+use Rattle.program_lowering.proofs.StatementParts.LoopParts.{filled_fills, filled_keeps, filled_fits, filled_weight}
+use Rattle.program_lowering.proofs.StatementParts.LoopParts.{filled_holds}
 use Rattle.program_lowering.specs.StatementCode.Code.{StatementCode}
 use Rattle.program_lowering.specs.StatementCode.Sizes.{statement_height}
 use Rattle.program_lowering.specs.StatementCode.Weights.{statement_weight}

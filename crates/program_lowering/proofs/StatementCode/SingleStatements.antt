@@ -14,7 +14,8 @@ use Rattle.program_lowering.specs.declared.expressions.emitter.Emitter.{Emitter}
 use Rattle.program_lowering.specs.ExpressionCode.Weights.{taking_weight}
 use Rattle.program_lowering.specs.ExpressionCode.Emitted.{Added, ExpressionCode}
 use Rattle.program_lowering.specs.ExpressionCode.Last.{TakingCode}
-use Rattle.program_lowering.proofs.ExpressionCode.Growing.{emits_none, emits_then, emits_within, added_emits, added_holds}
+use Rattle.program_lowering.proofs.ExpressionCode.Growing.{emits_none, emits_then, emits_within, added_emits}
+use Rattle.program_lowering.proofs.ExpressionCode.Growing.{added_holds}
 use Rattle.program_lowering.proofs.ExpressionCode.Growing.{fills_before}
 use Rattle.program_lowering.proofs.ExpressionCode.Views.{of_expression}
 use Rattle.program_lowering.specs.declared.parts.exits.Exits.{Exits}

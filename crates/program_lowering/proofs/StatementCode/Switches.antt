@@ -23,9 +23,11 @@ use Rattle.program_lowering.specs.StatementParts.Weights.{objects_weight}
 use Rattle.program_lowering.specs.StatementParts.Code.{EntryCode, LeavingCode}
 use Rattle.program_lowering.proofs.StatementParts.InitializerParts.{drop_before, evaluated_emits}
 use Rattle.program_lowering.specs.StatementCode.Weights.{statement_weight, items_weight}
-use Rattle.program_lowering.specs.StatementCode.Code.{StatementCode, ItemsFrom, ItemsCode, TestsCode, bodies_weight, tests_weight}
+use Rattle.program_lowering.specs.StatementCode.Code.{StatementCode, ItemsFrom, ItemsCode, TestsCode, bodies_weight}
+use Rattle.program_lowering.specs.StatementCode.Code.{tests_weight}
 use Rattle.program_lowering.specs.StatementCode.Sizes.{statement_height, items_height}
-use Rattle.program_lowering.specs.StatementCode.Switches.{has_one_default, default_start, LowersBodies, LowersTests, DefaultsBegin}
+use Rattle.program_lowering.specs.StatementCode.Switches.{has_one_default, default_start, LowersBodies, LowersTests}
+use Rattle.program_lowering.specs.StatementCode.Switches.{DefaultsBegin}
 use Rattle.program_lowering.proofs.StatementCode.Elements.{of_item, drop_set}
 use Rattle.program_lowering.proofs.StatementCode.Heights.{items_need_one}
 

@@ -19,10 +19,12 @@ use Rattle.program_lowering.specs.declared.expressions.emitter.Emitter.{Emitter}
 use Rattle.program_lowering.specs.ExpressionCode.Weights.{expression_weight}
 use Rattle.program_lowering.specs.ExpressionCode.Emitted.{Added, Emits, ExpressionCode}
 use Rattle.program_lowering.specs.ExpressionCode.Last.{TextAdded}
-use Rattle.program_lowering.proofs.ExpressionCode.Growing.{emits_none, emits_then, emits_within, added_emits, added_holds}
+use Rattle.program_lowering.proofs.ExpressionCode.Growing.{emits_none, emits_then, emits_within, added_emits}
+use Rattle.program_lowering.proofs.ExpressionCode.Growing.{added_holds}
 use Rattle.program_lowering.proofs.ExpressionCode.Growing.{fills_before}
 use Rattle.program_lowering.proofs.ExpressionCode.Views.{of_expression, drop_from}
-use Rattle.program_lowering.specs.StatementParts.Weights.{content_weight, parts_weight, initializer_weight, declared_weight}
+use Rattle.program_lowering.specs.StatementParts.Weights.{content_weight, parts_weight, initializer_weight}
+use Rattle.program_lowering.specs.StatementParts.Weights.{declared_weight}
 use Rattle.program_lowering.specs.StatementParts.Weights.{condition_weight}
 use Rattle.program_lowering.specs.StatementParts.Code.{most, contents_in, ContentCode, PartsCode, InitializerCode}
 use Rattle.program_lowering.specs.StatementParts.Code.{DeclaredCode, FirstCode, ConditionCode, PartCode}

@@ -80,32 +80,32 @@ last_at (member_of_value a offset size) d m = Some (tac.Member offset size d d m
 last_at (parenthesized_lvalue p) d m = None
 
 -- the number of a key in the table
-pub record KeyAdded (a b : Emitter) (key : Option Key) (number : Option ℕ) : Type 0 where
-  pub emits : Emits a b 0 no_weight
-  pub is : (c : Placed) → Fills b c → KeyIs c.keys number key
+pub record KeyAdded (before after : Emitter) (key : Option Key) (number : Option ℕ) : Type 0 where
+  pub emits : Emits before after 0 no_weight
+  pub is : (c : Placed) → Fills after c → KeyIs c.keys number key
 
 -- the number of a format or a literal among the texts
-pub record TextAdded (a b : Emitter) (text : List ℕ) (number : ℕ) : Type 0 where
-  pub emits : Emits a b 0 no_weight
-  pub is : (c : Placed) → Fills b c → HasAt c.texts number text
+pub record TextAdded (before after : Emitter) (text : List ℕ) (number : ℕ) : Type 0 where
+  pub emits : Emits before after 0 no_weight
+  pub is : (c : Placed) → Fills after c → HasAt c.texts number text
 
 abbrev pub TextIs : Placed → Node → (number : ℕ) → Type 0
 TextIs c (printf format es) n = HasAt c.texts n format
 TextIs c node n = Unit {0}
 
 -- of an expression that has a format
-pub record FormatAdded (a b : Emitter) (node : Node) (number : ℕ) : Type 0 where
-  pub emits : Emits a b 0 no_weight
-  pub is : (c : Placed) → Fills b c → TextIs c node number
+pub record FormatAdded (before after : Emitter) (node : Node) (number : ℕ) : Type 0 where
+  pub emits : Emits before after 0 no_weight
+  pub is : (c : Placed) → Fills after c → TextIs c node number
 
 -- the contents of a structure are taken
-pub record TakingCode (a b : Emitter) (kind : Kind) (line d n0 n1 : ℕ) : Type 0 where
-  pub emits : Emits a b (d + 1) (taking_weight kind)
-  pub stands : (c : Placed) → Fills b c → LowersTaking c kind line d n0 n1
+pub record TakingCode (before after : Emitter) (kind : Kind) (line d n0 n1 : ℕ) : Type 0 where
+  pub emits : Emits before after (d + 1) (taking_weight kind)
+  pub stands : (c : Placed) → Fills after c → LowersTaking c kind line d n0 n1
 
 -- where both operands of `&&` or `||` lead: its values, and the test of the second operand
-pub record Outcomes (a b : Emitter) (d zero one test next : ℕ) : Type 0 where
-  pub emits : Emits a b (d + 1) (λ w. w.branch + 2 * w.constant)
-  pub gives_zero : (c : Placed) → Fills b c → HasAt c.code zero (tac.Constant d 0 next)
-  pub gives_one : (c : Placed) → Fills b c → HasAt c.code one (tac.Constant d 1 next)
-  pub tests : (c : Placed) → Fills b c → HasAt c.code test (tac.Branch d one zero)
+pub record Outcomes (before after : Emitter) (d zero one test next : ℕ) : Type 0 where
+  pub emits : Emits before after (d + 1) (λ w. w.branch + 2 * w.constant)
+  pub gives_zero : (c : Placed) → Fills after c → HasAt c.code zero (tac.Constant d 0 next)
+  pub gives_one : (c : Placed) → Fills after c → HasAt c.code one (tac.Constant d 1 next)
+  pub tests : (c : Placed) → Fills after c → HasAt c.code test (tac.Branch d one zero)

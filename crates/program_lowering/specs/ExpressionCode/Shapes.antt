@@ -13,7 +13,8 @@ use Rattle.c_lower.specs.Placed.{Placed, Holds}
 use Rattle.c_lower.specs.Values.{LowersExpression, LowersLvalue, LowersArguments}
 use Rattle.program_lowering.specs.declared.expressions.emitter.Emitter.{Emitter}
 use Rattle.program_lowering.specs.ExpressionCode.Sizes.{nodes, lvalue_nodes, arguments_nodes}
-use Rattle.program_lowering.specs.ExpressionCode.Weights.{Weights, weight_if, expression_weight, lvalue_weight, arguments_weight}
+use Rattle.program_lowering.specs.ExpressionCode.Weights.{Weights, weight_if, expression_weight, lvalue_weight}
+use Rattle.program_lowering.specs.ExpressionCode.Weights.{arguments_weight}
 use Rattle.program_lowering.specs.ExpressionCode.Emitted.{Fills, Emits, arguments_used}
 use Rattle.program_lowering.specs.ExpressionCode.Last.{last_in, last_at}
 
@@ -151,17 +152,17 @@ finish_weight (expression kind line node) w = weight_if (last_in node kind line 
 abbrev pub lvalue_finish_weight : Lvalue → Weights → ℕ
 lvalue_finish_weight (lvalue kind line node) w = weight_if (last_at node 0 0) w
 
-pub record OperandsCode (a b : Emitter) (os : Operands) (d n0 n1 : ℕ) : Type 0 where
-  pub emits : Emits a b (d + operands_used os) (operands_weight os)
-  pub stands : (c : Placed) → Fills b c → LowersOperands c os d n0 n1
+pub record OperandsCode (before after : Emitter) (os : Operands) (d n0 n1 : ℕ) : Type 0 where
+  pub emits : Emits before after (d + operands_used os) (operands_weight os)
+  pub stands : (c : Placed) → Fills after c → LowersOperands c os d n0 n1
 
 -- what an expression itself does is added: where the code of its operands leads to it, the expression's stands
-pub record Finishes (a b : Emitter) (e : Expression) (d n0 n1 : ℕ) : Type 0 where
-  pub emits : Emits a b (d + used e) (finish_weight e)
-  pub stands : (c : Placed) → Fills b c → (n : ℕ) → LowersOperands c (operands_of e) d n n0
-      → LowersExpression c e d n n1
+pub record Finishes (before after : Emitter) (expression : Expression) (d n0 n1 : ℕ) : Type 0 where
+  pub emits : Emits before after (d + used expression) (finish_weight expression)
+  pub stands : (c : Placed) → Fills after c → (n : ℕ) → LowersOperands c (operands_of expression) d n n0
+      → LowersExpression c expression d n n1
 
-pub record LvalueFinishes (a b : Emitter) (p : Lvalue) (d n0 n1 : ℕ) : Type 0 where
-  pub emits : Emits a b (d + used_by_lvalue p) (lvalue_finish_weight p)
-  pub stands : (c : Placed) → Fills b c → (n : ℕ) → LowersOperands c (lvalue_operands p) d n n0
-      → LowersLvalue c p d n n1
+pub record LvalueFinishes (before after : Emitter) (lvalue : Lvalue) (d n0 n1 : ℕ) : Type 0 where
+  pub emits : Emits before after (d + used_by_lvalue lvalue) (lvalue_finish_weight lvalue)
+  pub stands : (c : Placed) → Fills after c → (n : ℕ) → LowersOperands c (lvalue_operands lvalue) d n n0
+      → LowersLvalue c lvalue d n n1

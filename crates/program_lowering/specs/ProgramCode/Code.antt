@@ -20,39 +20,39 @@ use Rattle.program_lowering.specs.declared.programs.function.Lowered.{Lowered}
 use Rattle.program_lowering.specs.ProgramCode.Weights.{body_weight, function_weight}
 
 -- of the body of a function with these variables, behind the texts of the program so far
-pub record BodyCode (vs : List Variable) (ss : Statements) (result : Kind) (texts : List (List ℕ)) (b : Emitter)
+pub record BodyCode (vs : List Variable) (ss : Statements) (result : Kind) (texts : List (List ℕ)) (emitter : Emitter)
     (entry : ℕ)
     : Type 0 where
-  pub texts_stay : Stays texts b.texts.items
-  pub homes : Fits (each_height ss) b
-  pub weight : (w : Weights) → code_weight b.code.items w ≤ body_weight vs ss w
-  pub stands : (c : Placed) → c.variables ≡ vs → Fills b c → LowersBody c result entry ss
+  pub texts_stay : Stays texts emitter.texts.items
+  pub homes : Fits (each_height ss) emitter
+  pub weight : (w : Weights) → code_weight emitter.code.items w ≤ body_weight vs ss w
+  pub stands : (c : Placed) → c.variables ≡ vs → Fills emitter c → LowersBody c result entry ss
 
 -- a function has the parts of a body
-pub record Completes (line type_number room : ℕ) (parameters variables entered : List Variable) (b : Body)
-    (l : Lowered) : Type
+pub record Completes (line type_number room : ℕ) (parameters variables entered : List Variable) (body : Body)
+    (lowered : Lowered) : Type
     0 where
-  pub line_is : l.function.line ≡ line
-  pub type_is : l.function.type_number ≡ type_number
-  pub room_is : l.function.room ≡ room
-  pub parameters_are : l.function.parameters ≡ parameters
-  pub variables_are : l.function.variables ≡ variables
-  pub entered_are : l.function.entered ≡ entered
-  pub entry_is : l.function.entry ≡ b.entry
-  pub code_is : l.function.code ≡ b.code.code.items
-  pub keys_are : l.function.keys ≡ b.code.keys.items
-  pub blocks_are : l.function.blocks ≡ b.code.blocks.items
-  pub loops_are : l.function.loops ≡ b.code.loops.items
-  pub texts_are : l.texts.items ≡ b.code.texts.items
+  pub line_is : lowered.function.line ≡ line
+  pub type_is : lowered.function.type_number ≡ type_number
+  pub room_is : lowered.function.room ≡ room
+  pub parameters_are : lowered.function.parameters ≡ parameters
+  pub variables_are : lowered.function.variables ≡ variables
+  pub entered_are : lowered.function.entered ≡ entered
+  pub entry_is : lowered.function.entry ≡ body.entry
+  pub code_is : lowered.function.code ≡ body.code.code.items
+  pub keys_are : lowered.function.keys ≡ body.code.keys.items
+  pub blocks_are : lowered.function.blocks ≡ body.code.blocks.items
+  pub loops_are : lowered.function.loops ≡ body.code.loops.items
+  pub texts_are : lowered.texts.items ≡ body.code.texts.items
 
 -- code of a function in a program with these texts
-pub record IsFunction (texts : List (List ℕ)) (result : Kind) (f : Function) (c : CodeFunction) : Type 0 where
-  pub header : header_of_code c ≡ header_of f
-  pub homes : (n : ℕ) (i : Instruction) → slice_get c.code n ≡ Some i → temporaries i ≤ each_height f.body
-  pub weight : (w : Weights) → code_weight c.code w ≤ function_weight f w
-  pub body : LowersBody (placed_in texts f c) result c.entry f.body
+pub record IsFunction (texts : List (List ℕ)) (result : Kind) (function : Function) (c : CodeFunction) : Type 0 where
+  pub header : header_of_code c ≡ header_of function
+  pub homes : (n : ℕ) (i : Instruction) → slice_get c.code n ≡ Some i → temporaries i ≤ each_height function.body
+  pub weight : (w : Weights) → code_weight c.code w ≤ function_weight function w
+  pub body : LowersBody (placed_in texts function c) result c.entry function.body
 
 -- whatever texts come later
-pub record FunctionCode (f : Function) (result : Kind) (texts : List (List ℕ)) (l : Lowered) : Type 0 where
-  pub texts_stay : Stays texts l.texts.items
-  pub is : (ts : List (List ℕ)) → Stays l.texts.items ts → IsFunction ts result f l.function
+pub record FunctionCode (function : Function) (result : Kind) (texts : List (List ℕ)) (lowered : Lowered) : Type 0 where
+  pub texts_stay : Stays texts lowered.texts.items
+  pub is : (ts : List (List ℕ)) → Stays lowered.texts.items ts → IsFunction ts result function lowered.function

@@ -27,5 +27,5 @@ codes_weight (c ∷ cs) w = code_weight c.code w + codes_weight cs w
 
 -- The code of a program weighs no more than its text allows, whatever each kind of instruction weighs: with 1 for each
 -- kind, there are no more instructions.
-pub record IsWeighed (p : Program) (t : Tac) : Type 0 where
-  pub by : (w : Weights) → codes_weight t.functions w ≤ functions_weight p.functions w
+pub record IsWeighed (program : Program) (code : Tac) : Type 0 where
+  pub by : (w : Weights) → codes_weight code.functions w ≤ functions_weight program.functions w

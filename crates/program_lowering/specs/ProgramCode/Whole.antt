@@ -28,19 +28,20 @@ abbrev pub results_of : List FunctionType → List Kind
 results_of = map (λ t. t.result)
 
 -- what is done so far, with one function more
-pub record Holding (a b : Lowering) (results : List Kind) (f : Function) : Type 0 where
+pub record Holding (before after : Lowering) (results : List Kind) (function : Function) : Type 0 where
   pub code : CodeFunction
-  pub functions : b.functions.items ≡ a.functions.items ++ code ∷ []
-  pub texts_stay : Stays a.texts.items b.texts.items
-  pub is : (ts : List (List ℕ)) → Stays b.texts.items ts → IsFunction ts (get_or results f.type_number Void) f code
+  pub functions : after.functions.items ≡ before.functions.items ++ code ∷ []
+  pub texts_stay : Stays before.texts.items after.texts.items
+  pub is : (ts : List (List ℕ)) → Stays after.texts.items ts → IsFunction ts
+      (get_or results function.type_number Void) function code
 
 -- a program has these parts
-pub record Assembles (main bytes : ℕ) (statics : List StaticData) (results : List Kind) (l : Lowering)
-    (t : Tac) : Type 0
+pub record Assembles (main bytes : ℕ) (statics : List StaticData) (results : List Kind) (lowering : Lowering)
+    (code : Tac) : Type 0
   where
-    pub main_is : t.main ≡ main
-    pub bytes_are : t.global_bytes ≡ bytes
-    pub statics_are : t.statics ≡ statics
-    pub results_are : t.results ≡ results
-    pub functions_are : t.functions ≡ l.functions.items
-    pub texts_are : t.texts ≡ l.texts.items
+    pub main_is : code.main ≡ main
+    pub bytes_are : code.global_bytes ≡ bytes
+    pub statics_are : code.statics ≡ statics
+    pub results_are : code.results ≡ results
+    pub functions_are : code.functions ≡ lowering.functions.items
+    pub texts_are : code.texts ≡ lowering.texts.items

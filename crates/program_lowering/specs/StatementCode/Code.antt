@@ -18,18 +18,20 @@ use Rattle.program_lowering.specs.StatementCode.Weights.{labels_weight, result_w
 use Rattle.program_lowering.specs.StatementCode.Switches.{LowersBodies, LowersTests, DefaultsBegin}
 
 -- of a statement of a function with these variables
-pub record StatementCode (vs : List Variable) (a b : Emitter) (s : Statement) (n0 : ℕ) (x : Exits) : Type 0 where
-  pub emits : Emits a b (statement_height s) (statement_weight vs s)
-  pub stands : (c : Placed) → c.variables ≡ vs → Fills b c → LowersStatement c s n0 (exits_of x)
+pub record StatementCode (vs : List Variable) (before after : Emitter) (statement : Statement) (n0 : ℕ)
+    (exits : Exits) : Type 0 where
+  pub emits : Emits before after (statement_height statement) (statement_weight vs statement)
+  pub stands : (c : Placed) → c.variables ≡ vs → Fills after c → LowersStatement c statement n0 (exits_of exits)
 
-pub record StatementsCode (vs : List Variable) (a b : Emitter) (ss : Statements) (n0 : ℕ) (x : Exits) : Type 0 where
-  pub emits : Emits a b (each_height ss) (each_weight vs ss)
-  pub stands : (c : Placed) → c.variables ≡ vs → Fills b c → LowersStatements c ss n0 (exits_of x)
+pub record StatementsCode (vs : List Variable) (before after : Emitter) (ss : Statements) (n0 : ℕ)
+    (exits : Exits) : Type 0 where
+  pub emits : Emits before after (each_height ss) (each_weight vs ss)
+  pub stands : (c : Placed) → c.variables ≡ vs → Fills after c → LowersStatements c ss n0 (exits_of exits)
 
 -- of a value that a function returns
-pub record ResultCode (a b : Emitter) (e : Expression) (n0 n1 : ℕ) : Type 0 where
-  pub emits : Emits a b (max 1 (height e)) (result_weight e)
-  pub stands : (c : Placed) → Fills b c → LowersArgument c e 0 n0 n1
+pub record ResultCode (before after : Emitter) (expression : Expression) (n0 n1 : ℕ) : Type 0 where
+  pub emits : Emits before after (max 1 (height expression)) (result_weight expression)
+  pub stands : (c : Placed) → Fills after c → LowersArgument c expression 0 n0 n1
 
 -- what the bodies of items weigh alone
 abbrev pub bodies_weight : List Variable → SwitchItems → Weights → ℕ
@@ -42,25 +44,25 @@ tests_weight no_items w = 0
 tests_weight (items labels s is) w = labels_weight labels w + tests_weight is w
 
 -- of the items of a switch, which begin at these nodes, the first at one of them
-pub record ItemsFrom (vs : List Variable) (a b : Emitter) (is : SwitchItems) (starts : List ℕ) (n0 : ℕ)
-    (x : Exits) : Type 0
+pub record ItemsFrom (vs : List Variable) (before after : Emitter) (is : SwitchItems) (starts : List ℕ) (n0 : ℕ)
+    (exits : Exits) : Type 0
   where
-    pub emits : Emits a b (items_height is) (bodies_weight vs is)
-    pub stands : (c : Placed) → c.variables ≡ vs → Fills b c → LowersBodies c is starts n0 (exits_of x)
+    pub emits : Emits before after (items_height is) (bodies_weight vs is)
+    pub stands : (c : Placed) → c.variables ≡ vs → Fills after c → LowersBodies c is starts n0 (exits_of exits)
 
 -- the first at some node
-pub record ItemsCode (vs : List Variable) (a b : Emitter) (is : SwitchItems) (starts : List ℕ)
-    (x : Exits) : Type 0 where
+pub record ItemsCode (vs : List Variable) (before after : Emitter) (is : SwitchItems) (starts : List ℕ)
+    (exits : Exits) : Type 0 where
   pub first : ℕ
-  pub from : ItemsFrom vs a b is starts first x
+  pub from : ItemsFrom vs before after is starts first exits
 
 -- of the tests of an item's labels
-pub record LabelsCode (a b : Emitter) (labels : List CaseLabel) (item n0 n1 : ℕ) : Type 0 where
-  pub emits : Emits a b 1 (labels_weight labels)
-  pub stands : (c : Placed) → Fills b c → (other : ℕ) → (any_default labels ≡ true → item ≡ other)
+pub record LabelsCode (before after : Emitter) (labels : List CaseLabel) (item n0 n1 : ℕ) : Type 0 where
+  pub emits : Emits before after 1 (labels_weight labels)
+  pub stands : (c : Placed) → Fills after c → (other : ℕ) → (any_default labels ≡ true → item ≡ other)
       → LowersLabels c labels item other n0 n1
 
 -- of those of all items
-pub record TestsCode (a b : Emitter) (is : SwitchItems) (starts : List ℕ) (n0 other : ℕ) : Type 0 where
-  pub emits : Emits a b 1 (tests_weight is)
-  pub stands : (c : Placed) → Fills b c → DefaultsBegin is starts other → LowersTests c is starts other n0
+pub record TestsCode (before after : Emitter) (is : SwitchItems) (starts : List ℕ) (n0 other : ℕ) : Type 0 where
+  pub emits : Emits before after 1 (tests_weight is)
+  pub stands : (c : Placed) → Fills after c → DefaultsBegin is starts other → LowersTests c is starts other n0

@@ -9,7 +9,8 @@ use Rattle.c_tree.specs.Statements.{Statement, expression_statement, empty, decl
 use Rattle.c_tree.specs.Statements.{while_do, do_while, for, switch, break, continue, return, Statements, no_statements}
 use Rattle.c_tree.specs.Statements.{statements, SwitchItems, no_items, items}
 use Rattle.program_lowering.specs.ExpressionCode.Weights.{Weights, expression_weight, taking_weight}
-use Rattle.program_lowering.specs.StatementParts.Weights.{declared_weight, first_weight, condition_weight, part_weight, objects_weight}
+use Rattle.program_lowering.specs.StatementParts.Weights.{declared_weight, first_weight, condition_weight, part_weight}
+use Rattle.program_lowering.specs.StatementParts.Weights.{objects_weight}
 
 -- each label but `default` is tested
 abbrev pub label_weight : CaseLabel → Weights → ℕ

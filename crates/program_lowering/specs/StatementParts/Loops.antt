@@ -21,60 +21,60 @@ use Rattle.program_lowering.specs.StatementParts.Weights.{first_weight, conditio
 use Rattle.program_lowering.specs.StatementParts.Code.{most}
 
 -- a reserved node is filled
-pub record Filled (a b : Emitter) (node : ℕ) (i : Instruction) : Type 0 where
-  pub code : b.code.items ≡ slice_set a.code.items node i
-  pub keys : b.keys.items ≡ a.keys.items
-  pub blocks : b.blocks.items ≡ a.blocks.items
-  pub loops : b.loops.items ≡ a.loops.items
-  pub texts : b.texts.items ≡ a.texts.items
+pub record Filled (before after : Emitter) (node : ℕ) (instruction : Instruction) : Type 0 where
+  pub code : after.code.items ≡ slice_set before.code.items node instruction
+  pub keys : after.keys.items ≡ before.keys.items
+  pub blocks : after.blocks.items ≡ before.blocks.items
+  pub loops : after.loops.items ≡ before.loops.items
+  pub texts : after.texts.items ≡ before.texts.items
 
 -- a node is reserved
-pub record Waits (a : Emitter) (node : ℕ) : Type 0 where
-  pub by : Has a node tac.Reserved
+pub record Waits (emitter : Emitter) (node : ℕ) : Type 0 where
+  pub by : Has emitter node tac.Reserved
 
 -- the condition of a loop, with a new node reserved for its turn
-pub record HeadCode (a b : Emitter) (e : Expression) (turn start fails : ℕ) : Type 0 where
-  pub emits : Emits a b (max 1 (height e)) (λ w. expression_weight e w + (w.branch + w.turn))
-  pub fresh : length a.code.items ≤ turn
-  pub waits : Waits b turn
-  pub stands : (c : Placed) → Fills b c → LowersCondition c (Some e) start turn fails
+pub record HeadCode (before after : Emitter) (expression : Expression) (turn start fails : ℕ) : Type 0 where
+  pub emits : Emits before after (max 1 (height expression)) (λ w. expression_weight expression w + (w.branch + w.turn))
+  pub fresh : length before.code.items ≤ turn
+  pub waits : Waits after turn
+  pub stands : (c : Placed) → Fills after c → LowersCondition c (Some expression) start turn fails
 
 -- the exits, the condition and the step of a `for`
-pub record ForHeadCode (vs : List Variable) (a b : Emitter) (numbers : List ℕ) (test step : Option Expression)
-    (h : ForHead)
-    (x : Exits) : Type 0 where
-  pub emits : Emits a b (max (most (if_any test)) (most (if_any step)))
+pub record ForHeadCode (vs : List Variable) (before after : Emitter) (numbers : List ℕ) (test step : Option Expression)
+    (head : ForHead)
+    (exits : Exits) : Type 0 where
+  pub emits : Emits before after (max (most (if_any test)) (most (if_any step)))
       (λ w. 4 * objects_weight vs numbers w + (w.turn + (condition_weight test w + part_weight step w)))
-  pub fresh : length a.code.items ≤ h.turn
-  pub waits : Waits b h.turn
-  pub leaves : (c : Placed) → c.variables ≡ vs → Fills b c
-      → LowersLeaving c (has_objects_of c numbers) (exits_of h.inside) (exits_of x)
-  pub tests : (c : Placed) → Fills b c → LowersCondition c test h.condition h.turn h.inside.next
-  pub goes_on : (c : Placed) → Fills b c → LowersPart c step h.step h.condition
+  pub fresh : length before.code.items ≤ head.turn
+  pub waits : Waits after head.turn
+  pub leaves : (c : Placed) → c.variables ≡ vs → Fills after c
+      → LowersLeaving c (has_objects_of c numbers) (exits_of head.inside) (exits_of exits)
+  pub tests : (c : Placed) → Fills after c → LowersCondition c test head.condition head.turn head.inside.next
+  pub goes_on : (c : Placed) → Fills after c → LowersPart c step head.step head.condition
 
 -- the number of a counted loop in the table
-pub record LoopAdded (a b : Emitter) (parts : Option CountedParts) (setting : ℕ) (h : ForHead)
+pub record LoopAdded (before after : Emitter) (parts : Option CountedParts) (setting : ℕ) (head : ForHead)
     (number : Option ℕ) : Type 0
   where
-    pub emits : Emits a b 0 no_weight
-    pub is : (c : Placed) → Fills b c → CountedIs c.loops number parts setting h.condition h.turn h.step
+    pub emits : Emits before after 0 no_weight
+    pub is : (c : Placed) → Fills after c → CountedIs c.loops number parts setting head.condition head.turn head.step
 
 -- code that grew, but for a node that was filled
-pub record FillsIn (a b : Emitter) (node most : ℕ) (weight : Weights → ℕ) : Type 0 where
-  pub fills : (c : Placed) → Fills b c → Fills a c
-  pub keeps : (e : Emitter) → Keeps e a → length e.code.items ≤ node → Keeps e b
-  pub fits : (limit : ℕ) → most ≤ limit → Fits limit a → Fits limit b
-  pub grown : (w : Weights) → code_weight b.code.items w ≤ code_weight a.code.items w + weight w
+pub record FillsIn (before after : Emitter) (node most : ℕ) (weight : Weights → ℕ) : Type 0 where
+  pub fills : (c : Placed) → Fills after c → Fills before c
+  pub keeps : (e : Emitter) → Keeps e before → length e.code.items ≤ node → Keeps e after
+  pub fits : (limit : ℕ) → most ≤ limit → Fits limit before → Fits limit after
+  pub grown : (w : Weights) → code_weight after.code.items w ≤ code_weight before.code.items w + weight w
 
 -- the rest of a `for`, behind its body
-pub record ForTailCode (vs : List Variable) (a b : Emitter) (numbers : List ℕ) (line : ℕ) (first : First)
-    (parts : Option CountedParts) (h : ForHead) (body n0 : ℕ) : Type 0 where
-  pub grows : FillsIn a b h.turn (most (first_contents first))
+pub record ForTailCode (vs : List Variable) (before after : Emitter) (numbers : List ℕ) (line : ℕ) (first : First)
+    (parts : Option CountedParts) (head : ForHead) (body n0 : ℕ) : Type 0 where
+  pub grows : FillsIn before after head.turn (most (first_contents first))
       (λ w. objects_weight vs numbers w + first_weight first w)
   pub setting : ℕ
   pub counted : Option ℕ
-  pub enters : (c : Placed) → c.variables ≡ vs → Fills b c
+  pub enters : (c : Placed) → c.variables ≡ vs → Fills after c
       → LowersEntry c (has_objects_of c numbers) numbers line n0 setting
-  pub sets : (c : Placed) → Fills b c → LowersFirst c first setting h.condition
-  pub turns : (c : Placed) → Fills b c → Holds c h.turn (tac.Turn counted body)
-  pub counts : (c : Placed) → Fills b c → CountedIs c.loops counted parts setting h.condition h.turn h.step
+  pub sets : (c : Placed) → Fills after c → LowersFirst c first setting head.condition
+  pub turns : (c : Placed) → Fills after c → Holds c head.turn (tac.Turn counted body)
+  pub counts : (c : Placed) → Fills after c → CountedIs c.loops counted parts setting head.condition head.turn head.step

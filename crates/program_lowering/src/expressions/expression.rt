@@ -12,7 +12,8 @@ impl Emitter {
     ghost use Rattle.c_tree.specs.Tree.{expressions_in};
     ghost use Rattle.c_tree.specs.View.{expression_of, lvalue_of};
     ghost use Rattle.c_lower.specs.Homes.{used, used_by_lvalue};
-    ghost use Rattle.program_lowering.specs.ExpressionCode.Emitted.{ExpressionCode, LvalueCode, ArgumentsCode, arguments_used};
+    ghost use Rattle.program_lowering.specs.ExpressionCode.Emitted.{ExpressionCode, LvalueCode, ArgumentsCode};
+    ghost use Rattle.program_lowering.specs.ExpressionCode.Emitted.{arguments_used};
     ghost use Rattle.program_lowering.specs.ExpressionCode.Last.{KeyAdded, FormatAdded, key_in};
     ghost use Rattle.program_lowering.specs.ExpressionCode.Nodes.{node_of, lvalue_node_of};
     ghost use Rattle.program_lowering.specs.ExpressionCode.Shapes.{OperandsCode, Finishes, LvalueFinishes, operands_in};

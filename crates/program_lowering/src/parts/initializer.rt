@@ -5,7 +5,8 @@ ghost use Rattle.std.specs.Prelude.{◌≡◌, ◌<◌, ◌^◌, IfOk, Some, map
 ghost use Rattle.c_tree.specs.Blocks.{initializer_contents, declared_contents, first_contents, if_any};
 ghost use Rattle.c_tree.specs.Room.{content_height, greatest_height};
 ghost use Rattle.c_tree.specs.View.{content_of, part_of, initializer_of, declared_of, first_of, expression_of};
-ghost use Rattle.program_lowering.specs.StatementParts.Code.{ContentCode, PartsCode, InitializerCode, DeclaredCode, FirstCode};
+ghost use Rattle.program_lowering.specs.StatementParts.Code.{ContentCode, PartsCode, InitializerCode, DeclaredCode};
+ghost use Rattle.program_lowering.specs.StatementParts.Code.{FirstCode};
 ghost use Rattle.program_lowering.specs.StatementParts.Code.{ConditionCode, PartCode, contents_in};
 
 use crate::expressions::Emitter;

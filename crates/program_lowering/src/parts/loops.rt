@@ -5,7 +5,8 @@ ghost use Rattle.c_tree.specs.Blocks.{if_any, first_contents};
 ghost use Rattle.c_tree.specs.Room.{height, greatest_height};
 ghost use Rattle.c_tree.specs.View.{expression_of, first_of};
 ghost use Rattle.program_lowering.specs.StatementParts.Counting.{parts_with};
-ghost use Rattle.program_lowering.specs.StatementParts.Loops.{Waits, Filled, HeadCode, ForHeadCode, LoopAdded, ForTailCode};
+ghost use Rattle.program_lowering.specs.StatementParts.Loops.{Waits, Filled, HeadCode, ForHeadCode, LoopAdded};
+ghost use Rattle.program_lowering.specs.StatementParts.Loops.{ForTailCode};
 
 use crate::expressions::Emitter;
 use crate::parts::block::{enter, leave};

@@ -8,7 +8,8 @@ ghost use Rattle.c_tree.specs.Statements.{items_in};
 ghost use Rattle.c_tree.specs.View.{expression_of, first_of, statement_of};
 ghost use Rattle.program_lowering.specs.StatementParts.Items.{item_of};
 ghost use Rattle.program_lowering.specs.StatementCode.Sizes.{statement_height, each_height, items_height};
-ghost use Rattle.program_lowering.specs.StatementCode.Switches.{has_one_default, are_decided, each_decided, items_decided};
+ghost use Rattle.program_lowering.specs.StatementCode.Switches.{has_one_default, are_decided, each_decided};
+ghost use Rattle.program_lowering.specs.StatementCode.Switches.{items_decided};
 ghost use Rattle.program_lowering.specs.StatementCode.Code.{StatementCode, StatementsCode, ItemsCode};
 
 use crate::expressions::Emitter;

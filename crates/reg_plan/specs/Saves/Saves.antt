@@ -69,9 +69,9 @@ abbrev pub row_at : CallSaves → (place : ℕ) → List ℕ
 row_at table pc = row_of table.rows.items (slice_get table.before.items pc)
 
 -- A table has what the calls of a function save.
-pub record HasSaves (table : CallSaves) (p : FlatProgram) (plans : List FunctionPlan) (f : ℕ)
+pub record HasSaves (table : CallSaves) (program : FlatProgram) (plans : List FunctionPlan) (function : ℕ)
     (body : List FlatInstruction) : Type 0 where
-  pub each : (pc : ℕ) → is_call_at body pc ≡ true → row_at table pc ≡ saved_at p plans f pc
+  pub each : (pc : ℕ) → is_call_at body pc ≡ true → row_at table pc ≡ saved_at program plans function pc
 
 -- ---- rows while they grow
 

@@ -49,26 +49,28 @@ filled n bytes = bytes ++ replicate (n - length bytes) 0
 
 -- The file is an image with these four segments and this entry, and the machine that begins it has the code in memory,
 -- and the data.
-pub record IsImage (map : MapSizes) (p : FlatProgram) (plans : List FunctionPlan) (objects spaces : List ℕ)
+pub record IsImage (map : MapSizes) (program : FlatProgram) (plans : List FunctionPlan) (objects spaces : List ℕ)
     (file : List ℕ) : Type 0 where
-  pub fits : FitsSegments map p plans
-  pub file_is : file ≡ image_bytes (written map p plans objects spaces)
+  pub fits : FitsSegments map program plans
+  pub file_is : file ≡ image_bytes (written map program plans objects spaces)
   pub passes : image_fault file ≡ None
-  pub content_is : content_of file ≡ content (written map p plans objects spaces)
+  pub content_is : content_of file ≡ content (written map program plans objects spaces)
   pub starts : start_of (content_of file)
-      ≡ begins (start_address p) (bytes_of (table_words map p plans)) (bytes_of (code_words map p plans))
+      ≡ begins (start_address program) (bytes_of (table_words map program plans)) (bytes_of
+      (code_words map program plans))
       (filled (object_bytes map) objects) (filled (space_bytes map) spaces)
 
 -- The machine that begins the image follows the program, for every input: where its plans are accepted and its run is
 -- never stuck, from any memory that has the data.
-pub record ImageFollows (map : MapSizes) (p : FlatProgram) (plans : List FunctionPlan) (objects spaces : List ℕ)
+pub record ImageFollows (map : MapSizes) (program : FlatProgram) (plans : List FunctionPlan) (objects spaces : List ℕ)
     (file : List ℕ) : Type 0 where
-  pub follows : (memory : Bytes) (input : List ℕ) → AreAccepted p plans → IsEncodable p → IsStartable map p
+  pub follows : (memory : Bytes) (input : List ℕ) → AreAccepted program plans → IsEncodable program
+      → IsStartable map program
       → Hold (object_bytes map) (space_bytes map) memory (filled (object_bytes map) objects)
       (filled (space_bytes map) spaces)
       → AreBytes memory
-      → ((k : ℕ) → run (step map p) k (started p memory input) ≡ Stuck → ⊥)
-      → Follows 6 (flat_meaning map p memory input) (behaviour (start_of (content_of file)) input)
+      → ((k : ℕ) → run (step map program) k (started program memory input) ≡ Stuck → ⊥)
+      → Follows 6 (flat_meaning map program memory input) (behaviour (start_of (content_of file)) input)
 
 -- a memory that has them
 abbrev pub data_memory : (objects spaces : List ℕ) → Bytes

@@ -2,7 +2,8 @@
 
 ghost use Rattle.std.specs.Prelude.{◌≡◌, ◌<◌, ◌^◌, ◌++◌, ◌==◌, if◌then◌else◌, [], slice_get, OnOk};
 ghost use Rattle.flat_meaning.specs.declared.instruction.RightOperand.{RightOperand};
-ghost use Rattle.machine_laws.specs.Blocks.Places.{home, location, frame_register, saved_register, left_scratch, right_scratch};
+ghost use Rattle.machine_laws.specs.Blocks.Places.{home, location, frame_register, saved_register, left_scratch};
+ghost use Rattle.machine_laws.specs.Blocks.Places.{right_scratch};
 ghost use Rattle.machine_laws.specs.Blocks.Blocks.{constant, used, fetch, keep, used_right, fetch_right, operands};
 ghost use Rattle.machine_laws.specs.Calls.Calls.{save_one, restore_one};
 ghost use Rattle.rv_codegen.specs.EmittedCode.Kept.{IsSmall};

@@ -45,12 +45,13 @@ two_level_entry m a = in_table m (table_of m (page_of a)) (entry_offset a)
 
 -- What holds of the memory whenever a routine is called: so many tables are taken, each by one page, the others of the
 -- reserve are zero, and there is one for each page.
-pub record AreTablesGood (map : MapSizes) (m : Bytes) : Type 0 where
+pub record AreTablesGood (map : MapSizes) (memory : Bytes) : Type 0 where
   pub taken : ℕ
   pub within : taken ≤ pages map
-  pub counted : taken_bytes m ≡ 16384 * taken
-  pub table : (q : ℕ) → q < pages map → table_of m q ≢ 0
-      → (i : ℕ) × (i < taken) × (table_of m q ≡ first_table map + 16384 * i)
-  pub owner : (i : ℕ) → i < taken → (q : ℕ) × (q < pages map) × (table_of m q ≡ first_table map + 16384 * i)
-  pub once : (p q : ℕ) → p < pages map → q < pages map → table_of m p ≢ 0 → table_of m p ≡ table_of m q → p ≡ q
-  pub reserve : (a : ℕ) → first_table map + 16384 * taken ≤ a → a < first_table map + 16384 * pages map → m a ≡ 0
+  pub counted : taken_bytes memory ≡ 16384 * taken
+  pub table : (q : ℕ) → q < pages map → table_of memory q ≢ 0
+      → (i : ℕ) × (i < taken) × (table_of memory q ≡ first_table map + 16384 * i)
+  pub owner : (i : ℕ) → i < taken → (q : ℕ) × (q < pages map) × (table_of memory q ≡ first_table map + 16384 * i)
+  pub once : (p q : ℕ) → p < pages map → q < pages map → table_of memory p ≢ 0 → table_of memory p ≡ table_of memory q
+      → p ≡ q
+  pub reserve : (a : ℕ) → first_table map + 16384 * taken ≤ a → a < first_table map + 16384 * pages map → memory a ≡ 0

@@ -22,7 +22,8 @@ use Rattle.source_meaning.specs.Structures.{give}
 use Rattle.source_meaning.specs.Expressions.{evaluate, value, place, node_place, function_pointer}
 use Rattle.source_meaning.specs.Acting.{at_work}
 use Rattle.source_meaning.specs.Constants.Finding.{Finds, PointTo}
-use Rattle.source_meaning.proofs.Constants.Steps.{finds_on, finds_counted, finds_give, finds_read, finds_same, finds_pointer}
+use Rattle.source_meaning.proofs.Constants.Steps.{finds_on, finds_counted, finds_give, finds_read, finds_same}
+use Rattle.source_meaning.proofs.Constants.Steps.{finds_pointer}
 use Rattle.source_meaning.proofs.Constants.Steps.{mapped}
 use Rattle.source_meaning.proofs.Constants.Integers.{constant_finds}
 

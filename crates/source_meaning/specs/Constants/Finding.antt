@@ -9,9 +9,9 @@ use Rattle.source_meaning.specs.Expressions.{function_pointer}
 use Rattle.source_meaning.specs.Acting.{at_work}
 
 -- a run gives a value in a state, which it leaves as it is but for the count of work
-pub record Finds (r : Run Rvalue) (v : Value) (s : State) : Type 0 where
+pub record Finds (run : Run Rvalue) (value : Value) (state : State) : Type 0 where
   pub work : ℕ
-  pub gives : r s ≡ Gives (rvalue v) (at_work work s)
+  pub gives : run state ≡ Gives (rvalue value) (at_work work state)
 
 -- pointers are those to the objects and functions of their numbers
 pub record PointTo (ps : Pointers) (objects : Objects) : Type 0 where

@@ -20,10 +20,10 @@ HaveBytes [] = Unit {0}
 HaveBytes (q ∷ qs) = HasBytes q.content × HaveBytes qs
 
 -- an object whose initializer is constant, lies in it, and leaves these contents
-pub record IsConstant (ps : Pointers) (o : StaticObject) (c : Contents) : Type 0 where
-  pub leaves : initial_contents ps o ≡ Ok c
-  pub inside : are_inside o ≡ true
-  pub bytes : HaveBytes o.parts
+pub record IsConstant (ps : Pointers) (object : StaticObject) (contents : Contents) : Type 0 where
+  pub leaves : initial_contents ps object ≡ Ok contents
+  pub inside : are_inside object ≡ true
+  pub bytes : HaveBytes object.parts
 
 abbrev pub AreConstant : Pointers → List StaticObject → List Contents → Type 0
 AreConstant ps [] [] = Unit {0}

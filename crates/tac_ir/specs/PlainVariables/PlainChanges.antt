@@ -21,5 +21,5 @@ KeepsPlainBy y s (Stands u n temps frames z) = plain_value y z ≡ plain_value y
 KeepsPlainBy y s (Over e z) = Unit {0}
 KeepsPlainBy y s Stuck = Unit {0}
 
-pub record KeepsPlainAt (variable : ℕ) (s : State) (x : Stage) : Type 0 where
-  pub by : KeepsPlainBy variable s x
+pub record KeepsPlainAt (variable : ℕ) (state : State) (stage : Stage) : Type 0 where
+  pub by : KeepsPlainBy variable state stage

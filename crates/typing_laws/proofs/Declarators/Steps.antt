@@ -52,7 +52,8 @@ use Rattle.typing_laws.specs.Declarators.Given.{HasWords, IsCounted, IsIntIf, Op
 use Rattle.typing_laws.proofs.Declarators.Chained.{constants_stay, done_extends, extends_same, judged_extends}
 use Rattle.typing_laws.proofs.Declarators.Chained.{then_extends, typedefs_stay}
 use Rattle.typing_laws.proofs.Declarators.Marks.{address_extends, callee_extends, literal_by, used_extends}
-use Rattle.typing_laws.proofs.Declarators.Operators.{address_words, among_words, operand_words, place_words, plainly_words}
+use Rattle.typing_laws.proofs.Declarators.Operators.{address_words, among_words, operand_words, place_words}
+use Rattle.typing_laws.proofs.Declarators.Operators.{plainly_words}
 use Rattle.typing_laws.proofs.Declarators.Operators.{printed_words, stepped_by_words, through_words, unary_value_words}
 use Rattle.typing_laws.proofs.Declarators.Tags.{bound_last, bound_same}
 use Rattle.typing_laws.proofs.Declarators.Words.{next_int, word_of_int}

@@ -33,7 +33,8 @@ use Rattle.typing_laws.proofs.Declarators.Parameters.{within}
 use Rattle.typing_laws.proofs.Limits.Chained.{Adding, done_keeps, judged_keeps, then_adds, then_keeps}
 use Rattle.typing_laws.proofs.Limits.Scopes.{begun_keeps, completed_keeps, enumerated_keeps, left_keeps, parameter_adds}
 use Rattle.typing_laws.proofs.Limits.Scopes.{tagged_keeps}
-use Rattle.typing_laws.proofs.Limits.Steps.{accessed_keeps, applied_to_keeps, called_by_keeps, format_keeps, literal_keeps}
+use Rattle.typing_laws.proofs.Limits.Steps.{accessed_keeps, applied_to_keeps, called_by_keeps, format_keeps}
+use Rattle.typing_laws.proofs.Limits.Steps.{literal_keeps}
 use Rattle.typing_laws.proofs.Limits.Steps.{named_keeps, prefixed_keeps, valued_keeps}
 
 specified_keeps : (specs : Specifiers) (gathering : Typing Gathered) (s : State) → Adding 0 s (gathering s)

@@ -39,7 +39,8 @@ use Rattle.typing_laws.specs.TreeSizes.WordCounts.{words_in_specifiers}
 use Rattle.typing_laws.proofs.TreeSizes.Bounded.{gives, more, refuses, then_gives}
 use Rattle.typing_laws.proofs.TreeSizes.Recursion.{declaring_nodes, judged_nothing, shape_nodes, specification_nodes}
 use Rattle.typing_laws.proofs.TreeSizes.Steps.{judged_gives}
-use Rattle.typing_laws.specs.ProgramSizes.Sizes.{declaration_nodes, file_nodes, in_file_size, initial_nodes, object_nodes}
+use Rattle.typing_laws.specs.ProgramSizes.Sizes.{declaration_nodes, file_nodes, in_file_size, initial_nodes}
+use Rattle.typing_laws.specs.ProgramSizes.Sizes.{object_nodes}
 use Rattle.typing_laws.specs.ProgramSizes.Sizes.{stored_nodes}
 use Rattle.typing_laws.proofs.ProgramSizes.Numbers.{sum_added}
 use Rattle.typing_laws.proofs.ProgramSizes.Initializers.{initialized_nodes, parts_in_nodes}

@@ -29,7 +29,8 @@ use Rattle.c_unit_typing.specs.Units.{definition_of, ended, entered, external, e
 use Rattle.c_unit_typing.specs.Units.{file_with, is_main, left, marks_in, parameters_in, scope_or_none, with_body}
 use Rattle.typing_laws.specs.TreeSizes.AtMost.{AtMost, in_state_size, no_size}
 use Rattle.typing_laws.specs.TreeSizes.Nodes.{statements_nodes}
-use Rattle.typing_laws.specs.TreeSizes.WordCounts.{words_in_block, words_in_declarator, words_in_external, words_in_externals}
+use Rattle.typing_laws.specs.TreeSizes.WordCounts.{words_in_block, words_in_declarator, words_in_external}
+use Rattle.typing_laws.specs.TreeSizes.WordCounts.{words_in_externals}
 use Rattle.typing_laws.specs.TreeSizes.WordCounts.{words_in_specifiers}
 use Rattle.typing_laws.proofs.TreeSizes.Bounded.{gives, more, refuses, then_gives}
 use Rattle.typing_laws.proofs.TreeSizes.Recursion.{shape_nodes}

@@ -34,7 +34,8 @@ use Rattle.c_unit_typing.specs.Initializers.{filled, index_in, initialized, memb
 use Rattle.c_unit_typing.specs.Lines.{expression_line}
 use Rattle.typing_laws.specs.TreeSizes.AtMost.{AtMost, in_state_size, value_size}
 use Rattle.typing_laws.specs.TreeSizes.Nodes.{content_nodes, part_nodes, parts_nodes}
-use Rattle.typing_laws.specs.TreeSizes.WordCounts.{words_in, words_in_designation, words_in_designator, words_in_designators}
+use Rattle.typing_laws.specs.TreeSizes.WordCounts.{words_in, words_in_designation, words_in_designator}
+use Rattle.typing_laws.specs.TreeSizes.WordCounts.{words_in_designators}
 use Rattle.typing_laws.specs.TreeSizes.WordCounts.{words_in_initializer, words_in_item, words_in_items}
 use Rattle.typing_laws.proofs.TreeSizes.Bounded.{anything, gives, more, refuses, then_gives}
 use Rattle.typing_laws.proofs.TreeSizes.Operators.{assigned_nodes}

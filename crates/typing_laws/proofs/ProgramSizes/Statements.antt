@@ -36,9 +36,11 @@ use Rattle.c_unit_typing.specs.Files.{File, FileTyping, finished, in_state, ◌~
 use Rattle.c_unit_typing.specs.Statements.{block, block_item, block_items, statement, switch_block, switch_item}
 use Rattle.c_unit_typing.specs.Statements.{switch_items}
 use Rattle.typing_laws.specs.TreeSizes.AtMost.{AtMost, in_state_size, value_size}
-use Rattle.typing_laws.specs.TreeSizes.Nodes.{first_nodes, items_nodes, nodes, nodes_if, statement_nodes, statements_nodes}
+use Rattle.typing_laws.specs.TreeSizes.Nodes.{first_nodes, items_nodes, nodes, nodes_if, statement_nodes}
+use Rattle.typing_laws.specs.TreeSizes.Nodes.{statements_nodes}
 use Rattle.typing_laws.specs.TreeSizes.WordCounts.{words_in, words_in_block, words_in_block_item, words_in_block_items}
-use Rattle.typing_laws.specs.TreeSizes.WordCounts.{words_in_declaration, words_in_first, words_in_if, words_in_statement}
+use Rattle.typing_laws.specs.TreeSizes.WordCounts.{words_in_declaration, words_in_first, words_in_if}
+use Rattle.typing_laws.specs.TreeSizes.WordCounts.{words_in_statement}
 use Rattle.typing_laws.proofs.TreeSizes.Bounded.{gives, more, refuses, then_gives}
 use Rattle.typing_laws.proofs.TreeSizes.Operators.{assigned_nodes, condition_nodes, switch_nodes}
 use Rattle.typing_laws.proofs.TreeSizes.Recursion.{value_sizes}

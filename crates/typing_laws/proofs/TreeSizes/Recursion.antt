@@ -46,7 +46,8 @@ use Rattle.c_expression_typing.specs.Typed.{specification, type_name, typed, wit
 use Rattle.c_expression_typing.specs.Typed.{with_more_declared, with_specifier}
 use Rattle.typing_laws.specs.TreeSizes.AtMost.{AtMost, in_state_size, no_size, operand_size, value_size, values_size}
 use Rattle.typing_laws.specs.TreeSizes.Nodes.{nodes}
-use Rattle.typing_laws.specs.TreeSizes.WordCounts.{words_in, words_in_arguments, words_in_declarator, words_in_enumerator}
+use Rattle.typing_laws.specs.TreeSizes.WordCounts.{words_in, words_in_arguments, words_in_declarator}
+use Rattle.typing_laws.specs.TreeSizes.WordCounts.{words_in_enumerator}
 use Rattle.typing_laws.specs.TreeSizes.WordCounts.{words_in_member, words_in_members, words_in_more_arguments}
 use Rattle.typing_laws.specs.TreeSizes.WordCounts.{words_in_more_declarators, words_in_more_enumerators}
 use Rattle.typing_laws.specs.TreeSizes.WordCounts.{words_in_more_parameters, words_in_parameters, words_in_specifier}
@@ -54,7 +55,8 @@ use Rattle.typing_laws.specs.TreeSizes.WordCounts.{words_in_specifiers, words_in
 use Rattle.typing_laws.proofs.TreeSizes.Bounded.{anything, gives, more, refuses, then_gives}
 use Rattle.typing_laws.proofs.TreeSizes.Operators.{enclosed_nodes}
 use Rattle.typing_laws.proofs.TreeSizes.Steps.{accessed_nodes, applied_to_nodes, assigned_by_nodes, called_by_nodes}
-use Rattle.typing_laws.proofs.TreeSizes.Steps.{cast_to_nodes, chosen_nodes, combined_nodes, format_nodes, indexed_by_nodes}
+use Rattle.typing_laws.proofs.TreeSizes.Steps.{cast_to_nodes, chosen_nodes, combined_nodes, format_nodes}
+use Rattle.typing_laws.proofs.TreeSizes.Steps.{indexed_by_nodes}
 use Rattle.typing_laws.proofs.TreeSizes.Steps.{integer_nodes, judged_gives, literal_nodes, named_nodes, prefixed_nodes}
 use Rattle.typing_laws.proofs.TreeSizes.Steps.{printing_size, sized_nodes, stepped_by_nodes, valued_nodes}
 

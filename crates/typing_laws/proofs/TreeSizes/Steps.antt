@@ -55,7 +55,8 @@ use Rattle.c_expression_typing.specs.Lines.{name_of}
 use Rattle.typing_laws.specs.TreeSizes.AtMost.{AtMost, in_state_size, no_size, operand_size, value_size, values_size}
 use Rattle.typing_laws.proofs.TreeSizes.Bounded.{gives, more, refuses, then_gives}
 use Rattle.typing_laws.proofs.TreeSizes.Calls.{callee_nodes, called_nodes, formatted_nodes, through_nodes}
-use Rattle.typing_laws.proofs.TreeSizes.Operators.{address_nodes, arrow_nodes, assignment_nodes, binary_nodes, cast_nodes}
+use Rattle.typing_laws.proofs.TreeSizes.Operators.{address_nodes, arrow_nodes, assignment_nodes, binary_nodes}
+use Rattle.typing_laws.proofs.TreeSizes.Operators.{cast_nodes}
 use Rattle.typing_laws.proofs.TreeSizes.Operators.{comma_nodes, compound_nodes, conditional_nodes, dereferenced_nodes}
 use Rattle.typing_laws.proofs.TreeSizes.Operators.{indexed_nodes, logical_nodes, place_size, selected_nodes, size_nodes}
 use Rattle.typing_laws.proofs.TreeSizes.Operators.{stepped_nodes, unary_nodes, value_nodes}

@@ -18,13 +18,18 @@ use Rattle.c_syntax.specs.Words.{more_arguments_words, more_declarators_words, m
 use Rattle.c_syntax.specs.Words.{more_init_declarators_words, more_items_words, more_parameters_words, optional_words}
 use Rattle.c_syntax.specs.Words.{parameters_words, specifier_words, specifiers_words, statement_words, strings_words}
 use Rattle.c_syntax.specs.Words.{tag_words, typed_words, unit_words}
-use Rattle.typing_laws.specs.TreeSizes.WordCounts.{words_if, words_in, words_in_arguments, words_in_block, words_in_block_item}
+use Rattle.typing_laws.specs.TreeSizes.WordCounts.{words_if, words_in, words_in_arguments, words_in_block}
+use Rattle.typing_laws.specs.TreeSizes.WordCounts.{words_in_block_item}
 use Rattle.typing_laws.specs.TreeSizes.WordCounts.{words_in_block_items, words_in_declaration, words_in_declarator}
 use Rattle.typing_laws.specs.TreeSizes.WordCounts.{words_in_designation, words_in_designator, words_in_designators}
-use Rattle.typing_laws.specs.TreeSizes.WordCounts.{words_in_enumerator, words_in_external, words_in_externals, words_in_first}
-use Rattle.typing_laws.specs.TreeSizes.WordCounts.{words_in_if, words_in_initialized, words_in_initializer, words_in_item}
-use Rattle.typing_laws.specs.TreeSizes.WordCounts.{words_in_items, words_in_member, words_in_members, words_in_more_arguments}
-use Rattle.typing_laws.specs.TreeSizes.WordCounts.{words_in_more_declarators, words_in_more_enumerators, words_in_more_objects}
+use Rattle.typing_laws.specs.TreeSizes.WordCounts.{words_in_enumerator, words_in_external, words_in_externals}
+use Rattle.typing_laws.specs.TreeSizes.WordCounts.{words_in_first}
+use Rattle.typing_laws.specs.TreeSizes.WordCounts.{words_in_if, words_in_initialized, words_in_initializer}
+use Rattle.typing_laws.specs.TreeSizes.WordCounts.{words_in_item}
+use Rattle.typing_laws.specs.TreeSizes.WordCounts.{words_in_items, words_in_member, words_in_members}
+use Rattle.typing_laws.specs.TreeSizes.WordCounts.{words_in_more_arguments}
+use Rattle.typing_laws.specs.TreeSizes.WordCounts.{words_in_more_declarators, words_in_more_enumerators}
+use Rattle.typing_laws.specs.TreeSizes.WordCounts.{words_in_more_objects}
 use Rattle.typing_laws.specs.TreeSizes.WordCounts.{words_in_more_parameters, words_in_object, words_in_objects}
 use Rattle.typing_laws.specs.TreeSizes.WordCounts.{words_in_parameters, words_in_specifier, words_in_specifiers}
 use Rattle.typing_laws.specs.TreeSizes.WordCounts.{words_in_statement, words_in_typed, words_of}

@@ -33,7 +33,8 @@ use Rattle.typing_laws.proofs.Validity.Common.{first, second}
 use Rattle.typing_laws.proofs.Validity.Constructs.{assigned_fine, combined_fine, operand_from, place_from}
 use Rattle.typing_laws.proofs.Validity.Primaries.{character_fine, integer_fine}
 use Rattle.typing_laws.proofs.Validity.Sound.{Stays, both, keeps_same, sound_then, whatever, with_given}
-use Rattle.typing_laws.proofs.Validity.Steps.{FineCalled, accessed_sound, all_stays, applied_sound, both_stay, called_stays}
+use Rattle.typing_laws.proofs.Validity.Steps.{FineCalled, accessed_sound, all_stays, applied_sound, both_stay}
+use Rattle.typing_laws.proofs.Validity.Steps.{called_stays}
 use Rattle.typing_laws.proofs.Validity.Steps.{fine_written, judged_sound, literal_sound, name_called_sound, named_sound}
 use Rattle.typing_laws.proofs.Validity.Steps.{nothing_stays, pointer_called_sound, prefixed_sound, printed_sound}
 use Rattle.typing_laws.proofs.Validity.Steps.{stepped_sound, value_stays, valued_sound, written_stays}

@@ -5,7 +5,8 @@ use Rattle.std.specs.Prelude.{Ok, Err, option_map}
 use Rattle.c_faults.specs.declared.fault.Fault.{Fault}
 use Rattle.c_faults.specs.Answer.{Answer, ◌>>=◌}
 use Rattle.typing_laws.specs.Violations.Agreeing.{Agree, Agrees, fault_of, first_of}
-use Rattle.typing_laws.specs.Violations.Judgements.{Violation, both, if_known, Judgement, Judging, answered, followed, made}
+use Rattle.typing_laws.specs.Violations.Judgements.{Violation, both, if_known, Judgement, Judging, answered, followed}
+use Rattle.typing_laws.specs.Violations.Judgements.{made}
 use Rattle.typing_laws.specs.Violations.Judgements.{rule_at}
 use Rattle.typing_laws.specs.Violations.Judgements.{with_second}
 

@@ -32,14 +32,18 @@ use Rattle.c_unit_typing.specs.Files.{File, FileTyping, ◌~>◌}
 use Rattle.typing_laws.specs.Violations.Agreeing.{Agree, Agrees, fault_of, first_of}
 use Rattle.typing_laws.specs.Violations.Declarations.{in_state}
 use Rattle.typing_laws.specs.Violations.Expressions.{operand, token_of, valued}
-use Rattle.typing_laws.specs.Violations.Judgements.{Judgement, Judging, Violation, adding_at, along_with, answered, both}
+use Rattle.typing_laws.specs.Violations.Judgements.{Judgement, Judging, Violation, adding_at, along_with, answered}
+use Rattle.typing_laws.specs.Violations.Judgements.{both}
 use Rattle.typing_laws.specs.Violations.Judgements.{followed, if_known, made, rule_at, with_second}
 use Rattle.typing_laws.specs.Violations.Judgements.{added as added_to}
-use Rattle.typing_laws.specs.Violations.Statements.{case_rule, condition_violations, controlling, default_rule, do_behind}
-use Rattle.typing_laws.specs.Violations.Statements.{do_while, evaluated, evaluated_if, expression_statement, first_part, head}
+use Rattle.typing_laws.specs.Violations.Statements.{case_rule, condition_violations, controlling, default_rule}
+use Rattle.typing_laws.specs.Violations.Statements.{do_behind}
+use Rattle.typing_laws.specs.Violations.Statements.{do_while, evaluated, evaluated_if, expression_statement, first_part}
+use Rattle.typing_laws.specs.Violations.Statements.{head}
 use Rattle.typing_laws.specs.Violations.Statements.{head_rule, labels_in, left, outside, place_with, returned, seen}
 use Rattle.typing_laws.specs.Violations.Statements.{switch_items_of, switching_on, tree_in, valued_if, with_labels}
-use Rattle.typing_laws.proofs.Violations.Agreeing.{answer_agrees, first_in, first_is, given_ruled, followed_agrees, made_agrees}
+use Rattle.typing_laws.proofs.Violations.Agreeing.{answer_agrees, first_in, first_is, given_ruled, followed_agrees}
+use Rattle.typing_laws.proofs.Violations.Agreeing.{made_agrees}
 use Rattle.typing_laws.proofs.Violations.Agreeing.{ruled_agrees, three_ruled, under}
 use Rattle.typing_laws.proofs.Violations.Declarations.{declaration_agrees, put, put_agrees}
 use Rattle.typing_laws.proofs.Violations.Expressions.{operand_agrees, value_agrees}

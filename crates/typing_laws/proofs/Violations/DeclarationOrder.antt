@@ -36,14 +36,17 @@ use Rattle.typing_laws.specs.Violations.Declarations.{declared_by}
 use Rattle.typing_laws.specs.Violations.Declarations.{initialized_if, object, others, sized_by}
 use Rattle.typing_laws.specs.Violations.Declarations.{with_initializer}
 use Rattle.typing_laws.specs.Violations.Expressions.{first_token, name_token, operand, shape, token_of, valued}
-use Rattle.typing_laws.specs.Violations.Initializers.{by_literal_or, by_value, designation, designators, first_of_expression}
+use Rattle.typing_laws.specs.Violations.Initializers.{by_literal_or, by_value, designation, designators}
+use Rattle.typing_laws.specs.Violations.Initializers.{first_of_expression}
 use Rattle.typing_laws.specs.Violations.Initializers.{initializer, item, items, unless_filled}
 use Rattle.typing_laws.specs.Violations.Judgements.{given, gives}
 use Rattle.typing_laws.specs.Violations.Order.{Ascend}
 use Rattle.typing_laws.proofs.Violations.ExpressionOrder.{declarator_read, expression_read, specifiers_read}
 use Rattle.typing_laws.proofs.Violations.ExpressionParts.{ExpressionIn, comma_read, specification_placed, value_placed}
-use Rattle.typing_laws.proofs.Violations.Order.{Placed, Reads, answer_placed, behind_placed, either_placed, gathered_placed}
-use Rattle.typing_laws.proofs.Violations.Order.{moved_placed, none_placed, onward_placed, ruled_placed, second_placed, wider}
+use Rattle.typing_laws.proofs.Violations.Order.{Placed, Reads, answer_placed, behind_placed, either_placed}
+use Rattle.typing_laws.proofs.Violations.Order.{gathered_placed}
+use Rattle.typing_laws.proofs.Violations.Order.{moved_placed, none_placed, onward_placed, ruled_placed, second_placed}
+use Rattle.typing_laws.proofs.Violations.Order.{wider}
 
 -- initializers
 

@@ -24,7 +24,8 @@ use Rattle.c_unit_typing.specs.Declarations.{with_static, with_variable}
 use Rattle.c_unit_typing.specs.Files.{File, FileTyping}
 use Rattle.c_unit_typing.specs.Lines.{initializer_line}
 use Rattle.typing_laws.specs.Violations.Agreeing.{Agree, Agrees}
-use Rattle.typing_laws.specs.Violations.Declarations.{at_end, declaration, declarator, declarators, declared, declared_by}
+use Rattle.typing_laws.specs.Violations.Declarations.{at_end, declaration, declarator, declarators, declared}
+use Rattle.typing_laws.specs.Violations.Declarations.{declared_by}
 use Rattle.typing_laws.specs.Violations.Declarations.{initialized_if, object, others, put_in, sized_by, specifiers}
 use Rattle.typing_laws.specs.Violations.Declarations.{with_initializer}
 use Rattle.typing_laws.specs.Violations.Expressions.{first_token, name_token}

@@ -36,8 +36,10 @@ use Rattle.c_expression_typing.specs.Constructs.{tagged_as}
 use Rattle.c_expression_typing.specs.Lines.{name_of, spellings, tag_name}
 use Rattle.typing_laws.specs.Violations.Expressions.{applied_to, argument_values, array_shape, at_end, declared_members}
 use Rattle.typing_laws.specs.Violations.Expressions.{enumerator, first_token, function_shape, gathered, member}
-use Rattle.typing_laws.specs.Violations.Expressions.{members, more_enumerators, more_members, more_types, more_values, name_token}
-use Rattle.typing_laws.specs.Violations.Expressions.{operand, parameter_type, parameter_types, printed_values, printing_with}
+use Rattle.typing_laws.specs.Violations.Expressions.{members, more_enumerators, more_members, more_types, more_values}
+use Rattle.typing_laws.specs.Violations.Expressions.{name_token}
+use Rattle.typing_laws.specs.Violations.Expressions.{operand, parameter_type, parameter_types, printed_values}
+use Rattle.typing_laws.specs.Violations.Expressions.{printing_with}
 use Rattle.typing_laws.specs.Violations.Expressions.{scoped, shape, specification, token_of, type_name}
 use Rattle.typing_laws.specs.Violations.Expressions.{valued, with_tag}
 use Rattle.typing_laws.specs.Violations.Judgements.{added, adding_rule, beginning}
@@ -48,8 +50,10 @@ use Rattle.typing_laws.proofs.Violations.Order.{Placed, Reads, added_placed, alo
 use Rattle.typing_laws.proofs.Violations.Order.{gathered_placed, in_order}
 use Rattle.typing_laws.proofs.Violations.Order.{made_placed, none_placed, onward_placed, ruled_placed}
 use Rattle.typing_laws.proofs.Violations.Order.{second_placed, wider}
-use Rattle.typing_laws.proofs.Violations.ExpressionParts.{ExpressionIn, value_placed, strings_read, consts_read, tag_read}
-use Rattle.typing_laws.proofs.Violations.ExpressionParts.{comma_read, two_placed, callee_placed, applied_placed, format_placed}
+use Rattle.typing_laws.proofs.Violations.ExpressionParts.{ExpressionIn, value_placed, strings_read, consts_read}
+use Rattle.typing_laws.proofs.Violations.ExpressionParts.{tag_read}
+use Rattle.typing_laws.proofs.Violations.ExpressionParts.{comma_read, two_placed, callee_placed, applied_placed}
+use Rattle.typing_laws.proofs.Violations.ExpressionParts.{format_placed}
 use Rattle.typing_laws.proofs.Violations.ExpressionParts.{not_true, SpecifiersIn, specification_placed, DeclaratorIn}
 use Rattle.typing_laws.proofs.Violations.ExpressionParts.{scope_placed, member_placed, SpecifierIn, ArgumentsIn}
 

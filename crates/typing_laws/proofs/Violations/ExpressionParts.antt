@@ -34,7 +34,8 @@ use Rattle.typing_laws.specs.Violations.Judgements.{Judging, adding_rule, follow
 use Rattle.typing_laws.specs.Violations.Judgements.{given, rule_at, with_second}
 use Rattle.typing_laws.specs.Violations.Judgements.{◌ruled_by◌}
 use Rattle.typing_laws.specs.Violations.Order.{Ascend}
-use Rattle.typing_laws.proofs.Violations.Order.{Placed, Reads, along_placed, answer_placed, behind_placed, gathered_placed}
+use Rattle.typing_laws.proofs.Violations.Order.{Placed, Reads, along_placed, answer_placed, behind_placed}
+use Rattle.typing_laws.proofs.Violations.Order.{gathered_placed}
 use Rattle.typing_laws.proofs.Violations.Order.{made_placed, none_placed, ruled_placed, same_placed}
 use Rattle.typing_laws.proofs.Violations.Order.{second_placed}
 

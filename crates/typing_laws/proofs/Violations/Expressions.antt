@@ -40,17 +40,22 @@ use Rattle.c_expression_typing.specs.Constructs.{tagged_as}
 use Rattle.c_expression_typing.specs.Lines.{first_line, name_of, spellings, tag_name}
 use Rattle.c_expression_typing.specs.Typed as typing
 use Rattle.typing_laws.specs.Violations.Agreeing.{Agree, Agrees}
-use Rattle.typing_laws.specs.Violations.Expressions.{applied_to, argument_values, array_shape, at_end, callee, declared_members}
-use Rattle.typing_laws.specs.Violations.Expressions.{enumerator, format, function_shape, gathered, in_scope, member, members}
+use Rattle.typing_laws.specs.Violations.Expressions.{applied_to, argument_values, array_shape, at_end, callee}
+use Rattle.typing_laws.specs.Violations.Expressions.{declared_members}
+use Rattle.typing_laws.specs.Violations.Expressions.{enumerator, format, function_shape, gathered, in_scope, member}
+use Rattle.typing_laws.specs.Violations.Expressions.{members}
 use Rattle.typing_laws.specs.Violations.Expressions.{more_enumerators, more_members, more_types, more_values, operand}
-use Rattle.typing_laws.specs.Violations.Expressions.{parameter_type, parameter_types, printed_values, printing_with, scoped}
+use Rattle.typing_laws.specs.Violations.Expressions.{parameter_type, parameter_types, printed_values, printing_with}
+use Rattle.typing_laws.specs.Violations.Expressions.{scoped}
 use Rattle.typing_laws.specs.Violations.Expressions.{first_token, name_token, token_of}
 use Rattle.typing_laws.specs.Violations.Expressions.{shape, specification, specifier, type_name, with_scope, with_tag}
 use Rattle.typing_laws.specs.Violations.Judgements.{Judgement, Judging, added, along_with, followed}
 use Rattle.typing_laws.specs.Violations.Judgements.{made, rule_at, with_added, with_second, ◌onward◌, ◌ruled_by◌}
-use Rattle.typing_laws.proofs.Violations.Agreeing.{answer_agrees, followed_agrees, in_turn, made_agrees, pair_agrees, pair_first}
+use Rattle.typing_laws.proofs.Violations.Agreeing.{answer_agrees, followed_agrees, in_turn, made_agrees, pair_agrees}
+use Rattle.typing_laws.proofs.Violations.Agreeing.{pair_first}
 use Rattle.typing_laws.proofs.Violations.Agreeing.{ruled_agrees, three_ruled, two_made, two_ruled, under}
-use Rattle.typing_laws.proofs.Violations.Lists.{Adds, adding_agrees, adding_by_agrees, along_then, list_agrees, onward_agrees}
+use Rattle.typing_laws.proofs.Violations.Lists.{Adds, adding_agrees, adding_by_agrees, along_then, list_agrees}
+use Rattle.typing_laws.proofs.Violations.Lists.{onward_agrees}
 
 pub value_agrees : {j : Judgement State Operand} {x : Answer (State × Operand)} (n : ℕ) → Agrees j x
     → Agrees (followed j (rule_at n as_value)) (x >>= λ r. as_value r.1 r.0)

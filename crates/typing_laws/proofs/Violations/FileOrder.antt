@@ -21,14 +21,16 @@ use Rattle.c_unit_typing.specs.Files.{File}
 use Rattle.c_unit_typing.specs.Units.{around_body, defined_as, entered, scope_or_none}
 use Rattle.typing_laws.specs.Violations.Declarations.{in_state}
 use Rattle.typing_laws.specs.Violations.Expressions.{first_token, name_token, shape}
-use Rattle.typing_laws.specs.Violations.Files.{behind_name, by_itself, defined, defined_by, entered_alone, external, externals}
+use Rattle.typing_laws.specs.Violations.Files.{behind_name, by_itself, defined, defined_by, entered_alone, external}
+use Rattle.typing_laws.specs.Violations.Files.{externals}
 use Rattle.typing_laws.specs.Violations.Files.{parameter_scope, with_body}
 use Rattle.typing_laws.specs.Violations.Order.{AreInOrder, Ascend}
 use Rattle.typing_laws.specs.Violations.Statements.{within}
 use Rattle.typing_laws.proofs.Violations.DeclarationOrder.{declaration_read}
 use Rattle.typing_laws.proofs.Violations.ExpressionOrder.{declarator_read, specifiers_read}
 use Rattle.typing_laws.proofs.Violations.ExpressionParts.{specification_placed}
-use Rattle.typing_laws.proofs.Violations.Order.{Placed, Reads, answer_placed, behind_placed, either_placed, in_order, made_placed}
+use Rattle.typing_laws.proofs.Violations.Order.{Placed, Reads, answer_placed, behind_placed, either_placed, in_order}
+use Rattle.typing_laws.proofs.Violations.Order.{made_placed}
 use Rattle.typing_laws.proofs.Violations.Order.{moved_placed, none_placed, ruled_placed, same_placed, second_placed}
 use Rattle.typing_laws.proofs.Violations.StatementOrder.{BlockIn, block_read}
 

@@ -37,7 +37,8 @@ use Rattle.c_unit_typing.specs.Units.{parameters_in, scope_or_none}
 use Rattle.typing_laws.specs.Violations.Agreeing.{Agree, Agrees, fault_of, first_of}
 use Rattle.typing_laws.specs.Violations.Files.{behind_name, body, defined, defined_by, definition, external}
 use Rattle.typing_laws.specs.Violations.Files.{externals, fault_in, file_with, first_in, function_left, judged_again}
-use Rattle.typing_laws.specs.Violations.Files.{main_violations, or_those, use_violations, violations, with_body, with_end}
+use Rattle.typing_laws.specs.Violations.Files.{main_violations, or_those, use_violations, violations, with_body}
+use Rattle.typing_laws.specs.Violations.Files.{with_end}
 use Rattle.typing_laws.specs.Violations.Expressions.{first_token, name_token}
 use Rattle.typing_laws.specs.Violations.Judgements.{Judgement, Violation}
 use Rattle.typing_laws.specs.Violations.Statements.{within}

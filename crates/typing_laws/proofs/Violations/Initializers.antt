@@ -15,7 +15,8 @@ use Rattle.c_unit_typing.specs.Initializers.{by_index, by_name, filled, list_clo
 use Rattle.c_unit_typing.specs.Lines.{expression_line}
 use Rattle.typing_laws.specs.Violations.Agreeing.{Agrees}
 use Rattle.typing_laws.specs.Violations.Expressions.{token_of}
-use Rattle.typing_laws.specs.Violations.Initializers.{first_of_expression, by_literal_or, by_value, designation, designator}
+use Rattle.typing_laws.specs.Violations.Initializers.{first_of_expression, by_literal_or, by_value, designation}
+use Rattle.typing_laws.specs.Violations.Initializers.{designator}
 use Rattle.typing_laws.specs.Violations.Initializers.{designators, initializer}
 use Rattle.typing_laws.specs.Violations.Initializers.{item, items, unless_filled}
 use Rattle.typing_laws.specs.Violations.Judgements.{gives}

@@ -3,7 +3,8 @@ use Rattle.std.proofs.Common.{◌≡◌, ℕ, refl, ap, subst, Option, Some}
 use Rattle.std.specs.Prelude.{Ok, Err, option_map}
 use Rattle.c_faults.specs.Answer.{Answer, ◌>>=◌}
 use Rattle.typing_laws.specs.Violations.Agreeing.{Agree, Agrees}
-use Rattle.typing_laws.specs.Violations.Judgements.{Judgement, Judging, added, adding_at, adding_rule, along_with, followed}
+use Rattle.typing_laws.specs.Violations.Judgements.{Judgement, Judging, added, adding_at, adding_rule, along_with}
+use Rattle.typing_laws.specs.Violations.Judgements.{followed}
 use Rattle.typing_laws.specs.Violations.Judgements.{gathered_in, with_added}
 use Rattle.typing_laws.proofs.Violations.Agreeing.{followed_agrees, ruled_agrees}
 

@@ -4,7 +4,8 @@ use Rattle.std.proofs.Common.{arith}
 use Rattle.std.specs.Prelude.{Ok, Err, option_map}
 use Rattle.c_faults.specs.Answer.{Answer}
 use Rattle.c_syntax.specs.Words.{Words}
-use Rattle.typing_laws.specs.Violations.Judgements.{Judgement, Judging, Violation, added_if, along_with, answered, both, followed}
+use Rattle.typing_laws.specs.Violations.Judgements.{Judgement, Judging, Violation, added_if, along_with, answered, both}
+use Rattle.typing_laws.specs.Violations.Judgements.{followed}
 use Rattle.typing_laws.specs.Violations.Judgements.{gathered_in, if_known, made, rule_at, with_added, with_second}
 use Rattle.typing_laws.specs.Violations.Order.{AreInOrder, Ascend}
 

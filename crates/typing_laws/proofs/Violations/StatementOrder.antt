@@ -22,16 +22,20 @@ use Rattle.c_unit_typing.specs.Constructs.{labels_on, scope_opened, switches}
 use Rattle.c_unit_typing.specs.Files.{File}
 use Rattle.typing_laws.specs.Violations.Declarations.{declaration, in_state}
 use Rattle.typing_laws.specs.Violations.Expressions.{operand, token_of, valued}
-use Rattle.typing_laws.specs.Violations.Judgements.{Judgement, Judging, Violation, added, adding_rule, along_with, answered, both}
+use Rattle.typing_laws.specs.Violations.Judgements.{Judgement, Judging, Violation, added, adding_rule, along_with}
+use Rattle.typing_laws.specs.Violations.Judgements.{answered, both}
 use Rattle.typing_laws.specs.Violations.Judgements.{if_known, made}
 use Rattle.typing_laws.specs.Violations.Judgements.{rule_at}
 use Rattle.typing_laws.specs.Violations.Files.{body}
 use Rattle.typing_laws.specs.Violations.Order.{Ascend}
 use Rattle.typing_laws.specs.Violations.Statements.{Within, block, block_item, block_items, by_itself, case_rule}
-use Rattle.typing_laws.specs.Violations.Statements.{condition_violations, controlling, default_rule, do_behind, do_while}
+use Rattle.typing_laws.specs.Violations.Statements.{condition_violations, controlling, default_rule, do_behind}
+use Rattle.typing_laws.specs.Violations.Statements.{do_while}
 use Rattle.typing_laws.specs.Violations.Statements.{evaluated_if, expression_statement, first_part, for_with, head_rule}
-use Rattle.typing_laws.specs.Violations.Statements.{if_else, if_then, in_scope, label_type, looping, returned, seen, statement}
-use Rattle.typing_laws.specs.Violations.Statements.{statements, switch_block, switch_item, switch_items, switch_items_of}
+use Rattle.typing_laws.specs.Violations.Statements.{if_else, if_then, in_scope, label_type, looping, returned, seen}
+use Rattle.typing_laws.specs.Violations.Statements.{statement}
+use Rattle.typing_laws.specs.Violations.Statements.{statements, switch_block, switch_item, switch_items}
+use Rattle.typing_laws.specs.Violations.Statements.{switch_items_of}
 use Rattle.typing_laws.specs.Violations.Statements.{switch_with, switching, switching_on, tree_in, valued_if, while_do}
 use Rattle.typing_laws.specs.Violations.Statements.{with_labels}
 use Rattle.typing_laws.proofs.Violations.Constructs.{condition_rule}

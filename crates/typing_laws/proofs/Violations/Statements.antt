@@ -17,11 +17,15 @@ use Rattle.c_unit_typing.specs.Files.{File}
 use Rattle.c_unit_typing.specs.Statements as typing
 use Rattle.typing_laws.specs.Violations.Agreeing.{Agrees}
 use Rattle.typing_laws.specs.Violations.Statements.{block, block_item, block_items, for_with, if_else, if_then}
-use Rattle.typing_laws.specs.Violations.Statements.{outside, place_with, statement, statements, switch_block, switch_item}
+use Rattle.typing_laws.specs.Violations.Statements.{outside, place_with, statement, statements, switch_block}
+use Rattle.typing_laws.specs.Violations.Statements.{switch_item}
 use Rattle.typing_laws.specs.Violations.Statements.{switch_items, switch_with, switching, while_do, within}
-use Rattle.typing_laws.proofs.Violations.Agreeing.{answer_agrees, followed_agrees, in_turn, made_agrees, three_made, two_made}
-use Rattle.typing_laws.proofs.Violations.Constructs.{Bears, Stands, along_agrees, case_agrees, controlling_agrees, default_agrees}
-use Rattle.typing_laws.proofs.Violations.Constructs.{do_agrees, expression_agrees, head_agrees, item_stands, items_agree}
+use Rattle.typing_laws.proofs.Violations.Agreeing.{answer_agrees, followed_agrees, in_turn, made_agrees, three_made}
+use Rattle.typing_laws.proofs.Violations.Agreeing.{two_made}
+use Rattle.typing_laws.proofs.Violations.Constructs.{Bears, Stands, along_agrees, case_agrees, controlling_agrees}
+use Rattle.typing_laws.proofs.Violations.Constructs.{default_agrees}
+use Rattle.typing_laws.proofs.Violations.Constructs.{do_agrees, expression_agrees, head_agrees, item_stands}
+use Rattle.typing_laws.proofs.Violations.Constructs.{items_agree}
 use Rattle.typing_laws.proofs.Violations.Constructs.{returned_agrees, scope_agrees, switching_agrees, without_labels}
 use Rattle.typing_laws.proofs.Violations.Declarations.{declaration_agrees, put_agrees}
 

@@ -66,18 +66,18 @@ AreCounted [] = Unit {0}
 AreCounted (d ∷ ds) = IsCounted d × AreCounted ds
 
 -- the scope of a list of parameters: names stand for these and for enumerators, and tags for structures so far
-pub record IsParameterScope (s : State) (p : ParameterScope) : Type 0 where
-  pub names : (name : Name) (m : Meaning) → declared name p.names ≡ Some m → IsNew true m
-  pub tags : (name : Name) (t : Tag) → declared name p.tags ≡ Some t → IsNumbered (length (extents s)) t
+pub record IsParameterScope (state : State) (scope : ParameterScope) : Type 0 where
+  pub names : (name : Name) (m : Meaning) → declared name scope.names ≡ Some m → IsNew true m
+  pub tags : (name : Name) (t : Tag) → declared name scope.tags ≡ Some t → IsNumbered (length (extents state)) t
 
 abbrev pub HasScope : State → Option ParameterScope → Type 0
 HasScope s None = Unit {0}
 HasScope s (Some p) = IsParameterScope s p
 
-pub record IsShapeOf (s : State) (d : Declarator) (sh : Shape) : Type 0 where
+pub record IsShapeOf (state : State) (declarator : Declarator) (sh : Shape) : Type 0 where
   pub counted : AreCounted sh.derivations
-  pub named : has_name d ≡ true → is_some sh.name ≡ true
-  pub scope : HasScope s sh.parameters
+  pub named : has_name declarator ≡ true → is_some sh.name ≡ true
+  pub scope : HasScope state sh.parameters
 
 abbrev pub HasType : Option (List TypeWord) → Type 0
 HasType None = Unit {0}
@@ -91,9 +91,9 @@ IsSpecified s spec = is_sized_array spec.type ≡ true
 
 -- members: each is of a complete type
 
-pub record IsEntry (s : State) (e : Entry) : Type 0 where
-  pub complete : extent_of (extents s) e.type ≡ Some e.extent
-  pub object : IsObjectExtent e.extent
+pub record IsEntry (state : State) (entry : Entry) : Type 0 where
+  pub complete : extent_of (extents state) entry.type ≡ Some entry.extent
+  pub object : IsObjectExtent entry.extent
 
 abbrev pub AreEntries : State → List Entry → Type 0
 AreEntries s [] = Unit {0}

@@ -6,7 +6,8 @@ use Rattle.c_initializer_rules.specs.Initializing.{Initializing}
 use Rattle.c_initializer_rules.specs.Placed.{PlacedPart}
 use Rattle.c_unit_typing.specs.Constructs.{Labelled}
 use Rattle.c_unit_typing.specs.Files.{Definition, File}
-use Rattle.typing_laws.specs.TreeSizes.Nodes.{declared_nodes, part_nodes, parts_nodes, statement_nodes, statements_nodes}
+use Rattle.typing_laws.specs.TreeSizes.Nodes.{declared_nodes, part_nodes, parts_nodes, statement_nodes}
+use Rattle.typing_laws.specs.TreeSizes.Nodes.{statements_nodes}
 
 abbrev pub sum_by : {A : Type 0} → (A → ℕ) → List A → ℕ
 sum_by size [] = 0

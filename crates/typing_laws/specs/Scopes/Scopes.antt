@@ -9,7 +9,7 @@ pub record AreAmong (vs ws : List Variable) : Type 0 where
   pub each : (x : ℕ) → (at_number vs x ≡ at_number ws x) ⊎ (at_number vs x ≡ no_variable)
 
 -- two scopes are those of one program
-pub record AreOfOneProgram (a b : Scope) : Type 0 where
-  pub statics : a.statics ≡ b.statics
-  pub functions : a.functions ≡ b.functions
-  pub types : a.types ≡ b.types
+pub record AreOfOneProgram (before after : Scope) : Type 0 where
+  pub statics : before.statics ≡ after.statics
+  pub functions : before.functions ≡ after.functions
+  pub types : before.types ≡ after.types

@@ -7,8 +7,8 @@ use Rattle.c_typing_state.specs.State.{State}
 use Rattle.typing_laws.specs.TreeSizes.Nodes.{nodes, lvalue_nodes}
 
 -- what is answered, if no rule is violated, has at most this size
-pub record AtMost {A : Type 0} (size : A → ℕ) (most : ℕ) (a : Answer A) : Type 0 where
-  pub each : (x : A) → a ≡ Ok x → size x ≤ most
+pub record AtMost {A : Type 0} (size : A → ℕ) (most : ℕ) (answer : Answer A) : Type 0 where
+  pub each : (x : A) → answer ≡ Ok x → size x ≤ most
 
 -- the value of an operand, which is read, or becomes a pointer, where it is an lvalue
 abbrev pub operand_size : Operand → ℕ

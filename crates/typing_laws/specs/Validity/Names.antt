@@ -32,11 +32,11 @@ pub record IsStaticOf (scope : Scope) (last : List (Option TypeExtent)) (number 
     pub kind : is_named_as (get_or scope.statics number kind.Void) (kind_among last type) ≡ true
 
 -- a variable of the function, which is an object where it is an array or a structure, or is marked as one
-pub record IsVariableOf (scope : Scope) (last : List (Option TypeExtent)) (s : State) (number : ℕ)
+pub record IsVariableOf (scope : Scope) (last : List (Option TypeExtent)) (state : State) (number : ℕ)
     (type : List TypeWord) : Type 0 where
   pub sized : IsSized last type (size_or_zero (extent_of last type))
   pub kind : is_named_as (variable_at scope number).kind (kind_among last type) ≡ true
-  pub object : (variable_at scope number).is_object ≡ (is_aggregate type || is_marked s.objects number)
+  pub object : (variable_at scope number).is_object ≡ (is_aggregate type || is_marked state.objects number)
 
 -- a function, whose type spells its signature with the structures that are complete at the end
 pub record IsFunctionOf (scope : Scope) (last : List (Option TypeExtent)) (number : ℕ)

@@ -23,15 +23,15 @@ use Rattle.typing_laws.specs.Validity.Names.{IsMeant}
 use Rattle.typing_laws.specs.Validity.Typed.{HaveMembers}
 
 -- names stand for something of the kind of their type, and members lie in their structures
-pub record Knows (scope : Scope) (last : List (Option TypeExtent)) (s : State) : Type 0 where
-  pub names : (name : Name) → IsMeant scope last s (meaning name s.environment.names)
-  pub members : HaveMembers s
+pub record Knows (scope : Scope) (last : List (Option TypeExtent)) (state : State) : Type 0 where
+  pub names : (name : Name) → IsMeant scope last state (meaning name state.environment.names)
+  pub members : HaveMembers state
 
 -- a string literal is an array among the static objects
-pub record IsLiteral (scope : Scope) (l : Literal) : Type 0 where
-  pub sized : is_size (length l.bytes) ≡ true
-  pub there : has_number scope.statics l.number ≡ true
-  pub kind : get_or scope.statics l.number kind.Void ≡ kind.Array (length l.bytes)
+pub record IsLiteral (scope : Scope) (literal : Literal) : Type 0 where
+  pub sized : is_size (length literal.bytes) ≡ true
+  pub there : has_number scope.statics literal.number ≡ true
+  pub kind : get_or scope.statics literal.number kind.Void ≡ kind.Array (length literal.bytes)
 
 -- a type of functions that are called through pointers has its number, and a signature that it spells at the end
 pub record IsTypeOf (scope : Scope) (last : List (Option TypeExtent)) (number : ℕ) (type : List TypeWord) : Type 0 where
@@ -41,11 +41,11 @@ pub record IsTypeOf (scope : Scope) (last : List (Option TypeExtent)) (number : 
 
 -- the string literals and the types of functions so far are those of the program, at whose end these structures are
 -- complete, and no function is used that is not defined
-pub record Covers (scope : Scope) (last : List (Option TypeExtent)) (s : State) : Type 0 where
-  pub more : AreMore (extents s) last
-  pub undefined : s.undefined ≡ None
-  pub literals : (n : ℕ) (l : Literal) → slice_get s.literals n ≡ Some l → IsLiteral scope l
-  pub types : (n : ℕ) (type : List TypeWord) → slice_get s.function_types n ≡ Some type → IsTypeOf scope last n type
+pub record Covers (scope : Scope) (last : List (Option TypeExtent)) (state : State) : Type 0 where
+  pub more : AreMore (extents state) last
+  pub undefined : state.undefined ≡ None
+  pub literals : (n : ℕ) (l : Literal) → slice_get state.literals n ≡ Some l → IsLiteral scope l
+  pub types : (n : ℕ) (type : List TypeWord) → slice_get state.function_types n ≡ Some type → IsTypeOf scope last n type
 
 -- a list that goes on
 pub record Extended {A : Type 0} (list longer : List A) : Type 0 where
@@ -61,10 +61,10 @@ IsNumbered count (tag.Union n) = n < count
 IsNumbered count (tag.Enumeration n) = Unit {0}
 
 -- of an object (C99 6.2.5)
-pub record IsObjectExtent (e : TypeExtent) : Type 0 where
-  pub size : is_size e.size ≡ true
-  pub least : 1 ≤ e.alignment
-  pub greatest : e.alignment ≤ 8
+pub record IsObjectExtent (extent : TypeExtent) : Type 0 where
+  pub size : is_size extent.size ≡ true
+  pub least : 1 ≤ extent.alignment
+  pub greatest : extent.alignment ≤ 8
 
 -- whether an array, if it is one of a known size, has that of an object, and of an unknown size its elements have
 abbrev pub is_sized_array : List TypeWord → Bool
@@ -73,20 +73,21 @@ is_sized_array (word.OpenArray ∷ element) = is_sized_array element
 is_sized_array (word.Const ∷ type) = is_sized_array type
 is_sized_array type = true
 
-pub record IsFormed (s : State) : Type 0 where
-  pub same : length (extents s) ≡ length s.environment.structures.bodies
-  pub begun : (n : ℕ) (e : TypeExtent) → structure_extent (extents s) n ≡ Some e
-      → is_begun n s.environment.structures.bodies ≡ true
-  pub sizes : (n : ℕ) (e : TypeExtent) → structure_extent (extents s) n ≡ Some e → IsObjectExtent e
-  pub tags : (name : Name) (t : Tag) → meaning name s.environment.tags ≡ Some t → IsNumbered (length (extents s)) t
-  pub constants : (name : Name) (w : ℕ) → meaning name s.environment.names ≡ Some (Constant w) → fit Int w ≡ w
-  pub typedefs : (name : Name) (type : List TypeWord) → meaning name s.environment.names ≡ Some (Typedef type)
+pub record IsFormed (state : State) : Type 0 where
+  pub same : length (extents state) ≡ length state.environment.structures.bodies
+  pub begun : (n : ℕ) (e : TypeExtent) → structure_extent (extents state) n ≡ Some e
+      → is_begun n state.environment.structures.bodies ≡ true
+  pub sizes : (n : ℕ) (e : TypeExtent) → structure_extent (extents state) n ≡ Some e → IsObjectExtent e
+  pub tags : (name : Name) (t : Tag) → meaning name state.environment.tags ≡ Some t
+      → IsNumbered (length (extents state)) t
+  pub constants : (name : Name) (w : ℕ) → meaning name state.environment.names ≡ Some (Constant w) → fit Int w ≡ w
+  pub typedefs : (name : Name) (type : List TypeWord) → meaning name state.environment.names ≡ Some (Typedef type)
       → is_sized_array type ≡ true
 
 -- a structure or union whose members are read
-pub record IsPending (s : State) (number : ℕ) : Type 0 where
-  pub begun : is_begun number s.environment.structures.bodies ≡ true
-  pub incomplete : structure_extent (extents s) number ≡ None
+pub record IsPending (state : State) (number : ℕ) : Type 0 where
+  pub begun : is_begun number state.environment.structures.bodies ≡ true
+  pub incomplete : structure_extent (extents state) number ≡ None
 
 -- a state behind another
 pub record Keeps (scope : Scope) (last : List (Option TypeExtent)) (s behind : State) : Type 0 where

@@ -21,6 +21,7 @@ IfValued scope (Ok r) = IsFine scope (extents r.0) r.1
 IfValued scope (Err f) = Unit {0}
 
 -- each member that is found in a structure or union lies in it
-pub record HaveMembers (s : State) : Type 0 where
+pub record HaveMembers (state : State) : Type 0 where
   pub each : (number : ℕ) (name : Name) (m : Member)
-      → member_of number name s.environment.structures.bodies ≡ Some m → IsMemberOf (extents s) number (member_view m)
+      → member_of number name state.environment.structures.bodies ≡ Some m
+      → IsMemberOf (extents state) number (member_view m)

@@ -18,5 +18,5 @@ abbrev pub Agree : {S A : Type 0} → Judgement S A → Answer (S × A) → Type
 Agree j (Ok r) = j ≡ record { violations = []; state = r.0; known = Some r.1 }
 Agree j (Err f) = (first_of j.violations ≡ Some f) × (j.known ≡ None)
 
-pub record Agrees {S A : Type 0} (j : Judgement S A) (answer : Answer (S × A)) : Type 0 where
-  pub by : Agree j answer
+pub record Agrees {S A : Type 0} (judgement : Judgement S A) (answer : Answer (S × A)) : Type 0 where
+  pub by : Agree judgement answer

@@ -23,7 +23,8 @@ use Rattle.c_unit_typing.specs.Files.{File}
 use Rattle.c_unit_typing.specs.Lines.{initializer_line}
 use Rattle.typing_laws.specs.Violations.Expressions.{first_token, name_token, shape, specification}
 use Rattle.typing_laws.specs.Violations.Initializers.{initializer}
-use Rattle.typing_laws.specs.Violations.Judgements.{Judgement, Judging, beginning, by_rule, given, gives, ◌adding◌, ◌beside◌}
+use Rattle.typing_laws.specs.Violations.Judgements.{Judgement, Judging, beginning, by_rule, given, gives, ◌adding◌}
+use Rattle.typing_laws.specs.Violations.Judgements.{◌beside◌}
 use Rattle.typing_laws.specs.Violations.Judgements.{◌knowing◌, ◌onward◌, ◌ruled_by◌, rule_at}
 
 -- what is judged in the state of expressions and declarators

@@ -39,8 +39,10 @@ use Rattle.c_expression_typing.specs.Constructs.{Printing, accessed, begun_as, c
 use Rattle.c_expression_typing.specs.Constructs.{has_words, is_printf, literal_alone, plain_name, prefixed, sized}
 use Rattle.c_expression_typing.specs.Constructs.{tagged_as}
 use Rattle.c_expression_typing.specs.Lines.{first_line, name_of, spellings, tag_name}
-use Rattle.typing_laws.specs.Violations.Judgements.{Judgement, Judging, adding_at, adds_by, along, beginning, by_rule, given}
-use Rattle.typing_laws.specs.Violations.Judgements.{gives, rule_at, ◌adding◌, ◌adding_by◌, ◌beside◌, ◌giving◌, ◌knowing◌}
+use Rattle.typing_laws.specs.Violations.Judgements.{Judgement, Judging, adding_at, adds_by, along, beginning, by_rule}
+use Rattle.typing_laws.specs.Violations.Judgements.{given}
+use Rattle.typing_laws.specs.Violations.Judgements.{gives, rule_at, ◌adding◌, ◌adding_by◌, ◌beside◌, ◌giving◌}
+use Rattle.typing_laws.specs.Violations.Judgements.{◌knowing◌}
 use Rattle.typing_laws.specs.Violations.Judgements.{◌onward◌, ◌ruled_by◌}
 
 -- the token at which an expression is judged

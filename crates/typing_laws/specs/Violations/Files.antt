@@ -27,7 +27,8 @@ use Rattle.c_unit_typing.specs.Typed.{TypedUnit, a_fault}
 use Rattle.c_unit_typing.specs.Units.{around_body, defined_as, entered, file_before, is_main, left}
 use Rattle.c_unit_typing.specs.Units.{parameters_in, scope_or_none}
 use Rattle.typing_laws.specs.Violations.Declarations.{declaration, in_state}
-use Rattle.typing_laws.specs.Violations.Expressions.{first_token, in_scope, name_token, parameter_types, shape, specification}
+use Rattle.typing_laws.specs.Violations.Expressions.{first_token, in_scope, name_token, parameter_types, shape}
+use Rattle.typing_laws.specs.Violations.Expressions.{specification}
 use Rattle.typing_laws.specs.Violations.Judgements.{Judgement, Judging, by_rule, gives, ◌beside◌, ◌giving◌, ◌knowing◌}
 use Rattle.typing_laws.specs.Violations.Judgements.{◌onward◌, ◌ruled_by◌, rule_at}
 use Rattle.typing_laws.specs.Violations.Statements.{Within, block_items, within}

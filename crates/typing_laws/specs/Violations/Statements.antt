@@ -23,7 +23,8 @@ use Rattle.c_unit_typing.specs.Constructs.{scope_closed, scope_opened, switches}
 use Rattle.c_unit_typing.specs.Files.{File}
 use Rattle.typing_laws.specs.Violations.Declarations.{declaration, in_state}
 use Rattle.typing_laws.specs.Violations.Expressions.{operand, token_of, valued}
-use Rattle.typing_laws.specs.Violations.Judgements.{Judgement, Judging, Violation, adding_at, adds_by, along, both, by_rule}
+use Rattle.typing_laws.specs.Violations.Judgements.{Judgement, Judging, Violation, adding_at, adds_by, along, both}
+use Rattle.typing_laws.specs.Violations.Judgements.{by_rule}
 use Rattle.typing_laws.specs.Violations.Judgements.{given, gives, rule_at}
 use Rattle.typing_laws.specs.Violations.Judgements.{◌adding_by◌, ◌beside◌, ◌giving◌, ◌knowing◌, ◌ruled_by◌}
 

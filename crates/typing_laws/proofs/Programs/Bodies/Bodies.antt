@@ -33,7 +33,8 @@ use Rattle.typing_laws.specs.Programs.Bodies.Standing.{Stands}
 use Rattle.typing_laws.specs.Programs.Bodies.Typed.{IfTyped}
 use Rattle.typing_laws.proofs.Programs.Bodies.Chained.{typed_as}
 use Rattle.typing_laws.proofs.Programs.Bodies.Entered.{parameters_there, entered_count, entered_stands, entered_valid}
-use Rattle.typing_laws.proofs.Programs.Bodies.Functions.{all_by, all_declared, body_open, function_lengths, variable_placed}
+use Rattle.typing_laws.proofs.Programs.Bodies.Functions.{all_by, all_declared, body_open, function_lengths}
+use Rattle.typing_laws.proofs.Programs.Bodies.Functions.{variable_placed}
 use Rattle.typing_laws.proofs.Programs.Bodies.Constructs.{AllParts}
 use Rattle.typing_laws.proofs.Programs.Bodies.Opened.{count_among}
 use Rattle.typing_laws.proofs.Programs.Bodies.Statements.{items_typed}

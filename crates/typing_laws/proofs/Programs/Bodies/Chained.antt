@@ -23,7 +23,8 @@ use Rattle.typing_laws.specs.Programs.Scopes.Leaving.{FileLeads}
 use Rattle.typing_laws.proofs.Programs.LaidOut.Chained.{closed_laid, opened_laid}
 use Rattle.typing_laws.proofs.Programs.Scopes.Leading.{closed_leads, file_on, file_same, leads_by, state_leads}
 use Rattle.typing_laws.specs.Programs.Layouts.Listed.{IfLaidOut, IsLaidOut}
-use Rattle.typing_laws.specs.Programs.Bodies.Standing.{AreLinked, AreOpen, AreVariables, Ends, IsReady, IsResult, Numbers}
+use Rattle.typing_laws.specs.Programs.Bodies.Standing.{AreLinked, AreOpen, AreVariables, Ends, IsReady, IsResult}
+use Rattle.typing_laws.specs.Programs.Bodies.Standing.{Numbers}
 use Rattle.typing_laws.specs.Programs.Bodies.Standing.{Stands}
 use Rattle.typing_laws.specs.Programs.Bodies.Typed.{IfTyped, Typed, none}
 use Rattle.typing_laws.proofs.Programs.Bodies.Ends.{ends_before, ends_closed, ends_within, numbers_on}

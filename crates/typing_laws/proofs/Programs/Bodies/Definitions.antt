@@ -48,7 +48,8 @@ use Rattle.typing_laws.proofs.Programs.Declarations.Named.{HasNameOf, named_as, 
 use Rattle.typing_laws.specs.Programs.Scopes.Leaving.{FileLeads}
 use Rattle.typing_laws.specs.Programs.Scopes.Regular.{are_regular_block_items, is_regular_block}
 use Rattle.typing_laws.proofs.Programs.LaidOut.Files.{entered_laid}
-use Rattle.typing_laws.proofs.Programs.Scopes.Files.{defined_as_declares, entered_leads, inside, inside_formed, left_grows}
+use Rattle.typing_laws.proofs.Programs.Scopes.Files.{defined_as_declares, entered_leads, inside, inside_formed}
+use Rattle.typing_laws.proofs.Programs.Scopes.Files.{left_grows}
 use Rattle.typing_laws.proofs.Programs.Scopes.Files.{scope_is, stored_extends}
 use Rattle.typing_laws.proofs.Programs.Scopes.Leading.{bound_leads, file_on, file_same, leads_by, names_are, outer_is}
 use Rattle.typing_laws.proofs.Programs.Scopes.Leading.{state_leads}

@@ -27,7 +27,8 @@ use Rattle.typing_laws.proofs.Programs.Declarations.Judged.{IsBuilt, answered}
 use Rattle.typing_laws.specs.Programs.Scopes.Regular.{is_regular_if}
 use Rattle.typing_laws.proofs.Programs.LaidOut.Chained.{StateLaid}
 use Rattle.typing_laws.proofs.Programs.LaidOut.Files.{definition_arrays}
-use Rattle.typing_laws.proofs.Programs.LaidOut.Statements.{controlling_lays, evaluated_lays, expression_lays, returned_lays}
+use Rattle.typing_laws.proofs.Programs.LaidOut.Statements.{controlling_lays, evaluated_lays, expression_lays}
+use Rattle.typing_laws.proofs.Programs.LaidOut.Statements.{returned_lays}
 use Rattle.typing_laws.proofs.Programs.LaidOut.Statements.{behind_first_lays, case_lays, switching_lays}
 use Rattle.typing_laws.specs.Programs.Layouts.Listed.{HasArrays, IfLaidOut, IsLaidOut}
 use Rattle.typing_laws.proofs.Programs.Layouts.Behind.{specification_behind}

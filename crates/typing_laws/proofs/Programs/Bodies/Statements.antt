@@ -47,7 +47,8 @@ use Rattle.typing_laws.specs.Programs.Bodies.Parts.{has_valid_parts, have_valid_
 use Rattle.typing_laws.specs.Programs.Bodies.Parts.{items_have_valid_parts}
 use Rattle.typing_laws.specs.Programs.Bodies.Standing.{IsReady}
 use Rattle.typing_laws.specs.Programs.Bodies.Typed.{IfTyped, Typed, none}
-use Rattle.typing_laws.proofs.Programs.Bodies.Chained.{after_typed, block_typed, finished_typed, given_typed, kept_sound}
+use Rattle.typing_laws.proofs.Programs.Bodies.Chained.{after_typed, block_typed, finished_typed, given_typed}
+use Rattle.typing_laws.proofs.Programs.Bodies.Chained.{kept_sound}
 use Rattle.typing_laws.proofs.Programs.Bodies.Chained.{one_typed, opening_typed, scoped_typed, state_typed, two_typed}
 use Rattle.typing_laws.proofs.Programs.Bodies.Chained.{ready_behind, typed_on}
 use Rattle.typing_laws.proofs.Programs.Bodies.Declared.{declaration_typed}
@@ -59,7 +60,8 @@ use Rattle.typing_laws.proofs.Programs.Bodies.Constructs.{AllParts, HeadParts, I
 use Rattle.typing_laws.proofs.Programs.Bodies.Constructs.{SwitchParts, Switches, TypesStatement, controlled_typed}
 use Rattle.typing_laws.proofs.Programs.Bodies.Constructs.{do_loop_typed, expression_statement_typed, head_made}
 use Rattle.typing_laws.proofs.Programs.Bodies.Constructs.{if_otherwise_typed, if_then_typed, jump_typed, labelled_typed}
-use Rattle.typing_laws.proofs.Programs.Bodies.Constructs.{loop_typed, made_by, opened_by, returned_typed, unlabelled_typed}
+use Rattle.typing_laws.proofs.Programs.Bodies.Constructs.{loop_typed, made_by, opened_by, returned_typed}
+use Rattle.typing_laws.proofs.Programs.Bodies.Constructs.{unlabelled_typed}
 
 -- the head of a `for`
 

@@ -52,9 +52,11 @@ use Rattle.typing_laws.proofs.Programs.Declarations.Judged.{answered}
 use Rattle.typing_laws.specs.Programs.Scopes.Leaving.{FileLeads, Growing, Leading}
 use Rattle.typing_laws.specs.Programs.Scopes.Regular.{are_regular_externals, is_regular_block, is_regular_external}
 use Rattle.typing_laws.proofs.Programs.Scopes.Declarations.{declaration_leads}
-use Rattle.typing_laws.proofs.Programs.Scopes.Files.{defined_as_declares, entered_leads, external_grows, inside, scope_is}
+use Rattle.typing_laws.proofs.Programs.Scopes.Files.{defined_as_declares, entered_leads, external_grows, inside}
+use Rattle.typing_laws.proofs.Programs.Scopes.Files.{scope_is}
 use Rattle.typing_laws.proofs.Programs.Scopes.Files.{stored_extends}
-use Rattle.typing_laws.proofs.Programs.Scopes.Leading.{bound_leads, closed_leads, file_on, file_same, leads_by, state_leads}
+use Rattle.typing_laws.proofs.Programs.Scopes.Leading.{bound_leads, closed_leads, file_on, file_same, leads_by}
+use Rattle.typing_laws.proofs.Programs.Scopes.Leading.{state_leads}
 use Rattle.typing_laws.proofs.Programs.Scopes.Statements.{IfFileBehind, Walk, items_walk}
 use Rattle.typing_laws.specs.Programs.Types.Typed.{AreNamed, Each, IsDerived, IsNamed, IsSpelled, OfParameters}
 use Rattle.typing_laws.specs.Programs.Types.Typed.{OfSpecification, Types}
@@ -69,7 +71,8 @@ use Rattle.typing_laws.proofs.Programs.Types.States.{declarator_extents, declara
 use Rattle.typing_laws.specs.Programs.Scopes.Defined.{define_functions, defines}
 use Rattle.typing_laws.proofs.Programs.Files.FunctionWords.{composite_function_type, rest_spelled, result_kinded}
 use Rattle.typing_laws.proofs.Programs.Files.FunctionWords.{words_parameters, words_result}
-use Rattle.typing_laws.proofs.Programs.Files.Spelled.{IfTypes, Values, declaration_typed, state_then, stored_specification}
+use Rattle.typing_laws.proofs.Programs.Files.Spelled.{IfTypes, Values, declaration_typed, state_then}
+use Rattle.typing_laws.proofs.Programs.Files.Spelled.{stored_specification}
 use Rattle.typing_laws.proofs.Programs.Files.Spelled.{type_is, types_walk}
 use Rattle.typing_laws.proofs.Programs.Common.{filed}
 

@@ -38,7 +38,8 @@ use Rattle.typing_laws.proofs.Programs.Scopes.Files.{defined_as_declares, entere
 use Rattle.typing_laws.proofs.Programs.Scopes.Files.{inside_formed}
 use Rattle.typing_laws.proofs.Programs.Scopes.Files.{scope_is, stored_extends}
 use Rattle.typing_laws.proofs.Programs.Scopes.Initializers.{values_walk}
-use Rattle.typing_laws.proofs.Programs.Scopes.Leading.{bound_leads, closed_leads, file_on, file_same, leads_by, leads_on}
+use Rattle.typing_laws.proofs.Programs.Scopes.Leading.{bound_leads, closed_leads, file_on, file_same, leads_by}
+use Rattle.typing_laws.proofs.Programs.Scopes.Leading.{leads_on}
 use Rattle.typing_laws.proofs.Programs.Scopes.Leading.{outer_is, state_leads}
 use Rattle.typing_laws.proofs.Programs.Scopes.Statements.{IfFileBehind, Walk, items_walk}
 use Rattle.typing_laws.specs.Programs.Files.Numbers.{statics_at}

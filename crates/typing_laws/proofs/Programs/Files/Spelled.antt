@@ -73,7 +73,8 @@ use Rattle.typing_laws.proofs.Programs.Types.Declarators.{IsDeclared}
 use Rattle.typing_laws.proofs.Programs.Types.Kept.{each_bound, each_declared, each_meaning, spelled_kept}
 use Rattle.typing_laws.proofs.Programs.Types.Parameters.{IsJudged, judged_known}
 use Rattle.typing_laws.proofs.Programs.Types.Recursion.{shape_typed, specification_typed, typed_types}
-use Rattle.typing_laws.proofs.Programs.Types.States.{declarator_extents, declarator_types, composite_type, library_visible}
+use Rattle.typing_laws.proofs.Programs.Types.States.{declarator_extents, declarator_types, composite_type}
+use Rattle.typing_laws.proofs.Programs.Types.States.{library_visible}
 use Rattle.typing_laws.proofs.Programs.Types.States.{name_types, spelled_has, visible_spelled}
 use Rattle.typing_laws.proofs.Programs.Types.Steps.{then_typed, valued_typed}
 use Rattle.typing_laws.proofs.Programs.Common.{filed, unless_large}

@@ -15,7 +15,8 @@ use Rattle.typing_laws.proofs.Validity.Sound.{get_extended}
 use Rattle.typing_laws.proofs.Declarators.Lists.{added_length}
 use Rattle.typing_laws.proofs.Programs.Common.{conflict}
 use Rattle.typing_laws.proofs.Programs.Declarations.Bound.{bound_here}
-use Rattle.typing_laws.specs.Programs.Functions.Entities.{AreNumbered, IsFirst, IsSame, Keeps, is_library, names_function}
+use Rattle.typing_laws.specs.Programs.Functions.Entities.{AreNumbered, IsFirst, IsSame, Keeps, is_library}
+use Rattle.typing_laws.specs.Programs.Functions.Entities.{names_function}
 use Rattle.typing_laws.specs.Programs.Functions.Entities.{number_of, without_sizes}
 use Rattle.typing_laws.specs.Programs.Functions.Functions.{Defines, IsDefinition, Registered}
 use Rattle.typing_laws.proofs.Programs.Functions.Entities.{bound_either, function_words}

@@ -57,7 +57,8 @@ use Rattle.typing_laws.proofs.Programs.Scopes.Declarations.{declaration_leads}
 use Rattle.typing_laws.proofs.Programs.Scopes.Files.{built_definition, entered_leads, inside, inside_formed, scope_is}
 use Rattle.typing_laws.proofs.Programs.Scopes.Files.{stored_extends}
 use Rattle.typing_laws.proofs.Programs.Scopes.Initializers.{values_walk}
-use Rattle.typing_laws.proofs.Programs.Scopes.Leading.{bound_leads, closed_leads, file_on, file_same, leads_by, state_leads}
+use Rattle.typing_laws.proofs.Programs.Scopes.Leading.{bound_leads, closed_leads, file_on, file_same, leads_by}
+use Rattle.typing_laws.proofs.Programs.Scopes.Leading.{state_leads}
 use Rattle.typing_laws.proofs.Programs.Scopes.Statements.{IfFileBehind, Walk, items_walk}
 use Rattle.typing_laws.specs.Programs.Scopes.Defined.{defines}
 use Rattle.typing_laws.proofs.Programs.Files.Definitions.{definition_function}
@@ -68,8 +69,10 @@ use Rattle.typing_laws.proofs.Programs.Types.Declarators.{IsDeclared}
 use Rattle.typing_laws.proofs.Programs.Types.Kept.{spelled_kept}
 use Rattle.typing_laws.proofs.Programs.Types.Parameters.{IsJudged, judged_known}
 use Rattle.typing_laws.proofs.Programs.Types.Recursion.{shape_typed}
-use Rattle.typing_laws.specs.Programs.Functions.Entities.{AreNumbered, is_library, names_function, number_of, without_sizes}
-use Rattle.typing_laws.proofs.Programs.Functions.Declarations.{IfKept, KeepsIn, declaration_kept, extends_keeps, keeps_in}
+use Rattle.typing_laws.specs.Programs.Functions.Entities.{AreNumbered, is_library, names_function, number_of}
+use Rattle.typing_laws.specs.Programs.Functions.Entities.{without_sizes}
+use Rattle.typing_laws.proofs.Programs.Functions.Declarations.{IfKept, KeepsIn, declaration_kept, extends_keeps}
+use Rattle.typing_laws.proofs.Programs.Functions.Declarations.{keeps_in}
 use Rattle.typing_laws.proofs.Programs.Functions.Declarations.{same_in}
 use Rattle.typing_laws.specs.Programs.Functions.Functions.{Defines, Functions, Registered}
 use Rattle.typing_laws.proofs.Programs.Functions.Defined.{defines_kept, defines_more, numbered_kept, numbered_more}

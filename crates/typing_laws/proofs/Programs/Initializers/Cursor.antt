@@ -28,7 +28,8 @@ use Rattle.c_initializer_rules.specs.Initializing.{from_whole_list, is_literal, 
 use Rattle.c_initializer_rules.specs.Initializing.{place_in_list, place_of, place_standing, stored_at, with_index}
 use Rattle.c_initializer_rules.specs.Initializing.{with_name, with_one_too_many}
 use Rattle.typing_laws.proofs.Validity.Sound.{IfAnswer}
-use Rattle.typing_laws.specs.Programs.Initializers.Cursor.{AreLists, AreOpen, HasIf, IsCurrent, HoldsOfAll, IsList, IsNext}
+use Rattle.typing_laws.specs.Programs.Initializers.Cursor.{AreLists, AreOpen, HasIf, IsCurrent, HoldsOfAll, IsList}
+use Rattle.typing_laws.specs.Programs.Initializers.Cursor.{IsNext}
 
 pub if_then : {A B : Type 0} (P : A → Type 0) (Q : B → Type 0) (a : Answer A) (next : A → Answer B) → IfAnswer P a
     → ((x : A) → P x → IfAnswer Q (next x)) → IfAnswer Q (a >>= next)

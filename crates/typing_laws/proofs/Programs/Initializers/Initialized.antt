@@ -49,7 +49,8 @@ use Rattle.typing_laws.proofs.Programs.Initializers.Cursor.{begun_objects}
 use Rattle.typing_laws.proofs.Programs.Initializers.Ended.{closed_parts, open_parts}
 use Rattle.typing_laws.proofs.Programs.Initializers.Fitting.{has_kept, keeps_fitting, placed_kept, whole_placed}
 use Rattle.typing_laws.proofs.Programs.Initializers.Objects.{IsBase, IsSized, base_of, complete_kept, completed_sized}
-use Rattle.typing_laws.proofs.Programs.Initializers.Objects.{completes, covers_before, kind_total, scalar_completed, total}
+use Rattle.typing_laws.proofs.Programs.Initializers.Objects.{completes, covers_before, kind_total, scalar_completed}
+use Rattle.typing_laws.proofs.Programs.Initializers.Objects.{total}
 use Rattle.typing_laws.proofs.Programs.Initializers.Places.{parts_placed}
 use Rattle.typing_laws.proofs.Programs.Initializers.Placings.{placing_steps}
 use Rattle.typing_laws.proofs.Programs.Initializers.Recursion.{initialized_given}

@@ -14,9 +14,11 @@ use Rattle.c_typing_state.specs.State.{State, extents}
 use Rattle.c_unit_typing.specs.Initializers.{member_lists}
 use Rattle.typing_laws.specs.Validity.Steps.{Structures}
 use Rattle.typing_laws.proofs.Validity.Sound.{IfAnswer, Stays}
-use Rattle.typing_laws.specs.Programs.Initializers.Cursor.{AreLists, AreOpen, HasIf, HoldsOfAll, IsList, IsNext, IsPlacing}
+use Rattle.typing_laws.specs.Programs.Initializers.Cursor.{AreLists, AreOpen, HasIf, HoldsOfAll, IsList, IsNext}
+use Rattle.typing_laws.specs.Programs.Initializers.Cursor.{IsPlacing}
 use Rattle.typing_laws.proofs.Programs.Initializers.Recursion.{Filled, FilledIf, Steps}
-use Rattle.typing_laws.proofs.Programs.Initializers.Steps.{KeepsParts, closed_placing, designation_placing, index_placing}
+use Rattle.typing_laws.proofs.Programs.Initializers.Steps.{KeepsParts, closed_placing, designation_placing}
+use Rattle.typing_laws.proofs.Programs.Initializers.Steps.{index_placing}
 use Rattle.typing_laws.proofs.Programs.Initializers.Steps.{literal_placing, name_placing, opened_placing, value_placing}
 
 -- what holds of all objects of which another property does

@@ -27,7 +27,8 @@ use Rattle.typing_laws.proofs.Validity.Sound.{IfAnswer, Stays, both}
 use Rattle.typing_laws.specs.Programs.Scopes.Regular.{are_regular_items, is_regular_designation, is_regular_designator}
 use Rattle.typing_laws.specs.Programs.Scopes.Regular.{is_regular_initializer, is_regular_item}
 use Rattle.typing_laws.specs.Programs.Initializers.Giving.{ExpressionsKeep, Giving, IsFineIf}
-use Rattle.typing_laws.proofs.Programs.Initializers.Giving.{IsFineValue, giving_done, giving_judged, giving_then, then_only}
+use Rattle.typing_laws.proofs.Programs.Initializers.Giving.{IsFineValue, giving_done, giving_judged, giving_then}
+use Rattle.typing_laws.proofs.Programs.Initializers.Giving.{then_only}
 use Rattle.typing_laws.proofs.Programs.Initializers.Giving.{value_given, weaker_given}
 
 -- behind a literal that fills an array, or before an initializer that is no such literal

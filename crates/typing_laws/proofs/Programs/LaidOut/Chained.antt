@@ -20,7 +20,8 @@ use Rattle.typing_laws.specs.Programs.Layouts.Listed.{IsLaidOut}
 use Rattle.typing_laws.proofs.Programs.Layouts.Chained.{Laid, laid_out_behind, meaning_kept}
 use Rattle.typing_laws.proofs.Programs.Layouts.Recursion.{typed_laid, valued_laid, within_laid}
 use Rattle.typing_laws.specs.Programs.Scopes.Leaving.{FileLeads}
-use Rattle.typing_laws.proofs.Programs.Scopes.Leading.{closed_leads, file_on, file_same, leads_by, names_are, state_leads}
+use Rattle.typing_laws.proofs.Programs.Scopes.Leading.{closed_leads, file_on, file_same, leads_by, names_are}
+use Rattle.typing_laws.proofs.Programs.Scopes.Leading.{state_leads}
 use Rattle.typing_laws.specs.Programs.LaidOut.Behind.{IfLaid}
 use Rattle.typing_laws.proofs.Programs.Common.{filed}
 

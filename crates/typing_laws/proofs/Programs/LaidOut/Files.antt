@@ -30,7 +30,8 @@ use Rattle.typing_laws.specs.Validity.Sound.{IsFormed, is_sized_array}
 use Rattle.typing_laws.specs.Validity.Regular.{are_regular_specifiers, is_regular_declarator}
 use Rattle.typing_laws.proofs.Validity.Common.{first, neither_left, second}
 use Rattle.typing_laws.specs.Declarators.Extending.{Extending}
-use Rattle.typing_laws.specs.Declarators.Given.{AreCounted, HasScope, IsParameterScope, IsShapeOf, IsSpecified, anything}
+use Rattle.typing_laws.specs.Declarators.Given.{AreCounted, HasScope, IsParameterScope, IsShapeOf, IsSpecified}
+use Rattle.typing_laws.specs.Declarators.Given.{anything}
 use Rattle.typing_laws.proofs.Declarators.Parameters.{found_last}
 use Rattle.typing_laws.proofs.Declarators.Recursion.{scope_kept, shape_extends}
 use Rattle.typing_laws.proofs.Declarators.Types.{without_faults}
@@ -45,7 +46,8 @@ use Rattle.typing_laws.proofs.Programs.Layouts.Declared.{declared_by}
 use Rattle.typing_laws.proofs.Programs.Layouts.Recursion.{shape_laid, specification_laid}
 use Rattle.typing_laws.specs.Programs.Scopes.Leaving.{FileLeads, Growing}
 use Rattle.typing_laws.specs.Programs.Scopes.Regular.{are_regular_externals, is_regular_block, is_regular_external}
-use Rattle.typing_laws.proofs.Programs.Scopes.Files.{built_definition, defined_as_declares, entered_leads, external_grows}
+use Rattle.typing_laws.proofs.Programs.Scopes.Files.{built_definition, defined_as_declares, entered_leads}
+use Rattle.typing_laws.proofs.Programs.Scopes.Files.{external_grows}
 use Rattle.typing_laws.proofs.Programs.Scopes.Files.{inside, scope_is, stored_extends}
 use Rattle.typing_laws.proofs.Programs.Scopes.Leading.{bound_leads, leads_on, names_are}
 use Rattle.typing_laws.specs.Programs.LaidOut.Behind.{IfLaid, IsLaidIf}

@@ -3,7 +3,8 @@ use Rattle.std.proofs.Common.{◌≡◌, Bool, true, false}
 use Rattle.c_syntax.specs.Tree.{Declarator, Expression, Specifiers, TypedDeclarator}
 use Rattle.c_typing_state.specs.State.{State}
 use Rattle.c_expression_typing.specs.Typed.{shape, specification, type_name, typed}
-use Rattle.typing_laws.specs.Validity.Regular.{are_regular_specifiers, is_regular, is_regular_declarator, is_regular_name}
+use Rattle.typing_laws.specs.Validity.Regular.{are_regular_specifiers, is_regular, is_regular_declarator}
+use Rattle.typing_laws.specs.Validity.Regular.{is_regular_name}
 use Rattle.typing_laws.specs.Validity.Sound.{IsFormed}
 use Rattle.typing_laws.specs.Declarators.Given.{IsShapeOf, IsSpecified, OperandHasWords, anything}
 use Rattle.typing_laws.proofs.Declarators.Recursion.{name_extends, shape_extends, specification_extends, typed_extends}

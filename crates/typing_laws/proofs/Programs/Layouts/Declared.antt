@@ -29,7 +29,8 @@ use Rattle.typing_laws.specs.Programs.Declarations.Binding.{Binds, IfDeclared, I
 use Rattle.typing_laws.specs.Programs.Declarations.Binding.{linked_meaning, unlinked_meaning}
 use Rattle.typing_laws.proofs.Programs.Declarations.Judged.{IsBuilt, IsJudged, answered, built_declaration, complete_by}
 use Rattle.typing_laws.proofs.Programs.Declarations.Judged.{completed_for, declared_as_declares, judged_known}
-use Rattle.typing_laws.specs.Programs.Layouts.Listed.{AreListed, HasArrays, HasArraysIn, HasArraysOf, IfLaidOut, IsLaidOut}
+use Rattle.typing_laws.specs.Programs.Layouts.Listed.{AreListed, HasArrays, HasArraysIn, HasArraysOf, IfLaidOut}
+use Rattle.typing_laws.specs.Programs.Layouts.Listed.{IsLaidOut}
 use Rattle.typing_laws.specs.Programs.Layouts.Listed.{HasSizes, IsCompleteIf, IsDeclared, has_array_bytes}
 use Rattle.typing_laws.proofs.Programs.Layouts.Arrays.{built_arrays}
 use Rattle.typing_laws.proofs.Programs.Layouts.Chained.{either_meaning}

@@ -59,7 +59,8 @@ use Rattle.typing_laws.proofs.Declarators.Members.{Members, members_kept}
 use Rattle.typing_laws.proofs.Declarators.Parameters.{found_last, within, within_block, within_formed}
 use Rattle.typing_laws.proofs.Declarators.Recursion.{after, begun_stays, enumerator_extend, gathered_extends, member_by}
 use Rattle.typing_laws.proofs.Declarators.Recursion.{member_extend, members_extend, name_extends, parameter_extend}
-use Rattle.typing_laws.proofs.Declarators.Recursion.{shape_extends, shape_then, some_members, specified_extends, with_type}
+use Rattle.typing_laws.proofs.Declarators.Recursion.{shape_extends, shape_then, some_members, specified_extends}
+use Rattle.typing_laws.proofs.Declarators.Recursion.{with_type}
 use Rattle.typing_laws.proofs.Declarators.Recursion.{specifier_extends, typed_extends}
 use Rattle.typing_laws.proofs.Declarators.Steps.{called_extends, format_extends, valued_extends, whatever}
 use Rattle.typing_laws.proofs.Declarators.Tags.{BegunFrom, begun_extends}
@@ -67,9 +68,11 @@ use Rattle.typing_laws.proofs.Declarators.Words.{int_word}
 use Rattle.typing_laws.specs.Programs.Layouts.Listed.{HasArrays, IsLaidOut, has_array_bytes}
 use Rattle.typing_laws.proofs.Programs.Layouts.Arrays.{HasArraysIf, arrays_kept, specified_arrays, tag_arrays}
 use Rattle.typing_laws.proofs.Programs.Layouts.Chained.{Laid, judged_laid, then_laid, then_lists}
-use Rattle.typing_laws.proofs.Programs.Layouts.Lists.{HaveArrays, begun_laid, entries_have, member_has, tag_completed_laid}
+use Rattle.typing_laws.proofs.Programs.Layouts.Lists.{HaveArrays, begun_laid, entries_have, member_has}
+use Rattle.typing_laws.proofs.Programs.Layouts.Lists.{tag_completed_laid}
 use Rattle.typing_laws.proofs.Programs.Layouts.Lists.{tagged_laid}
-use Rattle.typing_laws.proofs.Programs.Layouts.Standing.{accessed_stands, applied_stands, enumerated_stands, literal_stands}
+use Rattle.typing_laws.proofs.Programs.Layouts.Standing.{accessed_stands, applied_stands, enumerated_stands}
+use Rattle.typing_laws.proofs.Programs.Layouts.Standing.{literal_stands}
 use Rattle.typing_laws.proofs.Programs.Layouts.Standing.{name_called_stands, named_stands, parameter_stands}
 use Rattle.typing_laws.proofs.Programs.Layouts.Standing.{prefixed_stands, stands_laid, value_stands}
 

@@ -42,7 +42,8 @@ use Rattle.typing_laws.proofs.Programs.Declarations.Bound.{bound_here}
 use Rattle.typing_laws.proofs.Programs.Declarations.Judged.{answered, if_declared}
 use Rattle.typing_laws.specs.Programs.Scopes.Leaving.{Growing}
 use Rattle.typing_laws.specs.Programs.Scopes.Regular.{are_regular_externals, is_regular_block, is_regular_external}
-use Rattle.typing_laws.proofs.Programs.Scopes.Files.{built_definition, entered_leads, external_grows, inside, inside_formed}
+use Rattle.typing_laws.proofs.Programs.Scopes.Files.{built_definition, entered_leads, external_grows, inside}
+use Rattle.typing_laws.proofs.Programs.Scopes.Files.{inside_formed}
 use Rattle.typing_laws.proofs.Programs.Scopes.Files.{scope_is, stored_extends}
 use Rattle.typing_laws.proofs.Programs.Scopes.Leading.{bound_leads}
 use Rattle.typing_laws.proofs.Programs.Scopes.Statements.{IfFileBehind}
@@ -52,7 +53,8 @@ use Rattle.typing_laws.proofs.Programs.Types.Parameters.{judged_known}
 use Rattle.typing_laws.specs.Programs.Functions.Entities.{Continue}
 use Rattle.typing_laws.proofs.Programs.Functions.Continuing.{declarator_continues, keeps_continues}
 use Rattle.typing_laws.proofs.Programs.Functions.Declarations.{IfKept, declaration_kept, extends_keeps}
-use Rattle.typing_laws.specs.Programs.Literals.Added.{AddsLiterals, IsDefinedFunction, IsOf, IsOutsideOrDefined, IsPlaced}
+use Rattle.typing_laws.specs.Programs.Literals.Added.{AddsLiterals, IsDefinedFunction, IsOf, IsOutsideOrDefined}
+use Rattle.typing_laws.specs.Programs.Literals.Added.{IsPlaced}
 use Rattle.typing_laws.specs.Programs.Literals.Added.{PlacesLiterals}
 use Rattle.typing_laws.proofs.Programs.Functions.Files.{KeepsFile}
 use Rattle.typing_laws.proofs.Programs.Literals.Walked.{adds_none, adds_on, items_add, literals_walk}

@@ -25,7 +25,8 @@ use Rattle.typing_laws.proofs.Programs.Scopes.Statements.{items_lead, IfFileBehi
 use Rattle.typing_laws.specs.Programs.Functions.Entities.{IfContinues}
 use Rattle.typing_laws.proofs.Programs.Functions.Continuing.{items_continue}
 use Rattle.typing_laws.specs.Programs.Names.Linked.{AreFilled, IsFilled}
-use Rattle.typing_laws.proofs.Programs.Names.Filled.{IfFileFilled, declaration_filled, declarator_filled, extended_filled}
+use Rattle.typing_laws.proofs.Programs.Names.Filled.{IfFileFilled, declaration_filled, declarator_filled}
+use Rattle.typing_laws.proofs.Programs.Names.Filled.{extended_filled}
 use Rattle.typing_laws.proofs.Programs.Names.Filled.{still_filled}
 use Rattle.typing_laws.proofs.Programs.Scopes.Definitions.{DefinitionWalk, definition_walks}
 

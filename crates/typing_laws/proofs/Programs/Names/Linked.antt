@@ -35,7 +35,8 @@ use Rattle.typing_laws.specs.Programs.Files.Numbers.{HasKind}
 use Rattle.typing_laws.proofs.Programs.Files.Ends.{owns_all}
 use Rattle.typing_laws.proofs.Programs.Files.StaticKinds.{entity_kind}
 use Rattle.typing_laws.proofs.Programs.Files.Statics.{in_order_by}
-use Rattle.typing_laws.specs.Programs.Bodies.Standing.{EntitiesLead, EntityLeads, IsMeantIfLinked, IsReady, LinkedAreMeant}
+use Rattle.typing_laws.specs.Programs.Bodies.Standing.{EntitiesLead, EntityLeads, IsMeantIfLinked, IsReady}
+use Rattle.typing_laws.specs.Programs.Bodies.Standing.{LinkedAreMeant}
 use Rattle.typing_laws.specs.Programs.Bodies.Standing.{composed}
 use Rattle.typing_laws.proofs.Programs.Bodies.Entities.{declared_linked}
 use Rattle.typing_laws.specs.Programs.Functions.Entities.{Fills, without_sizes}
@@ -43,7 +44,8 @@ use Rattle.typing_laws.proofs.Programs.Functions.Entities.{composite_fills, comp
 use Rattle.typing_laws.proofs.Programs.Functions.Continuing.{bound_words, entity_fills}
 use Rattle.typing_laws.proofs.Programs.Functions.Main.{function_designated}
 use Rattle.typing_laws.specs.Programs.Names.Linked.{HaveSizes, IsOf}
-use Rattle.typing_laws.proofs.Programs.Names.Held.{Holds, HoldsArray, IsNamed, composite_holds, holds_filled, holds_final}
+use Rattle.typing_laws.proofs.Programs.Names.Held.{Holds, HoldsArray, IsNamed, composite_holds, holds_filled}
+use Rattle.typing_laws.proofs.Programs.Names.Held.{holds_final}
 use Rattle.typing_laws.proofs.Programs.Names.Held.{named_holds}
 use Rattle.typing_laws.proofs.Programs.Names.Meant.{static_held}
 

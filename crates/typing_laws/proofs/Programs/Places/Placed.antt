@@ -40,7 +40,8 @@ use Rattle.c_unit_typing.specs.Statements.{switch_items}
 use Rattle.typing_laws.specs.Programs.Places.Placed.{AreFine, IfGives, IsFineStatement, are_labels_of, are_placed}
 use Rattle.typing_laws.specs.Programs.Places.Placed.{are_placed_items, is_placed}
 use Rattle.typing_laws.proofs.Programs.Common.{IfGives as IfOf, then_gives as then_of}
-use Rattle.typing_laws.proofs.Programs.Places.Labels.{IfInteger, IfLabels, all_append, case_fine, default_fine, integer_is}
+use Rattle.typing_laws.proofs.Programs.Places.Labels.{IfInteger, IfLabels, all_append, case_fine, default_fine}
+use Rattle.typing_laws.proofs.Programs.Places.Labels.{integer_is}
 use Rattle.typing_laws.proofs.Programs.Places.Labels.{switch_integer}
 
 abbrev anything : {A : Type 0} → A → Type 0

@@ -14,12 +14,14 @@ use Rattle.c_syntax.specs.Tree.{MoreParameters, Specifiers, Specifier, Members, 
 use Rattle.c_syntax.specs.Tree.{MoreEnumerators, Designation, Designator, Initializer, InitializerItem, MoreItems}
 use Rattle.c_syntax.specs.Tree as t
 use Rattle.typing_laws.specs.Validity.Regular.{is_regular, are_regular, more_are_regular, is_regular_name}
-use Rattle.typing_laws.specs.Validity.Regular.{is_regular_declarator, are_regular_parameters, more_are_regular_parameters}
+use Rattle.typing_laws.specs.Validity.Regular.{is_regular_declarator, are_regular_parameters}
+use Rattle.typing_laws.specs.Validity.Regular.{more_are_regular_parameters}
 use Rattle.typing_laws.specs.Validity.Regular.{are_regular_specifiers, is_regular_specifier, are_regular_members}
 use Rattle.typing_laws.specs.Validity.Regular.{is_regular_member, more_are_regular_declarators, is_regular_enumerator}
 use Rattle.typing_laws.specs.Validity.Regular.{more_are_regular_enumerators}
 use Rattle.typing_laws.specs.Programs.Scopes.Defined.{define_functions, defines}
-use Rattle.typing_laws.specs.Programs.Scopes.Regular.{is_regular_designator, is_regular_designation, is_regular_initializer}
+use Rattle.typing_laws.specs.Programs.Scopes.Regular.{is_regular_designator, is_regular_designation}
+use Rattle.typing_laws.specs.Programs.Scopes.Regular.{is_regular_initializer}
 use Rattle.typing_laws.specs.Programs.Scopes.Regular.{is_regular_item, are_regular_items, is_regular_initializer_if}
 use Rattle.typing_laws.specs.Programs.Scopes.Regular.{is_regular_if, is_regular_object, initializer_of}
 use Rattle.typing_laws.specs.Programs.Scopes.Regular.{are_regular_declarators, is_regular_declaration, is_regular_first}

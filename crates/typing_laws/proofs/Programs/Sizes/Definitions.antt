@@ -30,7 +30,8 @@ use Rattle.typing_laws.specs.Validity.More.{AreMore}
 use Rattle.typing_laws.specs.Validity.Sound.{IsFormed, is_sized_array}
 use Rattle.typing_laws.proofs.Validity.Common.{first, second}
 use Rattle.typing_laws.specs.Declarators.Extending.{Extending, Extends}
-use Rattle.typing_laws.specs.Declarators.Given.{AreCounted, HasScope, IsParameterScope, IsShapeOf, IsSpecified, anything}
+use Rattle.typing_laws.specs.Declarators.Given.{AreCounted, HasScope, IsParameterScope, IsShapeOf, IsSpecified}
+use Rattle.typing_laws.specs.Declarators.Given.{anything}
 use Rattle.typing_laws.proofs.Declarators.Parameters.{within_block}
 use Rattle.typing_laws.proofs.Declarators.Recursion.{scope_kept, shape_extends}
 use Rattle.typing_laws.specs.Programs.Declarations.Binding.{IfDeclared, bound_meaning}
@@ -45,9 +46,11 @@ use Rattle.typing_laws.proofs.Programs.LaidOut.Files.{definition_arrays, entered
 use Rattle.typing_laws.specs.Programs.Scopes.Leaving.{FileLeads, Leading}
 use Rattle.typing_laws.specs.Programs.Scopes.Regular.{is_regular_block, is_regular_external}
 use Rattle.typing_laws.proofs.Programs.Scopes.Declarations.{declaration_leads}
-use Rattle.typing_laws.proofs.Programs.Scopes.Files.{built_definition, defined_as_declares, entered_leads, inside, scope_is}
+use Rattle.typing_laws.proofs.Programs.Scopes.Files.{built_definition, defined_as_declares, entered_leads, inside}
+use Rattle.typing_laws.proofs.Programs.Scopes.Files.{scope_is}
 use Rattle.typing_laws.proofs.Programs.Scopes.Files.{stored_extends, type_environment}
-use Rattle.typing_laws.proofs.Programs.Scopes.Leading.{bound_leads, closed_leads, file_on, file_same, leads_by, leads_on}
+use Rattle.typing_laws.proofs.Programs.Scopes.Leading.{bound_leads, closed_leads, file_on, file_same, leads_by}
+use Rattle.typing_laws.proofs.Programs.Scopes.Leading.{leads_on}
 use Rattle.typing_laws.proofs.Programs.Scopes.Leading.{outer_is, state_leads}
 use Rattle.typing_laws.proofs.Programs.Scopes.Statements.{IfFileBehind, Walk, items_walk}
 use Rattle.typing_laws.specs.Programs.Sizes.Tags.{BodiesStay}

@@ -42,7 +42,8 @@ use Rattle.typing_laws.specs.Programs.Scopes.Regular.{is_regular_initializer_if,
 use Rattle.typing_laws.proofs.Programs.Scopes.Declarations.{StateLeads, declares_leads, specified_extends}
 use Rattle.typing_laws.proofs.Programs.Functions.Entities.{bound_either}
 use Rattle.typing_laws.proofs.Programs.Types.Parameters.{judged_known}
-use Rattle.typing_laws.proofs.Programs.Sizes.Declarations.{FileSteps, IfFileSteps, declarator_file_steps, declared_steps}
+use Rattle.typing_laws.proofs.Programs.Sizes.Declarations.{FileSteps, IfFileSteps, declarator_file_steps}
+use Rattle.typing_laws.proofs.Programs.Sizes.Declarations.{declared_steps}
 use Rattle.typing_laws.proofs.Programs.Sizes.Declarations.{named_steps, spec_kept, state_steps}
 use Rattle.typing_laws.proofs.Programs.Sizes.Steps.{AreEnding, AreSound, IsEnding, all_behind, declared_ending}
 use Rattle.typing_laws.proofs.Programs.Sizes.Steps.{ending_behind}

@@ -47,7 +47,8 @@ use Rattle.typing_laws.specs.Programs.Declarations.Binding.{IfDeclared, bound_me
 use Rattle.typing_laws.proofs.Programs.Declarations.Judged.{declared_as_declares}
 use Rattle.typing_laws.specs.Programs.Scopes.Leaving.{Grows, Leading}
 use Rattle.typing_laws.specs.Programs.Scopes.Regular.{are_regular_declarators, initializer_of, is_regular_declaration}
-use Rattle.typing_laws.specs.Programs.Scopes.Regular.{is_regular_initializer, is_regular_initializer_if, is_regular_object}
+use Rattle.typing_laws.specs.Programs.Scopes.Regular.{is_regular_initializer, is_regular_initializer_if}
+use Rattle.typing_laws.specs.Programs.Scopes.Regular.{is_regular_object}
 use Rattle.typing_laws.proofs.Programs.Scopes.Declarations.{declarator_leads, declared_leads, specified_extends}
 use Rattle.typing_laws.proofs.Programs.Scopes.Files.{grows_by, grows_on}
 use Rattle.typing_laws.proofs.Programs.Scopes.Initializers.{initialized_extends}

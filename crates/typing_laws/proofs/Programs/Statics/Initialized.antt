@@ -65,7 +65,8 @@ use Rattle.typing_laws.proofs.Programs.Names.Known.{entity_meant}
 use Rattle.typing_laws.specs.Programs.Statics.Initialized.{AreInitializers, AreOwn, IsInitializer}
 use Rattle.typing_laws.specs.Programs.Statics.Linked.{are_initialized, are_parts_at, is_initialized}
 use Rattle.typing_laws.proofs.Programs.Statics.Ending.{IfOn, IsOn, declaration_on, on_step}
-use Rattle.typing_laws.proofs.Programs.Statics.Storing.{IfFileOwn, IfLeaves, definition_leaves, externals_own, own_found}
+use Rattle.typing_laws.proofs.Programs.Statics.Storing.{IfFileOwn, IfLeaves, definition_leaves, externals_own}
+use Rattle.typing_laws.proofs.Programs.Statics.Storing.{own_found}
 use Rattle.typing_laws.proofs.Programs.Statics.Storing.{own_start}
 
 -- where a file begins

@@ -28,7 +28,8 @@ use Rattle.typing_laws.proofs.Programs.Bodies.Bodies.{function_ends, names_stand
 use Rattle.typing_laws.proofs.Programs.Bodies.Ends.{ends_within}
 use Rattle.typing_laws.proofs.Programs.Bodies.Standing.{stands_within}
 use Rattle.typing_laws.specs.Programs.Statics.Added.{Adds, IfAdds, StandIn, are_valid_objects, is_valid_object}
-use Rattle.typing_laws.specs.Programs.Statics.Program.{AddsObjectsOf, IsFunctionOf, are_static_objects, stand_in_functions}
+use Rattle.typing_laws.specs.Programs.Statics.Program.{AddsObjectsOf, IsFunctionOf, are_static_objects}
+use Rattle.typing_laws.specs.Programs.Statics.Program.{stand_in_functions}
 use Rattle.typing_laws.proofs.Programs.Statics.Open.{every, opened_scope, opened_scope_wide}
 use Rattle.typing_laws.proofs.Programs.Statics.Walked.{items_add}
 use Rattle.typing_laws.proofs.Programs.Common.{three}

@@ -61,7 +61,8 @@ use Rattle.typing_laws.specs.Programs.Scopes.Regular.{is_regular_initializer_if}
 use Rattle.typing_laws.proofs.Programs.Scopes.Declarations.{declaration_leads}
 use Rattle.typing_laws.proofs.Programs.Scopes.Files.{entered_leads, external_grows, inside, inside_formed}
 use Rattle.typing_laws.proofs.Programs.Scopes.Initializers.{initialized_extends, values_walk}
-use Rattle.typing_laws.proofs.Programs.Scopes.Leading.{bound_leads, closed_leads, file_on, file_same, leads_by, state_leads}
+use Rattle.typing_laws.proofs.Programs.Scopes.Leading.{bound_leads, closed_leads, file_on, file_same, leads_by}
+use Rattle.typing_laws.proofs.Programs.Scopes.Leading.{state_leads}
 use Rattle.typing_laws.proofs.Programs.Scopes.Statements.{IfFileBehind, Walk, items_walk}
 use Rattle.typing_laws.proofs.Programs.Types.Parameters.{IsJudged, judged_known}
 use Rattle.typing_laws.proofs.Programs.Bodies.Declared.{IfMade, none_by, placed_made}

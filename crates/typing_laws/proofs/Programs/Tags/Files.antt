@@ -51,10 +51,12 @@ use Rattle.typing_laws.proofs.Programs.Files.Ends.{behind_all, same_ok}
 use Rattle.typing_laws.proofs.Programs.Scopes.Initializers.{IfBehind}
 use Rattle.typing_laws.proofs.Programs.Tags.Keeping.{HaveFileTags, Inside, KeepsTags, bodies_stay, in_file_scope}
 use Rattle.typing_laws.proofs.Programs.Tags.Keeping.{inner_keeps, keeps_on, keeps_same, number_of, stands_keep, tag_at}
-use Rattle.typing_laws.proofs.Programs.Tags.Members.{Completed, Completes, Does, IfDoes, Ready, does_by, does_on, does_same}
+use Rattle.typing_laws.proofs.Programs.Tags.Members.{Completed, Completes, Does, IfDoes, Ready, does_by, does_on}
+use Rattle.typing_laws.proofs.Programs.Tags.Members.{does_same}
 use Rattle.typing_laws.proofs.Programs.Tags.Members.{kept_does, ready_kept, specification_does, then_does}
 use Rattle.typing_laws.proofs.Programs.Tags.Walked.{items_keep, tags_walk}
-use Rattle.typing_laws.proofs.Programs.Walks.Declarations.{declaration_walks, declarators_walk, found_walks, stored_walks}
+use Rattle.typing_laws.proofs.Programs.Walks.Declarations.{declaration_walks, declarators_walk, found_walks}
+use Rattle.typing_laws.proofs.Programs.Walks.Declarations.{stored_walks}
 use Rattle.typing_laws.proofs.Programs.Walks.Recursion.{shape_walks}
 use Rattle.typing_laws.proofs.Programs.Walks.States.{IfFileWalks, file_done, file_more, file_then, judged_walks}
 use Rattle.typing_laws.proofs.Programs.Walks.Statements.{BothFiles}

@@ -13,7 +13,8 @@ use Rattle.typing_laws.specs.Programs.Scopes.Leaving.{FileLeads}
 use Rattle.typing_laws.specs.Programs.Scopes.Regular.{are_regular_block_items}
 use Rattle.typing_laws.proofs.Programs.Scopes.Statements.{IfFileBehind, items_walk, leads_walk}
 use Rattle.typing_laws.proofs.Programs.Tags.Declaring.{added_keeps, marked_keeps, structure_completes}
-use Rattle.typing_laws.proofs.Programs.Tags.Keeping.{Inside, KeepsTags, changes_keep, inner_keeps, keeps_on, stands_keep}
+use Rattle.typing_laws.proofs.Programs.Tags.Keeping.{Inside, KeepsTags, changes_keep, inner_keeps, keeps_on}
+use Rattle.typing_laws.proofs.Programs.Tags.Keeping.{stands_keep}
 use Rattle.typing_laws.proofs.Programs.Walks.States.{StateWalk}
 use Rattle.typing_laws.proofs.Programs.Walks.Statements.{Both, BothFiles, both_walk}
 

@@ -33,7 +33,8 @@ use Rattle.typing_laws.specs.Programs.SpelledTypes.Spelled.{IsValueType}
 use Rattle.typing_laws.specs.Programs.Types.Typed.{AreNamed, AreSpelled, Each, IsDerived, IsSpelled, OfEntries}
 use Rattle.typing_laws.specs.Programs.Types.Typed.{OfParameters, OfShape, OfSpecification, Typed}
 use Rattle.typing_laws.proofs.Programs.Types.Built.{built_spelled}
-use Rattle.typing_laws.proofs.Programs.Types.Kept.{each_append, each_map, kinded_kept, names_kept, spelled_kept, value_kept}
+use Rattle.typing_laws.proofs.Programs.Types.Kept.{each_append, each_map, kinded_kept, names_kept, spelled_kept}
+use Rattle.typing_laws.proofs.Programs.Types.Kept.{value_kept}
 use Rattle.typing_laws.proofs.Programs.Types.Operators.{complete_readable}
 use Rattle.typing_laws.proofs.Programs.Types.Parameters.{IsKinded, behind_types}
 use Rattle.typing_laws.proofs.Programs.Types.Steps.{judged_typed, then_typed}

@@ -21,7 +21,8 @@ use Rattle.typing_laws.specs.Validity.More.{AreMore}
 use Rattle.typing_laws.specs.Validity.Steps.{Structures}
 use Rattle.typing_laws.proofs.Validity.Common.{first as left, second as right, the_same}
 use Rattle.typing_laws.proofs.Validity.Kept.{extent_kept, kind_kept}
-use Rattle.typing_laws.specs.Programs.SpelledTypes.Spelled.{IsFunctionType, IsValueType, fits, has_parameters, is_readable}
+use Rattle.typing_laws.specs.Programs.SpelledTypes.Spelled.{IsFunctionType, IsValueType, fits, has_parameters}
+use Rattle.typing_laws.specs.Programs.SpelledTypes.Spelled.{is_readable}
 use Rattle.typing_laws.specs.Programs.SpelledTypes.Spelled.{is_spelled}
 use Rattle.typing_laws.specs.Programs.Types.Typed.{AreMembers, AreNamed, Each, HasType, HaveTypes, IsEntity, IsNamed}
 use Rattle.typing_laws.specs.Programs.Types.Typed.{IsSpelled, OfType}

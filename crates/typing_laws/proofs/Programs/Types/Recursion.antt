@@ -59,18 +59,21 @@ use Rattle.typing_laws.proofs.Declarators.Members.{Members, members_kept}
 use Rattle.typing_laws.proofs.Declarators.Parameters.{within, within_block, within_formed}
 use Rattle.typing_laws.proofs.Declarators.Recursion.{after, also, arguments_extend, begun_stays, enumerator_extend}
 use Rattle.typing_laws.proofs.Declarators.Recursion.{gathered_extends, less, member_by, member_extend, members_extend}
-use Rattle.typing_laws.proofs.Declarators.Recursion.{more_enumerators_extend, more_extend, name_extends, parameter_extend}
+use Rattle.typing_laws.proofs.Declarators.Recursion.{more_enumerators_extend, more_extend, name_extends}
+use Rattle.typing_laws.proofs.Declarators.Recursion.{parameter_extend}
 use Rattle.typing_laws.proofs.Declarators.Recursion.{parameters_extend, printed_extend, shape_extends, shape_then}
 use Rattle.typing_laws.proofs.Declarators.Recursion.{specified_extends, specifier_extends, typed_extends, with_type}
 use Rattle.typing_laws.proofs.Declarators.Steps.{called_extends, format_extends, valued_extends}
 use Rattle.typing_laws.proofs.Declarators.Tags.{BegunFrom, begun_extends}
 use Rattle.typing_laws.proofs.Declarators.Words.{int_word}
 use Rattle.typing_laws.specs.Programs.SpelledTypes.Spelled.{IsValueType}
-use Rattle.typing_laws.specs.Programs.Types.Typed.{AreSpelled, Each, IsCalled, IsSpelled, IsSpelledIf, OfGathered, OfType}
+use Rattle.typing_laws.specs.Programs.Types.Typed.{AreSpelled, Each, IsCalled, IsSpelled, IsSpelledIf, OfGathered}
+use Rattle.typing_laws.specs.Programs.Types.Typed.{OfType}
 use Rattle.typing_laws.specs.Programs.Types.Typed.{OfSpecification, OfValueType, OfValueTypes, Typed, Types}
 use Rattle.typing_laws.specs.Programs.Types.Typed.{nothing}
 use Rattle.typing_laws.proofs.Programs.Types.Built.{specified_spelled}
-use Rattle.typing_laws.proofs.Programs.Types.Declarators.{AreEntriesOf, GivesTypes, IsDeclared, declared_kept, entries_kept}
+use Rattle.typing_laws.proofs.Programs.Types.Declarators.{AreEntriesOf, GivesTypes, IsDeclared, declared_kept}
+use Rattle.typing_laws.proofs.Programs.Types.Declarators.{entries_kept}
 use Rattle.typing_laws.proofs.Programs.Types.Declarators.{function_typed, shaped_entries, with_one}
 use Rattle.typing_laws.proofs.Programs.Types.Kept.{each_append, each_map, kinded_kept, operand_kept, spelled_kept}
 use Rattle.typing_laws.proofs.Programs.Types.Kept.{value_kept}
@@ -79,8 +82,10 @@ use Rattle.typing_laws.proofs.Programs.Types.Operators.{enclosed_type, indexed_t
 use Rattle.typing_laws.proofs.Programs.Types.Parameters.{GivesParameter, IsKinded, parameter_typed, type_named_spelled}
 use Rattle.typing_laws.proofs.Programs.Types.Parameters.{within_types}
 use Rattle.typing_laws.proofs.Programs.Types.Steps.{accessed_typed, applied_to_typed, called_typed, enumerated_typed}
-use Rattle.typing_laws.proofs.Programs.Types.Steps.{format_typed, judged_typed, literal_typed, named_typed, prefixed_typed}
-use Rattle.typing_laws.proofs.Programs.Types.Steps.{then_typed, typedef_spelled, valued_typed, values_kept, weaker_typed}
+use Rattle.typing_laws.proofs.Programs.Types.Steps.{format_typed, judged_typed, literal_typed, named_typed}
+use Rattle.typing_laws.proofs.Programs.Types.Steps.{prefixed_typed}
+use Rattle.typing_laws.proofs.Programs.Types.Steps.{then_typed, typedef_spelled, valued_typed, values_kept}
+use Rattle.typing_laws.proofs.Programs.Types.Steps.{weaker_typed}
 use Rattle.typing_laws.proofs.Programs.Types.Tags.{begun_types, completed_types, tagged_types}
 
 value_then : {B : Type 0} (s : State) (operand : Typing Operand) (h : Structures → B → Type 0) (next : Value → Typing B)

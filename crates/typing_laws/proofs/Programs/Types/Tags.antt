@@ -29,7 +29,8 @@ use Rattle.typing_laws.proofs.Declarators.Tags.{added_extends, in_environment, u
 use Rattle.typing_laws.specs.Programs.SpelledTypes.Spelled.{IsValueType}
 use Rattle.typing_laws.specs.Programs.Types.Typed.{AreMembers, Each, HaveTypes, OfEntries, Typed, Types}
 use Rattle.typing_laws.specs.Programs.Types.Typed.{nothing}
-use Rattle.typing_laws.proofs.Programs.Types.Kept.{each_append, each_bound, each_changed, each_map, types_kept, value_kept}
+use Rattle.typing_laws.proofs.Programs.Types.Kept.{each_append, each_bound, each_changed, each_map, types_kept}
+use Rattle.typing_laws.proofs.Programs.Types.Kept.{value_kept}
 
 -- bodies
 

@@ -47,7 +47,8 @@ use Rattle.c_expression_typing.specs.Constructs.{is_printf, prefixed, valued}
 use Rattle.c_expression_typing.specs.Lines.{name_of}
 use Rattle.typing_laws.specs.Programs.Declarations.Binding.{Binds}
 use Rattle.typing_laws.proofs.Programs.Declarations.Bound.{declarator_binds}
-use Rattle.typing_laws.proofs.Programs.Walks.States.{Stands, StateWalk, Walking, done_walks, judged_walks, refused_walks}
+use Rattle.typing_laws.proofs.Programs.Walks.States.{Stands, StateWalk, Walking, done_walks, judged_walks}
+use Rattle.typing_laws.proofs.Programs.Walks.States.{refused_walks}
 use Rattle.typing_laws.proofs.Programs.Walks.States.{standing_walks, step_walks, still, then_walks}
 
 -- states behind such steps

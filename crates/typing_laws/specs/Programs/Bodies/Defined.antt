@@ -83,23 +83,24 @@ IfDefined f (Err e) = Unit {0}
 
 -- a program has what a file has: the string literals, the types of functions that are called, the static objects, and
 -- what names with linkage stand for
-pub record HasFile (scope : Scope) (structures : Structures) (f : File) : Type 0 where
-  pub covers : Covers scope structures f.state
-  pub statics : (k n : ℕ) (x : StaticObject) → slice_get f.statics k ≡ Some (n, x) → IsStaticIn scope n x
-  pub linked : LinkedAreMeant scope structures f.state
+pub record HasFile (scope : Scope) (structures : Structures) (file : File) : Type 0 where
+  pub covers : Covers scope structures file.state
+  pub statics : (k n : ℕ) (x : StaticObject) → slice_get file.statics k ≡ Some (n, x) → IsStaticIn scope n x
+  pub linked : LinkedAreMeant scope structures file.state
 
 -- The scope in the block of a function of the program that is made of a definition: its variables are the parameters
 -- and those that the file has at the end of the block, what it gives has the kind of its type, names stood for
 -- something of the kind of their type behind the declarator, and the program has what the file has at the end of the
 -- block.
-pub record IsScopeOf (scope : Scope) (structures : Structures) (g : Function) (f behind : File)
-    (d : Defines f behind) : Type 0 where
-  pub all : scope.all ≡ all_of g
-  pub variables : scope.variables ≡ g.parameters ++ body_variables g
-  pub parameters : g.parameters
-      ≡ parameters_in (entered d.number d.type d.parameters d.before).state d.parameters.names
-  pub declared : g.variables ≡ d.end.variables
-  pub body : g.body ≡ d.body
-  pub gives : IsResult scope structures (result_type 0 d.type)
-  pub knows : Knows scope structures d.before.state
-  pub has : HasFile scope structures d.end
+pub record IsScopeOf (scope : Scope) (structures : Structures) (function : Function) (f behind : File)
+    (definition : Defines f behind) : Type 0 where
+  pub all : scope.all ≡ all_of function
+  pub variables : scope.variables ≡ function.parameters ++ body_variables function
+  pub parameters : function.parameters
+      ≡ parameters_in (entered definition.number definition.type definition.parameters definition.before).state
+      definition.parameters.names
+  pub declared : function.variables ≡ definition.end.variables
+  pub body : function.body ≡ definition.body
+  pub gives : IsResult scope structures (result_type 0 definition.type)
+  pub knows : Knows scope structures definition.before.state
+  pub has : HasFile scope structures definition.end

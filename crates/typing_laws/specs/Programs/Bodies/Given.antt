@@ -23,10 +23,10 @@ pub record IsScalarPart (scope : Scope) (k : Kind) (parts : List Part) : Type 0 
   pub kind : kind_of tree ≡ k
 
 -- an object of a complete type, with what its initializer stores
-pub record AreInitialized (scope : Scope) (s : State) (type : List TypeWord) (parts : List Part) : Type 0 where
-  pub complete : IsObjectType (extents s) type
-  pub within : are_parts scope (size_of_kind (kind_in s type)) parts ≡ true
-  pub scalar : is_aggregate type ≡ false → IsScalarPart scope (kind_in s type) parts
+pub record AreInitialized (scope : Scope) (state : State) (type : List TypeWord) (parts : List Part) : Type 0 where
+  pub complete : IsObjectType (extents state) type
+  pub within : are_parts scope (size_of_kind (kind_in state type)) parts ≡ true
+  pub scalar : is_aggregate type ≡ false → IsScalarPart scope (kind_in state type) parts
 
 abbrev pub IfInitialized : Scope → (last : Structures) → Answer (State × (List TypeWord × List Part)) → Type 0
 IfInitialized scope last (Ok r) = Covers scope last r.0 → AreInitialized scope r.0 r.1.0 r.1.1

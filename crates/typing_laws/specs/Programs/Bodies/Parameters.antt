@@ -41,10 +41,10 @@ pub record IsFileScope (env : Environment) : Type 0 where
       → names.meaning name env.names ≡ Some (meaning.Named d type) → is_linked d ≡ true
 
 -- a state outside of functions
-pub record IsOutside (s : State) : Type 0 where
-  pub formed : IsFormed s
-  pub outer : in_file s.environment ≡ true
-  pub variables : s.environment.variables ≡ 0
-  pub names : IsFileScope s.environment
-  pub linked : AreLinked s.environment
-  pub types : NameTypes s
+pub record IsOutside (state : State) : Type 0 where
+  pub formed : IsFormed state
+  pub outer : in_file state.environment ≡ true
+  pub variables : state.environment.variables ≡ 0
+  pub names : IsFileScope state.environment
+  pub linked : AreLinked state.environment
+  pub types : NameTypes state

@@ -55,9 +55,9 @@ IsOpenMeaning scope (Some (meaning.Constant w)) = Unit {0}
 IsOpenMeaning scope (Some (meaning.Named d type)) = IsOpenObject scope d
 
 -- names stand for something of the kind of their type, variables among them that can be named
-pub record Stands (scope : Scope) (last : Structures) (s : State) : Type 0 where
-  pub knows : Knows scope last s
-  pub named : (name : Name) → IsOpenMeaning scope (names.meaning name s.environment.names)
+pub record Stands (scope : Scope) (last : Structures) (state : State) : Type 0 where
+  pub knows : Knows scope last state
+  pub named : (name : Name) → IsOpenMeaning scope (names.meaning name state.environment.names)
 
 -- what has linkage stays what it is, and its type becomes the composite type with those of further declarations
 
@@ -79,10 +79,10 @@ pub record EntitiesLead (env behind : Environment) : Type 0 where
 -- a name with linkage stands for what its declarations with linkage say, which is no variable and no object without
 -- linkage
 
-pub record IsEntity (d : Designated) (o : Option Entity) : Type 0 where
+pub record IsEntity (designated : Designated) (o : Option Entity) : Type 0 where
   pub entity : Entity
   pub is : o ≡ Some entity
-  pub same : entity.what ≡ d
+  pub same : entity.what ≡ designated
 
 pub record AreLinked (env : Environment) : Type 0 where
   pub entities : (name : Name) (e : Entity) → declared name env.entities ≡ Some e → is_linked e.what ≡ true
@@ -91,11 +91,11 @@ pub record AreLinked (env : Environment) : Type 0 where
       → IsEntity d (declared name env.entities)
 
 -- a state inside a block: its names with linkage stand for what their declarations say, and it is laid out
-pub record IsReady (s : State) : Type 0 where
-  pub formed : IsFormed s
-  pub inner : in_file s.environment ≡ false
-  pub linked : AreLinked s.environment
-  pub laid : IsLaidOut s
+pub record IsReady (state : State) : Type 0 where
+  pub formed : IsFormed state
+  pub inner : in_file state.environment ≡ false
+  pub linked : AreLinked state.environment
+  pub laid : IsLaidOut state
 
 -- Names that a declaration in a block declares with linkage stand for something of the kind of their type, where the
 -- name did so before, if it stood for something with linkage.
@@ -120,21 +120,21 @@ pub record IsResult (scope : Scope) (last : Structures) (type : List TypeWord) :
   pub kind : is_kind_of (kind_of_type last type) scope.result ≡ true
 
 -- a static object is among those of the program
-pub record IsStaticIn (scope : Scope) (number : ℕ) (x : StaticObject) : Type 0 where
+pub record IsStaticIn (scope : Scope) (number : ℕ) (object : StaticObject) : Type 0 where
   pub there : has_number scope.statics number ≡ true
-  pub kind : get_or scope.statics number kind.Void ≡ x.kind
+  pub kind : get_or scope.statics number kind.Void ≡ object.kind
 
 -- The scope of a function that gives a type has what the file has so far: the variables, which are numbered from a
 -- first one on, the static objects, and what names with linkage stand for.
-pub record Ends (scope : Scope) (last : Structures) (result : List TypeWord) (f : File) : Type 0 where
-  pub covers : Covers scope last f.state
+pub record Ends (scope : Scope) (last : Structures) (result : List TypeWord) (file : File) : Type 0 where
+  pub covers : Covers scope last file.state
   pub gives : IsResult scope last result
   pub lengths : length scope.variables ≡ length scope.all
   pub first : ℕ
-  pub count : f.state.environment.variables ≡ first + length f.variables
-  pub variables : (k : ℕ) (v : Variable) → slice_get f.variables k ≡ Some v → at_number scope.all (first + k) ≡ v
-  pub statics : (k n : ℕ) (x : StaticObject) → slice_get f.statics k ≡ Some (n, x) → IsStaticIn scope n x
-  pub linked : LinkedAreMeant scope last f.state
+  pub count : file.state.environment.variables ≡ first + length file.variables
+  pub variables : (k : ℕ) (v : Variable) → slice_get file.variables k ≡ Some v → at_number scope.all (first + k) ≡ v
+  pub statics : (k n : ℕ) (x : StaticObject) → slice_get file.statics k ≡ Some (n, x) → IsStaticIn scope n x
+  pub linked : LinkedAreMeant scope last file.state
 
 -- the variables of a construct are numbered in the order of the text, and there are as many more in the file
 pub record Numbers (numbers : List ℕ) (f behind : File) : Type 0 where

@@ -14,14 +14,14 @@ use Rattle.typing_laws.specs.Programs.Bodies.Standing.{Stands}
 -- before it, and the scope of the function has what the file has behind it and these variables of the block, what it is
 -- typed to has a property, names stand for something of the kind of their type behind it, and the variables that it
 -- makes hold scalars or are objects. The state behind it is laid out.
-pub record Typed {A : Type 0} (result : List TypeWord) (made opens : A → List ℕ) (p : Scope → A → Type 0) (f : File)
+pub record Typed {A : Type 0} (result : List TypeWord) (made opens : A → List ℕ) (p : Scope → A → Type 0) (file : File)
     (r : File × A) : Type 0 where
-  pub leads : FileLeads f r.0
-  pub numbers : Numbers (made r.1) f r.0
-  pub entities : EntitiesLead f.state.environment r.0.state.environment
+  pub leads : FileLeads file r.0
+  pub numbers : Numbers (made r.1) file r.0
+  pub entities : EntitiesLead file.state.environment r.0.state.environment
   pub linked : AreLinked r.0.state.environment
   pub laid : IsLaidOut r.0.state
-  pub sound : (scope : Scope) (last : Structures) → Stands scope last f.state → Ends scope last result r.0
+  pub sound : (scope : Scope) (last : Structures) → Stands scope last file.state → Ends scope last result r.0
       → AreOpen scope (opens r.1)
       → p scope r.1 × (Stands scope last r.0.state × AreVariables scope (made r.1))
 

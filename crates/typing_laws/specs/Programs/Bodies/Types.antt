@@ -22,8 +22,8 @@ are_types (suc n) (w ∷ ws) = are_types (still w n) ws
 abbrev pub is_type : List TypeWord → Bool
 is_type ws = are_types 1 ws
 
-pub record NameTypes (s : State) : Type 0 where
-  pub each : (name : Name) (type : List TypeWord) → meaning name s.environment.names ≡ Some (Typedef type)
+pub record NameTypes (state : State) : Type 0 where
+  pub each : (name : Name) (type : List TypeWord) → meaning name state.environment.names ≡ Some (Typedef type)
       → is_type type ≡ true
 
 abbrev pub IsTypeIf : Option (List TypeWord) → Type 0

@@ -19,11 +19,11 @@ definition_made f behind d = record {
 }
 
 -- a definition of a file, and what the file adds behind it
-pub record IsDefinition (end : File) (d : Definition) : Type 0 where
+pub record IsDefinition (end : File) (definition : Definition) : Type 0 where
   pub before : File
   pub behind : File
   pub defines : Defines before behind
-  pub is : d ≡ definition_made before behind defines
+  pub is : definition ≡ definition_made before behind defines
   pub grows : Grows behind end
   pub entities : EntitiesLead behind.state.environment end.state.environment
 
@@ -34,8 +34,8 @@ AreDefinitions end (d ∷ ds) = IsDefinition end d × AreDefinitions end ds
 -- definitions one behind the other: between the static objects without linkage before the first and those behind the
 -- last, each adds those of its block
 
-pub record BeginsWith (end : File) (d : Definition) (before : List (ℕ × StaticObject)) : Type 0 where
-  pub is : IsDefinition end d
+pub record BeginsWith (end : File) (definition : Definition) (before : List (ℕ × StaticObject)) : Type 0 where
+  pub is : IsDefinition end definition
   pub statics : is.defines.before.statics ≡ before
 
 abbrev pub AreInTurn : File → List Definition → (before behind : List (ℕ × StaticObject)) → Type 0

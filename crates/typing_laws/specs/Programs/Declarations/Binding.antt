@@ -21,7 +21,7 @@ use Rattle.typing_laws.specs.Validity.Sound.{IsFormed, IsObjectExtent, is_sized_
 use Rattle.typing_laws.specs.Declarators.Extending.{IsSameOr}
 
 -- in the state behind, a name stands for this in the innermost scope, and every other for what it did
-pub record Binds (name : Name) (m : Meaning) (s behind : State) : Type 0 where
+pub record Binds (name : Name) (meaning : Meaning) (s behind : State) : Type 0 where
   pub structures : behind.environment.structures ≡ s.environment.structures
   pub tags : behind.environment.tags ≡ s.environment.tags
   pub facts : behind.environment.facts ≡ s.environment.facts
@@ -33,9 +33,9 @@ pub record Binds (name : Name) (m : Meaning) (s behind : State) : Type 0 where
   pub statics : s.environment.statics ≤ behind.environment.statics
   pub variables : s.environment.variables ≤ behind.environment.variables
   pub outer : behind.environment.names.outer ≡ s.environment.names.outer
-  pub here : declared name behind.environment.names.current ≡ Some m
+  pub here : declared name behind.environment.names.current ≡ Some meaning
   pub names : (other : Name)
-      → IsSameOr (λ x. x ≡ m) (declared other s.environment.names.current)
+      → IsSameOr (λ x. x ≡ meaning) (declared other s.environment.names.current)
       (declared other behind.environment.names.current)
 
 -- what a declarator binds its name to: with linkage to the object or function of that name, without to the next object
@@ -63,11 +63,11 @@ pub record IsCompleteFor (structures : List (Option TypeExtent)) (has_initialize
 
 -- a declarator that is declared: its name is bound, what has no linkage and is no typedef name is complete, and the
 -- state stays formed
-pub record Declares (d : Declaration) (s behind : State) : Type 0 where
-  pub binds : Binds d.name (bound_meaning s.environment d) s behind
-  pub complete : has_linkage (in_file s.environment) d ≡ false → is_typedef d.storage ≡ false
-      → IsCompleteFor (extents s) d.has_initializer d.type
-  pub sized : is_sized_array d.type ≡ true
+pub record Declares (declaration : Declaration) (s behind : State) : Type 0 where
+  pub binds : Binds declaration.name (bound_meaning s.environment declaration) s behind
+  pub complete : has_linkage (in_file s.environment) declaration ≡ false → is_typedef declaration.storage ≡ false
+      → IsCompleteFor (extents s) declaration.has_initializer declaration.type
+  pub sized : is_sized_array declaration.type ≡ true
   pub formed : IsFormed behind
 
 abbrev pub IfDeclared : Declaration → State → Answer (State × Option Meaning) → Type 0
@@ -96,6 +96,6 @@ IfCompleted what name s (Err f) = Unit {0}
 abbrev pub HasVariable : Scope → State → (number : ℕ) → (type : List TypeWord) → Type 0
 HasVariable scope s n type = variable_at scope n ≡ variable_in s n type
 
-pub record HasStatic (scope : Scope) (s : State) (number : ℕ) (type : List TypeWord) : Type 0 where
+pub record HasStatic (scope : Scope) (state : State) (number : ℕ) (type : List TypeWord) : Type 0 where
   pub there : has_number scope.statics number ≡ true
-  pub kind : get_or scope.statics number kind.Void ≡ kind_in s type
+  pub kind : get_or scope.statics number kind.Void ≡ kind_in state type

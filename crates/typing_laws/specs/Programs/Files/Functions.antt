@@ -5,6 +5,6 @@ use Rattle.c_tree.specs.ValidProgram.{are_all_different, is_function_type}
 use Rattle.c_unit_typing.specs.Files.{File}
 use Rattle.c_unit_typing.specs.Programs.{program_of}
 
-pub record AreFunctionTypes (f : File) : Type 0 where
-  pub valid : list_all (is_function_type (program_of f)) (program_of f).function_types ≡ true
-  pub different : are_all_different (program_of f).function_types ≡ true
+pub record AreFunctionTypes (file : File) : Type 0 where
+  pub valid : list_all (is_function_type (program_of file)) (program_of file).function_types ≡ true
+  pub different : are_all_different (program_of file).function_types ≡ true

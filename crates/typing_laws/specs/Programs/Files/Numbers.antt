@@ -52,12 +52,12 @@ entries f =
 
 -- each number below the count is that of one entry, and each entry has its number among the static objects of the
 -- program
-pub record AreInOrder (f : File) : Type 0 where
-  pub count : length (static_objects f) ≡ f.state.environment.statics
-  pub each : (k : ℕ) (e : ℕ × StaticObject) → slice_get (entries f) k ≡ Some e
-      → slice_get (static_objects f) e.0 ≡ Some e.1
-  pub all : (n : ℕ) (o : StaticObject) → slice_get (static_objects f) n ≡ Some o
-      → (k : ℕ) × (slice_get (entries f) k ≡ Some (n, o))
+pub record AreInOrder (file : File) : Type 0 where
+  pub count : length (static_objects file) ≡ file.state.environment.statics
+  pub each : (k : ℕ) (e : ℕ × StaticObject) → slice_get (entries file) k ≡ Some e
+      → slice_get (static_objects file) e.0 ≡ Some e.1
+  pub all : (n : ℕ) (o : StaticObject) → slice_get (static_objects file) n ≡ Some o
+      → (k : ℕ) × (slice_get (entries file) k ≡ Some (n, o))
 
 -- a number has a kind in a list
 pub record HasKind (kinds : List Kind) (number : ℕ) (of : Kind) : Type 0 where

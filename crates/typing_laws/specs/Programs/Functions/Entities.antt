@@ -54,11 +54,11 @@ pub record AreNumbered (numbers : Names ℕ) (es : Names Entity) : Type 0 where
       → n ≡ number_of name numbers
 
 -- one that is declared for the first time
-pub record IsFirst (number : ℕ) (x : Entity) : Type 0 where
-  pub own : is_library x.what ≡ false
-  pub kind : names_function x.what ≡ is_function x.c_type
-  pub undefined : is_function x.c_type ≡ true → x.is_defined ≡ false
-  pub numbered : (n : ℕ) → x.what ≡ what.Function n → n ≡ number
+pub record IsFirst (number : ℕ) (entity : Entity) : Type 0 where
+  pub own : is_library entity.what ≡ false
+  pub kind : names_function entity.what ≡ is_function entity.c_type
+  pub undefined : is_function entity.c_type ≡ true → entity.is_defined ≡ false
+  pub numbered : (n : ℕ) → entity.what ≡ what.Function n → n ≡ number
 
 pub record Keeps (numbers : Names ℕ) (es more : Names Entity) : Type 0 where
   pub same : (name : Name) (x : Entity) → declared name es ≡ Some x → IsSame x (declared name more)

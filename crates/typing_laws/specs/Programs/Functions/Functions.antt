@@ -43,6 +43,7 @@ pub record Functions (ds : List Definition) (es : Names Entity) (types : List (L
   pub registered : Registered ds types
 
 -- in the program each function has the number of its type, and the bytes that a call of it takes
-pub record HasTypeAndRoom (program : Program) (number : ℕ) (f : Function) : Type 0 where
-  pub type : has_number program.function_types f.type_number ≡ true
-  pub room : (f.room == room program.statics number (signature_at program f.type_number).result f) ≡ true
+pub record HasTypeAndRoom (program : Program) (number : ℕ) (function : Function) : Type 0 where
+  pub type : has_number program.function_types function.type_number ≡ true
+  pub room : (function.room == room program.statics number (signature_at program function.type_number).result function)
+      ≡ true

@@ -25,10 +25,10 @@ IsFineIf true scope es v = IsFine scope es v
 IsFineIf false scope es v = Unit {0}
 
 -- a tree to which a value is converted as by assignment
-pub record IsAssigned (es : Structures) (type : List TypeWord) (e : Expression) : Type 0 where
+pub record IsAssigned (es : Structures) (type : List TypeWord) (expression : Expression) : Type 0 where
   pub line : ℕ
   pub value : Value
-  pub is : assigned es line type value ≡ Ok e
+  pub is : assigned es line type value ≡ Ok expression
 
 -- it is valid where that is known
 abbrev pub IsStored : (is_known : Bool) → Scope → Structures → (type : List TypeWord) → Expression → Type 0
@@ -37,11 +37,12 @@ IsStored false scope es type e = IsAssigned es type e
 
 -- what is known of a state is known of the state behind, and what was typed has a property, given another that holds
 -- before
-pub record Gives {A : Type 0} (is_known : Bool) (scope : Scope) (last : Structures) (Known : State → Type 0) (s : State)
+pub record Gives {A : Type 0} (is_known : Bool) (scope : Scope) (last : Structures) (Known : State
+    → Type 0) (state : State)
     (given : Structures → Type 0) (gives : Structures → A → Type 0) (r : State × A) : Type 0 where
-  pub keeps : Keeps scope last s r.0
-  pub known : Known s → Known r.0
-  pub has : AreKnown is_known scope last s r.0 → Known s → given (extents s) → gives (extents r.0) r.1
+  pub keeps : Keeps scope last state r.0
+  pub known : Known state → Known r.0
+  pub has : AreKnown is_known scope last state r.0 → Known state → given (extents state) → gives (extents r.0) r.1
 
 abbrev pub Giving : {A : Type 0} → (is_known : Bool) → Scope → (last : Structures) → (Known : State → Type 0) → State
     → (given : Structures → Type 0) → (gives : Structures → A → Type 0) → Answer (State × A) → Type 0

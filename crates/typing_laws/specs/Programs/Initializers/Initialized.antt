@@ -24,15 +24,15 @@ IsValidPart scope p = is_content scope p.part.content ≡ true
 
 -- an object of some type behind its initializer, if it has one: the name is bound to its complete type; the parts are
 -- valid and lie in it, where names stood for what they do in the program
-pub record IsInitialized (scope : Scope) (last : Structures) (what : Designated) (name : Name) (s : State)
+pub record IsInitialized (scope : Scope) (last : Structures) (what : Designated) (name : Name) (state : State)
     (r : State × (List TypeWord × List Part)) : Type 0 where
   -- behind the tokens of the initializer, where the name is still bound to the type with which it was declared
   pub ended : State
-  pub keeps : Keeps scope last s ended
+  pub keeps : Keeps scope last state ended
   pub completes : Completes what name ended r.0 r.1.0
   pub sizes : HasSizes (extents r.0) r.1.0
   pub laid_out : IsLaidOut r.0
-  pub parts : Knows scope last s → Covers scope last r.0
+  pub parts : Knows scope last state → Covers scope last r.0
       → are_parts scope (size_of_kind (kind_in r.0 r.1.0)) r.1.1 ≡ true
 
 abbrev pub IfInitialized : Scope → (last : Structures) → Designated → Name → State
@@ -49,10 +49,10 @@ pub record IsValueOf (scope : Scope) (k : Kind) (parts : List Part) : Type 0 whe
   pub is : parts ≡ record { offset = 0; content = value_content value } ∷ []
 
 -- an object of scalar type behind its initializer
-pub record IsScalarWith (scope : Scope) (last : Structures) (type : List TypeWord) (s : State)
+pub record IsScalarWith (scope : Scope) (last : Structures) (type : List TypeWord) (state : State)
     (r : State × (List TypeWord × List Part)) : Type 0 where
   pub same : r.1.0 ≡ type
-  pub value : Knows scope last s → Covers scope last r.0 → IsValueOf scope (kind_in r.0 type) r.1.1
+  pub value : Knows scope last state → Covers scope last r.0 → IsValueOf scope (kind_in r.0 type) r.1.1
 
 abbrev pub IfScalar : Scope → (last : Structures) → (type : List TypeWord) → State
     → Answer (State × (List TypeWord × List Part)) → Type 0

@@ -32,27 +32,27 @@ pub record HasExtent (es : List (Option TypeExtent)) (size : ℕ) (type : List T
   pub arrays : has_array_bytes es type ≡ true
 
 -- a subobject of a complete type, which begins so many bytes behind the start and ends within a limit
-pub record LiesWithin (es : List (Option TypeExtent)) (limit : ℕ) (o : Subobject) : Type 0 where
+pub record LiesWithin (es : List (Option TypeExtent)) (limit : ℕ) (part : Subobject) : Type 0 where
   pub start : ℕ
   pub size : ℕ
-  pub offset : o.offset ≡ capped start
-  pub has : HasExtent es size o.c_type
+  pub offset : part.offset ≡ capped start
+  pub has : HasExtent es size part.c_type
   pub inside : start + size ≤ limit
 
 -- the whole array of unknown size, or a subobject
 pub data IsPlaced (is_open : Bool) (size : ℕ) (base : List TypeWord) (es : List (Option TypeExtent))
-    (o : Subobject) : Type 0 where
-  as_whole : is_open ≡ true → HasExtent es size base → o ≡ whole (word.OpenArray ∷ base)
-      → IsPlaced is_open size base es o
-  as_part : LiesWithin es (bound is_open size o.path) o → IsPlaced is_open size base es o
+    (part : Subobject) : Type 0 where
+  as_whole : is_open ≡ true → HasExtent es size base → part ≡ whole (word.OpenArray ∷ base)
+      → IsPlaced is_open size base es part
+  as_part : LiesWithin es (bound is_open size part.path) part → IsPlaced is_open size base es part
 
 -- how far a part may reach: a literal for all of an array of unknown size gives that its size
 abbrev pub reach : (is_open : Bool) → (size : ℕ) → List Step → Content → ℕ
 reach true size [] (literal_content bytes) = length bytes * size
 reach is_open size path content = bound is_open size path
 
-pub record FitsIn (is_open : Bool) (size : ℕ) (p : PlacedPart) : Type 0 where
+pub record FitsIn (is_open : Bool) (size : ℕ) (part : PlacedPart) : Type 0 where
   pub start : ℕ
-  pub offset : p.part.offset ≡ capped start
-  pub some : 1 ≤ content_size p.part.content
-  pub inside : start + content_size p.part.content ≤ reach is_open size p.path p.part.content
+  pub offset : part.part.offset ≡ capped start
+  pub some : 1 ≤ content_size part.part.content
+  pub inside : start + content_size part.part.content ≤ reach is_open size part.path part.part.content

@@ -57,10 +57,10 @@ HasArraysOf es (Some (meaning.Constant w)) = Unit {0}
 HasArraysOf es (Some (meaning.Named what type)) = HasSizes es type
 
 -- a state whose listed members lie in their structures and unions, and whose arrays have the bytes of their elements
-pub record IsLaidOut (s : State) : Type 0 where
-  pub lists : AreListed (extents s) (lists_in s.environment.structures)
-  pub names : (name : Name) (m : Meaning) → names.meaning name s.environment.names ≡ Some m
-      → HasArraysIn (extents s) m
+pub record IsLaidOut (state : State) : Type 0 where
+  pub lists : AreListed (extents state) (lists_in state.environment.structures)
+  pub names : (name : Name) (m : Meaning) → names.meaning name state.environment.names ≡ Some m
+      → HasArraysIn (extents state) m
 
 -- what a construct is typed to has a property in a state that is laid out
 abbrev pub IfLaidOut : {A : Type 0} → (gives : State → A → Type 0) → Answer (State × A) → Type 0
@@ -76,6 +76,6 @@ abbrev pub IsCompleteIf : List (Option TypeExtent) → (has_initializer : Bool) 
 IsCompleteIf es true (Some (meaning.Named what type)) = IsCompleteFor es true type
 IsCompleteIf es has_initializer m = Unit {0}
 
-pub record IsDeclared (has_initializer : Bool) (s : State) (m : Option Meaning) : Type 0 where
-  pub arrays : HasArraysOf (extents s) m
-  pub complete : IsCompleteIf (extents s) has_initializer m
+pub record IsDeclared (has_initializer : Bool) (state : State) (meaning : Option Meaning) : Type 0 where
+  pub arrays : HasArraysOf (extents state) meaning
+  pub complete : IsCompleteIf (extents state) has_initializer meaning

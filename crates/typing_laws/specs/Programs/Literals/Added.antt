@@ -8,9 +8,9 @@ use Rattle.c_unit_typing.specs.Files.{File}
 use Rattle.typing_laws.specs.Programs.Types.Typed.{Each}
 
 -- a literal that stands in the function with this number, or outside of functions; a 0 ends its bytes
-pub record IsOf (owner : Option ℕ) (l : Literal) : Type 0 where
-  pub function : l.function ≡ owner
-  pub bytes : 1 ≤ length l.bytes
+pub record IsOf (owner : Option ℕ) (literal : Literal) : Type 0 where
+  pub function : literal.function ≡ owner
+  pub bytes : 1 ≤ length literal.bytes
 
 -- each literal that is new in the state behind stands in the function of the state before
 pub record AddsLiterals (s behind : State) : Type 0 where
@@ -32,11 +32,11 @@ IsOutsideOrDefined es None = Unit {0}
 IsOutsideOrDefined es (Some n) = IsDefinedFunction es n
 
 -- a literal outside of functions or in a function that is defined
-pub record IsPlaced (es : Names Entity) (l : Literal) : Type 0 where
-  pub function : IsOutsideOrDefined es l.function
-  pub bytes : 1 ≤ length l.bytes
+pub record IsPlaced (es : Names Entity) (literal : Literal) : Type 0 where
+  pub function : IsOutsideOrDefined es literal.function
+  pub bytes : 1 ≤ length literal.bytes
 
 -- a file outside of the blocks of functions, with its literals
-pub record PlacesLiterals (f : File) : Type 0 where
-  pub outside : f.state.function ≡ None
-  pub each : Each (IsPlaced f.state.environment.entities) f.state.literals
+pub record PlacesLiterals (file : File) : Type 0 where
+  pub outside : file.state.function ≡ None
+  pub each : Each (IsPlaced file.state.environment.entities) file.state.literals

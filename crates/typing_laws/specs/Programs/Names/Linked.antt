@@ -20,10 +20,10 @@ use Rattle.c_unit_typing.specs.Programs.{final_type}
 use Rattle.typing_laws.specs.Programs.Functions.Entities.{Fills}
 
 -- each object with linkage, and each string literal, has the size of an object
-pub record HaveSizes (f : File) : Type 0 where
-  pub linked : (name : Name) (x : Entity) (n : ℕ) → declared name f.state.environment.entities ≡ Some x
-      → x.what ≡ what.Object n → has_size (kind_in f.state (final_type (extents f.state) x.c_type)) ≡ true
-  pub literals : (n : ℕ) (l : Literal) → slice_get f.state.literals n ≡ Some l → is_size (length l.bytes) ≡ true
+pub record HaveSizes (file : File) : Type 0 where
+  pub linked : (name : Name) (x : Entity) (n : ℕ) → declared name file.state.environment.entities ≡ Some x
+      → x.what ≡ what.Object n → has_size (kind_in file.state (final_type (extents file.state) x.c_type)) ≡ true
+  pub literals : (n : ℕ) (l : Literal) → slice_get file.state.literals n ≡ Some l → is_size (length l.bytes) ≡ true
 
 -- a scope has the static objects, the functions and the types of functions of a program
 pub record IsOf (program : Program) (scope : Scope) : Type 0 where
@@ -33,10 +33,10 @@ pub record IsOf (program : Program) (scope : Scope) : Type 0 where
 
 -- what a name stands for, where it has linkage: the object or function of that name, whose type has the sizes that the
 -- name's type has (6.2.7)
-pub record IsFilled (d : Designated) (type : List TypeWord) (o : Option Entity) : Type 0 where
+pub record IsFilled (designated : Designated) (type : List TypeWord) (o : Option Entity) : Type 0 where
   pub entity : Entity
   pub is : o ≡ Some entity
-  pub same : entity.what ≡ d
+  pub same : entity.what ≡ designated
   pub fills : Fills type entity.c_type
 
 pub record AreFilled (env : Environment) : Type 0 where

@@ -55,7 +55,7 @@ pub record AreFine (ls : Labels) (own : List CaseLabel) : Type 0 where
   pub different : are_different (ls.earlier ++ own) ≡ true
   pub fit : are_labels_of ls.switch own ≡ true
 
-pub record IsFineStatement (a : Around) (ls : Labels) (s : Labelled) : Type 0 where
-  pub placed : is_placed a.inside s.statement ≡ true
-  pub proper : is_declaration s.statement ≡ false
-  pub labels : AreFine ls s.labels
+pub record IsFineStatement (around : Around) (ls : Labels) (labelled : Labelled) : Type 0 where
+  pub placed : is_placed around.inside labelled.statement ≡ true
+  pub proper : is_declaration labelled.statement ≡ false
+  pub labels : AreFine ls labelled.labels

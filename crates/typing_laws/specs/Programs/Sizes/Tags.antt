@@ -8,10 +8,10 @@ use Rattle.c_typing_state.specs.State.{State}
 use Rattle.c_unit_typing.specs.Files.{File}
 
 -- each that is declared at file scope by such a tag is complete at the end of the file
-pub record TagsAreComplete (f : File) : Type 0 where
-  pub each : (n : ℕ) (body : Body) (tag : Name) → slice_get f.state.environment.structures.bodies n ≡ Some body
-      → body.file_tag ≡ Some tag → is_some (declared tag f.state.environment.facts.tags) ≡ true
-      → is_known (slice_get f.state.environment.structures.extents n) ≡ true
+pub record TagsAreComplete (file : File) : Type 0 where
+  pub each : (n : ℕ) (body : Body) (tag : Name) → slice_get file.state.environment.structures.bodies n ≡ Some body
+      → body.file_tag ≡ Some tag → is_some (declared tag file.state.environment.facts.tags) ≡ true
+      → is_known (slice_get file.state.environment.structures.extents n) ≡ true
 
 -- one that is declared at file scope keeps its number and its tag
 pub record BodiesStay (before behind : List Body) : Type 0 where

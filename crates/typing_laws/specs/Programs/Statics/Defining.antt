@@ -8,8 +8,9 @@ use Rattle.typing_laws.specs.Programs.Bodies.Whole.{AreInTurn}
 use Rattle.typing_laws.specs.Programs.Statics.Program.{AreFunctionsOf}
 
 -- the definitions, in turn, have their functions; in some scope the program has what the file has
-pub record HasFunctions (f : File) : Type 0 where
-  pub turn : AreInTurn f f.definitions [] f.statics
-  pub functions : AreFunctionsOf (program_of f) (program_of f).structures f f.definitions [] f.statics turn
+pub record HasFunctions (file : File) : Type 0 where
+  pub turn : AreInTurn file file.definitions [] file.statics
+  pub functions : AreFunctionsOf (program_of file) (program_of file).structures file file.definitions [] file.statics
+      turn
   pub scope : Scope
-  pub covers : Covers scope (program_of f).structures f.state
+  pub covers : Covers scope (program_of file).structures file.state

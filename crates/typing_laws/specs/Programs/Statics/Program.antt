@@ -18,22 +18,23 @@ use Rattle.typing_laws.specs.Programs.Statics.Linked.{are_initialized}
 
 -- The function that a program makes of a definition has the number of that; the scope in the block of its body is one
 -- of the program.
-pub record IsFunctionOf (p : Program) (structures : Structures) (f behind : File) (d : Defines f behind) : Type 0 where
+pub record IsFunctionOf (p : Program) (structures : Structures) (f behind : File)
+    (definition : Defines f behind) : Type 0 where
   pub function : Function
   pub scope : Scope
-  pub is : IsScopeOf scope structures function f behind d
+  pub is : IsScopeOf scope structures function f behind definition
   pub program : AreOfOneProgram scope (scope_in p [] [] kind.Void)
-  pub number : has_number p.functions d.number ≡ true
-  pub variables : variables_of_function p.functions (Some d.number) ≡ all_of function
+  pub number : has_number p.functions definition.number ≡ true
+  pub variables : variables_of_function p.functions (Some definition.number) ≡ all_of function
 
 abbrev pub are_static_objects : Program → List (ℕ × StaticObject) → Bool
 are_static_objects p os = list_all (λ o. is_static_object p o.1) os
 
 -- what a block adds to the static objects of a file are static objects of its program
-pub record AddsObjectsOf (p : Program) (before end : File) : Type 0 where
+pub record AddsObjectsOf (program : Program) (before end : File) : Type 0 where
   pub objects : List (ℕ × StaticObject)
   pub is : end.statics ≡ before.statics ++ objects
-  pub valid : are_static_objects p objects ≡ true
+  pub valid : are_static_objects program objects ≡ true
 
 -- string literals stand outside of functions, or in functions of a program
 abbrev pub stand_in_functions : Program → List Literal → Bool
@@ -50,10 +51,11 @@ AreFunctionsOf p structures end (d ∷ ds) before behind turn =
 -- What else holds of the program of a file: the definitions, in turn, have their functions, in which string literals
 -- stand; in some scope it has what the file has; and what the initializers of objects with linkage store is valid
 -- and lies in them.
-pub record HasObjectsOf (f : File) : Type 0 where
-  pub turn : AreInTurn f f.definitions [] f.statics
-  pub functions : AreFunctionsOf (program_of f) (program_of f).structures f f.definitions [] f.statics turn
+pub record HasObjectsOf (file : File) : Type 0 where
+  pub turn : AreInTurn file file.definitions [] file.statics
+  pub functions : AreFunctionsOf (program_of file) (program_of file).structures file file.definitions [] file.statics
+      turn
   pub scope : Scope
-  pub covers : Covers scope (program_of f).structures f.state
-  pub literals : stand_in_functions (program_of f) f.state.literals ≡ true
-  pub linked : are_initialized (program_of f) f f.state.environment.entities ≡ true
+  pub covers : Covers scope (program_of file).structures file.state
+  pub literals : stand_in_functions (program_of file) file.state.literals ≡ true
+  pub linked : are_initialized (program_of file) file file.state.environment.entities ≡ true

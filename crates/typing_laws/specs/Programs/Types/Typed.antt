@@ -80,9 +80,9 @@ abbrev pub nothing : {A : Type 0} → Structures → A → Type 0
 nothing es x = Unit {0}
 
 -- what an lvalue designates: where the bytes of a structure or union are counted, it is complete
-pub record IsPlaceType (es : Structures) (p : Place) : Type 0 where
-  pub spelled : IsSpelled es p.type
-  pub readable : is_unsized_structure (lvalue_kind p.tree) ≡ false → is_readable es p.type ≡ true
+pub record IsPlaceType (es : Structures) (place : Place) : Type 0 where
+  pub spelled : IsSpelled es place.type
+  pub readable : is_unsized_structure (lvalue_kind place.tree) ≡ false → is_readable es place.type ≡ true
 
 abbrev pub OfType : Structures → Operand → Type 0
 OfType es (a_value v) = IsValueType es v.type

@@ -27,7 +27,8 @@ ghost use Rattle.typing_laws.specs.Validity.Regular.{are_regular_specifiers, is_
 ghost use Rattle.typing_laws.specs.Validity.Steps.{Structures};
 ghost use Rattle.typing_laws.specs.Programs.Places.Placed.{are_placed, is_placed};
 ghost use Rattle.typing_laws.specs.Programs.Scopes.Regular.{are_regular_block_items, are_regular_externals};
-ghost use Rattle.typing_laws.specs.Programs.Scopes.Regular.{is_regular_block, is_regular_declaration, is_regular_statement};
+ghost use Rattle.typing_laws.specs.Programs.Scopes.Regular.{is_regular_block, is_regular_declaration};
+ghost use Rattle.typing_laws.specs.Programs.Scopes.Regular.{is_regular_statement};
 ghost use Rattle.typing_laws.specs.Programs.Layouts.Listed.{IsLaidOut};
 ghost use Rattle.typing_laws.specs.Programs.Bodies.Defined.{Defines, HasFile, IfDefined, IsScopeOf, no_jumps};
 ghost use Rattle.typing_laws.specs.Programs.Bodies.Parameters.{IsOutside};

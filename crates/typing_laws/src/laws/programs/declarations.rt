@@ -19,7 +19,8 @@ ghost use Rattle.typing_laws.specs.Validity.Names.{IsMeant, IsStaticOf, IsVariab
 ghost use Rattle.typing_laws.specs.Validity.Sound.{IsFormed, IsObjectExtent, Knows, is_sized_array};
 ghost use Rattle.typing_laws.specs.Validity.Steps.{Structures};
 ghost use Rattle.typing_laws.specs.Declarators.Given.{AreCounted};
-ghost use Rattle.typing_laws.specs.Programs.Declarations.Binding.{Binds, HasStatic, HasVariable, IfCompleted, IfDeclared};
+ghost use Rattle.typing_laws.specs.Programs.Declarations.Binding.{Binds, HasStatic, HasVariable, IfCompleted};
+ghost use Rattle.typing_laws.specs.Programs.Declarations.Binding.{IfDeclared};
 ghost use Rattle.typing_laws.specs.Programs.Declarations.Binding.{IsCompleteFor};
 
 /// A declarator that violates no rule binds its name alone, to the type, the next variable or object, or the object or

@@ -32,7 +32,8 @@ ghost use Rattle.typing_laws.specs.Programs.Names.Linked.{HaveSizes};
 ghost use Rattle.typing_laws.specs.Programs.Statics.Added.{IfAdds};
 ghost use Rattle.typing_laws.specs.Programs.Statics.Defining.{HasFunctions};
 ghost use Rattle.typing_laws.specs.Programs.Statics.Linked.{IfAddsParts, are_initialized};
-ghost use Rattle.typing_laws.specs.Programs.Statics.Program.{AddsObjectsOf, HasObjectsOf, IsFunctionOf, are_static_objects};
+ghost use Rattle.typing_laws.specs.Programs.Statics.Program.{AddsObjectsOf, HasObjectsOf, IsFunctionOf};
+ghost use Rattle.typing_laws.specs.Programs.Statics.Program.{are_static_objects};
 ghost use Rattle.typing_laws.specs.Programs.Statics.Program.{stand_in_functions};
 
 /// The static objects that the declarations of a block add to a file, in it and in the statements of it, are objects of

@@ -1,4 +1,5 @@
-use Rattle.typing_laws.proofs.Scopes.Agreeing.{opened_content, opened_expression, opened_lvalue, opened_part, opened_parts}
+use Rattle.typing_laws.proofs.Scopes.Agreeing.{opened_content, opened_expression, opened_lvalue, opened_part}
+use Rattle.typing_laws.proofs.Scopes.Agreeing.{opened_parts}
 use Rattle.typing_laws.proofs.Scopes.Agreeing.{opened_row}
 use Rattle.typing_laws.proofs.laws.scopes.opened_scopes_keep_what_is_valid.Goals as goal
 

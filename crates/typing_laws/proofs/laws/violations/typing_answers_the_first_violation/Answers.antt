@@ -1,7 +1,8 @@
 use Rattle.typing_laws.proofs.Violations.Agreeing.{first_is}
 use Rattle.typing_laws.proofs.Violations.Constructs.{first_bears}
 use Rattle.typing_laws.proofs.Violations.Declarations.{declaration_agrees}
-use Rattle.typing_laws.proofs.Violations.Expressions.{operand_agrees, shape_agrees, specification_agrees, type_name_agrees}
+use Rattle.typing_laws.proofs.Violations.Expressions.{operand_agrees, shape_agrees, specification_agrees}
+use Rattle.typing_laws.proofs.Violations.Expressions.{type_name_agrees}
 use Rattle.typing_laws.proofs.Violations.Files.{unit_first}
 use Rattle.typing_laws.proofs.Violations.Initializers.{initializer_agrees}
 use Rattle.typing_laws.proofs.Violations.Statements.{items_agree_in, statement_agrees}

@@ -4,7 +4,8 @@ use Rattle.program_lowering.proofs.ExpressionCode.Parts.{two_code, place_and_cod
 use Rattle.program_lowering.proofs.ExpressionCode.Parts.{either_code, sequence_code, choice_code, places_room}
 use Rattle.program_lowering.proofs.ExpressionCode.Views.{next_argument, pair_shape, assigned_shape, and_shape, or_shape}
 use Rattle.program_lowering.proofs.ExpressionCode.Views.{comma_shape}
-use Rattle.program_lowering.proofs.ExpressionCode.Views.{choice_shape, callee_shape, index_shape, whole_from, lvalue_from, room_in}
+use Rattle.program_lowering.proofs.ExpressionCode.Views.{choice_shape, callee_shape, index_shape, whole_from}
+use Rattle.program_lowering.proofs.ExpressionCode.Views.{lvalue_from, room_in}
 use Rattle.program_lowering.proofs.ExpressionCode.Views.{argument_room, nodes_in, nodes_at}
 use Rattle.program_lowering.proofs.expressions.emitter.Emitter.+lowering.Goals as goal
 

@@ -1,4 +1,5 @@
-use Rattle.typing_laws.proofs.Programs.Layouts.Behind.{expression_behind, name_behind, shape_behind, specification_behind}
+use Rattle.typing_laws.proofs.Programs.Layouts.Behind.{expression_behind, name_behind, shape_behind}
+use Rattle.typing_laws.proofs.Programs.Layouts.Behind.{specification_behind}
 use Rattle.typing_laws.proofs.laws.programs.layouts.typing_keeps_states_laid_out.Goals as goal
 
 pub returns : goal.returns

@@ -11,7 +11,6 @@ use crate::entry_words::{load_entry, same_register, store_entry};
 use crate::form::ShadowForm;
 use crate::start::{OBJECTS, SHADOW, StartEntry};
 use crate::two_levels::start::start_bytes;
-use crate::{ShadowForm, StartEntry};
 use addr_map::AddrMap;
 use flat_meaning::{FlatInstruction, RightOperand};
 use flat_routines::Entry;

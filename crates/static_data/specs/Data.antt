@@ -41,9 +41,9 @@ program_pointers p = record {
 }
 
 -- a static object with what its initializer leaves
-pub record IsData (ps : Pointers) (object : StaticObject) (data : StaticData) : Type 0 where
-  pub size : data.size ≡ size_of_kind object.kind
-  pub constant : IsConstant ps object (record { bytes = data.bytes; tags = data.tags })
+pub record IsData (ps : Pointers) (object : StaticObject) (made : StaticData) : Type 0 where
+  pub size : made.size ≡ size_of_kind object.kind
+  pub constant : IsConstant ps object (record { bytes = made.bytes; tags = made.tags })
 
 abbrev pub AreData : Pointers → List StaticObject → List StaticData → Type 0
 AreData ps [] [] = Unit {0}
@@ -70,4 +70,4 @@ OnNotConstant (Err (NotConstant line)) P = P line
 pub record AreInitial (program : Program) (ds : List StaticData) : Type 0 where
   pub by : (budgets : BudgetSizes)
       → placed_data (statics_first (setting_of program budgets)) ds 0 ≡ initial_objects program
-          (setting_of program budgets)
+      (setting_of program budgets)

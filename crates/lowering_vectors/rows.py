@@ -236,7 +236,7 @@ def main():
     with open(f"{HERE}/stdin", "w") as out:
         out.write("%%\n".join(given for given, _ in rows))
     with open(f"{HERE}/stdout", "w") as out:
-        out.write("".join(told for _, told in rows) + "never done: Reserved\n")
+        out.write("".join(told for _, told in rows) + "never done: Reserved Skip\n")
 
 
 if __name__ == "__main__":

@@ -23,13 +23,15 @@ use Rattle.source_meaning.specs.Good.{EntersBy}
 use Rattle.source_meaning.specs.Acting.{at_work}
 use Rattle.source_meaning.proofs.ActionsAct.{acts_enter_block}
 use Rattle.source_meaning.proofs.SureBlocks.{enters, good_inside}
+use Rattle.tac_ir.specs.declared.instruction.Instruction.{Instruction}
 use Rattle.tac_ir.specs.declared.instruction.Instruction.TheVariants as tac
 use Rattle.tac_ir.specs.declared.function.Tac.{Tac}
 use Rattle.tac_ir.specs.Stage.{Temps, Frame, Entered, Stands, came}
 use Rattle.tac_ir.specs.Meaning.{if_there, variables_in, blocks_in, objects_in, function_in, at_node, begun, act}
 use Rattle.tac_ir.specs.Meaning.{act_at}
+use Rattle.tac_ir.specs.Accesses.{only_if}
 use Rattle.c_lower.specs.Placed.{HasAt}
-use Rattle.c_lower.specs.Statements.{Exits, LowersEntry, LowersLeaving, in_loop, in_switch, LowersLabels, any_default}
+use Rattle.c_lower.specs.Statements.{Exits, HasNumber, LowersEntry, LowersLeaving, in_loop, in_switch, LowersLabels, any_default}
 use Rattle.c_lower.proofs.Comes.{Goes, goes_from, goes_spare, goes_frame, goes_steps, goes_step, goes_done, goes_at}
 use Rattle.c_lower.proofs.Comes.{goes_less, goes_after, goes_sure, goes_came, goes_turn, goes_pause}
 use Rattle.c_lower.proofs.KeyStays.{pointer_kept}
@@ -269,23 +271,31 @@ module _ (g : Setting) (t : Tac) (limit n u : ℕ) (frames : List Frame) (sc : C
       (omega (arith, le2, le3, lt)) (omega (arith, le2, le3, ln))))
       (goes_done (omega arith) refl refl tt)))))
 
+-- the block of that number is left
+left_by : (g : Setting) (t : Tac) (u : ℕ) (frames : List Frame) (n : ℕ) (b : Block) (temps : Temps) (k : ℕ) (s : State)
+    (o : Option Instruction) (m : ℕ) → o ≡ Some (tac.LeaveBlock n m)
+    → act_at g t o u temps (Entered n b ∷ frames) (at_work k s)
+    ≡ Stands u m temps frames (leave_block b (at_work (k + 1) s))
+left_by g t u frames n b temps k s o m e = ap (λ j. act_at g t j u temps (Entered n b ∷ frames) (at_work k s)) e
+    ∙ ap (λ q. only_if q (Stands u m temps frames (leave_block b (at_work (k + 1) s)))) (eq-eqb n n refl)
+
 module _ {g : Setting} {t : Tac} {limit u : ℕ} {frames : List Frame} where
   -- the way out of a block leads over the node that leaves it
-  leave_goes : (e : ℕ) (f : Completion) (b : Block) (y x : Exits) (vars : List Variable) (temps : Temps) (k : ℕ)
-      (s : State) → LowersLeaving (placed t u vars) true y x → LeftBy f temps s
+  leave_goes : (e : ℕ) (f : Completion) (n : ℕ) (b : Block) (y x : Exits) (vars : List Variable) (temps : Temps)
+      (k : ℕ) (s : State) → LowersLeaving (placed t u vars) (Some n) y x → LeftBy f temps s
       → Goes g t limit (1 + e) e u frames (exit_of x) LeftBy
-      (Stands u (exit_of y f) temps (Entered b ∷ frames) (at_work k s)) k s (Gives f (leave_block b s))
-  leave_goes e Normal b y x vars temps k s tr p =
-      goes_from {d = e} {k1 = k + 1} {s1 = s} 1 (ap (λ j. act_at g t j u temps (Entered b ∷ frames) (at_work k s)) tr.0)
+      (Stands u (exit_of y f) temps (Entered n b ∷ frames) (at_work k s)) k s (Gives f (leave_block b s))
+  leave_goes e Normal n b y x vars temps k s tr p =
+      goes_from {d = e} {k1 = k + 1} {s1 = s} 1 (left_by g t u frames n b temps k s _ _ tr.0)
       (omega arith) (omega arith) (goes_done (omega arith) refl refl tt)
-  leave_goes e Broken b y x vars temps k s tr p =
-      goes_from {d = e} {k1 = k + 1} {s1 = s} 1 (ap (λ j. act_at g t j u temps (Entered b ∷ frames) (at_work k s)) tr.1)
+  leave_goes e Broken n b y x vars temps k s tr p =
+      goes_from {d = e} {k1 = k + 1} {s1 = s} 1 (left_by g t u frames n b temps k s _ _ tr.1)
       (omega arith) (omega arith) (goes_done (omega arith) refl refl tt)
-  leave_goes e Continued b y x vars temps k s tr p =
-      goes_from {d = e} {k1 = k + 1} {s1 = s} 1 (ap (λ j. act_at g t j u temps (Entered b ∷ frames) (at_work k s)) tr.2)
+  leave_goes e Continued n b y x vars temps k s tr p =
+      goes_from {d = e} {k1 = k + 1} {s1 = s} 1 (left_by g t u frames n b temps k s _ _ tr.2)
       (omega arith) (omega arith) (goes_done (omega arith) refl refl tt)
-  leave_goes e (Returned v) b y x vars temps k s tr p =
-      goes_from {d = e} {k1 = k + 1} {s1 = s} 1 (ap (λ j. act_at g t j u temps (Entered b ∷ frames) (at_work k s)) tr.3)
+  leave_goes e (Returned v) n b y x vars temps k s tr p =
+      goes_from {d = e} {k1 = k + 1} {s1 = s} 1 (left_by g t u frames n b temps k s _ _ tr.3)
       (omega arith) (omega arith) (goes_done (omega arith) refl refl p)
 
 module _ (g : Setting) (t : Tac) (limit u : ℕ) (frames : List Frame) (base : Scope) (sizes : MapSizes)
@@ -300,8 +310,9 @@ module _ (g : Setting) (t : Tac) (limit u : ℕ) (frames : List Frame) (base : S
 
   -- What runs in a block: entering costs 2, and leaving 1 of what the body leaves. A block without objects is nothing.
   scoped_by : (c e : ℕ) (q : Bool) → has_objects own ≡ q
-      → (line n0 b0 : ℕ) (y x : Exits) (temps : Temps) (k : ℕ) (s : State) (body : Run Completion)
-      → LowersEntry (placed t u all) q numbers line n0 b0 → LowersLeaving (placed t u all) q y x
+      → (line n0 b0 : ℕ) (y x : Exits) (temps : Temps) (k : ℕ) (s : State) (body : Run Completion) (b : Option ℕ)
+      → HasNumber (placed t u all) q numbers b
+      → LowersEntry (placed t u all) b line n0 b0 → LowersLeaving (placed t u all) b y x
       → IsGood (context_of base sizes all vs) s
       → ((frames : List Frame) (k1 : ℕ) (s1 : State) → IsGood (context_of base sizes all (opened numbers 0 all vs)) s1
       → s1.turns ≡ s.turns → Goes g t limit c (1 + e) u frames (exit_of y) LeftBy
@@ -309,16 +320,18 @@ module _ (g : Setting) (t : Tac) (limit u : ℕ) (frames : List Frame) (base : S
       → Goes g t limit (2 + c) e u frames (exit_of x) LeftBy (Stands u n0 temps frames (at_work k s)) k s
       (choose q (enter_block g own line
       >>= (λ b. body >>= (λ completion. change (leave_block b) >> done completion))) body s)
-  scoped_by c e true is line n0 b0 y x temps k s body entry ways good h =
-      goes_steps 2 c entry.2 refl
+  scoped_by c e true is line n0 b0 y x temps k s body (Some n) has entry ways good h =
+      goes_steps 2 c entry refl
       (ap (λ vars. came (enter_block g vars line (at_work (k + 2) s))
-      (λ b z. Stands u b0 temps (Entered b ∷ frames) z)) (objects_are entry.0 entry.1))
-      (goes_came (λ b z. Stands u b0 temps (Entered b ∷ frames) z) (acts_enter_block g own line) (λ b s1 k1 e1 is1.
+      (λ b z. Stands u b0 temps (Entered n b ∷ frames) z)) (objects_are n has))
+      (goes_came (λ b z. Stands u b0 temps (Entered n b ∷ frames) z) (acts_enter_block g own line) (λ b s1 k1 e1 is1.
       let up = subst (λ o. EntersBy base sizes all vs numbers s o) is1
       (enters base sizes all vs numbers g at mapped line s good) in
-      goes_after (h (Entered b ∷ frames) k1 s1 up.good e1)
-      (λ f s2 t2 k2 p2 le2 is2. leave_goes e f b y x all t2 k2 s2 ways p2)))
-  scoped_by c e false is line n0 b0 y x temps k s body entry ways good h =
+      goes_after (h (Entered n b ∷ frames) k1 s1 up.good e1)
+      (λ f s2 t2 k2 p2 le2 is2. leave_goes e f n b y x all t2 k2 s2 ways p2)))
+  scoped_by c e true is line n0 b0 y x temps k s body None has entry ways good h = absurd has
+  scoped_by c e false is line n0 b0 y x temps k s body (Some n) has entry ways good h = absurd has
+  scoped_by c e false is line n0 b0 y x temps k s body None has entry ways good h =
       goes_at entry
       (subst (λ z. Goes g t limit (2 + c) e u frames (exit_of z) LeftBy (Stands u b0 temps frames (at_work k s)) k s
       (body s)) ways
@@ -326,13 +339,13 @@ module _ (g : Setting) (t : Tac) (limit u : ℕ) (frames : List Frame) (base : S
       (goes_spare c (omega arith) (h frames k s (good_inside base sizes all vs numbers s is good) refl))))
 
   pub scoped_goes : (c e line n0 b0 : ℕ) (y x : Exits) (temps : Temps) (k : ℕ) (s : State) (body : Run Completion)
-      → LowersEntry (placed t u all) (has_objects own) numbers line n0 b0
-      → LowersLeaving (placed t u all) (has_objects own) y x → IsGood (context_of base sizes all vs) s
+      (b : Option ℕ) → HasNumber (placed t u all) (has_objects own) numbers b
+      → LowersEntry (placed t u all) b line n0 b0 → LowersLeaving (placed t u all) b y x → IsGood (context_of base sizes all vs) s
       → ((frames : List Frame) (k1 : ℕ) (s1 : State) → IsGood (context_of base sizes all (opened numbers 0 all vs)) s1
       → s1.turns ≡ s.turns → Goes g t limit c (1 + e) u frames (exit_of y) LeftBy
       (Stands u b0 temps frames (at_work k1 s1)) k1 s1 (body s1))
       → Goes g t limit (2 + c) e u frames (exit_of x) LeftBy (Stands u n0 temps frames (at_work k s)) k s
       (choose (has_objects own)
       (enter_block g own line >>= (λ b. body >>= (λ completion. change (leave_block b) >> done completion))) body s)
-  scoped_goes c e line n0 b0 y x temps k s body entry ways good h = scoped_by c e (has_objects own) refl line n0 b0 y x
-      temps k s body entry ways good h
+  scoped_goes c e line n0 b0 y x temps k s body b has entry ways good h = scoped_by c e (has_objects own) refl line n0
+      b0 y x temps k s body b has entry ways good h

@@ -326,7 +326,7 @@ module _ (t : Tac) (n : ℕ) (env : Env) (deep : env.depth ≡ suc n) (base : Sc
         let numbers = block_variables body in
         goes_counted (goes_less {b = 5} 2 (omega arith)
         (scoped_goes env.setting t env.limit u frames base sizes inside.at inside.mapped env.variables same vs numbers 6
-        5 line n0 tr.0 tr.1 x temps k _ _ tr.2.0 tr.2.1 good (λ frames k1 s1 good1 e1.
+        5 line n0 tr.0 tr.1 x temps k _ _ tr.2.0 tr.2.1 tr.2.2 tr.2.3 good (λ frames k1 s1 good1 e1.
         goes_frame 6 0 0 (statements_run (opened numbers 0 env.variables vs) frames within body tr.0 tr.1 temps k1 s1
         (sized_opened numbers 0 env.variables vs all_sized sized) tr.3 ok good1 (omega (arith, e1, lt))))))
     statement_runs vs frames within (if_then e st) n0 x temps k s sized tr ok good lt =
@@ -384,7 +384,7 @@ module _ (t : Tac) (n : ℕ) (env : Env) (deep : env.depth ≡ suc n) (base : Sc
         (is_expression_if (at d).scope step) (is_statement (at d).scope inside_loop st) _ ok in
         goes_counted (goes_less {b = 4} 2 (omega arith)
         (scoped_goes env.setting t env.limit u frames base sizes inside.at inside.mapped env.variables same vs numbers 6
-        4 line n0 tr.0 tr.5 x temps k _ _ tr.7.0 tr.7.1 good (λ frames k0 s0 good0 e0.
+        4 line n0 tr.0 tr.5 x temps k _ _ tr.7.0 tr.7.1 tr.7.2 tr.7.3 good (λ frames k0 s0 good0 e0.
         goes_sure _ ((first_sure (inside.calling d) first (first_names (agree_same (at d).scope) first v.0)).by s0
         good0 tt)
         (first_runs t n env (at d) (inside.calling d) (callers d) stays u frames env.variables more first tr.0 tr.1
@@ -411,7 +411,7 @@ module _ (t : Tac) (n : ℕ) (env : Env) (deep : env.depth ≡ suc n) (base : Sc
         let all = items_of env is in
         goes_counted (goes_less {b = 7} 2 (omega arith)
         (scoped_goes env.setting t env.limit u frames base sizes inside.at inside.mapped env.variables same vs numbers
-        16 7 line tr.0 tr.1 tr.4 x t1 k1 _ _ tr.6.0 tr.6.1 lv1.good (λ frames k2 s2 good2 e2.
+        16 7 line tr.0 tr.1 tr.4 x t1 k1 _ _ tr.6.0 tr.6.1 tr.6.2 tr.6.3 lv1.good (λ frames k2 s2 good2 e2.
         goes_counted_as (compared w.value.word (labels_of all)) (16 + compared w.value.word (labels_of all))
         (omega arith)
         (goes_after

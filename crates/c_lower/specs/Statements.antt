@@ -74,25 +74,33 @@ CountedIs loops (Some i) (Some q) n0 h t s =
 
 -- blocks
 
--- a block that has objects is entered
-abbrev pub LowersEntry : Placed → (has_objects : Bool) → (numbers : List ℕ) → (line n0 n1 : ℕ) → Type 0
-LowersEntry c true numbers line n0 n1 = (b : ℕ) × HasAt c.blocks b numbers × Holds c n0 (tac.EnterBlock b line n1)
-LowersEntry c false numbers line n0 n1 = n0 ≡ n1
+-- a block that has objects has a number, at which its variables stand in the table; one without has none
+abbrev pub HasNumber : Placed → (has_objects : Bool) → (variables : List ℕ) → (block : Option ℕ) → Type 0
+HasNumber c true numbers (Some b) = HasAt c.blocks b numbers
+HasNumber c true numbers None = ⊥
+HasNumber c false numbers (Some b) = ⊥
+HasNumber c false numbers None = Unit {0}
+
+-- a block that has a number is entered
+abbrev pub LowersEntry : Placed → (block : Option ℕ) → (line n0 n1 : ℕ) → Type 0
+LowersEntry c (Some b) line n0 n1 = Holds c n0 (tac.EnterBlock b line n1)
+LowersEntry c None line n0 n1 = n0 ≡ n1
 
 -- and every way out of it leads to a node that leaves it
-abbrev pub LowersLeaving : Placed → (has_objects : Bool) → (inner outer : Exits) → Type 0
-LowersLeaving c true y x =
-    Holds c y.next (tac.LeaveBlock x.next) × Holds c y.breaks (tac.LeaveBlock x.breaks)
-    × Holds c y.continues (tac.LeaveBlock x.continues)
-    × Holds c y.returns (tac.LeaveBlock x.returns)
-LowersLeaving c false y x = y ≡ x
+abbrev pub LowersLeaving : Placed → (block : Option ℕ) → (inner outer : Exits) → Type 0
+LowersLeaving c (Some b) y x =
+    Holds c y.next (tac.LeaveBlock b x.next) × Holds c y.breaks (tac.LeaveBlock b x.breaks)
+    × Holds c y.continues (tac.LeaveBlock b x.continues)
+    × Holds c y.returns (tac.LeaveBlock b x.returns)
+LowersLeaving c None y x = y ≡ x
 
 abbrev pub has_objects_of : Placed → (numbers : List ℕ) → Bool
 has_objects_of c numbers = has_objects (block_objects c.variables numbers)
 
 abbrev pub BlockOf : Placed → (numbers : List ℕ) → (line n0 n1 : ℕ) → (inner outer : Exits) → Type 0
 BlockOf c numbers line n0 n1 y x =
-    LowersEntry c (has_objects_of c numbers) numbers line n0 n1 × LowersLeaving c (has_objects_of c numbers) y x
+    (b : Option ℕ) × HasNumber c (has_objects_of c numbers) numbers b × LowersEntry c b line n0 n1
+    × LowersLeaving c b y x
 
 -- the exits of a loop's body whose turn ends at a node, and of the items of a switch
 

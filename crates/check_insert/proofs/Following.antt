@@ -227,7 +227,7 @@ module _ (g : Setting) (t t' : Tac) (ins : Inserted t t') where
   act_same (CallThrough type_number line d n m) u temps frames s = came_same
       (callee g.functions type_number (temps d).value line s) _ _ (λ f z. called_same f _ line _ z)
   act_same (EnterBlock b line m) u temps frames s = ap
-      (λ vs. came (enter_block g vs line s) (λ q z. Stands u m temps (Entered q ∷ frames) z))
+      (λ vs. came (enter_block g vs line s) (λ q z. Stands u m temps (Entered b q ∷ frames) z))
       (objects_by (function_in t u) (function_in t' u) (ins.functions u) b)
   act_same i u temps frames s = refl
 

@@ -7,7 +7,7 @@ use Rattle.c_tree.specs.declared.expression.Kind.TheVariants.{Void, Scalar as Of
 use Rattle.tac_ir.specs.declared.instruction.Mode.TheVariants.{Named, Unchecked, Judged}
 use Rattle.tac_ir.specs.declared.instruction.Test.TheVariants.{Spatial, Temporal}
 use Rattle.tac_ir.specs.declared.instruction.Instruction.{Instruction}
-use Rattle.tac_ir.specs.declared.instruction.Instruction.TheVariants.{Reserved, Constant, FunctionPointer, GetPlain}
+use Rattle.tac_ir.specs.declared.instruction.Instruction.TheVariants.{Reserved, Skip, Constant, FunctionPointer, GetPlain}
 use Rattle.tac_ir.specs.declared.instruction.Instruction.TheVariants.{SetPlain, UpdatePlain, HomePointer}
 use Rattle.tac_ir.specs.declared.instruction.Instruction.TheVariants.{StaticPointer, ZeroOf, Convert, Unary, Binary}
 use Rattle.tac_ir.specs.declared.instruction.Instruction.TheVariants.{Offset, Difference, Narrow, Member, Take, Read}
@@ -79,7 +79,8 @@ stands_for code node next (Print x line d n m) h = h
 stands_for code node next (Call f line d n m) h = h
 stands_for code node next (CallThrough type_number line d n m) h = h
 stands_for code node next (EnterBlock b line m) h = h
-stands_for code node next (LeaveBlock m) h = h
+stands_for code node next (LeaveBlock b m) h = h
+stands_for code node next (Skip m) h = h
 stands_for code node next (Return a) h = h
 
 -- the checks that an instruction needs are put in
@@ -141,7 +142,8 @@ count_one next (Print x line d n m) = omega arith
 count_one next (Call f line d n m) = omega arith
 count_one next (CallThrough type_number line d n m) = omega arith
 count_one next (EnterBlock b line m) = omega arith
-count_one next (LeaveBlock m) = omega arith
+count_one next (LeaveBlock b m) = omega arith
+count_one next (Skip m) = omega arith
 count_one next (Return a) = omega arith
 
 -- an access gets as many new nodes as checks
@@ -202,7 +204,8 @@ back_length next (Print x line d n m) = refl
 back_length next (Call f line d n m) = refl
 back_length next (CallThrough type_number line d n m) = refl
 back_length next (EnterBlock b line m) = refl
-back_length next (LeaveBlock m) = refl
+back_length next (LeaveBlock b m) = refl
+back_length next (Skip m) = refl
 back_length next (Return a) = refl
 
 backs_length : (next : ℕ) (is : List Instruction) → length (backs next is) ≡ sum_over checks_needed is
@@ -261,7 +264,8 @@ few (Print x line d n m) = tt
 few (Call f line d n m) = tt
 few (CallThrough type_number line d n m) = tt
 few (EnterBlock b line m) = tt
-few (LeaveBlock m) = tt
+few (LeaveBlock b m) = tt
+few (Skip m) = tt
 few (Return a) = tt
 
 -- lists within a list

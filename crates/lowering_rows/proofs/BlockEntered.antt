@@ -89,9 +89,9 @@ code_with read more =
     ∷ tac.Write int Named 3 None 0 0 1 22
     ∷ tac.HomePointer 0 2 23
     ∷ tac.SetPlain 0 0 24
-    ∷ tac.LeaveBlock 27
-    ∷ tac.LeaveBlock 28
-    ∷ tac.LeaveBlock 30
+    ∷ tac.LeaveBlock 0 27
+    ∷ tac.LeaveBlock 0 28
+    ∷ tac.LeaveBlock 0 30
     ∷ tac.UpdatePlain (Arithmetic Add Int) (Integer Int) Postfix 1 0 1 One 5
     ∷ tac.Constant 0 0 30
     ∷ tac.ZeroOf int 0 30

@@ -8,7 +8,7 @@
 //! run before and one for the run after tell the status and the report, in parentheses what a wrong access was found
 //! by, and the output; where the work of the meaning is given, the turns, and whether the run's work is within 8 times
 //! that; and the accesses where they are asked for. The last line of all has the kinds of instructions that no run came
-//! to: `Reserved` alone, which stands nowhere in code that is done.
+//! to: `Reserved`, which stands nowhere in code that is done, and `Skip`, which stands where a check was dropped.
 //!
 //! `stdin` and `stdout` are made by `rows.py` beside them, from the texts of `rows/` and from what
 //! `source_meaning_rows` proves of their meaning. A word says how far the program of a text goes instead: `type`,

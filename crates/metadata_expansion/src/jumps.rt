@@ -32,7 +32,8 @@ pub fn ways_of(instruction: &Instruction) -> Ways
         Instruction::Reserved | Instruction::Return { .. } => Ways::Nowhere,
         Instruction::Branch { not_zero, zero, .. } => Ways::Either(*not_zero, *zero),
         Instruction::Case { equal, other, .. } => Ways::Either(*equal, *other),
-        Instruction::Constant { next, .. }
+        Instruction::Skip { next }
+        | Instruction::Constant { next, .. }
         | Instruction::FunctionPointer { next, .. }
         | Instruction::GetPlain { next, .. }
         | Instruction::SetPlain { next, .. }
@@ -61,7 +62,7 @@ pub fn ways_of(instruction: &Instruction) -> Ways
         | Instruction::Call { next, .. }
         | Instruction::CallThrough { next, .. }
         | Instruction::EnterBlock { next, .. }
-        | Instruction::LeaveBlock { next } => Ways::To(*next),
+        | Instruction::LeaveBlock { next, .. } => Ways::To(*next),
     }
 }
 

@@ -87,6 +87,7 @@ fn temporaries(instruction: &Instruction) -> u128
 {
     match instruction {
         Instruction::Reserved
+        | Instruction::Skip { .. }
         | Instruction::Zero { .. }
         | Instruction::StoreText { .. }
         | Instruction::Turn { .. }

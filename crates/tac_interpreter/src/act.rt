@@ -514,8 +514,9 @@ impl State {
                 self.enter_block(function, block, line)?;
                 Ok(next)
             }
-            Instruction::LeaveBlock { next } => {
-                self.leave_block()?;
+            Instruction::Skip { next } => Ok(next),
+            Instruction::LeaveBlock { block, next } => {
+                self.leave_block(block)?;
                 Ok(next)
             }
             Instruction::Return { from } => self.give_back(self.get(from)),

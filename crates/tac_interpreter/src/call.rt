@@ -329,6 +329,7 @@ impl State {
         let kept = self.keep_homes()?;
         self.place_homes(&opened)?;
         self.frames.push(Frame::Entered(Entered {
+            block,
             first,
             count: count_objects(&opened),
             kept,
@@ -337,16 +338,19 @@ impl State {
         Ok(())
     }
 
-    /// The block that was entered last is left.
-    pub(crate) fn leave_block(&mut self) -> Result<(), Stop> {
-        let Some(Frame::Entered(block)) = self.frames.pop() else {
+    /// The block that was entered last is left, if it has that number.
+    pub(crate) fn leave_block(&mut self, block: usize) -> Result<(), Stop> {
+        let Some(Frame::Entered(entered)) = self.frames.pop() else {
             return Err(Stop::Stuck);
         };
-        for number in block.first..block.first.saturating_add(block.count) {
+        if entered.block != block {
+            return Err(Stop::Stuck);
+        }
+        for number in entered.first..entered.first.saturating_add(entered.count) {
             self.kill(number);
         }
-        self.restore_homes(block.kept);
-        self.stacked = block.stacked;
+        self.restore_homes(entered.kept);
+        self.stacked = entered.stacked;
         Ok(())
     }
 }

@@ -7,7 +7,7 @@ use obj_memory::Scalar;
 use tac_ir::{Instruction, Mode};
 
 /// The names of the kinds of instructions, in the order of their declaration.
-pub const KIND_NAMES: [&str; 34] = [
+pub const KIND_NAMES: [&str; 35] = [
     "Reserved",
     "Constant",
     "FunctionPointer",
@@ -42,6 +42,7 @@ pub const KIND_NAMES: [&str; 34] = [
     "EnterBlock",
     "LeaveBlock",
     "Return",
+    "Skip",
 ];
 
 /// The place of the name of an instruction's kind in `KIND_NAMES`.
@@ -81,6 +82,7 @@ pub(crate) fn kind_of(instruction: &Instruction) -> usize {
         Instruction::EnterBlock { .. } => 31,
         Instruction::LeaveBlock { .. } => 32,
         Instruction::Return { .. } => 33,
+        Instruction::Skip { .. } => 34,
     }
 }
 

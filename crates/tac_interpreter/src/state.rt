@@ -122,10 +122,11 @@ pub(crate) struct Waiting {
     pub stacked: u64,
 }
 
-/// What a block is left with: its objects, so many from a number on, where the homes from before it are kept, and the
-/// top of the stack from before it.
+/// What a block is left with: its number, its objects, so many from a number on, where the homes from before it are
+/// kept, and the top of the stack from before it.
 #[derive(Clone, Copy)]
 pub(crate) struct Entered {
+    pub block: usize,
     pub first: usize,
     pub count: usize,
     pub kept: usize,

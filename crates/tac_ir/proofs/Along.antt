@@ -11,7 +11,7 @@ use Rattle.source_meaning.specs.Calls.{Caller, set_up}
 use Rattle.tac_ir.specs.declared.instruction.Mode.{Mode}
 use Rattle.tac_ir.specs.declared.instruction.Mode.TheVariants.{Named, Unchecked, Judged}
 use Rattle.tac_ir.specs.declared.instruction.Instruction.{Instruction}
-use Rattle.tac_ir.specs.declared.instruction.Instruction.TheVariants.{Reserved, Constant, FunctionPointer, GetPlain}
+use Rattle.tac_ir.specs.declared.instruction.Instruction.TheVariants.{Reserved, Skip, Constant, FunctionPointer, GetPlain}
 use Rattle.tac_ir.specs.declared.instruction.Instruction.TheVariants.{SetPlain, UpdatePlain, HomePointer, StaticPointer}
 use Rattle.tac_ir.specs.declared.instruction.Instruction.TheVariants.{ZeroOf, Convert, Unary, Binary, Offset}
 use Rattle.tac_ir.specs.declared.instruction.Instruction.TheVariants.{Difference, Narrow, Member, Take, Read, Write}
@@ -80,17 +80,19 @@ given_along : (i : Instruction) (u : ℕ) (frames : List Frame) (v : Rvalue) (s 
     → GoesAlong i u frames (given_to frames v s)
 given_along i u [] v s = record { by = tt }
 given_along i u (Waits w ∷ frames) v s = record { by = inr (inr (refl, refl)) }
-given_along i u (Entered b ∷ frames) v s = record { by = tt }
+given_along i u (Entered k b ∷ frames) v s = record { by = tt }
 
-left_along : (i : Instruction) (u m : ℕ) (temps : Temps) (frames : List Frame) (s : State) → LeadsTo i m
-    → GoesAlong i u frames (left_for u m temps frames s)
-left_along i u m temps [] s h = record { by = tt }
-left_along i u m temps (Waits w ∷ frames) s h = record { by = tt }
-left_along i u m temps (Entered b ∷ frames) s h = record { by = inl (refl, h) }
+left_along : (i : Instruction) (n u m : ℕ) (temps : Temps) (frames : List Frame) (s : State) → LeadsTo i m
+    → GoesAlong i u frames (left_for n u m temps frames s)
+left_along i n u m temps [] s h = record { by = tt }
+left_along i n u m temps (Waits w ∷ frames) s h = record { by = tt }
+left_along i n u m temps (Entered k b ∷ frames) s h =
+    only_along i u (Entered k b ∷ frames) (k == n) _ (record { by = inl (refl, h) })
 
 pub act_along : (g : Setting) (t : Tac) (i : Instruction) (u : ℕ) (temps : Temps) (frames : List Frame) (s : State)
     → GoesAlong i u frames (act g t i u temps frames s)
 act_along g t Reserved u temps frames s = record { by = tt }
+act_along g t (Skip m) u temps frames s = record { by = inl (refl, inl refl) }
 act_along g t (Constant d w m) u temps frames s = record { by = inl (refl, inl refl) }
 act_along g t (FunctionPointer d f m) u temps frames s = record { by = inl (refl, inl refl) }
 act_along g t (GetPlain d x m) u temps frames s = record { by = inl (refl, inl refl) }
@@ -152,6 +154,6 @@ act_along g t (CallThrough type_number line d n m) u temps frames s = came_along
     frames _ _ (λ f z. call_along (CallThrough type_number line d n m) u frames g (function_in t f) f m d _ line _ temps
     z (inl refl))
 act_along g t (EnterBlock b line m) u temps frames s = came_along (EnterBlock b line m) u frames _
-    (λ q z. Stands u m temps (Entered q ∷ frames) z) (λ v z. record { by = inl (refl, inl refl) })
-act_along g t (LeaveBlock m) u temps frames s = left_along (LeaveBlock m) u m temps frames s (inl refl)
+    (λ q z. Stands u m temps (Entered b q ∷ frames) z) (λ v z. record { by = inl (refl, inl refl) })
+act_along g t (LeaveBlock b m) u temps frames s = left_along (LeaveBlock b m) b u m temps frames s (inl refl)
 act_along g t (Return a) u temps frames s = given_along (Return a) u frames (temps a) s

@@ -165,9 +165,9 @@ act_lives g t (CallThrough type_number line d n m) u temps frames s e =
     (lives_callee g.functions type_number (temps d).value line)
     (λ f z. called_keeps g (function_in t f) f _ line _ z)
 act_lives g t (EnterBlock b line m) u temps frames s e =
-    came_keeps s _ (λ q z. Stands u m temps (Entered q ∷ frames) z)
+    came_keeps s _ (λ q z. Stands u m temps (Entered b q ∷ frames) z)
     (lives_enter_block g (objects_in (function_in t u) b) line) (λ _ z. stands_keeps)
 act_lives g t (Turn counted m) u temps frames s e = record { by = λ o l. l }
-act_lives g t (LeaveBlock m) u temps frames s e = cc
+act_lives g t (LeaveBlock b m) u temps frames s e = cc
 act_lives g t (Return a) u temps frames s e = cc
 act_lives g t i u temps frames s e = stands_keeps

@@ -1,7 +1,7 @@
 -- A step begins at most one turn, and code that follows a source is never stuck.
 use Rattle.std.proofs.Common.{◌≡◌, ℕ, ◌+◌, ◌≤◌, List, [], ◌∷◌, length, Option, Some, None, Bool, true, false, refl, ap}
 use Rattle.std.proofs.Common.{arith}
-use Rattle.std.specs.Prelude.{slice_get, get_or}
+use Rattle.std.specs.Prelude.{◌==◌, slice_get, get_or}
 use Rattle.behaviours.specs.Shown.{End}
 use Rattle.behaviours.specs.Behaviour.{Behaviour, Follows, IsSource}
 use Rattle.behaviours.specs.Steps.{run, IsStepping}
@@ -92,13 +92,13 @@ moved_within b (Array n) v objects x h = h
 given_within : (b : ℕ) (frames : List Frame) (v : Rvalue) (s : State) → s.turns ≤ b → Within b (given_to frames v s)
 given_within b [] v s le = le
 given_within b (Waits w ∷ frames) v s le = le
-given_within b (Entered q ∷ frames) v s le = omega arith
+given_within b (Entered k q ∷ frames) v s le = omega arith
 
-left_within : (b u m : ℕ) (temps : Temps) (frames : List Frame) (s : State) → s.turns ≤ b
-    → Within b (left_for u m temps frames s)
-left_within b u m temps [] s le = omega arith
-left_within b u m temps (Waits w ∷ frames) s le = omega arith
-left_within b u m temps (Entered q ∷ frames) s le = le
+left_within : (b n u m : ℕ) (temps : Temps) (frames : List Frame) (s : State) → s.turns ≤ b
+    → Within b (left_for n u m temps frames s)
+left_within b n u m temps [] s le = omega arith
+left_within b n u m temps (Waits w ∷ frames) s le = omega arith
+left_within b n u m temps (Entered k q ∷ frames) s le = only_within b (k == n) _ le
 
 pub acts_as : {r : Run Value} → IsAction r → IsAction (as_rvalue r)
 acts_as h = acts_on h (λ v. acts_done)
@@ -180,7 +180,7 @@ module _ (g : Setting) (t : Tac) where
       ((acts_callee g.functions type_number (temps d).value line).acts s 0) (omega arith)
   act_within (EnterBlock b line m) u temps frames s =
       run_within _ _ _ s (acts_enter_block g (objects_in (function_in t u) b) line) (omega arith) (λ v s' le. le)
-  act_within (LeaveBlock m) u temps frames s = left_within (s.turns + 1) u m temps frames s (omega arith)
+  act_within (LeaveBlock b m) u temps frames s = left_within (s.turns + 1) b u m temps frames s (omega arith)
   act_within (Return a) u temps frames s = given_within (s.turns + 1) frames (temps a) s (omega arith)
   act_within i u temps frames s = omega arith
 

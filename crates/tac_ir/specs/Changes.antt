@@ -10,7 +10,7 @@ use Rattle.tac_ir.specs.Stage.{Stage, Begins, Stands, Over, Stuck}
 -- a block of the heap is freed, or a block or a call is left
 abbrev pub ends_lives : Instruction → Bool
 ends_lives (Library r line d n m) = frees r
-ends_lives (LeaveBlock m) = true
+ends_lives (LeaveBlock b m) = true
 ends_lives (Return a) = true
 ends_lives i = false
 

@@ -2,7 +2,7 @@
 use Rattle.std.specs.Prelude.{◌≡◌, ◌⊎◌, ℕ, List, [], ◌∷◌}
 use Rattle.tac_ir.specs.declared.instruction.Instruction.{Instruction}
 use Rattle.tac_ir.specs.Stage.{Frame, Waits, Entered, Stage, Begins, Stands, Over, Stuck}
-use Rattle.tac_ir.specs.declared.instruction.Instruction.TheVariants.{Reserved, Constant, FunctionPointer, GetPlain}
+use Rattle.tac_ir.specs.declared.instruction.Instruction.TheVariants.{Reserved, Skip, Constant, FunctionPointer, GetPlain}
 use Rattle.tac_ir.specs.declared.instruction.Instruction.TheVariants.{SetPlain, UpdatePlain, HomePointer, StaticPointer}
 use Rattle.tac_ir.specs.declared.instruction.Instruction.TheVariants.{ZeroOf, Convert, Unary, Binary, Offset}
 use Rattle.tac_ir.specs.declared.instruction.Instruction.TheVariants.{Difference, Narrow, Member, Take, Read, Write}
@@ -13,6 +13,7 @@ use Rattle.tac_ir.specs.declared.instruction.Instruction.TheVariants.{EnterBlock
 -- the nodes that an instruction leads to; that behind a call is where its result comes back
 abbrev pub successors : Instruction → List ℕ
 successors Reserved = []
+successors (Skip m) = m ∷ []
 successors (Constant d w m) = m ∷ []
 successors (FunctionPointer d f m) = m ∷ []
 successors (GetPlain d x m) = m ∷ []
@@ -44,7 +45,7 @@ successors (Print x line d n m) = m ∷ []
 successors (Call f line d n m) = m ∷ []
 successors (CallThrough type_number line d n m) = m ∷ []
 successors (EnterBlock b line m) = m ∷ []
-successors (LeaveBlock m) = m ∷ []
+successors (LeaveBlock b m) = m ∷ []
 successors (Return a) = []
 
 -- an instruction leads to a node
@@ -59,13 +60,13 @@ LeadsTo i n = IsAmong n (successors i)
 abbrev pub IsCallFrom : Instruction → (function : ℕ) → List Frame → Type 0
 IsCallFrom i u [] = ⊥
 IsCallFrom i u (Waits w ∷ frames) = (w.function ≡ u) × LeadsTo i w.node
-IsCallFrom i u (Entered b ∷ frames) = ⊥
+IsCallFrom i u (Entered k b ∷ frames) = ⊥
 
 -- a return to where the last caller waits
 abbrev pub IsReturnTo : (function node : ℕ) → List Frame → Type 0
 IsReturnTo u n [] = ⊥
 IsReturnTo u n (Waits w ∷ frames) = (w.function ≡ u) × (w.node ≡ n)
-IsReturnTo u n (Entered b ∷ frames) = ⊥
+IsReturnTo u n (Entered k b ∷ frames) = ⊥
 
 -- a step from an instruction of a function, over frames, goes along an edge of the function's graph, or it calls or
 -- returns, or the run ends

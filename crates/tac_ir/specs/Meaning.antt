@@ -34,7 +34,7 @@ use Rattle.tac_ir.specs.declared.instruction.RightOperand.TheVariants.{Temporary
 use Rattle.tac_ir.specs.declared.instruction.Test.{Test}
 use Rattle.tac_ir.specs.declared.instruction.Test.TheVariants.{Spatial, Temporal}
 use Rattle.tac_ir.specs.declared.instruction.Instruction.{Instruction}
-use Rattle.tac_ir.specs.declared.instruction.Instruction.TheVariants.{Reserved, Constant, FunctionPointer, GetPlain}
+use Rattle.tac_ir.specs.declared.instruction.Instruction.TheVariants.{Reserved, Skip, Constant, FunctionPointer, GetPlain}
 use Rattle.tac_ir.specs.declared.instruction.Instruction.TheVariants.{SetPlain, UpdatePlain, HomePointer, StaticPointer}
 use Rattle.tac_ir.specs.declared.instruction.Instruction.TheVariants.{ZeroOf, Convert, Unary, Binary, Offset}
 use Rattle.tac_ir.specs.declared.instruction.Instruction.TheVariants.{Difference, Narrow, Member, Take, Read, Write}
@@ -143,13 +143,13 @@ called g t f vs line frames s = called_at g (function_in t f) f vs line frames s
 abbrev pub given_to : List Frame → Rvalue → State → Stage
 given_to [] v s = Over (Exit (int_of v.value.word)) s
 given_to (Waits w ∷ frames) v s = Stands w.function w.node (with_temp w.temps w.place v) frames (back_to w.caller s)
-given_to (Entered b ∷ frames) v s = Stuck
+given_to (Entered n b ∷ frames) v s = Stuck
 
--- the block that was entered last is left
-abbrev pub left_for : (function node : ℕ) → Temps → List Frame → State → Stage
-left_for u m temps [] s = Stuck
-left_for u m temps (Waits w ∷ frames) s = Stuck
-left_for u m temps (Entered b ∷ frames) s = Stands u m temps frames (leave_block b s)
+-- the block that was entered last is left, if it has that number
+abbrev pub left_for : (number : ℕ) → (function node : ℕ) → Temps → List Frame → State → Stage
+left_for n u m temps [] s = Stuck
+left_for n u m temps (Waits w ∷ frames) s = Stuck
+left_for n u m temps (Entered k b ∷ frames) s = only_if (k == n) (Stands u m temps frames (leave_block b s))
 
 -- steps
 
@@ -160,6 +160,7 @@ given_in u m temps d frames v s = Stands u m (with_temp temps d v) frames s
 -- what an instruction of a function does, once its cost is paid
 abbrev pub act : Setting → Tac → Instruction → (function : ℕ) → Temps → List Frame → State → Stage
 act g t Reserved u temps frames s = Stuck
+act g t (Skip m) u temps frames s = Stands u m temps frames s
 act g t (Constant d w m) u temps frames s = Stands u m (with_temp temps d (rvalue (integer w))) frames s
 act g t (FunctionPointer d f m) u temps frames s = Stands u m (with_temp temps d (rvalue (function_pointer f))) frames s
 act g t (GetPlain d x m) u temps frames s = Stands u m (with_temp temps d (rvalue (plain_value x s))) frames s
@@ -228,8 +229,8 @@ act g t (CallThrough type_number line d n m) u temps frames s =
     called g t f (gathered temps (d + 1) n) line
     (Waits (record { function = u; node = m; place = d; caller = caller s; temps = temps }) ∷ frames) s')
 act g t (EnterBlock b line m) u temps frames s =
-    came (enter_block g (objects_in (function_in t u) b) line s) (λ b s. Stands u m temps (Entered b ∷ frames) s)
-act g t (LeaveBlock m) u temps frames s = left_for u m temps frames s
+    came (enter_block g (objects_in (function_in t u) b) line s) (λ q s. Stands u m temps (Entered b q ∷ frames) s)
+act g t (LeaveBlock b m) u temps frames s = left_for b u m temps frames s
 act g t (Return a) u temps frames s = given_to frames (temps a) s
 
 abbrev pub act_at : Setting → Tac → Option Instruction → (function : ℕ) → Temps → List Frame → State → Stage

@@ -35,10 +35,10 @@ pub record Waiting : Type 0 where
   pub caller : Caller
   pub temps : Temps
 
--- what a return or the end of a block goes back to: a caller that waits, or what was before the block
+-- what a return or the end of a block goes back to: a caller that waits, or what was before the block of that number
 pub data Frame : Type 0 where
   Waits : Waiting → Frame
-  Entered : Block → Frame
+  Entered : (number : ℕ) → Block → Frame
 
 -- A run begins with a call of `main`; it stands at a node of a function; or it has ended. A wrong step leads to where
 -- nothing more comes.

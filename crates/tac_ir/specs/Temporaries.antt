@@ -3,7 +3,7 @@ use Rattle.std.specs.Prelude.{ℕ, suc, ◌+◌, max}
 use Rattle.tac_ir.specs.declared.instruction.RightOperand.{RightOperand}
 use Rattle.tac_ir.specs.declared.instruction.RightOperand.TheVariants.{Temporary, One}
 use Rattle.tac_ir.specs.declared.instruction.Instruction.{Instruction}
-use Rattle.tac_ir.specs.declared.instruction.Instruction.TheVariants.{Reserved, Constant, FunctionPointer, GetPlain}
+use Rattle.tac_ir.specs.declared.instruction.Instruction.TheVariants.{Reserved, Skip, Constant, FunctionPointer, GetPlain}
 use Rattle.tac_ir.specs.declared.instruction.Instruction.TheVariants.{SetPlain, UpdatePlain, HomePointer, StaticPointer}
 use Rattle.tac_ir.specs.declared.instruction.Instruction.TheVariants.{ZeroOf, Convert, Unary, Binary, Offset}
 use Rattle.tac_ir.specs.declared.instruction.Instruction.TheVariants.{Difference, Narrow, Member, Take, Read, Write}
@@ -21,6 +21,7 @@ call_count d n = max (suc d) (d + n)
 
 abbrev pub temporaries : Instruction → ℕ
 temporaries Reserved = 0
+temporaries (Skip m) = 0
 temporaries (Constant d w m) = suc d
 temporaries (FunctionPointer d f m) = suc d
 temporaries (GetPlain d x m) = suc d
@@ -52,5 +53,5 @@ temporaries (Print x line d n m) = call_count d n
 temporaries (Call f line d n m) = call_count d n
 temporaries (CallThrough type_number line d n m) = suc d + n
 temporaries (EnterBlock b line m) = 0
-temporaries (LeaveBlock m) = 0
+temporaries (LeaveBlock b m) = 0
 temporaries (Return a) = suc a

@@ -40,6 +40,10 @@ pub enum RightOperand {
 pub enum Instruction {
     /// Nothing stands here yet.
     Reserved,
+    /// Nothing is done, as where a check was dropped.
+    Skip {
+        next: usize,
+    },
     /// An integer.
     Constant {
         to: usize,
@@ -280,8 +284,9 @@ pub enum Instruction {
         line: Line,
         next: usize,
     },
-    /// The block that was entered last is left.
+    /// The block that was entered last is left, by its number.
     LeaveBlock {
+        block: usize,
         next: usize,
     },
     /// The function returns a value.

@@ -122,19 +122,19 @@ module _ (c : Placed) where
     returns = only_fewer c.code Result k x.returns h.returns;
   }
 
-  left : (k : ℕ) (with_objects : Bool) (y x : Exits) → LowersLeaving c with_objects y x → AreDead k x → AreDead k y
-  left k true y x l h = record {
+  left : (k : ℕ) (block : Option ℕ) (y x : Exits) → LowersLeaving c block y x → AreDead k x → AreDead k y
+  left k (Some b) y x l h = record {
     next = passes Nothing k y.next x.next _ l.0 (λ x q. q) (λ y. refl) h.next;
     breaks = passes Nothing k y.breaks x.breaks _ l.1 (λ x q. q) (λ y. refl) h.breaks;
     continues = passes Nothing k y.continues x.continues _ l.2 (λ x q. q) (λ y. refl) h.continues;
     returns = passes Result k y.returns x.returns _ l.3 (λ x q. q) (λ y. refl) h.returns;
   }
-  left k false y x l h = subst (AreDead k) (sym l) h
+  left k None y x l h = subst (AreDead k) (sym l) h
 
-  entered : (P : Temporaries) (k : ℕ) (with_objects : Bool) (numbers : List ℕ) (line n m : ℕ)
-      → LowersEntry c with_objects numbers line n m → May c k P m → May c k P n
-  entered P k true numbers line n m l h = passes P k n m _ l.2 (λ x q. q) (λ y. refl) h
-  entered P k false numbers line n m l h = subst (May c k P) (sym l) h
+  entered : (P : Temporaries) (k : ℕ) (block : Option ℕ) (line n m : ℕ) → LowersEntry c block line n m → May c k P m
+      → May c k P n
+  entered P k (Some b) line n m l h = passes P k n m _ l (λ x q. q) (λ y. refl) h
+  entered P k None line n m l h = subst (May c k P) (sym l) h
 
   with_next : (k n : ℕ) (x : Exits) → AreDead k x → Dead k n → AreDead k (record x { next = n })
   with_next k n x h d = record { next = d; breaks = h.breaks; continues = h.continues; returns = h.returns }
@@ -192,8 +192,8 @@ module _ (c : Placed) where
     of_statement empty k n x l h = subst (Dead k) (sym l) h.next
     of_statement (declaration ds) k n x l h = of_declared ds k n x.next l h.next
     of_statement (block line body) k n x l h =
-        entered Nothing k _ _ line n l.0 l.2.0
-        (of_statements body k l.0 l.1 l.3 (left k _ l.1 x l.2.1 h))
+        entered Nothing k l.2.0 line n l.0 l.2.2
+        (of_statements body k l.0 l.1 l.3 (left k l.2.0 l.1 x l.2.3 h))
     of_statement (if_then e s) k n x l h =
         of_condition (Some e) k n l.0 x.next l.1 (of_statement s k l.0 x l.2 h) h.next
     of_statement (if_else e s other) k n x l h =
@@ -211,17 +211,17 @@ module _ (c : Placed) where
         let head = of_condition (Some e) k l.1 n x.next l.4 again less.next in
         turned None k n l.0 l.2 (of_statement s k l.0 (in_loop x l.1) l.3 (looping k l.1 x less head))
     of_statement (for line first condition step s) k n x l h =
-        let inner = left k _ l.5 x l.7.1 h in
-        entered Nothing k _ _ line n l.0 l.7.0
+        let inner = left k l.7.0 l.5 x l.7.3 h in
+        entered Nothing k l.7.0 line n l.0 l.7.2
         (of_first first k l.0 l.1 l.8
         (of_head condition step k l.1 l.2 l.3 l.4 l.6 l.5 l.9 l.10 l.12
         (λ j d. of_statement s j l.3 (in_loop l.5 l.4) l.13 d) inner))
     of_statement (switch e line is) k n x l h =
-        let inner = switching k l.4 (left k _ l.4 x l.6.1 h) in
+        let inner = switching k l.4 (left k l.6.0 l.4 x l.6.3 h) in
         let other = other_of (has_default is) k l.3 l.4.next l.7
         (λ e. of_default is k l.1 l.2 l.3 (in_switch l.4) l.8 e inner) inner.next in
         of_expression c k e Nothing 0 n l.0 l.5
-        (entered Result k _ _ line l.0 l.1 l.6.0 (of_tests is k l.1 l.2 l.3 (in_switch l.4) l.8 other inner))
+        (entered Result k l.6.0 line l.0 l.1 l.6.2 (of_tests is k l.1 l.2 l.3 (in_switch l.4) l.8 other inner))
     of_statement break k n x l h = subst (Dead k) (sym l) h.breaks
     of_statement continue k n x l h = subst (Dead k) (sym l) h.continues
     of_statement (return None) k n x l h =

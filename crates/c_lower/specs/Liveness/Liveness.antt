@@ -5,7 +5,7 @@ use Rattle.std.specs.Prelude.{Some, slice_get}
 use Rattle.tac_ir.specs.declared.instruction.RightOperand.{RightOperand}
 use Rattle.tac_ir.specs.declared.instruction.RightOperand.TheVariants.{Temporary, One}
 use Rattle.tac_ir.specs.declared.instruction.Instruction.{Instruction}
-use Rattle.tac_ir.specs.declared.instruction.Instruction.TheVariants.{Reserved, Constant, FunctionPointer, GetPlain}
+use Rattle.tac_ir.specs.declared.instruction.Instruction.TheVariants.{Reserved, Skip, Constant, FunctionPointer, GetPlain}
 use Rattle.tac_ir.specs.declared.instruction.Instruction.TheVariants.{SetPlain, UpdatePlain, HomePointer, StaticPointer}
 use Rattle.tac_ir.specs.declared.instruction.Instruction.TheVariants.{ZeroOf, Convert, Unary, Binary, Offset}
 use Rattle.tac_ir.specs.declared.instruction.Instruction.TheVariants.{Difference, Narrow, Member, Take, Read, Write}
@@ -56,7 +56,8 @@ reads (Print x line d n m) y = is_among d n y
 reads (Call f line d n m) y = is_among d n y
 reads (CallThrough type_number line d n m) y = is_among d (suc n) y
 reads (EnterBlock b line m) y = false
-reads (LeaveBlock m) y = false
+reads (LeaveBlock b m) y = false
+reads (Skip m) y = false
 reads (Return a) y = y == a
 
 -- whether an instruction, and what comes back to it from a call, gives a temporary another value
@@ -93,7 +94,8 @@ writes (Print x line d n m) y = y == d
 writes (Call f line d n m) y = y == d
 writes (CallThrough type_number line d n m) y = y == d
 writes (EnterBlock b line m) y = false
-writes (LeaveBlock m) y = false
+writes (LeaveBlock b m) y = false
+writes (Skip m) y = false
 writes (Return a) y = false
 
 -- an instruction is reached within so many steps that reads the temporary, and none on the way writes it

@@ -202,7 +202,8 @@ stands t k code n (tac.Print x line d y m) e s = never e
 stands t k code n (tac.Call f line d x m) e s = s
 stands t k code n (tac.CallThrough type_number line d x m) e s = never e
 stands t k code n (tac.EnterBlock b line m) e s = never e
-stands t k code n (tac.LeaveBlock m) e s = never e
+stands t k code n (tac.LeaveBlock b m) e s = never e
+stands t k code n (tac.Skip m) e s = never e
 stands t k code n (tac.Return a) e s = s
 
 pub safe_inserted : (t : Tac) (variables : ℕ) (c c' : CodeFunction) → FunctionIn c c' → (k n : ℕ)

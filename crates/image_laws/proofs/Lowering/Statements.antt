@@ -32,7 +32,7 @@ use Rattle.tac_ir.specs.Edges.{LeadsTo}
 use Rattle.c_lower.specs.Placed.{Placed, Holds}
 use Rattle.c_lower.specs.Values.{LowersExpression, LowersArgument}
 use Rattle.c_lower.specs.Statements.{Exits, LowersInitializer, LowersDeclared}
-use Rattle.c_lower.specs.Statements.{LowersCondition, LowersPart, LowersFirst, LowersEntry, LowersLeaving, BlockOf}
+use Rattle.c_lower.specs.Statements.{LowersCondition, LowersPart, LowersFirst, HasNumber, LowersEntry, LowersLeaving}
 use Rattle.c_lower.specs.Statements.{has_objects_of, in_loop, in_switch, LowersLabels, any_default, has_default}
 use Rattle.c_lower.specs.Statements.{LowersStatement, LowersStatements, LowersItems}
 use Rattle.compiled_programs.specs.Programs.{is_integer_expression, is_integer_expression_if, is_integer_initializer}
@@ -101,14 +101,20 @@ module _ (t : Tac) (variables : ℕ) (c : Placed) where
       (λ x l. ⊎_elim (λ e. subst (SafeAt j) (sym e) h) (λ e. absurd e) l)
 
   module _ (none : HaveNone) where
-    left : (k : ℕ) (numbers : List ℕ) (y x : Exits) → LowersLeaving c (has_objects_of c numbers) y x → AreSafe k x
-        → AreSafe k y
-    left k numbers y x l h = subst (AreSafe k) (sym (subst (λ b. LowersLeaving c b y x) (none.none numbers) l)) h
+    -- no block has a number
+    no_number : (numbers : List ℕ) (b : Option ℕ) → HasNumber c (has_objects_of c numbers) numbers b → b ≡ None
+    no_number numbers None h = refl
+    no_number numbers (Some b) h = absurd (subst (λ q. HasNumber c q numbers (Some b)) (none.none numbers) h)
 
-    entered : (k : ℕ) (numbers : List ℕ) (line n m : ℕ) → LowersEntry c (has_objects_of c numbers) numbers line n m
-        → SafeAt k m → SafeAt k n
-    entered k numbers line n m l h =
-        subst (SafeAt k) (sym (subst (λ b. LowersEntry c b numbers line n m) (none.none numbers) l)) h
+    left : (k : ℕ) (numbers : List ℕ) (b : Option ℕ) (y x : Exits) → HasNumber c (has_objects_of c numbers) numbers b
+        → LowersLeaving c b y x → AreSafe k x → AreSafe k y
+    left k numbers b y x has l h =
+        subst (AreSafe k) (sym (subst (λ q. LowersLeaving c q y x) (no_number numbers b has) l)) h
+
+    entered : (k : ℕ) (numbers : List ℕ) (b : Option ℕ) (line n m : ℕ)
+        → HasNumber c (has_objects_of c numbers) numbers b → LowersEntry c b line n m → SafeAt k m → SafeAt k n
+    entered k numbers b line n m has l h =
+        subst (SafeAt k) (sym (subst (λ q. LowersEntry c q line n m) (no_number numbers b has) l)) h
 
     -- ---- declarations and the parts of loops
 
@@ -212,9 +218,9 @@ module _ (t : Tac) (variables : ℕ) (c : Placed) where
       of_statement (declaration ds) scope q inside k n x v i l h = of_declared scope q ds k n x.next v i l h.next
       of_statement (block line body) scope q inside k n x v i l h =
           let numbers = block_variables body in
-          entered k numbers line n l.0 l.2.0
+          entered k numbers l.2.0 line n l.0 l.2.1 l.2.2
           (of_statements body (within scope numbers) (scope_within scope numbers q) inside k l.0 l.1 v i l.3
-          (left k numbers l.1 x l.2.1 h))
+          (left k numbers l.2.0 l.1 x l.2.1 l.2.3 h))
       of_statement (if_then e s) scope q inside k n x v i l h =
           let w = three (is_condition scope e) (is_statement scope inside s) _ v in
           let j = both (is_integer_expression e) (is_integer_statement s) i in
@@ -250,8 +256,8 @@ module _ (t : Tac) (variables : ℕ) (c : Placed) where
           (is_statement d loop_inside s) _ v in
           let j = four (is_integer_first first) (is_integer_expression_if condition) (is_integer_expression_if step)
           (is_integer_statement s) i in
-          let inner = left k numbers l.5 x l.7.1 h in
-          entered k numbers line n l.0 l.7.0
+          let inner = left k numbers l.7.0 l.5 x l.7.1 l.7.3 h in
+          entered k numbers l.7.0 line n l.0 l.7.1 l.7.2
           (of_first d r first k l.0 l.1 w.0 j.0 l.8
           (of_head d r condition step k l.1 l.2 l.3 l.4 l.6 l.5 w.1 j.1 w.2 j.2 l.9 l.10 l.12
           (λ m p. of_statement s d r loop_inside m l.3 (in_loop l.5 l.4) w.3 j.3 l.13 p) inner))
@@ -262,12 +268,12 @@ module _ (t : Tac) (variables : ℕ) (c : Placed) where
           let w = five (is_valid scope e) (is_promoted (kind_of e)) (list_all (is_label (kind_of e)) (labels_of is)) _
           (are_items d (switch_inside inside) is) v in
           let j = both (is_integer_expression e) (are_integer_items is) i in
-          let inner = switching k l.4 (left k numbers l.4 x l.6.1 h) in
+          let inner = switching k l.4 (left k numbers l.6.0 l.4 x l.6.1 l.6.3 h) in
           let other = other_of (has_default is) k l.3 l.4.next l.7
           (λ p. of_default is d r (switch_inside inside) k l.1 l.2 l.3 (in_switch l.4) w.4 j.1 l.8 p inner) inner.next
           in
           of_expression t variables c k scope q e 0 n l.0 w.0 j.0 l.5
-          (entered k numbers line l.0 l.1 l.6.0
+          (entered k numbers l.6.0 line l.0 l.1 l.6.1 l.6.2
           (of_tests is d r (switch_inside inside) (kind_of e) k l.1 l.2 l.3 (in_switch l.4) w.4 j.1 w.2 l.8 other
           inner))
       of_statement break scope q inside k n x v i l h = subst (SafeAt k) (sym l) h.breaks

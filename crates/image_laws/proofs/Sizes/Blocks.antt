@@ -229,7 +229,8 @@ module _ (p : FlatProgram) (room : ℕ) where
     block_words (tac.Print x line d n next) w l = let h = unreached in omega (arith, h)
     block_words (tac.CallThrough type line d n next) w l = let h = unreached in omega (arith, h)
     block_words (tac.EnterBlock b line next) w l = let h = unreached in omega (arith, h)
-    block_words (tac.LeaveBlock next) w l = let h = unreached in omega (arith, h)
+    block_words (tac.LeaveBlock b next) w l = let h = unreached in omega (arith, h)
+    block_words (tac.Skip next) w l = let h = unreached in omega (arith, h)
 
     pub code_words : (is : List Instruction) (n : ℕ) → greatest_word is < 2 ^ 64 → greatest_line is < 2 ^ 32
         → body_words p room 1 (laid_from operators m t c n is) ≤ code_weight is (words 60)

@@ -51,7 +51,8 @@ kept b (tac.Print x line d n m) le = absurd (omega (arith, le))
 kept b (tac.Call f line d n m) le = record { none = refl; stands = λ code n s. s }
 kept b (tac.CallThrough type_number line d n m) le = absurd (omega (arith, le))
 kept b (tac.EnterBlock e line m) le = absurd (omega (arith, le))
-kept b (tac.LeaveBlock m) le = absurd (omega (arith, le))
+kept b (tac.LeaveBlock e m) le = absurd (omega (arith, le))
+kept b (tac.Skip m) le = absurd (omega (arith, le))
 kept b (tac.Return a) le = record { none = refl; stands = λ code n s. s }
 
 none_needed : (b : ℕ) (is : List Instruction) → code_weight is (words (suc b)) ≤ b → sum_over checks_needed is ≡ 0

@@ -9,10 +9,11 @@ use Rattle.c_tree.specs.Tree.{Expression}
 use Rattle.c_tree.specs.Statements.{Statement, Statements, no_statements, statements, statements_in, block, if_then}
 use Rattle.c_tree.specs.Statements.{if_else}
 use Rattle.c_tree.specs.View.{statement_of}
-use Rattle.c_lower.specs.Statements.{LowersStatement, LowersEntry, LowersLeaving, has_objects_of}
+use Rattle.c_lower.specs.Statements.{LowersStatement, HasNumber, has_objects_of}
 use Rattle.program_lowering.specs.declared.expressions.emitter.Emitter.{Emitter}
 use Rattle.program_lowering.proofs.ExpressionCode.Growing.{emits_none, emits_then, fills_before}
 use Rattle.program_lowering.specs.declared.parts.exits.Exits.{Exits}
+use Rattle.program_lowering.specs.declared.parts.exits.BlockExits.{BlockExits}
 use Rattle.program_lowering.specs.StatementParts.Leaving.{exits_of, before}
 use Rattle.program_lowering.specs.StatementParts.Weights.{objects_weight}
 use Rattle.program_lowering.specs.StatementParts.Code.{ConditionCode, EntryCode, LeavingCode}
@@ -49,25 +50,26 @@ next_statement {vs = vs} {a = a} {c = c} {n = n} {x = x} xs i s ge le is e hs h 
 
 -- blocks
 
-pub block_code : {vs : List Variable} {a b c d : Emitter} {numbers : List ℕ} {line k n : ℕ} {y x : Exits} {ss :
-    Statements}
-    → numbers ≡ block_variables ss → LeavingCode vs a b numbers y x → StatementsCode vs b c ss k y
-    → EntryCode vs c d numbers line n k → StatementCode vs a d (block line ss) n x
+pub block_code : {vs : List Variable} {a b c d : Emitter} {numbers : List ℕ} {line k n : ℕ} {y : BlockExits}
+    {x : Exits} {ss : Statements} → numbers ≡ block_variables ss → LeavingCode vs a b numbers x y
+    → StatementsCode vs b c ss k y.exits → EntryCode c d y.block line n k → StatementCode vs a d (block line ss) n x
 block_code {vs = vs} {numbers = numbers} {line = line} {k = k} {n = n} {y = y} {x = x} {ss = ss} same l h y' =
     let top = each_height ss in
     let inner = emits_then (max 0 top) (λ w. 4 * objects_weight vs numbers w + each_weight vs ss w) l.emits h.emits
     (omega arith) (omega arith) (λ w. omega arith) in
     record {
       emits = emits_then top (statement_weight vs (block line ss)) inner y'.emits (omega arith) (omega arith)
-          (λ w. omega (arith, ap (λ ns. objects_weight vs ns w) same));
+          (λ w. omega (arith, ap (λ ns. objects_weight vs ns w) same, l.weighs w));
       stands = λ p v f.
           let fh = fills_before y'.emits f in
           let fl = fills_before h.emits fh in (
             k,
-            exits_of y,
+            exits_of y.exits,
             (
-              subst (λ ns. LowersEntry p (has_objects_of p ns) ns line n k) same (y'.stands p v f),
-              subst (λ ns. LowersLeaving p (has_objects_of p ns) (exits_of y) (exits_of x)) same (l.stands p v fl),
+              y.block,
+              subst (λ ns. HasNumber p (has_objects_of p ns) ns y.block) same (l.numbered p v fl),
+              y'.stands p f,
+              l.stands p fl,
             ),
             h.stands p v fh,
           );

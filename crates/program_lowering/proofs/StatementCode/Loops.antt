@@ -10,12 +10,13 @@ use Rattle.tac_ir.specs.declared.instruction.Instruction.{Instruction}
 use Rattle.tac_ir.specs.declared.instruction.Instruction.TheVariants as tac
 use Rattle.tac_ir.specs.Temporaries.{temporaries}
 use Rattle.c_lower.specs.Counted.{CountedParts, counted_parts}
-use Rattle.c_lower.specs.Statements.{in_loop, LowersStatement, LowersEntry, LowersLeaving, has_objects_of, CountedIs}
+use Rattle.c_lower.specs.Statements.{in_loop, LowersStatement, HasNumber, has_objects_of, CountedIs}
 use Rattle.program_lowering.specs.declared.expressions.emitter.Emitter.{Emitter}
 use Rattle.program_lowering.specs.ExpressionCode.Weights.{Weights, weight_of}
 use Rattle.program_lowering.specs.ExpressionCode.Emitted.{Has, Emits}
 use Rattle.program_lowering.proofs.ExpressionCode.Growing.{fills_before, keeps_on}
 use Rattle.program_lowering.specs.declared.parts.exits.Exits.{Exits}
+use Rattle.program_lowering.specs.declared.parts.exits.BlockExits.{BlockExits}
 use Rattle.program_lowering.specs.declared.parts.loops.ForHead.{ForHead}
 use Rattle.program_lowering.specs.StatementParts.Leaving.{exits_of}
 use Rattle.program_lowering.specs.StatementParts.Code.{most}
@@ -90,8 +91,8 @@ pub for_code : {vs : List Variable} {a b c d : Emitter} {numbers : List ℕ} {li
     {test step : Option Expression} {s : Statement} {h : ForHead} {parts : Option CountedParts} {n body : ℕ} {x y :
     Exits}
     → numbers ≡ first_variables first → ForHeadCode vs a b numbers test step h x
-    → exits_of y ≡ in_loop (exits_of h.inside) h.step → StatementCode vs b c s body y
-    → parts ≡ counted_parts first test step s → ForTailCode vs c d numbers line first parts h body n
+    → exits_of y ≡ in_loop (exits_of h.inside.exits) h.step → StatementCode vs b c s body y
+    → parts ≡ counted_parts first test step s → ForTailCode c d line first parts h body n
     → StatementCode vs a d (for line first test step s) n x
 for_code {vs = vs} {line = line} {first = first} {test = test} {step = step} {s = s} {h = h} {n = n} {body = body}
     {x = x} same
@@ -108,6 +109,7 @@ for_code {vs = vs} {line = line} {first = first} {test = test} {step = step} {s 
           g.emits.grown w,
           k.emits.grown w,
           ap (λ ns. objects_weight vs ns w) same,
+          k.weighs w,
         );
       };
       stands = λ p v f.
@@ -118,12 +120,13 @@ for_code {vs = vs} {line = line} {first = first} {test = test} {step = step} {s 
             h.turn,
             body,
             h.step,
-            exits_of h.inside,
+            exits_of h.inside.exits,
             t.counted,
             (
-              subst (λ ns. LowersEntry p (has_objects_of p ns) ns line n t.setting) same (t.enters p v f),
-              subst (λ ns. LowersLeaving p (has_objects_of p ns) (exits_of h.inside) (exits_of x)) same
-                  (k.leaves p v fk),
+              h.inside.block,
+              subst (λ ns. HasNumber p (has_objects_of p ns) ns h.inside.block) same (k.numbered p v fk),
+              t.enters p f,
+              k.leaves p fk,
             ),
             t.sets p f,
             k.tests p fk,

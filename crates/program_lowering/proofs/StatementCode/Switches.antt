@@ -10,13 +10,14 @@ use Rattle.c_tree.specs.Tree.{Expression}
 use Rattle.c_tree.specs.Statements.{SwitchItems, no_items, items, items_in, switch}
 use Rattle.c_tree.specs.View.{statement_of}
 use Rattle.c_lower.specs.Placed.{Placed}
-use Rattle.c_lower.specs.Statements.{Exits as Left, LowersStatement, LowersItems, LowersEntry, LowersLeaving}
+use Rattle.c_lower.specs.Statements.{Exits as Left, LowersStatement, LowersItems, HasNumber}
 use Rattle.c_lower.specs.Statements.{has_objects_of, LowersLabels, in_switch, any_default, has_default}
 use Rattle.program_lowering.specs.declared.expressions.emitter.Emitter.{Emitter}
 use Rattle.program_lowering.specs.ExpressionCode.Weights.{Weights}
 use Rattle.program_lowering.specs.ExpressionCode.Emitted.{ExpressionCode}
 use Rattle.program_lowering.proofs.ExpressionCode.Growing.{emits_none, emits_then, fills_before}
 use Rattle.program_lowering.specs.declared.parts.exits.Exits.{Exits}
+use Rattle.program_lowering.specs.declared.parts.exits.BlockExits.{BlockExits}
 use Rattle.program_lowering.specs.StatementParts.Items.{item_of}
 use Rattle.program_lowering.specs.StatementParts.Leaving.{exits_of, before}
 use Rattle.program_lowering.specs.StatementParts.Weights.{objects_weight}
@@ -128,10 +129,10 @@ weight_of_both vs no_items w = refl
 weight_of_both vs (items labels s is) w = omega (arith, weight_of_both vs is w)
 
 pub switch_code : {vs : List Variable} {a b c d e' g : Emitter} {numbers starts made : List ℕ} {line t k n other : ℕ}
-    {y z x : Exits} {is : SwitchItems} {e : Expression} → numbers ≡ switch_variables is → has_one_default is ≡ true
-    → LeavingCode vs a b numbers y x → exits_of z ≡ in_switch (exits_of y) → ItemsCode vs b c is made z
-    → starts ≡ made → other ≡ default_start is starts y.next → TestsCode c d is starts t other
-    → EntryCode vs d e' numbers line k t
+    {y : BlockExits} {z x : Exits} {is : SwitchItems} {e : Expression} → numbers ≡ switch_variables is → has_one_default is ≡ true
+    → LeavingCode vs a b numbers x y → exits_of z ≡ in_switch (exits_of y.exits) → ItemsCode vs b c is made z
+    → starts ≡ made → other ≡ default_start is starts y.exits.next → TestsCode c d is starts t other
+    → EntryCode d e' y.block line k t
     → ExpressionCode e' g e 0 n k → StatementCode vs a g (switch e line is) n x
 switch_code {vs = vs} {b = b} {c = c} {numbers = numbers} {starts = starts} {line = line} {t = t} {k = k} {other =
     other} {y = y} {z = z} {x = x} {is = is}
@@ -145,7 +146,7 @@ switch_code {vs = vs} {b = b} {c = c} {numbers = numbers} {starts = starts} {lin
     (omega (arith, items_need_one is)) (λ w. omega arith) in
     let entered = emits_then top
     (λ w. 5 * objects_weight vs numbers w + (bodies_weight vs is w + tests_weight is w)) tested entry.emits
-    (omega arith) (omega arith) (λ w. omega arith) in
+    (omega arith) (omega arith) (λ w. omega (arith, l.weighs w)) in
     let evaluated = evaluated_emits e top value (omega arith) in
     record {
       emits = emits_then top (statement_weight vs (switch e line is)) entered evaluated (omega arith) (omega arith)
@@ -155,18 +156,20 @@ switch_code {vs = vs} {b = b} {c = c} {numbers = numbers} {starts = starts} {lin
           let fr = fills_before entry.emits fe in
           let fh = fills_before r.emits fr in
           let fl = fills_before h.from.emits fh in
-          let begin = subst (DefaultsBegin is starts) (sym goes) (defaults_begin is starts y.next once) in (
+          let begin = subst (DefaultsBegin is starts) (sym goes) (defaults_begin is starts y.exits.next once) in (
             k,
             t,
             h.first,
             other,
-            exits_of y,
+            exits_of y.exits,
             value.stands p f,
             (
-              subst (λ ns. LowersEntry p (has_objects_of p ns) ns line k t) same (entry.stands p v fe),
-              subst (λ ns. LowersLeaving p (has_objects_of p ns) (exits_of y) (exits_of x)) same (l.stands p v fl),
+              y.block,
+              subst (λ ns. HasNumber p (has_objects_of p ns) ns y.block) same (l.numbered p v fl),
+              entry.stands p fe,
+              l.stands p fl,
             ),
-            λ none. goes ∙ no_default is starts y.next none,
+            λ none. goes ∙ no_default is starts y.exits.next none,
             subst (LowersItems p is t h.first other) q
                 (both_stand p is starts t h.first other (exits_of z) (h.from.stands p v fh) (r.stands p fr begin)),
           );

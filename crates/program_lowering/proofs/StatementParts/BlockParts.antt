@@ -1,12 +1,12 @@
 -- Blocks that are entered and left.
-use Rattle.std.proofs.Common.{◌≡◌, ℕ, ◌*◌, Bool, true, false, List, [], ◌∷◌, ◌++◌, length, refl, sym, ap, ◌∙◌, subst}
+use Rattle.std.proofs.Common.{◌≡◌, ℕ, ◌*◌, Bool, true, false, List, [], ◌∷◌, ◌++◌, length, Option, Some, None, refl, sym, ap, ◌∙◌, subst}
 use Rattle.std.proofs.Common.{arith}
 use Rattle.c_tree.specs.declared.program.Variable.{Variable}
 use Rattle.c_tree.specs.Blocks.{block_objects}
 use Rattle.source_meaning.specs.Blocks.{has_objects}
 use Rattle.tac_ir.specs.declared.instruction.Instruction.TheVariants as tac
 use Rattle.c_lower.specs.Placed.{Placed}
-use Rattle.c_lower.specs.Statements.{LowersEntry, LowersLeaving, has_objects_of}
+use Rattle.c_lower.specs.Statements.{HasNumber, LowersLeaving, has_objects_of}
 use Rattle.program_lowering.specs.declared.expressions.emitter.Emitter.{Emitter}
 use Rattle.program_lowering.specs.ExpressionCode.Weights.{Weights}
 use Rattle.program_lowering.specs.ExpressionCode.Emitted.{Added}
@@ -14,9 +14,10 @@ use Rattle.program_lowering.proofs.ExpressionCode.Growing.{emits_none, emits_the
 use Rattle.program_lowering.proofs.ExpressionCode.Growing.{fills_before}
 use Rattle.program_lowering.proofs.ExpressionCode.Growing.{same_emits, stays_by, one_more, has_last}
 use Rattle.program_lowering.specs.declared.parts.exits.Exits.{Exits}
-use Rattle.program_lowering.specs.StatementParts.Code.{BlockAdded, EntryCode, LeavingCode}
+use Rattle.program_lowering.specs.declared.parts.exits.BlockExits.{BlockExits}
+use Rattle.program_lowering.specs.StatementParts.Code.{BlockAdded, EntryCode, WaysOut, LeavingCode}
 use Rattle.program_lowering.specs.StatementParts.Leaving.{exits_of}
-use Rattle.program_lowering.specs.StatementParts.Weights.{weight_where, objects_weight}
+use Rattle.program_lowering.specs.StatementParts.Weights.{weight_where, objects_weight, block_weight}
 
 pub block_added : (a b : Emitter) (numbers : List ℕ) (n : ℕ) → b.code.items ≡ a.code.items → b.keys.items ≡ a.keys.items
     → b.blocks.items ≡ a.blocks.items ++ numbers ∷ [] → b.loops.items ≡ a.loops.items → b.texts.items ≡ a.texts.items
@@ -34,32 +35,21 @@ same_objects : (vs : List Variable) (numbers : List ℕ) (h : Bool) (c : Placed)
     → c.variables ≡ vs → h ≡ has_objects_of c numbers
 same_objects vs numbers h c e v = e ∙ ap (λ w. has_objects (block_objects w numbers)) (sym v)
 
-there_weight : (vs : List Variable) (numbers : List ℕ) (h : Bool) (w : Weights)
-    → h ≡ has_objects (block_objects vs numbers) → h ≡ true → objects_weight vs numbers w ≡ w.other
-there_weight vs numbers h w e t = ap (λ o. weight_where o w) (sym e ∙ t)
+weight_by : (vs : List Variable) (numbers : List ℕ) (h : Bool) (w : Weights)
+    → h ≡ has_objects (block_objects vs numbers) → (q : Bool) → h ≡ q → weight_where q w ≡ objects_weight vs numbers w
+weight_by vs numbers h w e q t = ap (λ o. weight_where o w) (sym t ∙ e)
 
-pub entry_there : {vs : List Variable} {numbers : List ℕ} {h : Bool} {a b c : Emitter} {block line n next : ℕ}
-    → h ≡ has_objects (block_objects vs numbers) → h ≡ true → BlockAdded a b numbers block
-    → Added b c n (tac.EnterBlock block line next) → EntryCode vs a c numbers line n next
-entry_there {vs = vs} {numbers = numbers} {h = h} {block = block} {line = line} {n = n} {next = next} e t k i = record {
-  emits = emits_then 0 (objects_weight vs numbers) k.emits (added_emits 0 i (omega arith)) (omega arith) (omega arith)
-      (λ w. omega (arith, there_weight vs numbers h w e t));
-  stands = λ p v f. subst (λ o. LowersEntry p o numbers line n next) (sym t ∙ same_objects vs numbers h p e v)
-      (block, k.is p (fills_before (added_emits 0 i (omega arith)) f), added_holds i tt f);
-}
+pub entry_there : {a b : Emitter} {block line n next : ℕ} → Added a b n (tac.EnterBlock block line next)
+    → EntryCode a b (Some block) line n next
+entry_there i = record { emits = added_emits 0 i (omega arith); stands = λ p f. added_holds i tt f }
 
-pub entry_none : {vs : List Variable} {numbers : List ℕ} {h : Bool} {a : Emitter} {line next : ℕ}
-    → h ≡ has_objects (block_objects vs numbers) → h ≡ false → EntryCode vs a a numbers line next next
-entry_none {vs = vs} {numbers = numbers} {h = h} {line = line} {next = next} e t = record {
-  emits = emits_none 0;
-  stands = λ p v f. subst (λ o. LowersEntry p o numbers line next next) (sym t ∙ same_objects vs numbers h p e v) refl;
-}
+pub entry_none : {a : Emitter} {line next : ℕ} → EntryCode a a None line next next
+entry_none = record { emits = emits_none 0; stands = λ p f. refl }
 
-pub leave_there : {vs : List Variable} {numbers : List ℕ} {h : Bool} {a b c d e : Emitter} {y x : Exits}
-    → h ≡ has_objects (block_objects vs numbers) → h ≡ true → Added a b y.next (tac.LeaveBlock x.next)
-    → Added b c y.breaks (tac.LeaveBlock x.breaks) → Added c d y.continues (tac.LeaveBlock x.continues)
-    → Added d e y.returns (tac.LeaveBlock x.returns) → LeavingCode vs a e numbers y x
-leave_there {vs = vs} {numbers = numbers} {h = h} {y = y} {x = x} q t i j k l =
+pub ways_out : {a b c d e : Emitter} {block : ℕ} {y x : Exits} → Added a b y.next (tac.LeaveBlock block x.next)
+    → Added b c y.breaks (tac.LeaveBlock block x.breaks) → Added c d y.continues (tac.LeaveBlock block x.continues)
+    → Added d e y.returns (tac.LeaveBlock block x.returns) → WaysOut a e block x y
+ways_out i j k l =
     let ej = added_emits 0 j (omega arith) in
     let ek = added_emits 0 k (omega arith) in
     let el = added_emits 0 l (omega arith) in
@@ -67,26 +57,41 @@ leave_there {vs = vs} {numbers = numbers} {h = h} {y = y} {x = x} q t i j k l =
     (λ w. omega arith) in
     let three = emits_then 0 (λ w. 3 * w.other) two ek (omega arith) (omega arith) (λ w. omega arith) in
     record {
-      emits = emits_then 0 (λ w. 4 * objects_weight vs numbers w) three el (omega arith) (omega arith)
-          (λ w. omega (arith, there_weight vs numbers h w q t));
-      stands = λ p v f.
+      emits = emits_then 0 (λ w. 4 * w.other) three el (omega arith) (omega arith) (λ w. omega arith);
+      stands = λ p f.
           let fl = fills_before el f in
           let fk = fills_before ek fl in
           let fj = fills_before ej fk in
-          subst (λ o. LowersLeaving p o (exits_of y) (exits_of x)) (sym t ∙ same_objects vs numbers h p q v)
           (added_holds i tt fj, added_holds j tt fk, added_holds k tt fl, added_holds l tt f);
     }
 
+pub leave_there : {vs : List Variable} {numbers : List ℕ} {h : Bool} {a b c : Emitter} {block : ℕ} {x y : Exits}
+    → h ≡ has_objects (block_objects vs numbers) → h ≡ true → BlockAdded a b numbers block → WaysOut b c block x y
+    → LeavingCode vs a c numbers x (record { block = Some block; exits = y })
+leave_there {vs = vs} {numbers = numbers} {h = h} {block = block} q t k l = record {
+  emits = emits_then 0 (λ w. 4 * objects_weight vs numbers w) k.emits l.emits (omega arith) (omega arith)
+      (λ w. omega (arith, weight_by vs numbers h w q true t));
+  numbered = λ p v f.
+      subst (λ o. HasNumber p o numbers (Some block)) (sym t ∙ same_objects vs numbers h p q v)
+      (k.is p (fills_before l.emits f));
+  stands = λ p f. l.stands p f;
+  weighs = λ w. weight_by vs numbers h w q true t;
+}
+
 pub leave_none : {vs : List Variable} {numbers : List ℕ} {h : Bool} {a : Emitter} {x : Exits}
-    → h ≡ has_objects (block_objects vs numbers) → h ≡ false → LeavingCode vs a a numbers x x
-leave_none {vs = vs} {numbers = numbers} {h = h} {x = x} q t = record {
+    → h ≡ has_objects (block_objects vs numbers) → h ≡ false
+    → LeavingCode vs a a numbers x (record { block = None; exits = x })
+leave_none {vs = vs} {numbers = numbers} {h = h} q t = record {
   emits = emits_none 0;
-  stands = λ p v f. subst (λ o. LowersLeaving p o (exits_of x) (exits_of x))
-      (sym t ∙ same_objects vs numbers h p q v) refl;
+  numbered = λ p v f. subst (λ o. HasNumber p o numbers None) (sym t ∙ same_objects vs numbers h p q v) tt;
+  stands = λ p f. refl;
+  weighs = λ w. weight_by vs numbers h w q false t;
 }
 
 pub ruleset tables = (block_added)
 
 pub ruleset entering = (entry_there, entry_none)
+
+pub ruleset ways = (ways_out)
 
 pub ruleset leaving = (leave_there, leave_none)

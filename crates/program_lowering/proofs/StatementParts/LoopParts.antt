@@ -21,6 +21,7 @@ use Rattle.program_lowering.proofs.ExpressionCode.Growing.{emits_none, emits_the
 use Rattle.program_lowering.proofs.ExpressionCode.Growing.{fills_before, keeps_on, same_emits, stays_by, one_more}
 use Rattle.program_lowering.proofs.ExpressionCode.Growing.{has_last}
 use Rattle.program_lowering.specs.declared.parts.exits.Exits.{Exits}
+use Rattle.program_lowering.specs.declared.parts.exits.BlockExits.{BlockExits}
 use Rattle.program_lowering.specs.declared.parts.counted.Range.{Range}
 use Rattle.program_lowering.specs.declared.parts.loops.ForHead.{ForHead}
 use Rattle.program_lowering.specs.StatementParts.Weights.{first_weight, condition_weight, part_weight, objects_weight}
@@ -143,8 +144,8 @@ head_code {a = a} {e = e} {x = x} {turn = turn} {k = k} h t v =
     }
 
 pub for_head_code : {vs : List Variable} {a b c d e : Emitter} {numbers : List ℕ} {test step : Option Expression}
-    {y x : Exits} {turn h s : ℕ} → LeavingCode vs a b numbers y x → Added b c turn tac.Reserved
-    → ConditionCode c d test h turn y.next → PartCode d e step s h
+    {y : BlockExits} {x : Exits} {turn h s : ℕ} → LeavingCode vs a b numbers x y → Added b c turn tac.Reserved
+    → ConditionCode c d test h turn y.exits.next → PartCode d e step s h
     → ForHeadCode vs a e numbers test step (record { inside = y; turn = turn; condition = h; step = s }) x
 for_head_code {vs = vs} {a = a} {b = b} {numbers = numbers} {test = test} {step = step} {turn = turn} l r t p =
     let top = max (most (if_any test)) (most (if_any step)) in
@@ -160,7 +161,9 @@ for_head_code {vs = vs} {a = a} {b = b} {numbers = numbers} {test = test} {step 
           two p.emits (omega arith) (omega arith) (λ w. omega arith);
       fresh = omega (arith, r.place, longer l.emits.kept);
       waits = record { by = p.emits.kept.code turn tac.Reserved (t.emits.kept.code turn tac.Reserved (added_has r)) };
-      leaves = λ q v f. l.stands q v (fills_before reserved (fills_before t.emits (fills_before p.emits f)));
+      numbered = λ q v f. l.numbered q v (fills_before reserved (fills_before t.emits (fills_before p.emits f)));
+      weighs = l.weighs;
+      leaves = λ q f. l.stands q (fills_before reserved (fills_before t.emits (fills_before p.emits f)));
       tests = λ q f. t.stands q (fills_before p.emits f);
       goes_on = λ q f. p.stands q f;
     }
@@ -189,12 +192,11 @@ some_loop a b r n setting h code keys blocks loops texts at = record {
   is = λ c f. f.loops n _ (has_last a.loops.items b.loops.items _ n loops at);
 }
 
-pub for_tail_code : {vs : List Variable} {a b c d e : Emitter} {numbers : List ℕ} {line setting body n : ℕ}
-    {first : First}
-    {parts : Option CountedParts} {h : ForHead} {counted : Option ℕ} → Waits a h.turn
+pub for_tail_code : {a b c d e : Emitter} {line setting body n : ℕ} {first : First} {parts : Option CountedParts}
+    {h : ForHead} {counted : Option ℕ} → Waits a h.turn
     → FirstCode a b first setting h.condition → LoopAdded b c parts setting h counted
-    → Filled c d h.turn (tac.Turn counted body) → EntryCode vs d e numbers line n setting
-    → ForTailCode vs a e numbers line first parts h body n
+    → Filled c d h.turn (tac.Turn counted body) → EntryCode d e h.inside.block line n setting
+    → ForTailCode a e line first parts h body n
 for_tail_code {a = a} {setting = setting} {first = first} {h = h} {counted = counted} waits s l f y =
     let top = most (first_contents first) in
     let grown = emits_then top (first_weight first) s.emits l.emits (omega arith) (omega arith) (λ w. omega arith) in
@@ -209,7 +211,7 @@ for_tail_code {a = a} {setting = setting} {first = first} {h = h} {counted = cou
       };
       setting = setting;
       counted = counted;
-      enters = λ p v g. y.stands p v g;
+      enters = λ p g. y.stands p g;
       sets = λ p g. s.stands p (fills_before l.emits (filled_fills f still (fills_before y.emits g)));
       turns = λ p g. filled_holds f still tt (fills_before y.emits g);
       counts = λ p g. l.is p (filled_fills f still (fills_before y.emits g));

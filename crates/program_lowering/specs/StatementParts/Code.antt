@@ -1,5 +1,5 @@
 -- The code of initializers, statements and their parts, before what comes next.
-use Rattle.std.specs.Prelude.{◌≡◌, ℕ, ◌*◌, max, List, map, Option}
+use Rattle.std.specs.Prelude.{◌≡◌, ℕ, ◌*◌, max, List, map, Option, Some}
 use Rattle.c_tree.specs.declared.program.Variable.{Variable}
 use Rattle.c_tree.specs.Tree.{Expression}
 use Rattle.c_tree.specs.Statements.{Content, Part, Initializer, DeclaredVariable, First}
@@ -7,14 +7,16 @@ use Rattle.c_tree.specs.Blocks.{initializer_contents, declared_contents, first_c
 use Rattle.c_tree.specs.Room.{content_height, greatest_height}
 use Rattle.c_lower.specs.Placed.{Placed, HasAt}
 use Rattle.c_lower.specs.Statements.{LowersContent, LowersParts, LowersInitializer, LowersDeclared, LowersCondition}
-use Rattle.c_lower.specs.Statements.{LowersPart, LowersFirst, LowersEntry, LowersLeaving, has_objects_of}
+use Rattle.c_lower.specs.Statements.{LowersPart, LowersFirst, HasNumber, LowersEntry, LowersLeaving}
+use Rattle.c_lower.specs.Statements.{has_objects_of}
 use Rattle.program_lowering.specs.declared.expressions.emitter.Emitter.{Emitter}
-use Rattle.program_lowering.specs.ExpressionCode.Weights.{no_weight}
+use Rattle.program_lowering.specs.ExpressionCode.Weights.{Weights, no_weight}
 use Rattle.program_lowering.specs.ExpressionCode.Emitted.{Fills, Emits}
 use Rattle.program_lowering.specs.declared.parts.exits.Exits.{Exits}
+use Rattle.program_lowering.specs.declared.parts.exits.BlockExits.{BlockExits}
 use Rattle.program_lowering.specs.StatementParts.Leaving.{exits_of}
 use Rattle.program_lowering.specs.StatementParts.Weights.{content_weight, parts_weight, initializer_weight}
-use Rattle.program_lowering.specs.StatementParts.Weights.{declared_weight}
+use Rattle.program_lowering.specs.StatementParts.Weights.{declared_weight, block_weight}
 use Rattle.program_lowering.specs.StatementParts.Weights.{first_weight, condition_weight, part_weight, objects_weight}
 
 -- how many temporaries what is evaluated needs, at least one
@@ -60,15 +62,21 @@ pub record BlockAdded (before after : Emitter) (numbers : List ℕ) (number : �
   pub emits : Emits before after 0 no_weight
   pub is : (c : Placed) → Fills after c → HasAt c.blocks number numbers
 
--- a block of a function with these variables is entered, and left
+-- a block is entered
+pub record EntryCode (before after : Emitter) (block : Option ℕ) (line n0 n1 : ℕ) : Type 0 where
+  pub emits : Emits before after 0 (block_weight block)
+  pub stands : (c : Placed) → Fills after c → LowersEntry c block line n0 n1
 
-pub record EntryCode (vs : List Variable) (before after : Emitter) (numbers : List ℕ) (line n0 n1 : ℕ) : Type 0 where
-  pub emits : Emits before after 0 (objects_weight vs numbers)
-  pub stands : (c : Placed) → c.variables ≡ vs → Fills after c
-      → LowersEntry c (has_objects_of c numbers) numbers line n0 n1
+-- the ways out of a block with that number
+pub record WaysOut (before after : Emitter) (block : ℕ) (outer inner : Exits) : Type 0 where
+  pub emits : Emits before after 0 (λ w. 4 * w.other)
+  pub stands : (c : Placed) → Fills after c → LowersLeaving c (Some block) (exits_of inner) (exits_of outer)
 
-pub record LeavingCode (vs : List Variable) (before after : Emitter) (numbers : List ℕ)
-    (inner outer : Exits) : Type 0 where
+-- a block of a function with these variables gets its number, and is left
+pub record LeavingCode (vs : List Variable) (before after : Emitter) (numbers : List ℕ) (outer : Exits)
+    (inner : BlockExits) : Type 0 where
   pub emits : Emits before after 0 (λ w. 4 * objects_weight vs numbers w)
-  pub stands : (c : Placed) → c.variables ≡ vs → Fills after c
-      → LowersLeaving c (has_objects_of c numbers) (exits_of inner) (exits_of outer)
+  pub numbered : (c : Placed) → c.variables ≡ vs → Fills after c
+      → HasNumber c (has_objects_of c numbers) numbers inner.block
+  pub stands : (c : Placed) → Fills after c → LowersLeaving c inner.block (exits_of inner.exits) (exits_of outer)
+  pub weighs : (w : Weights) → block_weight inner.block w ≡ objects_weight vs numbers w

@@ -9,8 +9,8 @@ use Rattle.tac_ir.specs.declared.instruction.Instruction.{Instruction}
 use Rattle.tac_ir.specs.declared.instruction.Instruction.TheVariants as tac
 use Rattle.c_lower.specs.Counted.{CountedParts}
 use Rattle.c_lower.specs.Placed.{Placed, Holds}
-use Rattle.c_lower.specs.Statements.{LowersCondition, LowersPart, LowersFirst, LowersEntry, LowersLeaving, CountedIs}
-use Rattle.c_lower.specs.Statements.{has_objects_of}
+use Rattle.c_lower.specs.Statements.{LowersCondition, LowersPart, LowersFirst, HasNumber, LowersEntry, LowersLeaving}
+use Rattle.c_lower.specs.Statements.{CountedIs, has_objects_of}
 use Rattle.program_lowering.specs.declared.expressions.emitter.Emitter.{Emitter}
 use Rattle.program_lowering.specs.ExpressionCode.Weights.{Weights, code_weight, no_weight, expression_weight}
 use Rattle.program_lowering.specs.ExpressionCode.Emitted.{Has, Keeps, Fills, Fits, Emits}
@@ -18,6 +18,7 @@ use Rattle.program_lowering.specs.declared.parts.exits.Exits.{Exits}
 use Rattle.program_lowering.specs.declared.parts.loops.ForHead.{ForHead}
 use Rattle.program_lowering.specs.StatementParts.Leaving.{exits_of}
 use Rattle.program_lowering.specs.StatementParts.Weights.{first_weight, condition_weight, part_weight, objects_weight}
+use Rattle.program_lowering.specs.StatementParts.Weights.{block_weight}
 use Rattle.program_lowering.specs.StatementParts.Code.{most}
 
 -- a reserved node is filled
@@ -47,9 +48,12 @@ pub record ForHeadCode (vs : List Variable) (before after : Emitter) (numbers : 
       (λ w. 4 * objects_weight vs numbers w + (w.turn + (condition_weight test w + part_weight step w)))
   pub fresh : length before.code.items ≤ head.turn
   pub waits : Waits after head.turn
-  pub leaves : (c : Placed) → c.variables ≡ vs → Fills after c
-      → LowersLeaving c (has_objects_of c numbers) (exits_of head.inside) (exits_of exits)
-  pub tests : (c : Placed) → Fills after c → LowersCondition c test head.condition head.turn head.inside.next
+  pub numbered : (c : Placed) → c.variables ≡ vs → Fills after c
+      → HasNumber c (has_objects_of c numbers) numbers head.inside.block
+  pub weighs : (w : Weights) → block_weight head.inside.block w ≡ objects_weight vs numbers w
+  pub leaves : (c : Placed) → Fills after c
+      → LowersLeaving c head.inside.block (exits_of head.inside.exits) (exits_of exits)
+  pub tests : (c : Placed) → Fills after c → LowersCondition c test head.condition head.turn head.inside.exits.next
   pub goes_on : (c : Placed) → Fills after c → LowersPart c step head.step head.condition
 
 -- the number of a counted loop in the table
@@ -67,14 +71,13 @@ pub record FillsIn (before after : Emitter) (node most : ℕ) (weight : Weights 
   pub grown : (w : Weights) → code_weight after.code.items w ≤ code_weight before.code.items w + weight w
 
 -- the rest of a `for`, behind its body
-pub record ForTailCode (vs : List Variable) (before after : Emitter) (numbers : List ℕ) (line : ℕ) (first : First)
-    (parts : Option CountedParts) (head : ForHead) (body n0 : ℕ) : Type 0 where
+pub record ForTailCode (before after : Emitter) (line : ℕ) (first : First) (parts : Option CountedParts)
+    (head : ForHead) (body n0 : ℕ) : Type 0 where
   pub grows : FillsIn before after head.turn (most (first_contents first))
-      (λ w. objects_weight vs numbers w + first_weight first w)
+      (λ w. block_weight head.inside.block w + first_weight first w)
   pub setting : ℕ
   pub counted : Option ℕ
-  pub enters : (c : Placed) → c.variables ≡ vs → Fills after c
-      → LowersEntry c (has_objects_of c numbers) numbers line n0 setting
+  pub enters : (c : Placed) → Fills after c → LowersEntry c head.inside.block line n0 setting
   pub sets : (c : Placed) → Fills after c → LowersFirst c first setting head.condition
   pub turns : (c : Placed) → Fills after c → Holds c head.turn (tac.Turn counted body)
   pub counts : (c : Placed) → Fills after c → CountedIs c.loops counted parts setting head.condition head.turn head.step

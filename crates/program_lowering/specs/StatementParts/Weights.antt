@@ -43,6 +43,11 @@ abbrev pub weight_where : (has_objects : Bool) → Weights → ℕ
 weight_where true w = w.other
 weight_where false w = 0
 
+-- of a block by its number, which it has where it has objects
+abbrev pub block_weight : (block : Option ℕ) → Weights → ℕ
+block_weight None w = 0
+block_weight (Some block) w = w.other
+
 -- of a block that declares the variables with these numbers
 abbrev pub objects_weight : List Variable → (numbers : List ℕ) → Weights → ℕ
 objects_weight vs numbers w = weight_where (has_objects (block_objects vs numbers)) w

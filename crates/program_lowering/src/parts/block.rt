@@ -9,10 +9,10 @@ ghost use Rattle.source_meaning.specs.Blocks.{has_objects};
 ghost use Rattle.program_lowering.specs.StatementParts.Items.{item_of};
 ghost use Rattle.program_lowering.specs.StatementParts.Leaving.{exits_of};
 ghost use Rattle.program_lowering.specs.StatementParts.Objects.{is_object, any_object};
-ghost use Rattle.program_lowering.specs.StatementParts.Code.{BlockAdded, EntryCode, LeavingCode};
+ghost use Rattle.program_lowering.specs.StatementParts.Code.{BlockAdded, EntryCode, WaysOut, LeavingCode};
 
 use crate::expressions::Emitter;
-use crate::parts::exits::Exits;
+use crate::parts::exits::{BlockExits, Exits};
 use c_tree::{DeclaredVariable, First, Statement, SwitchItem, Variable};
 use sb_base::Line;
 use std::alloc::{AllocError, Global};
@@ -57,49 +57,74 @@ fn add_block(code: &mut Emitter, numbers: &[usize]) -> Result<usize, AllocError>
     Ok(number)
 }
 
-/// Enters a block that has objects, with the variables that it declares, before a node.
+/// Enters a block that has objects, and so a number, before a node.
 #[tactic(auto, using(crate::proofs::StatementParts::BlockParts::entering))]
 pub fn enter(
     code: &mut Emitter,
-    variables: &[Variable],
-    numbers: &[usize],
+    block: Option<usize>,
     line: Line,
     next: usize,
 ) -> Result<usize, AllocError>
-    ensures { IfOk result (λ n. EntryCode variables.now code.old code.new numbers.now line n next) }
+    ensures { IfOk result (λ n. EntryCode code.old code.new block line n next) }
 {
-    if has_objects(variables, numbers) {
-        let block = add_block(code, numbers)?;
-        let entry = code.add(Instruction::EnterBlock { block, line, next })?;
-        Ok(entry)
-    } else {
-        Ok(next)
+    match block {
+        Some(block) => code.add(Instruction::EnterBlock { block, line, next }),
+        None => Ok(next),
     }
 }
 
-/// The exits of a block within these: each leaves it, where it has objects.
+// The exits of a block with that number within these: each leaves it.
+#[tactic(auto, using(crate::proofs::StatementParts::BlockParts::ways))]
+fn leave_block(code: &mut Emitter, block: usize, x: Exits) -> Result<Exits, AllocError>
+    ensures { IfOk result (λ y. WaysOut code.old code.new block x y) }
+{
+    let next = code.add(Instruction::LeaveBlock {
+        block,
+        next: x.next,
+    })?;
+    let breaks = code.add(Instruction::LeaveBlock {
+        block,
+        next: x.breaks,
+    })?;
+    let continues = code.add(Instruction::LeaveBlock {
+        block,
+        next: x.continues,
+    })?;
+    let returns = code.add(Instruction::LeaveBlock {
+        block,
+        next: x.returns,
+    })?;
+    Ok(Exits {
+        next,
+        breaks,
+        continues,
+        returns,
+    })
+}
+
+/// The exits of a block within these, with the variables that it declares: where it has objects, it gets a number, and
+/// each exit leaves it.
 #[tactic(auto, using(crate::proofs::StatementParts::BlockParts::leaving))]
 pub fn leave(
     code: &mut Emitter,
     variables: &[Variable],
     numbers: &[usize],
     x: Exits,
-) -> Result<Exits, AllocError>
-    ensures { IfOk result (λ y. LeavingCode variables.now code.old code.new numbers.now y x) }
+) -> Result<BlockExits, AllocError>
+    ensures { IfOk result (λ y. LeavingCode variables.now code.old code.new numbers.now x y) }
 {
     if has_objects(variables, numbers) {
-        let next = code.add(Instruction::LeaveBlock { next: x.next })?;
-        let breaks = code.add(Instruction::LeaveBlock { next: x.breaks })?;
-        let continues = code.add(Instruction::LeaveBlock { next: x.continues })?;
-        let returns = code.add(Instruction::LeaveBlock { next: x.returns })?;
-        Ok(Exits {
-            next,
-            breaks,
-            continues,
-            returns,
+        let block = add_block(code, numbers)?;
+        let exits = leave_block(code, block, x)?;
+        Ok(BlockExits {
+            block: Some(block),
+            exits,
         })
     } else {
-        Ok(x)
+        Ok(BlockExits {
+            block: None,
+            exits: x,
+        })
     }
 }
 

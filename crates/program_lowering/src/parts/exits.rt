@@ -12,6 +12,14 @@ pub struct Exits {
     pub returns: usize,
 }
 
+/// Where the statements of a block are left for, and the number of the block in the table of its function, which it has
+/// where it has objects.
+#[derive(Clone, Copy)]
+pub struct BlockExits {
+    pub block: Option<usize>,
+    pub exits: Exits,
+}
+
 impl Exits {
     ghost use Rattle.std.specs.Prelude.{◌≡◌};
     ghost use Rattle.program_lowering.specs.StatementParts.Leaving.{exits_of, before};

@@ -11,7 +11,7 @@ ghost use Rattle.program_lowering.specs.StatementParts.Loops.{ForTailCode};
 use crate::expressions::Emitter;
 use crate::parts::block::{enter, leave};
 use crate::parts::counted::Range;
-use crate::parts::exits::Exits;
+use crate::parts::exits::{BlockExits, Exits};
 use crate::parts::initializer::{condition, first, part};
 use c_tree::{Expression, First, Variable};
 use sb_base::Line;
@@ -34,11 +34,11 @@ pub struct LoopHead {
     pub condition: usize,
 }
 
-/// A `for` whose condition and step stand: the exits of its body's block, the node that its turn will have, and where
-/// its condition and its step begin.
+/// A `for` whose condition and step stand: its block with the exits of its body, the node that its turn will have, and
+/// where its condition and its step begin.
 #[derive(Clone, Copy)]
 pub struct ForHead {
-    pub inside: Exits,
+    pub inside: BlockExits,
     pub turn: usize,
     pub condition: usize,
     pub step: usize,
@@ -84,7 +84,7 @@ pub fn for_parts(
 {
     let inside = leave(code, variables, numbers, x)?;
     let turn = code.add(Instruction::Reserved)?;
-    let condition = condition(code, clauses.condition, turn, inside.next)?;
+    let condition = condition(code, clauses.condition, turn, inside.exits.next)?;
     let step = part(code, clauses.step, condition)?;
     Ok(ForHead {
         inside,
@@ -126,8 +126,6 @@ fn add_loop(
 #[tactic(auto, using(crate::proofs::StatementParts::LoopParts::for_tails))]
 pub fn for_tail(
     code: &mut Emitter,
-    variables: &[Variable],
-    numbers: &[usize],
     clauses: &ForClauses,
     range: Option<Range>,
     h: ForHead,
@@ -135,8 +133,8 @@ pub fn for_tail(
 ) -> Result<usize, AllocError>
     requires height { greatest_height (first_contents (first_of clauses.now.first.now)) < 2 ^ 64 }
     requires waits { Waits code.old h.turn }
-    ensures { IfOk result (λ n. ForTailCode variables.now code.old code.new numbers.now clauses.now.line
-        (first_of clauses.now.first.now) (parts_with range) h body n) }
+    ensures { IfOk result (λ n. ForTailCode code.old code.new clauses.now.line (first_of clauses.now.first.now)
+        (parts_with range) h body n) }
 {
     let setting = first(code, clauses.first, h.condition)?;
     let counted = add_loop(code, range, setting, h)?;
@@ -148,6 +146,6 @@ pub fn for_tail(
             next: body,
         },
     );
-    let entry = enter(code, variables, numbers, clauses.line, setting)?;
+    let entry = enter(code, h.inside.block, clauses.line, setting)?;
     Ok(entry)
 }

@@ -127,8 +127,8 @@ fn block(
     let declared = block_variables(code.alloc, body)?;
     let numbers = declared.as_slice();
     let inside = leave(code, variables, numbers, x)?;
-    let first = statements(code, variables, body, inside)?;
-    let entry = enter(code, variables, numbers, line, first)?;
+    let first = statements(code, variables, body, inside.exits)?;
+    let entry = enter(code, inside.block, line, first)?;
     Ok(entry)
 }
 
@@ -244,9 +244,9 @@ fn for_loop(
     let declared = first_variables(code.alloc, clauses.first)?;
     let numbers = declared.as_slice();
     let head = for_parts(code, variables, numbers, clauses, x)?;
-    let turn = statement(code, variables, body, head.inside.in_loop(head.step))?;
+    let turn = statement(code, variables, body, head.inside.exits.in_loop(head.step))?;
     let range = counted_parts(clauses.first, clauses.condition, clauses.step, body);
-    let entry = for_tail(code, variables, numbers, clauses, range, head, turn)?;
+    let entry = for_tail(code, clauses, range, head, turn)?;
     Ok(entry)
 }
 
@@ -269,11 +269,11 @@ fn switch(
     let declared = switch_variables(code.alloc, items)?;
     let numbers = declared.as_slice();
     let inside = leave(code, variables, numbers, x)?;
-    let nodes = switch_items(code, variables, items, inside.in_switch())?;
+    let nodes = switch_items(code, variables, items, inside.exits.in_switch())?;
     let starts = nodes.as_slice();
-    let other = default_start(items, starts, inside.next);
+    let other = default_start(items, starts, inside.exits.next);
     let tests = test_items(code, items, starts, other)?;
-    let entry = enter(code, variables, numbers, line, tests)?;
+    let entry = enter(code, inside.block, line, tests)?;
     let first = code.expression(e, 0, entry)?;
     Ok(first)
 }

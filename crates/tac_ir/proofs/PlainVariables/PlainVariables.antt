@@ -187,11 +187,11 @@ local_check Spatial size v line y = keeps_local y (local_pass (is_within v.tag v
 local_check Temporal size v line y = record
     { by = λ s. (keeps_local y (local_pass (is_live_tag v.tag s.objects) (ending.Temporal line))).by s }
 
-left_keeps : (y u m : ℕ) (temps : Temps) (frames : List Frame) (s : State)
-    → KeepsPlainAt y s (left_for u m temps frames s)
-left_keeps y u m temps [] s = stuck_keeps
-left_keeps y u m temps (Waits w ∷ frames) s = stuck_keeps
-left_keeps y u m temps (Entered b ∷ frames) s = record { by = refl }
+left_keeps : (y n u m : ℕ) (temps : Temps) (frames : List Frame) (s : State)
+    → KeepsPlainAt y s (left_for n u m temps frames s)
+left_keeps y n u m temps [] s = stuck_keeps
+left_keeps y n u m temps (Waits w ∷ frames) s = stuck_keeps
+left_keeps y n u m temps (Entered k b ∷ frames) s = only_keeps s (k == n) _ (record { by = refl })
 
 -- an update of another variable
 
@@ -259,9 +259,9 @@ act_keeps g t (Print x line d n m) u temps frames s y e = came_keeps s _ (given_
 act_keeps g t (Call f line d n m) u temps frames s y e = cc
 act_keeps g t (CallThrough type_number line d n m) u temps frames s y e = cc
 act_keeps g t (EnterBlock b line m) u temps frames s y e =
-    came_keeps s _ (λ q z. Stands u m temps (Entered q ∷ frames) z)
+    came_keeps s _ (λ q z. Stands u m temps (Entered b q ∷ frames) z)
     (enter_keeps y g (objects_in (function_in t u) b) line) (λ _ z. stands_keeps)
 act_keeps g t (Turn counted m) u temps frames s y e = record { by = refl }
-act_keeps g t (LeaveBlock m) u temps frames s y e = left_keeps y u m temps frames s
+act_keeps g t (LeaveBlock b m) u temps frames s y e = left_keeps y b u m temps frames s
 act_keeps g t (Return a) u temps frames s y e = cc
 act_keeps g t i u temps frames s y e = stands_keeps

@@ -3,5 +3,4 @@ use Rattle.program_lowering.proofs.parts.block.leave.Goals as goal
 
 pub returns-in_ok-returns : goal.returns-in_ok-returns
 returns-in_ok-returns c =
-    leave_there c.has_objects.ensures c.if-has_objects.true c.in_ok-next.ensures c.in_ok-breaks.ensures
-    c.in_ok-continues.ensures c.in_ok-returns.ensures
+    leave_there c.has_objects.ensures c.if-has_objects.true c.in_ok-block.ensures c.in_ok-exits.ensures

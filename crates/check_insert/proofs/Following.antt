@@ -48,7 +48,7 @@ use Rattle.tac_ir.specs.Accesses.{only_if, is_live_at, is_there, is_place, admit
 use Rattle.tac_ir.specs.Costs.{entries_of, cost, spent}
 use Rattle.tac_ir.specs.Meaning.{code_of, keys_of, objects_in, function_in, if_there, keyed_by, keyed, right_value}
 use Rattle.tac_ir.specs.Meaning.{header_of_code, setting_of_code, begun, called_at, called, given_in, act, act_at}
-use Rattle.tac_ir.specs.Meaning.{line_in, at_node, step, objects_before, placed_data, first_stage, tac_meaning}
+use Rattle.tac_ir.specs.Meaning.{check, line_in, at_node, step, objects_before, placed_data, first_stage, tac_meaning}
 use Rattle.tac_ir.proofs.KeyWork.{gives_work}
 use Rattle.tac_ir.proofs.Turns.{follower_never_stuck}
 use Rattle.check_insert.specs.Inserted.{Has, StandsFor, InsertedAt, Inserted}
@@ -299,13 +299,15 @@ module _ (g : Setting) (t t' : Tac) (ins : Inserted t t') where
         ∙ ap (λ b. came (pass_or_stop b (ending.Spatial line) (at_work (s.work + 1) s))
         (λ _ z. Stands u n1 temps frames z)) e
 
-    second_step : (b : Bool) → is_live_tag v.tag s.objects ≡ b
+    second_step : is_within v.tag v.word size ≡ true → (b : Bool) → is_live_tag v.tag s.objects ≡ b
         → run (step g t') 1 (Stands u n1 temps frames (at_work (s.work + 1) s))
         ≡ came (pass_or_stop b (ending.Temporal line) (at_work (s.work + 1 + 1) s)) (λ _ z. Stands u n2 temps frames z)
-    second_step b e =
+    second_step e0 b e =
         ap (λ j. act_at g t' j u temps frames (at_work (s.work + 1) s)) has2
         ∙ act_same (Judge Temporal size line key a n2) u temps frames (at_work (s.work + 1 + 1) s)
         ∙ key_open (s.work + 1 + 1) _
+        ∙ ap (λ q. only_if q (came (check Temporal size v line (at_work (s.work + 1 + 1) s))
+        (λ _ z. Stands u n2 temps frames z))) e0
         ∙ ap (λ b. came (pass_or_stop b (ending.Temporal line) (at_work (s.work + 1 + 1) s))
         (λ _ z. Stands u n2 temps frames z)) e
 
@@ -335,7 +337,7 @@ module _ (g : Setting) (t t' : Tac) (ins : Inserted t t') where
         let z : State = at_work before s in
         let both : run (step g t') 2 (Stands u n temps frames s)
         ≡ Over (ending.Temporal line) (at_work (s.work + 1 + 1) s) = ap (run (step g t') 1) (first_step true e)
-        ∙ second_step false e' in (
+        ∙ second_step e false e' in (
           2,
           subst (λ y. Matches y (run (step g t') 2 (Stands u n temps frames s)))
               (sym (x_came ∙ ap (λ o. came o F) (ended.by (ending.Temporal line) z (dead_by size v line z e e'))))
@@ -343,7 +345,7 @@ module _ (g : Setting) (t t' : Tac) (ins : Inserted t t') where
         )
     checked_by true true e e' =
         let all : run (step g t') 3 (Stands u n temps frames s) ≡ placed = ap (run (step g t') 2) (first_step true e)
-        ∙ ap (run (step g t') 1) (second_step true e') ∙ third_step e e' in
+        ∙ ap (run (step g t') 1) (second_step e true e') ∙ third_step e e' in
         (3, same_matches x _ fine (all ∙ sym x_is))
 
     pub checked : (j : ℕ) × Matches x (run (step g t') j (Stands u n temps frames s))

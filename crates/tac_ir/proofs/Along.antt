@@ -23,7 +23,7 @@ use Rattle.tac_ir.specs.declared.function.CodeFunction.{CodeFunction}
 use Rattle.tac_ir.specs.declared.function.Tac.{Tac}
 use Rattle.tac_ir.specs.Stage.{Temps, Frame, Waits, Entered, Stage, Stands, came}
 use Rattle.tac_ir.specs.Keys.{gives}
-use Rattle.tac_ir.specs.Accesses.{only_if, admitted, moved_from}
+use Rattle.tac_ir.specs.Accesses.{can_check, only_if, admitted, moved_from}
 use Rattle.tac_ir.specs.Edges.{LeadsTo, GoesAlong}
 use Rattle.tac_ir.specs.Meaning.{function_in, keyed_by, keyed, header_of_code, begun, called_at, given_in, given_to}
 use Rattle.tac_ir.specs.Meaning.{left_for, act}
@@ -128,8 +128,9 @@ act_along g t (Update w k f mode line at key d a right m) u temps frames s = key
     (came_along (Update w k f mode line at key d a right m) u frames _ (given_in u m temps d frames)
     (λ v z. record { by = inl (refl, inl refl) })))
 act_along g t (Judge test size line key a m) u temps frames s = keyed_along (Judge test size line key a m) u frames _
-    key s _ _ (came_along (Judge test size line key a m) u frames _ (λ _ z. Stands u m temps frames z)
-    (λ v z. record { by = inl (refl, inl refl) }))
+    key s _ _ (only_along (Judge test size line key a m) u frames (can_check test size (temps a).value) _
+    (came_along (Judge test size line key a m) u frames _ (λ _ z. Stands u m temps frames z)
+    (λ v z. record { by = inl (refl, inl refl) })))
 act_along g t (Zero x m) u temps frames s = only_along (Zero x m) u frames _ _
     (came_along (Zero x m) u frames _ (λ _ z. Stands u m temps frames z) (λ v z. record { by = inl (refl, inl refl) }))
 act_along g t (StorePart kind line x offset a m) u temps frames s = only_along (StorePart kind line x offset a m) u

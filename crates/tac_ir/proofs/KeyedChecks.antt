@@ -9,7 +9,7 @@ use Rattle.tac_ir.specs.declared.key.Key.{Key}
 use Rattle.tac_ir.specs.declared.function.Tac.{Tac}
 use Rattle.tac_ir.specs.Stage.{Temps, Frame, Stage, Stands, Stuck, came}
 use Rattle.tac_ir.specs.Keys.{gives}
-use Rattle.tac_ir.specs.Accesses.{only_if}
+use Rattle.tac_ir.specs.Accesses.{only_if, can_check}
 use Rattle.tac_ir.specs.Meaning.{check, keys_of, function_in, keyed_by, act}
 
 only_true : (b : Bool) (x : Stage) → (only_if b x ≡ Stuck → ⊥) → b ≡ true
@@ -26,4 +26,5 @@ pub check_keyed : (g : Setting) (t : Tac) (of : Test) (size line n a m u : ℕ) 
     → (key : Key) × (slice_get (keys_of (function_in t u)) n ≡ Some key) × (gives key s (temps a).value ≡ true)
 check_keyed g t of size line n a m u temps frames s fine =
     key_found (slice_get (keys_of (function_in t u)) n) s (temps a).value
-    (came (check of size (temps a).value line s) (λ _ z. Stands u m temps frames z)) fine
+    (only_if (can_check of size (temps a).value)
+    (came (check of size (temps a).value line s) (λ _ z. Stands u m temps frames z))) fine

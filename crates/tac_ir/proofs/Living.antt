@@ -35,7 +35,7 @@ use Rattle.tac_ir.specs.declared.function.CodeFunction.{CodeFunction}
 use Rattle.tac_ir.specs.declared.function.Tac.{Tac}
 use Rattle.tac_ir.specs.Stage.{Temps, gathered, Frame, Entered, Stage, Begins, Stands, Over, Stuck, came}
 use Rattle.tac_ir.specs.Keys.{gives}
-use Rattle.tac_ir.specs.Accesses.{only_if, admitted, moved_from, is_through}
+use Rattle.tac_ir.specs.Accesses.{can_check, only_if, admitted, moved_from, is_through}
 use Rattle.tac_ir.specs.Changes.{ends_lives, KeepsLivesAt}
 use Rattle.tac_ir.specs.Meaning.{function_in, objects_in, text_in, keyed_by, keyed, right_value, part_pointer, check}
 use Rattle.tac_ir.specs.Meaning.{header_of_code, begun, called_at, given_in, act}
@@ -142,8 +142,9 @@ act_lives g t (Update w k f mode line at key d a right m) u temps frames s e =
     (lives_updated w k (right_value right temps) at))) (λ _ z. stands_keeps)))
 act_lives g t (Judge of size line key a m) u temps frames s e =
     keyed_keeps _ key s _ s _
+    (only_keeps s (can_check of size (temps a).value) _
     (came_keeps s _ (λ _ z. Stands u m temps frames z) (lives_check of size (temps a).value line)
-    (λ _ z. stands_keeps))
+    (λ _ z. stands_keeps)))
 act_lives g t (Zero x m) u temps frames s e = only_keeps s _ _
     (came_keeps s _ (λ _ z. Stands u m temps frames z) (lives_zero_variable x) (λ _ z. stands_keeps))
 act_lives g t (StorePart kind line x offset a m) u temps frames s e =

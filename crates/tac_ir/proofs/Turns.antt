@@ -43,7 +43,7 @@ use Rattle.tac_ir.specs.declared.function.CodeFunction.{CodeFunction}
 use Rattle.tac_ir.specs.declared.function.Tac.{Tac}
 use Rattle.tac_ir.specs.Stage.{Temps, gathered, Frame, Waits, Entered, Stage, Begins, Stands, Over, Stuck, came, seen}
 use Rattle.tac_ir.specs.Keys.{gives}
-use Rattle.tac_ir.specs.Accesses.{only_if, is_live_at, is_there, is_place, admitted, moved_from, is_home, is_through}
+use Rattle.tac_ir.specs.Accesses.{can_check, only_if, is_live_at, is_there, is_place, admitted, moved_from, is_home, is_through}
 use Rattle.tac_ir.specs.Costs.{cost, spent}
 use Rattle.tac_ir.specs.Meaning.{objects_in, function_in, text_in, keyed_by, keyed, right_value, part_pointer, check}
 use Rattle.tac_ir.specs.Meaning.{header_of_code, setting_of_code, given_to, left_for, called_at, called, act, act_at}
@@ -153,8 +153,8 @@ module _ (g : Setting) (t : Tac) where
       (acts_update k (is_through mode) (temps a).value line w (right_value right temps) at f)) (omega arith)
       (λ v s' le. le)))
   act_within (Judge test size line key a m) u temps frames s =
-      keyed_within _ _ key s (temps a).value _
-      (run_within _ _ _ s (acts_check test size (temps a).value line) (omega arith) (λ v s' le. le))
+      keyed_within _ _ key s (temps a).value _ (only_within _ (can_check test size (temps a).value) _
+      (run_within _ _ _ s (acts_check test size (temps a).value line) (omega arith) (λ v s' le. le)))
   act_within (Zero x m) u temps frames s =
       only_within _ (is_home (get_or s.frame x NoObject) s.objects) _
       (run_within _ (zero_variable x) _ s (acts_zero_variable x) (omega arith) (λ v s' le. le))

@@ -10,6 +10,8 @@ use Rattle.source_meaning.specs.State.{Rvalue, Home, NoObject, InObject}
 use Rattle.source_meaning.specs.Judging.{is_within, is_live_tag}
 use Rattle.tac_ir.specs.declared.instruction.Mode.{Mode}
 use Rattle.tac_ir.specs.declared.instruction.Mode.TheVariants.{Named, Unchecked, Judged}
+use Rattle.tac_ir.specs.declared.instruction.Test.{Test}
+use Rattle.tac_ir.specs.declared.instruction.Test.TheVariants.{Spatial, Temporal}
 use Rattle.tac_ir.specs.Stage.{Stage, Stuck}
 
 abbrev pub only_if : Bool → Stage → Stage
@@ -46,6 +48,11 @@ abbrev pub admitted : Mode → (size : ℕ) → Rvalue → Objects → Stage →
 admitted Named size q objects next = only_if (is_there q.contents size q.value objects) next
 admitted Unchecked size q objects next = only_if (is_place q.contents) next
 admitted Judged size q objects next = only_if (is_place q.contents && is_inside size q.value objects) next
+
+-- the life of an object is asked for alone where the bounds allow the access
+abbrev pub can_check : Test → (size : ℕ) → Value → Bool
+can_check Spatial size v = true
+can_check Temporal size v = is_within v.tag v.word size
 
 -- a structure value that is moved is there
 abbrev pub moved_from : Kind → Rvalue → Objects → Stage → Stage

@@ -48,7 +48,7 @@ use Rattle.tac_ir.specs.declared.function.Tac.{Tac}
 use Rattle.tac_ir.specs.Stage.{Temps, no_temps, with_temp, gathered, Frame, Waits, Entered, Stage, Begins, Stands, Over}
 use Rattle.tac_ir.specs.Stage.{Stuck, came, seen}
 use Rattle.tac_ir.specs.Keys.{gives}
-use Rattle.tac_ir.specs.Accesses.{only_if, is_live_at, admitted, moved_from, is_home, is_through}
+use Rattle.tac_ir.specs.Accesses.{only_if, can_check, is_live_at, admitted, moved_from, is_home, is_through}
 use Rattle.tac_ir.specs.Costs.{cost, spent}
 
 -- tables
@@ -199,8 +199,8 @@ act g t (Update w k f mode line at key d a right m) u temps frames s =
     (came (as_rvalue (update k (is_through mode) (temps a).value line (updated w k (right_value right temps) at) f) s)
     (given_in u m temps d frames)))
 act g t (Judge test size line key a m) u temps frames s =
-    keyed (keys_of (function_in t u)) key s (temps a).value
-    (came (check test size (temps a).value line s) (λ _ s. Stands u m temps frames s))
+    keyed (keys_of (function_in t u)) key s (temps a).value (only_if (can_check test size (temps a).value)
+    (came (check test size (temps a).value line s) (λ _ s. Stands u m temps frames s)))
 act g t (Zero x m) u temps frames s =
     only_if (is_home (get_or s.frame x NoObject) s.objects)
     (came (zero_variable x s) (λ _ s. Stands u m temps frames s))

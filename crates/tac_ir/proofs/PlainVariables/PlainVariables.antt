@@ -40,7 +40,7 @@ use Rattle.tac_ir.specs.declared.key.Key.{Key}
 use Rattle.tac_ir.specs.declared.function.Tac.{Tac}
 use Rattle.tac_ir.specs.Stage.{Temps, gathered, Frame, Waits, Entered, Stage, Begins, Stands, Over, Stuck, came}
 use Rattle.tac_ir.specs.Keys.{gives}
-use Rattle.tac_ir.specs.Accesses.{only_if, admitted, moved_from, is_through}
+use Rattle.tac_ir.specs.Accesses.{can_check, only_if, admitted, moved_from, is_through}
 use Rattle.tac_ir.specs.Meaning.{function_in, objects_in, text_in, keyed_by, keyed, right_value, part_pointer, check}
 use Rattle.tac_ir.specs.Meaning.{given_in, left_for, act}
 use Rattle.tac_ir.specs.PlainVariables.PlainChanges.{changes_plain, KeepsPlainAt}
@@ -238,8 +238,9 @@ act_keeps g t (Update w k f mode line at key d a right m) u temps frames s y e =
     (local_updated w k (right_value right temps) at)))) (λ _ z. stands_keeps)))
 act_keeps g t (Judge of size line key a m) u temps frames s y e =
     keyed_keeps _ key s _ s _
+    (only_keeps s (can_check of size (temps a).value) _
     (came_keeps s _ (λ _ z. Stands u m temps frames z) (local_check of size (temps a).value line y)
-    (λ _ z. stands_keeps))
+    (λ _ z. stands_keeps)))
 act_keeps g t (Zero x m) u temps frames s y e = only_keeps s _ _
     (came_keeps s _ (λ _ z. Stands u m temps frames z) (keeps_local y (local_zero_variable x)) (λ _ z. stands_keeps))
 act_keeps g t (StorePart kind line x offset a m) u temps frames s y e =

@@ -178,7 +178,7 @@ body = record {
             27,
             (record { next = 28; breaks = 29; continues = 29; returns = 30 }),
             Some 0,
-            (refl, refl),
+            (None, tt, refl, refl),
             (4, refl, refl),
             (8, (6, 7, refl, refl, refl), refl),
             refl,
@@ -187,7 +187,7 @@ body = record {
             (
               11,
               (record { next = 24; breaks = 25; continues = 24; returns = 26 }),
-              ((0, refl, refl), (refl, refl, refl, refl)),
+              (Some 0, refl, refl, (refl, refl, refl, refl)),
               (
                 11,
                 (11, refl, refl),
@@ -199,7 +199,7 @@ body = record {
                     (
                       15,
                       record { next = 19; breaks = 25; continues = 24; returns = 26 },
-                      (refl, refl),
+                      (None, tt, refl, refl),
                       (
                         17,
                         (16, (16, 16, refl, refl, refl), refl),

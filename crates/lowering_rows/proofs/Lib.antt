@@ -1,1 +1,2 @@
 mod BlockEntered
+mod StuckCode

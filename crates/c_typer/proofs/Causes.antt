@@ -21,9 +21,9 @@ use Rattle.c_unit_typing.specs.Units.{file_in}
 use Rattle.c_typer.specs.Limits.{IsExcess}
 use Rattle.c_typer.specs.Outlines.{Outline, program_in}
 use Rattle.c_typer.specs.Rooms.{first_without_room}
-use Rattle.typing_laws.specs.TreeSizes.Nodes.{nodes_of}
-use Rattle.typing_laws.proofs.ProgramSizes.Programs.{unit_words_program}
-use Rattle.typing_laws.proofs.Programs.Programs.Units.{unit_valid}
+use Rattle.program_laws.specs.TreeSizes.Nodes.{nodes_of}
+use Rattle.program_laws.proofs.ProgramSizes.Programs.{unit_words_program}
+use Rattle.program_laws.proofs.Programs.Units.{unit_valid}
 use Rattle.c_typer.specs.declared.unit.UnitRefusal.{UnitRefusal}
 use Rattle.c_typer.specs.declared.unit.UnitRefusal.TheVariants.{Fault as OfFault, Memory, RoomTooLarge, TooLarge}
 use Rattle.c_typer.specs.Refused.{IsCauseOf, IsWithoutRoom, UnlessMemory, refusal_of}

@@ -2,6 +2,7 @@
 use Rattle.std.proofs.Common.{◌≡◌, ℕ, zero, suc, ◌+◌, ◌<◌, ◌≤◌, refl, sym, ap, ◌∙◌, Bool, false, List, [], ◌∷◌}
 use Rattle.std.proofs.Common.{◌++◌, length, map, replicate, drop, get_or, arith, subst}
 use Rattle.std.specs.Prelude.{Option, Some, None, option_map, slice_get, ◌==◌, if◌then◌else◌}
+use Rattle.std.proofs.lemmas.Bool.{eq-eqb}
 use Rattle.std.proofs.lemmas.Bool.Decides.{nat_tests}
 use Rattle.std.proofs.lemmas.List.{append_assoc, append-nil, drop_all, length-replicate}
 use Rattle.c_tree.specs.declared.c_type.TypeWord.{TypeWord}
@@ -19,7 +20,6 @@ use Rattle.c_typer.specs.declared.state.LinkedInitializer as code_initializer
 use Rattle.c_typer.specs.declared.state.LocalStatic as code_static
 use Rattle.c_typer.specs.FileState.{linked_initializer_of, local_static_of}
 use Rattle.c_unit_typing.specs.Programs.{in_order, literal_object, parts_of, with_number}
-use Rattle.typing_laws.proofs.Programs.Common.{same_number}
 use Rattle.c_typer.specs.declared.programs.statics.Found.{Found}
 use Rattle.c_typer.specs.declared.programs.statics.Found.TheVariants.{Whole, Linked}
 use Rattle.c_typer.specs.Slots.{all_placed, kept, placed}
@@ -39,14 +39,14 @@ below n p less = grind (arith, nat_tests)
 -- the first with a number
 
 number_here : (n : ℕ) (o : StaticObject) (os : List (ℕ × StaticObject)) → with_number n ((n, o) ∷ os) ≡ o ∷ []
-number_here n o os = ap (λ b. if b then o ∷ [] else with_number n os) (same_number n)
+number_here n o os = ap (λ b. if b then o ∷ [] else with_number n os) (eq-eqb n n refl)
 
 number_other : (n p : ℕ) (o : StaticObject) (os : List (ℕ × StaticObject)) → (n == p) ≡ false
     → with_number n ((p, o) ∷ os) ≡ with_number n os
 number_other n p o os e = ap (λ b. if b then o ∷ [] else with_number n os) e
 
 parts_at : (n : ℕ) (ps : List Part) (is : List (ℕ × List Part)) → parts_of n ((n, ps) ∷ is) ≡ ps
-parts_at n ps is = ap (λ b. if b then ps else parts_of n is) (same_number n)
+parts_at n ps is = ap (λ b. if b then ps else parts_of n is) (eq-eqb n n refl)
 
 parts_other : (n p : ℕ) (ps : List Part) (is : List (ℕ × List Part)) → (n == p) ≡ false
     → parts_of n ((p, ps) ∷ is) ≡ parts_of n is

@@ -9,12 +9,11 @@ use Rattle.c_scope.specs.declared.meaning.Designated.TheVariants as what
 use Rattle.c_scope.specs.declared.meaning.Meaning.{Meaning}
 use Rattle.c_scope.specs.declared.meaning.Meaning.TheVariants.{Constant, Named, Typedef}
 use Rattle.c_scope.specs.Names.{Names}
-use Rattle.c_scope.specs.Parameters.{ParameterScope}
+use Rattle.c_scope.specs.Parameters.{ParameterScope, with_parameters}
 use Rattle.c_operand_typing.specs.Calls.{place_among}
 use Rattle.c_typing_state.specs.State.{State}
 use Rattle.c_unit_typing.specs.Files.{File}
 use Rattle.c_unit_typing.specs.Units.{entered, parameter_in, parameters_in}
-use Rattle.typing_laws.proofs.Programs.Scopes.Files.{inside}
 use Rattle.c_typer.specs.Entering.{begun, parameter_of}
 
 -- one after the other
@@ -43,34 +42,36 @@ parameters_end s es n vs all past e =
 
 -- before and in their scope
 
-one_same : (n : ℕ) (scope : ParameterScope) (f : File) (types : List (List TypeWord)) (m : Meaning)
-    → parameter_in (begun n f).state m ≡ parameter_in (record (inside n scope f) { function_types = types }) m
-one_same n scope f types (Typedef type) = refl
-one_same n scope f types (Constant word) = refl
-one_same n scope f types (Named (what.Object k) type) = refl
-one_same n scope f types (Named (what.Function k) type) = refl
-one_same n scope f types (Named (what.Library l) type) = refl
-one_same n scope f types (Named (what.Static k) type) = refl
-one_same n scope f types (Named (what.Variable k) type) = refl
+abbrev scoped : ParameterScope → State → State
+scoped scope s = record s { environment = with_parameters scope s.environment }
 
-all_same : (n : ℕ) (scope : ParameterScope) (f : File) (types : List (List TypeWord)) (es : Names Meaning)
-    → parameters_in (begun n f).state es ≡ parameters_in (record (inside n scope f) { function_types = types }) es
-all_same n scope f types [] = refl
-all_same n scope f types (e ∷ es) =
-    ap (λ z. z ++ parameters_in (begun n f).state es) (one_same n scope f types e.1)
-    ∙ ap (λ z. parameter_in (record (inside n scope f) { function_types = types }) e.1 ++ z)
-    (all_same n scope f types es)
+one_same : (s : State) (scope : ParameterScope) (types : List (List TypeWord)) (m : Meaning)
+    → parameter_in s m ≡ parameter_in (record (scoped scope s) { function_types = types }) m
+one_same s scope types (Typedef type) = refl
+one_same s scope types (Constant word) = refl
+one_same s scope types (Named (what.Object k) type) = refl
+one_same s scope types (Named (what.Function k) type) = refl
+one_same s scope types (Named (what.Library l) type) = refl
+one_same s scope types (Named (what.Static k) type) = refl
+one_same s scope types (Named (what.Variable k) type) = refl
 
-by_types : (n : ℕ) (scope : ParameterScope) (f : File) (types : List (List TypeWord)) (es : Names Meaning) (b : Bool)
-    → parameters_in (begun n f).state es
-    ≡ parameters_in (if b then inside n scope f else record (inside n scope f) { function_types = types }) es
-by_types n scope f types es true = all_same n scope f f.state.function_types es
-by_types n scope f types es false = all_same n scope f types es
+all_same : (s : State) (scope : ParameterScope) (types : List (List TypeWord)) (es : Names Meaning)
+    → parameters_in s es ≡ parameters_in (record (scoped scope s) { function_types = types }) es
+all_same s scope types [] = refl
+all_same s scope types (e ∷ es) =
+    ap (λ z. z ++ parameters_in s es) (one_same s scope types e.1)
+    ∙ ap (λ z. parameter_in (record (scoped scope s) { function_types = types }) e.1 ++ z) (all_same s scope types es)
+
+by_types : (s : State) (scope : ParameterScope) (types : List (List TypeWord)) (es : Names Meaning) (b : Bool)
+    → parameters_in s es
+    ≡ parameters_in (if b then scoped scope s else record (scoped scope s) { function_types = types }) es
+by_types s scope types es true = all_same s scope s.function_types es
+by_types s scope types es false = all_same s scope types es
 
 pub same_parameters : (n : ℕ) (type : List TypeWord) (scope : ParameterScope) (f : File) (es : Names Meaning)
     (s : State) (vs : List Variable) → s ≡ (begun n f).state → vs ≡ parameters_in s es
     → vs ≡ parameters_in (entered n type scope f).state es
 same_parameters n type scope f es s vs is are =
     are ∙ ap (λ z. parameters_in z es) is
-    ∙ by_types n scope f (f.state.function_types ++ type ∷ []) es
+    ∙ by_types (begun n f).state scope (f.state.function_types ++ type ∷ []) es
     (nat_lt (place_among type f.state.function_types) (length f.state.function_types))

@@ -6,7 +6,7 @@ ghost use Rattle.c_syntax.specs.StatementsView.{externals_in, unit_of};
 ghost use Rattle.c_syntax.specs.Words.{unit_words};
 ghost use Rattle.c_tree.specs.ValidProgram.{is_valid_program};
 ghost use Rattle.c_tree.specs.View as view;
-ghost use Rattle.typing_laws.specs.TreeSizes.Nodes.{nodes_of};
+ghost use Rattle.program_laws.specs.TreeSizes.Nodes.{nodes_of};
 ghost use Rattle.c_typer.specs.FileState.{file_of};
 ghost use Rattle.c_unit_typing.specs.Programs.{program_of};
 ghost use Rattle.c_unit_typing.specs.Typed.{a_program, are_constant, typed_unit, within_limits};

@@ -22,8 +22,8 @@ use Rattle.c_unit_typing.specs.Typed.{has_constants}
 use Rattle.c_unit_typing.specs.Typed.{are_constant, most_functions, typed_as, typed_unit}
 use Rattle.c_unit_typing.proofs.Within.{constant_within}
 use Rattle.c_typer.specs.Rooms.{first_without_room}
-use Rattle.typing_laws.proofs.Limits.Files.{unit_bounded}
-use Rattle.typing_laws.proofs.Programs.Programs.Units.{unit_valid}
+use Rattle.program_laws.proofs.Limits.Files.{unit_bounded}
+use Rattle.program_laws.proofs.Programs.Units.{unit_valid}
 use Rattle.source_meaning.specs.Calls.{function_at}
 use Rattle.image_laws.specs.Images.Images.{HaveFewParameters, most_parameters}
 use Rattle.compiled_programs.specs.Programs.{is_integer_program}

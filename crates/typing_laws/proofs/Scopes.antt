@@ -1,2 +1,10 @@
-pub mod Kept
-pub mod Agreeing
+pub mod Declarations
+pub mod Declaring
+pub mod Definitions
+pub mod Extended
+pub mod Files
+pub mod Initializers
+pub mod Leading
+pub mod Start
+pub mod Statements
+pub mod WellFormed

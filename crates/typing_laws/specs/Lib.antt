@@ -1,8 +1,11 @@
 pub mod Validity
 pub mod Declarators
-pub mod TreeSizes
-pub mod Programs
-pub mod Limits
-pub mod ProgramSizes
+pub mod Declarations
 pub mod Scopes
+pub mod SpelledTypes
+pub mod Layouts
+pub mod Types
+pub mod Places
+pub mod Initializers
+pub mod LaidOut
 pub mod Violations

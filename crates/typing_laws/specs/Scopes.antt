@@ -1,1 +1,3 @@
-pub mod Scopes
+pub mod Defined
+pub mod Leaving
+pub mod Regular

@@ -1,52 +1,56 @@
-//! Laws of validity in two scopes of one program.
+//! Laws of initializers, declarations and statements.
 
-ghost use Rattle.std.specs.Prelude.{◌≡◌, ℕ, true, false, List, []};
-ghost use Rattle.c_tree.specs.declared.expression.Kind.TheVariants as kind;
-ghost use Rattle.c_tree.specs.Tree.{Expression, Expressions, Lvalue};
-ghost use Rattle.c_tree.specs.Walk.{names_variable};
-ghost use Rattle.c_tree.specs.Statements.{Content, Part};
-ghost use Rattle.c_tree.specs.Programs.{Program, StaticObject};
-ghost use Rattle.c_tree.specs.Kinds.{size_of_kind};
-ghost use Rattle.c_tree.specs.Valid.{Scope, is_valid, are_valid, is_valid_lvalue};
-ghost use Rattle.c_tree.specs.ValidProgram.{content_names_variable, name_variables, is_content, is_part, are_parts};
-ghost use Rattle.c_tree.specs.ValidProgram.{scope_in, static_scope, variables_of_function};
-ghost use Rattle.typing_laws.specs.Scopes.Scopes.{AreAmong, AreOfOneProgram};
+ghost use Rattle.std.specs.Prelude.{◌≡◌, ℕ, Bool, true, false, List, Option};
+ghost use Rattle.c_scope.specs.Environment.{Facts};
+ghost use Rattle.c_initializer_rules.specs.Initializing.{Initializing};
+ghost use Rattle.c_syntax.specs.Formed.{IsWellFormed};
+ghost use Rattle.c_syntax.specs.Statements.{BlockItems, Declaration, External, Statement, Unit};
+ghost use Rattle.c_syntax.specs.Tree.{Initializer};
+ghost use Rattle.c_typing_state.specs.State.{State};
+ghost use Rattle.c_unit_typing.specs.Constructs.{Around, Labels};
+ghost use Rattle.c_unit_typing.specs.Declarations.{declaration};
+ghost use Rattle.c_unit_typing.specs.Files.{File};
+ghost use Rattle.c_unit_typing.specs.Initializers.{initialized};
+ghost use Rattle.c_unit_typing.specs.Statements.{block_items, statement};
+ghost use Rattle.c_unit_typing.specs.Units.{file_before, file_in};
+ghost use Rattle.typing_laws.specs.Validity.Sound.{IsFormed};
+ghost use Rattle.typing_laws.specs.Validity.Typed.{HaveMembers};
+ghost use Rattle.typing_laws.specs.Declarators.Extending.{Extending};
+ghost use Rattle.typing_laws.specs.Declarators.Given.{anything};
+ghost use Rattle.typing_laws.specs.Scopes.Defined.{define_functions};
+ghost use Rattle.typing_laws.specs.Scopes.Leaving.{IfEnds, Leading};
+ghost use Rattle.typing_laws.specs.Scopes.Regular.{are_regular_block_items, are_regular_externals};
+ghost use Rattle.typing_laws.specs.Scopes.Regular.{is_regular_declaration, is_regular_initializer};
+ghost use Rattle.typing_laws.specs.Scopes.Regular.{is_regular_statement};
 
-/// What is valid in one scope is valid in another of its program where all can be named that can be named in the first
-/// (C99 6.2.1).
-pub fn opened_scopes_keep_what_is_valid()
-    ensures expression { (a b : Scope) → AreOfOneProgram a b → AreAmong a.variables b.variables → (e : Expression)
-        → is_valid a e ≡ true → is_valid b e ≡ true }
-    ensures row { (a b : Scope) → AreOfOneProgram a b → AreAmong a.variables b.variables → (es : Expressions)
-        → are_valid a es ≡ true → are_valid b es ≡ true }
-    ensures place { (a b : Scope) → AreOfOneProgram a b → AreAmong a.variables b.variables → (p : Lvalue)
-        → is_valid_lvalue a p ≡ true → is_valid_lvalue b p ≡ true }
-    ensures content { (a b : Scope) → AreOfOneProgram a b → AreAmong a.variables b.variables → (c : Content)
-        → is_content a c ≡ true → is_content b c ≡ true }
-    ensures part { (a b : Scope) → AreOfOneProgram a b → AreAmong a.variables b.variables → (size : ℕ) (p : Part)
-        → is_part a size p ≡ true → is_part b size p ≡ true }
-    ensures parts { (a b : Scope) → AreOfOneProgram a b → AreAmong a.variables b.variables
-        → (size : ℕ) (ps : List Part) → are_parts a size ps ≡ true → are_parts b size ps ≡ true }
+/// Behind a file that is accepted, tags stand for structures and unions that are declared, complete ones have from 1 to
+/// 2^32 bytes, and their members lie in them (C99 6.7.2.1).
+pub fn files_end_formed()
+    ensures { (end : ℕ) (es : List External) → are_regular_externals es ≡ true → IfEnds (file_in end es) }
 {}
 
-/// What names no parameter or automatic variable is valid in all scopes of a program or in none.
-pub fn what_names_no_variable_is_valid_in_each_scope()
-    ensures expression { (a b : Scope) → AreOfOneProgram a b → (e : Expression) → names_variable e ≡ false
-        → is_valid a e ≡ true → is_valid b e ≡ true }
-    ensures content { (a b : Scope) → AreOfOneProgram a b → (c : Content) → content_names_variable c ≡ false
-        → is_content a c ≡ true → is_content b c ≡ true }
-    ensures part { (a b : Scope) → AreOfOneProgram a b → (size : ℕ) (p : Part)
-        → content_names_variable p.content ≡ false → is_part a size p ≡ true → is_part b size p ≡ true }
-    ensures parts { (a b : Scope) → AreOfOneProgram a b → (size : ℕ) (ps : List Part) → name_variables ps ≡ false
-        → are_parts a size ps ≡ true → are_parts b size ps ≡ true }
+/// At the start of a file the state is formed, and no structure has members.
+pub fn files_begin_formed()
+    ensures { (objects : Option (List (List Bool))) (facts : Facts)
+        → IsFormed (file_before objects facts).state × HaveMembers (file_before objects facts).state }
 {}
 
-/// The parts of a static object's initializer that are valid where it is declared are valid in the scope in which the
-/// program judges them: if they name a variable, all variables of the function can be named there.
-pub fn initializers_of_static_objects_are_valid_in_their_programs()
-    ensures static_parts { (p : Program) (o : StaticObject) (a : Scope)
-        → AreOfOneProgram a (scope_in p [] [] kind.Void)
-        → (name_variables o.parts ≡ true → AreAmong a.variables (variables_of_function p.functions o.function))
-        → are_parts a (size_of_kind o.kind) o.parts ≡ true
-        → are_parts (static_scope p o) (size_of_kind o.kind) o.parts ≡ true }
+/// Initializers, declarations and statements leave the scopes around as they are, structures and unions that are
+/// complete with their members, and add to the variables, static objects and initializers of the file (C99 6.2.1).
+pub fn typing_leaves_scopes()
+    ensures initializer { (x : Initializer) → is_regular_initializer x ≡ true → (i : Initializing) (s : State)
+        → IsFormed s → Extending false s anything (initialized x i s) }
+    ensures declaration { (in_head : Bool) (d : Declaration) → is_regular_declaration d ≡ true → (f : File)
+        → IsFormed f.state → Leading f (declaration in_head d f) }
+    ensures statement { (a : Around) (ls : Labels) (s : Statement) → is_regular_statement s ≡ true → (f : File)
+        → IsFormed f.state → Leading f (statement a ls s f) }
+    ensures items { (a : Around) (xs : BlockItems) → are_regular_block_items xs ≡ true → (f : File)
+        → IsFormed f.state → Leading f (block_items a xs f) }
+{}
+
+/// A well-formed file is regular: its structures and unions have members, each with a name (C99 6.7.2.1). Its
+/// definitions are of functions whose parameters have names (6.9.1).
+pub fn well_formed_files_are_regular()
+    ensures regular { (u : Unit) → IsWellFormed u → are_regular_externals u.externals ≡ true }
+    ensures defined { (u : Unit) → IsWellFormed u → define_functions u.externals ≡ true }
 {}

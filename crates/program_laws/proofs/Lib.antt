@@ -1,0 +1,13 @@
+pub mod Scopes
+pub mod Functions
+pub mod Files
+pub mod Bodies
+pub mod Names
+pub mod Tags
+pub mod Sizes
+pub mod Literals
+pub mod Statics
+pub mod Programs
+pub mod TreeSizes
+pub mod ProgramSizes
+pub mod Limits

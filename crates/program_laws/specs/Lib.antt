@@ -1,0 +1,11 @@
+pub mod Scopes
+pub mod Functions
+pub mod Files
+pub mod Bodies
+pub mod Names
+pub mod Sizes
+pub mod Literals
+pub mod Statics
+pub mod TreeSizes
+pub mod ProgramSizes
+pub mod Limits

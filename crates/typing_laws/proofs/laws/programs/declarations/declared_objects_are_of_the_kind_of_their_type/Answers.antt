@@ -1,7 +1,0 @@
-use Rattle.typing_laws.proofs.Programs.Declarations.Variables.{declared_has_size, declared_is_variable, static_is}
-use Rattle.typing_laws.proofs.Programs.Declarations.Variables.{variable_is}
-use Rattle.typing_laws.proofs.laws.programs.declarations.declared_objects_are_of_the_kind_of_their_type.Goals as goal
-
-pub returns : goal.returns
-returns c =
-    record { variable = variable_is; object = static_is; valid = declared_is_variable; sized = declared_has_size }

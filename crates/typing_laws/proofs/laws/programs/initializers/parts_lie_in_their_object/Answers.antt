@@ -1,5 +1,0 @@
-use Rattle.typing_laws.proofs.Programs.Initializers.Initialized.{initialized_if_is, placing_given}
-use Rattle.typing_laws.proofs.laws.programs.initializers.parts_lie_in_their_object.Goals as goal
-
-pub returns : goal.returns
-returns c = record { placed = placing_given; initialized = initialized_if_is }

@@ -1,5 +1,0 @@
-use Rattle.typing_laws.proofs.Programs.Initializers.Initialized.{scalar_initialized, value_alone}
-use Rattle.typing_laws.proofs.laws.programs.initializers.scalars_get_one_value.Goals as goal
-
-pub returns : goal.returns
-returns c = record { scalar = scalar_initialized; plain = value_alone }

@@ -1,5 +1,0 @@
-use Rattle.typing_laws.proofs.Programs.LaidOut.Files.{entered_laid, externals_laid}
-use Rattle.typing_laws.proofs.laws.programs.laid_out.files_stay_laid_out.Goals as goal
-
-pub returns : goal.returns
-returns c = record { externals = externals_laid; entered = entered_laid }

@@ -1,5 +1,0 @@
-use Rattle.typing_laws.proofs.Programs.Layouts.Start.{file_laid}
-use Rattle.typing_laws.proofs.laws.programs.layouts.files_begin_laid_out.Goals as goal
-
-pub returns : goal.returns
-returns c = file_laid

@@ -1,5 +1,0 @@
-use Rattle.typing_laws.proofs.Programs.Scopes.Start.{file_formed, file_members}
-use Rattle.typing_laws.proofs.laws.programs.scopes.files_begin_formed.Goals as goal
-
-pub returns : goal.returns
-returns c = λ objects facts. (file_formed objects facts, file_members objects facts)

@@ -1,5 +1,0 @@
-use Rattle.typing_laws.proofs.Programs.Scopes.Files.{file_ends}
-use Rattle.typing_laws.proofs.laws.programs.scopes.files_end_formed.Goals as goal
-
-pub returns : goal.returns
-returns c = file_ends

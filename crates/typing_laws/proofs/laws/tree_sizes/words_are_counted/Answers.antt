@@ -1,5 +1,0 @@
-use Rattle.typing_laws.proofs.TreeSizes.Words.{unit_count}
-use Rattle.typing_laws.proofs.laws.tree_sizes.words_are_counted.Goals as goal
-
-pub returns : goal.returns
-returns c = unit_count

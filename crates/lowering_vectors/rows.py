@@ -5,7 +5,8 @@ The texts are those of rows/. What a run puts out, how it ends, its turns, its a
 crates/source_meaning_rows/proofs states of the text, which is proved there by computation on the definitions; a row is each pair of
 budgets and input of which the ending, or that the run goes on, is stated. How many checks a text has is counted in the typed tree
 that rows/trees.py makes of it: a spatial and a temporal one for each object that is read, assigned or updated through `*`, `[]` or
-`->`, outside of `sizeof`, whether it is reached or not. HAND has further rows, all of them worked out by hand.
+`->`, outside of `sizeof`, whether it is reached or not. HAND has further rows, all of them worked out by hand, and so have TABLES,
+COUNTED and UNCOUNTED, of which the keys and the counted loops of each function are told too.
 
 usage: python3 crates/lowering_vectors/rows.py make
 """
@@ -54,17 +55,116 @@ HAND = [
      "120 sbcets: spatial violation at line 1", "access", b"ABCD"),
 ]
 
+# the same, and of each function the keys of its accesses and its counted loops
+
+TABLES = [
+    ("keys_of_constants",
+     "enum{TWO=2};\n"
+     "int f(int*p){return p[1&&1]+p[0||2]+p[0&&1/0]+p[1||1/0];}\n"
+     "int g(int*p){return p[1?1:1/0]+p[0?1/0:2]+p[TWO]+p[sizeof(int)-3]+p[(char)257]+(p+2)[-1]+*(p-(-1))+1[p];}\n"
+     "int h(int*p,int n){return p[1?1:(0,2)]+p[1&&n]+p[0*n];}\n"
+     "int main(void){int a[3];a[0]=1;a[1]=2;a[2]=4;return f(a)+g(a)+h(a,1);}\n", 36, "32", "", b"",
+     [("v0+4 v0+4 v0+0 v0+4", ""), ("v0+4 v0+8 v0+8 v0+4 v0+4 v0+4 v0+4 v0+4", ""), ("- - -", ""), ("a0+0 a0+4 a0+8", "")]),
+    ("same_key_by_and", "int f(int*p){return p[1&&1]+p[1&&1];}int main(void){int a[2];a[1]=4;return f(a);}\n", 6, "8", "", b"",
+     [("v0+4 v0+4", ""), ("a0+4", "")]),
+    ("keys_of_literals",
+     'char c[4]="abc";\n'
+     "int f(const char*p){return p[1]-97;}\n"
+     'int main(void){char s[]="abc";return "abc"[1]-98+*"x"-120+("ab"+1)[0]-98+(&"y"[0])[0]-121+*(char*)&"z"-122+f("ab")+s[1]-98'
+     "+c[1]-98+(c)[2]-99;}\n", 18, "1", "", b"", [("v0+1", ""), ("- - - - - a0+1 s0+1 s0+2", "")]),
+    ("keys_of_members",
+     "struct t{int a;int b[2];};struct t g[3];\n"
+     "int f(struct t*p,int i){return p->b[1]+p[i].a+(p+i)->b[0]+p[i].b[i]+p[i+0].a;}\n"
+     "int main(void){g[1].b[1]=3;return f(g,1);}\n", 12, "3", "", b"",
+     [("v0[4:8]+8 v0[0+12*v1:4]+0+12*v1 v0[4+12*v1:8]+4+12*v1 - -", ""), ("s0[16:8]+20", "")]),
+    ("keys_behind_right_sides",
+     "int f(int*p,int*q,int i){p[0]=(p=q,1);p[i]=sizeof(i=1);p[i]=0&&(i=1);p[1]+=(q=p,2);return p[i];}\n"
+     "int main(void){int a[2];int b[2];return f(a,b,0)+a[0]*10;}\n", 12, "10", "", b"",
+     [("- v0+0+4*v2 - v0+4 v0+0+4*v2", ""), ("a0+0", "")]),
+]
+
+# loops of one function each, which add to n: what stands before the loop, the loop, and what it counts
+
+COUNTED = [
+    ("int v;", "for(v=0;v<4;v++)n++;", "v0 0..4"),
+    ("int v;", "for(v=0;v<4;++v)n++;", "v0 0..4"),
+    ("int v;", "for(v=0;v<4;v=v+1)n++;", "v0 0..4"),
+    ("int v;", "for(v=0;v<4;v=v+0x1)n++;", "v0 0..4"),
+    ("int v;", "for(v=0;v<4;v=v+'\\1')n++;", "v0 0..4"),
+    ("int v;", "for(v=0;v<FOUR;v=v+ONE)n++;", "v0 0..4"),
+    ("", "for(int v=1&&0;v<(4);v++)n++;", "v0 0..4"),
+    ("int v;", "for(v=(-2);v<(1?2:1/0);v++)n++;", "v0 -2..2"),
+    ("int v;", "for(v=(int)0L;v<4;v++)n++;", "v0 0..4"),
+    # what `sizeof` takes is not in the tree
+    ("int v;", "for(v=0;v<4;v++)n+=sizeof(v=1);", "v0 0..4"),
+    ("int v;", "for(v=4;v<0;v++)n++;", "v0 4..0"),
+    # of two loops each has its own variable, and an inner one is in the body of the outer one
+    ("int v,w;", "for(v=0;v<2;v++)for(w=0;w<2;w++)n++;", "v0 0..2 v1 0..2"),
+]
+
+UNCOUNTED = [
+    # the first part
+    ("int v;", "for((v)=0;v<4;v++)n++;", ""),
+    ("int v;", "for((v=0);v<4;v++)n++;", ""),
+    ("int v;", "for(v=0L;v<4;v++)n++;", ""),
+    ("int v;", "for(v=(char)0;v<4;v++)n++;", ""),
+    ("int v;", "for(v=(0,0);v<4;v++)n++;", ""),
+    ("int v,z;", "for(v=0,z=1;v<4;v++)n+=z;", ""),
+    ("", "for(int v=0,z=1;v<4;v++)n+=z;", ""),
+    ("int v=0;", "for(;v<4;v++)n++;", ""),
+    ("int v=0,z;", "for(z=0;v<4;v++)n++;", ""),
+    # the condition
+    ("int v;", "for(v=0;v<(char)4;v++)n++;", ""),
+    ("int v;", "for(v=0;v<4L;v++)n++;", ""),
+    ("int v;", "for(v=0;v<4u;v++)n++;", ""),
+    ("int v;", "for(v=0;(v)<4;v++)n++;", ""),
+    ("int v;", "for(v=0;(v<4);v++)n++;", ""),
+    ("int v;", "for(v=0;4>v;v++)n++;", ""),
+    ("int v;", "for(v=0;v<=3;v++)n++;", ""),
+    ("int v,z=4;", "for(v=0;v<z;v++)n++;", ""),
+    # the step
+    ("int v;", "for(v=0;v<4;v=v+(2-1))n++;", ""),
+    ("int v;", "for(v=0;v<4;v=v+(1))n++;", ""),
+    ("int v;", "for(v=0;v<4;v=v+1L)n++;", ""),
+    ("int v;", "for(v=0;v<4;v=1+v)n++;", ""),
+    ("int v;", "for(v=0;v<4;v+=1)n++;", ""),
+    ("int v;", "for(v=0;v<4;(v)++)n++;", ""),
+    ("int v;", "for(v=0;v<4;++(v))n++;", ""),
+    ("int v;", "for(v=0;v<4;(v++))n++;", ""),
+    ("int v;", "for(v=0;v<4;v=(v)+1)n++;", ""),
+    ("int v;", "for(v=0;v<4;(v)=v+1)n++;", ""),
+    ("int v;", "for(v=0;v<4;v=(v+1))n++;", ""),
+    # the variable
+    ("char v;", "for(v=0;v<4;v++)n++;", ""),
+    ("unsigned v;", "for(v=0;v<4;v++)n++;", ""),
+    ("static int v;", "for(v=0;v<4;v++)n++;", ""),
+    ("int v;int*p=&v;p=p;", "for(v=0;v<4;v++)n++;", ""),
+    # the body, also where it is never evaluated
+    ("int v;", "for(v=0;v<4;v++)n+=1-(0&&(v=1));", ""),
+    ("int v;", "for(v=0;v<4;v++)n+=0?v++:1;", ""),
+    ("int v;", "for(v=0;v<4;v++){n++;if(0)v=1;}", ""),
+    ("int v;", "for(v=0;v<4;v++){n++;v=v;}", ""),
+]
+
+
+def loops_row(name, loops, status):
+    """A row of loops, of a function each, which are called in their order: it ends with n."""
+    functions = [f"void f{k}(void){{{before}{loop}}}\n" for k, (before, loop, _) in enumerate(loops)]
+    calls = "".join(f"f{k}();" for k in range(len(loops)))
+    text = "enum{ONE=1,FOUR=4};int n;\n" + "".join(functions) + f"int main(void){{{calls}return n;}}\n"
+    return name, text, 0, status, "", b"", [("", counts) for _, _, counts in loops] + [("", "")]
+
 
 # statements of the worked rows
 
 def bytes_of(term):
-    """The bytes of `[]`, of `(codes "..")`, or of a list in parentheses."""
+    """The bytes of `[]`, of `(codes ".." ++ codes "..")`, or of a list in parentheses."""
     term = term.strip()
     if term == "[]":
         return b""
-    text = re.search(r'codes\s+"(.*)"', term, re.S)
-    if text:
-        return unquoted(text.group(1))
+    texts = re.findall(r'codes\s+"((?:[^"\\]|\\.)*)"', term)
+    if texts:
+        return unquoted("".join(texts))
     term = term[1:-1] if term.startswith("(") else term
     return bytes(number(x) % 256 for x in term.split("∷")[:-1])
 
@@ -188,14 +288,19 @@ def line(when, ending, finder, output, stated):
     return words
 
 
-def row(name, text, checks, budgets, given, turns, ending, finder, output, stated):
+def table(number, keys, loops):
+    return f"  function {number}: keys{keys and ' ' + keys}; loops{loops and ' ' + loops}"
+
+
+def row(name, text, checks, budgets, given, turns, ending, finder, output, stated, tables=None):
     work = stated.work if stated.work is not None and stated.turns is not None else "-"
     accesses = "accesses" if stated.accesses is not None else "-"
     numbers = " ".join(str(budgets[n]) for n in ("heap", "stack", "calls", "blocks", "keys"))
-    head = f"{name} {numbers} {turns} {work} {accesses} {given.hex()}\n"
+    head = f"{name} {numbers} {turns} {work} {accesses} {'-' if tables is None else 'tables'} {given.hex()}\n"
     after = "check" if finder == "access" else finder
-    told = [f"{name}: {checks} checks, {checks // 2} and {checks // 2}", line("before", ending, finder, output, stated),
-            line("after", ending, after, output, stated)]
+    told = [f"{name}: {checks} checks, {checks // 2} and {checks // 2}"]
+    told += [table(number, *of) for number, of in enumerate(tables or [])]
+    told += [line("before", ending, finder, output, stated), line("after", ending, after, output, stated)]
     return head + text, "\n".join(told) + "\n"
 
 
@@ -227,6 +332,9 @@ def all_rows():
     yield from rows_of_proofs()
     for name, text, checks, ending, finder, output in HAND:
         yield row(name, text, checks, DEFAULT, b"", 1000, ending, finder, output, Stated())
+    loops = [loops_row("counted_loops", COUNTED, "56"), loops_row("loops_that_are_not_counted", UNCOUNTED, "144")]
+    for name, text, checks, ending, finder, output, tables in TABLES + loops:
+        yield row(name, text, checks, DEFAULT, b"", 1000, ending, finder, output, Stated(), tables)
 
 
 def main():

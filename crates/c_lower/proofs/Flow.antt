@@ -141,8 +141,8 @@ module _ {g : Setting} {t : Tac} {limit u : ℕ} {frames : List Frame} where
   -- the tests of an item's labels: one for each comparison of the source
   pub labels_go : (ls : List CaseLabel) (item other c0 c1 : ℕ) (x : Exits) (i : LabeledRun) (rest : List LabeledRun)
       (others : Option (List LabeledRun)) (more : List CaseLabel) (all : List LabeledRun) (v : Rvalue)
-      (vars : List Variable) (temps : Temps) (k : ℕ) (s : State)
-      → LowersLabels (placed t u vars) ls item other c0 c1 → temps 0 ≡ v
+      (literals : List Bool) (vars : List Variable) (temps : Temps) (k : ℕ) (s : State)
+      → LowersLabels (placed t u literals vars) ls item other c0 c1 → temps 0 ≡ v
       → ((ls : List CaseLabel) (k : ℕ)
       → Goes g t limit 0 0 u frames (exit_of x) LeftBy (Stands u item temps frames (at_work k s)) k s
       (run_items (Some (record { labels = ls; run = i.run } ∷ rest)) s))
@@ -151,12 +151,12 @@ module _ {g : Setting} {t : Tac} {limit u : ℕ} {frames : List Frame} where
       → Goes g t limit (16 + compared v.value.word (ls ++ more)) 16 u frames (exit_of x) LeftBy
       (Stands u c0 temps frames (at_work k s)) k s
       (run_items (or_default (items_at (labels_from (is_case_of v.value.word) ls) i rest others) all) s)
-  labels_go [] item other c0 c1 x i rest others more all v vars temps k s tr ev hit miss = goes_at tr (miss k)
-  labels_go (Default ∷ ls) item other c0 c1 x i rest others more all v vars temps k s tr ev hit miss = labels_go ls item
-      other c0 c1 x i rest others more all v vars temps k s tr.1 ev hit miss
-  labels_go (Case w ∷ ls) item other c0 c1 x i rest others more all v vars temps k s tr ev hit miss =
+  labels_go [] item other c0 c1 x i rest others more all v literals vars temps k s tr ev hit miss = goes_at tr (miss k)
+  labels_go (Default ∷ ls) item other c0 c1 x i rest others more all v literals vars temps k s tr ev hit miss = labels_go ls item
+      other c0 c1 x i rest others more all v literals vars temps k s tr.1 ev hit miss
+  labels_go (Case w ∷ ls) item other c0 c1 x i rest others more all v literals vars temps k s tr ev hit miss =
       by (w == v.value.word) refl
-      (λ k. labels_go ls item other tr.0 c1 x i rest others more all v vars temps k s tr.2 ev hit miss)
+      (λ k. labels_go ls item other tr.0 c1 x i rest others more all v literals vars temps k s tr.2 ev hit miss)
     where
       does : (b : Bool) → (w == v.value.word) ≡ b
           → act g t (tac.Case 0 w item tr.0) u temps frames (at_work (k + 1) s)
@@ -193,8 +193,8 @@ module _ {g : Setting} {t : Tac} {limit u : ℕ} {frames : List Frame} where
 
   -- where no case label is equal: the default label, or behind the switch
   pub default_goes : (ls : List CaseLabel) (item other c0 c1 : ℕ) (x : Exits) (i : LabeledRun) (rest : List LabeledRun)
-      (others : Option (List LabeledRun)) (vars : List Variable) (temps : Temps) (k : ℕ) (s : State)
-      → LowersLabels (placed t u vars) ls item other c0 c1
+      (others : Option (List LabeledRun)) (literals : List Bool) (vars : List Variable) (temps : Temps) (k : ℕ) (s : State)
+      → LowersLabels (placed t u literals vars) ls item other c0 c1
       → ((ls : List CaseLabel) (k : ℕ)
       → Goes g t limit 0 0 u frames (exit_of x) LeftBy (Stands u item temps frames (at_work k s)) k s
       (run_items (Some (record { labels = ls; run = i.run } ∷ rest)) s))
@@ -202,11 +202,11 @@ module _ {g : Setting} {t : Tac} {limit u : ℕ} {frames : List Frame} where
       (Stands u other temps frames (at_work k s)) k s (run_items others s))
       → Goes g t limit 0 0 u frames (exit_of x) LeftBy (Stands u other temps frames (at_work k s)) k s
       (run_items (items_at (labels_from is_default ls) i rest others) s)
-  default_goes [] item other c0 c1 x i rest others vars temps k s tr hit miss = miss refl
-  default_goes (Default ∷ ls) item other c0 c1 x i rest others vars temps k s tr hit miss = goes_at (sym tr.0)
+  default_goes [] item other c0 c1 x i rest others literals vars temps k s tr hit miss = miss refl
+  default_goes (Default ∷ ls) item other c0 c1 x i rest others literals vars temps k s tr hit miss = goes_at (sym tr.0)
       (hit (Default ∷ ls) k)
-  default_goes (Case w ∷ ls) item other c0 c1 x i rest others vars temps k s tr hit miss = default_goes ls item other
-      tr.0 c1 x i rest others vars temps k s tr.2 hit miss
+  default_goes (Case w ∷ ls) item other c0 c1 x i rest others literals vars temps k s tr hit miss = default_goes ls item other
+      tr.0 c1 x i rest others literals vars temps k s tr.2 hit miss
 
 module _ (g : Setting) (t : Tac) (limit n u : ℕ) (frames : List Frame) (sc : Context) (functions : ℕ)
     (result : Kind) where
@@ -281,25 +281,25 @@ left_by g t u frames n b temps k s o m e = ap (λ j. act_at g t j u temps (Enter
 
 module _ {g : Setting} {t : Tac} {limit u : ℕ} {frames : List Frame} where
   -- the way out of a block leads over the node that leaves it
-  leave_goes : (e : ℕ) (f : Completion) (n : ℕ) (b : Block) (y x : Exits) (vars : List Variable) (temps : Temps)
-      (k : ℕ) (s : State) → LowersLeaving (placed t u vars) (Some n) y x → LeftBy f temps s
+  leave_goes : (e : ℕ) (f : Completion) (n : ℕ) (b : Block) (y x : Exits) (literals : List Bool) (vars : List Variable) (temps : Temps)
+      (k : ℕ) (s : State) → LowersLeaving (placed t u literals vars) (Some n) y x → LeftBy f temps s
       → Goes g t limit (1 + e) e u frames (exit_of x) LeftBy
       (Stands u (exit_of y f) temps (Entered n b ∷ frames) (at_work k s)) k s (Gives f (leave_block b s))
-  leave_goes e Normal n b y x vars temps k s tr p =
+  leave_goes e Normal n b y x literals vars temps k s tr p =
       goes_from {d = e} {k1 = k + 1} {s1 = s} 1 (left_by g t u frames n b temps k s _ _ tr.0)
       (omega arith) (omega arith) (goes_done (omega arith) refl refl tt)
-  leave_goes e Broken n b y x vars temps k s tr p =
+  leave_goes e Broken n b y x literals vars temps k s tr p =
       goes_from {d = e} {k1 = k + 1} {s1 = s} 1 (left_by g t u frames n b temps k s _ _ tr.1)
       (omega arith) (omega arith) (goes_done (omega arith) refl refl tt)
-  leave_goes e Continued n b y x vars temps k s tr p =
+  leave_goes e Continued n b y x literals vars temps k s tr p =
       goes_from {d = e} {k1 = k + 1} {s1 = s} 1 (left_by g t u frames n b temps k s _ _ tr.2)
       (omega arith) (omega arith) (goes_done (omega arith) refl refl tt)
-  leave_goes e (Returned v) n b y x vars temps k s tr p =
+  leave_goes e (Returned v) n b y x literals vars temps k s tr p =
       goes_from {d = e} {k1 = k + 1} {s1 = s} 1 (left_by g t u frames n b temps k s _ _ tr.3)
       (omega arith) (omega arith) (goes_done (omega arith) refl refl p)
 
 module _ (g : Setting) (t : Tac) (limit u : ℕ) (frames : List Frame) (base : Scope) (sizes : MapSizes)
-    (at : g.sizes ≡ sizes) (mapped : AreMapped sizes) (all : List Variable)
+    (at : g.sizes ≡ sizes) (mapped : AreMapped sizes) (literals : List Bool) (all : List Variable)
     (same : variables_in (function_in t u) ≡ all) (vs : List Variable) (numbers : List ℕ) where
   abbrev own : List Variable
   own = block_objects all numbers
@@ -311,8 +311,8 @@ module _ (g : Setting) (t : Tac) (limit u : ℕ) (frames : List Frame) (base : S
   -- What runs in a block: entering costs 2, and leaving 1 of what the body leaves. A block without objects is nothing.
   scoped_by : (c e : ℕ) (q : Bool) → has_objects own ≡ q
       → (line n0 b0 : ℕ) (y x : Exits) (temps : Temps) (k : ℕ) (s : State) (body : Run Completion) (b : Option ℕ)
-      → HasNumber (placed t u all) q numbers b
-      → LowersEntry (placed t u all) b line n0 b0 → LowersLeaving (placed t u all) b y x
+      → HasNumber (placed t u literals all) q numbers b
+      → LowersEntry (placed t u literals all) b line n0 b0 → LowersLeaving (placed t u literals all) b y x
       → IsGood (context_of base sizes all vs) s
       → ((frames : List Frame) (k1 : ℕ) (s1 : State) → IsGood (context_of base sizes all (opened numbers 0 all vs)) s1
       → s1.turns ≡ s.turns → Goes g t limit c (1 + e) u frames (exit_of y) LeftBy
@@ -328,7 +328,7 @@ module _ (g : Setting) (t : Tac) (limit u : ℕ) (frames : List Frame) (base : S
       let up = subst (λ o. EntersBy base sizes all vs numbers s o) is1
       (enters base sizes all vs numbers g at mapped line s good) in
       goes_after (h (Entered n b ∷ frames) k1 s1 up.good e1)
-      (λ f s2 t2 k2 p2 le2 is2. leave_goes e f n b y x all t2 k2 s2 ways p2)))
+      (λ f s2 t2 k2 p2 le2 is2. leave_goes e f n b y x literals all t2 k2 s2 ways p2)))
   scoped_by c e true is line n0 b0 y x temps k s body None has entry ways good h = absurd has
   scoped_by c e false is line n0 b0 y x temps k s body (Some n) has entry ways good h = absurd has
   scoped_by c e false is line n0 b0 y x temps k s body None has entry ways good h =
@@ -339,8 +339,8 @@ module _ (g : Setting) (t : Tac) (limit u : ℕ) (frames : List Frame) (base : S
       (goes_spare c (omega arith) (h frames k s (good_inside base sizes all vs numbers s is good) refl))))
 
   pub scoped_goes : (c e line n0 b0 : ℕ) (y x : Exits) (temps : Temps) (k : ℕ) (s : State) (body : Run Completion)
-      (b : Option ℕ) → HasNumber (placed t u all) (has_objects own) numbers b
-      → LowersEntry (placed t u all) b line n0 b0 → LowersLeaving (placed t u all) b y x → IsGood (context_of base sizes all vs) s
+      (b : Option ℕ) → HasNumber (placed t u literals all) (has_objects own) numbers b
+      → LowersEntry (placed t u literals all) b line n0 b0 → LowersLeaving (placed t u literals all) b y x → IsGood (context_of base sizes all vs) s
       → ((frames : List Frame) (k1 : ℕ) (s1 : State) → IsGood (context_of base sizes all (opened numbers 0 all vs)) s1
       → s1.turns ≡ s.turns → Goes g t limit c (1 + e) u frames (exit_of y) LeftBy
       (Stands u b0 temps frames (at_work k1 s1)) k1 s1 (body s1))

@@ -2,30 +2,27 @@
 -- work.
 use Rattle.std.proofs.Common.{◌≡◌, ℕ, ◌+◌, ◌-◌, ◌*◌, ◌%◌, ◌^◌, List, [], ◌∷◌, Option, Some, None, Bool, true, false}
 use Rattle.std.proofs.Common.{refl, sym, ap, ◌∙◌, subst, arith, eq-eqb}
-use Rattle.std.specs.Prelude.{◌&&◌, ◌==◌, if◌then◌else◌}
-use Rattle.obj_memory.specs.declared.operator.BinaryOperator.{BinaryOperator}
-use Rattle.obj_memory.specs.declared.operator.UnaryOperator.{UnaryOperator}
-use Rattle.obj_memory.specs.declared.int_type.IntType.{IntType}
+use Rattle.std.specs.Prelude.{◌&&◌, ◌==◌, slice_get}
 use Rattle.obj_memory.specs.declared.value.Tag.{Tag}
 use Rattle.obj_memory.specs.declared.value.Tag.TheVariants.{Untagged, OfFunction, OfObject}
 use Rattle.obj_memory.specs.declared.value.Value.{Value}
 use Rattle.obj_memory.specs.declared.value.Scalar.TheVariants.{Integer, Pointer}
-use Rattle.obj_memory.specs.Operators.{unary_value, binary_value}
 use Rattle.obj_memory.specs.Objects.{pointer_to}
 use Rattle.obj_memory.specs.Judgement.{moved, narrowed, narrowed_tag}
 use Rattle.c_tree.specs.declared.expression.Kind.{Kind}
 use Rattle.c_tree.specs.declared.expression.Kind.TheVariants.{Void, Scalar as OfScalar, Structure, Array}
 use Rattle.c_tree.specs.declared.expression.OffsetForm.TheVariants.{PointerPlusIndex, IndexPlusPointer}
 use Rattle.c_tree.specs.declared.expression.OffsetForm.TheVariants.{PointerMinusIndex}
-use Rattle.c_tree.specs.Tree.{Expression, expression, Lvalue, lvalue, Node, constant, plain, decay, address}
-use Rattle.c_tree.specs.Tree.{parenthesized, cast, convert, unary, binary, offset_by, conditional, LvalueNode}
-use Rattle.c_tree.specs.Tree.{automatic, static, deref, index, member, arrow, parenthesized_lvalue, kind_of}
-use Rattle.source_meaning.specs.State.{State, Rvalue, Gives, Run, on, ◌>>=◌, choose, Env}
-use Rattle.source_meaning.specs.Actions.{integer, is_zero, scalar_of, integer_type, converted, offset_value, operate}
-use Rattle.source_meaning.specs.Actions.{value_or_divide, plain_value, home_pointer}
-use Rattle.source_meaning.specs.Structures.{rvalue, give, as_rvalue, as_pointer}
+use Rattle.c_tree.specs.Tree.{Expression, expression, Lvalue, lvalue, Node, plain, decay, address, parenthesized, cast}
+use Rattle.c_tree.specs.Tree.{convert, offset_by, LvalueNode, automatic, static, deref, index, member, arrow}
+use Rattle.c_tree.specs.Tree.{parenthesized_lvalue}
+use Rattle.c_const.specs.Integers.{constant_word}
+use Rattle.source_meaning.specs.State.{State, Rvalue, Gives, Run, on, ◌>>=◌, Env}
+use Rattle.source_meaning.specs.Actions.{integer, offset_value, plain_value, home_pointer}
+use Rattle.source_meaning.specs.Structures.{rvalue, give, as_pointer}
 use Rattle.source_meaning.specs.Expressions.{counted, evaluate, value, place, node_place}
 use Rattle.source_meaning.specs.Acting.{at_work}
+use Rattle.source_meaning.proofs.Constants.Integers.{constant_finds}
 use Rattle.tac_ir.specs.declared.key.Base.{Base}
 use Rattle.tac_ir.specs.declared.key.Base.TheVariants.{Plain, Automatic, Static}
 use Rattle.tac_ir.specs.declared.key.Scaled.{Scaled}
@@ -35,10 +32,9 @@ use Rattle.tac_ir.specs.Keys.{base_value, scaled_value, path_tag, key_word, key_
 use Rattle.tac_ir.proofs.KeyWork.{word_work, tag_work}
 use Rattle.tac_ir.specs.Accesses.{only_if}
 use Rattle.tac_ir.specs.Meaning.{keyed_by, keyed}
-use Rattle.c_lower.specs.Keys.{constant_fit, constant_unary, constant_binary, constant_choice, constant_of}
-use Rattle.c_lower.specs.Keys.{constant_node, variable_of, variable_node, Index, OfConstant, OfVariable, OfOther}
-use Rattle.c_lower.specs.Keys.{index_by, index_of, moved_key, scaled_key, key_plus, key_minus, member_key, pointer_key}
-use Rattle.c_lower.specs.Keys.{node_key, place_key, lvalue_key}
+use Rattle.c_lower.specs.Keys.{variable_of, variable_node, Index, OfConstant, OfVariable, OfOther, index_by, index_of}
+use Rattle.c_lower.specs.Keys.{named_key, moved_key, scaled_key, key_plus, key_minus, member_key, pointer_key, node_key}
+use Rattle.c_lower.specs.Keys.{place_key, lvalue_key}
 use Rattle.c_lower.specs.Values.{KeyIs}
 
 -- what a key gives
@@ -143,66 +139,18 @@ abbrev pub FoundIf : Option Key → Run Rvalue → Type 0
 FoundIf None r = Unit {0}
 FoundIf (Some key) r = Found key r
 
--- constants
+-- integer constant expressions
 
-makes_counted : (o : Option ℕ) (r : Run Rvalue) → MakesIf o r → MakesIf o (counted r)
-makes_counted None r h = tt
-makes_counted (Some w) r h = record { by = λ s. h.by (record s { work = s.work + 1 }) }
-
-makes_fit : (kind : Kind) (o : Option ℕ) (r : Run Rvalue) → MakesIf o r
-    → MakesIf (constant_fit kind o) (r >>= (λ v. give (converted kind v.value)))
-makes_fit (OfScalar (Integer t)) (Some w) r h =
-    record {
-      by = λ s. let q = h.by s in
-          (q.0, ap (λ o. on o (λ v. give (converted (OfScalar (Integer t)) v.value))) q.1);
-    }
-makes_fit (OfScalar (Integer t)) None r h = tt
-makes_fit (OfScalar Pointer) o r h = tt
-makes_fit Void o r h = tt
-makes_fit (Structure n) o r h = tt
-makes_fit (Array n) o r h = tt
-
-makes_unary : (op : UnaryOperator) (t : IntType) (o : Option ℕ) (r : Run Rvalue) → MakesIf o r
-    → MakesIf (constant_unary op t o) (r >>= (λ v. give (integer (unary_value op t v.value.word))))
-makes_unary op t None r h = tt
-makes_unary op t (Some w) r h =
-    record {
-      by = λ s. let q = h.by s in
-          (q.0, ap (λ o. on o (λ v. give (integer (unary_value op t v.value.word)))) q.1);
-    }
-
-divided : (o : Option ℕ) (line : ℕ) → MakesIf o (as_rvalue (value_or_divide o line))
-divided None line = tt
-divided (Some w) line = record { by = λ s. (s.work, refl) }
-
--- one run after another that gave a value and did nothing but work
-makes_then : (o : Option ℕ) (r : Run Rvalue) (v : Rvalue) (f : Rvalue → Run Rvalue)
-    → ((s : State) → (n : ℕ) × (r s ≡ Gives v (at_work n s))) → MakesIf o (f v) → MakesIf o (r >>= f)
-makes_then None r v f h g = tt
-makes_then (Some w) r v f h g = record {
-  by = λ s. let q = h s in let p = g.by (at_work q.0 s) in (p.0, ap (λ o. on o f) q.1 ∙ p.1);
+constant_by : (env : Env) (e : Expression) (o : Option ℕ) → constant_word e ≡ o → MakesIf o (evaluate env e)
+constant_by env e None is = tt
+constant_by env e (Some w) is = record {
+  by = λ s. let found = constant_finds env e w s is in (found.work, found.gives);
 }
 
-makes_binary : (op : BinaryOperator) (t : IntType) (line : ℕ) (o o' : Option ℕ) (r r' : Run Rvalue) → MakesIf o r
-    → MakesIf o' r' → MakesIf (constant_binary op t o o')
-    (r >>= (λ x. r' >>= (λ y. as_rvalue (operate op t x.value y.value line))))
-makes_binary op t line None o' r r' h h' = tt
-makes_binary op t line (Some v) None r r' h h' = tt
-makes_binary op t line (Some v) (Some w) r r' h h' =
-    makes_then (binary_value op t v w) r (rvalue (integer v)) _ h.by
-    (makes_then (binary_value op t v w) r' (rvalue (integer w)) _ h'.by (divided (binary_value op t v w) line))
+constant_makes : (env : Env) (e : Expression) → MakesIf (constant_word e) (evaluate env e)
+constant_makes env e = constant_by env e (constant_word e) refl
 
-chosen : (b : Bool) (v w : ℕ) (r r' : Run Rvalue) → Makes v r → Makes w r' → Makes (if b then w else v) (choose b r' r)
-chosen true v w r r' h h' = h'
-chosen false v w r r' h h' = h
-
-makes_choice : (o o' o'' : Option ℕ) (r r' r'' : Run Rvalue) → MakesIf o r → MakesIf o' r' → MakesIf o'' r''
-    → MakesIf (constant_choice o o' o'') (r >>= (λ x. choose (is_zero x.value) r'' r'))
-makes_choice None o' o'' r r' r'' h h' h'' = tt
-makes_choice (Some c) None o'' r r' r'' h h' h'' = tt
-makes_choice (Some c) (Some v) None r r' r'' h h' h'' = tt
-makes_choice (Some c) (Some v) (Some w) r r' r'' h h' h'' =
-    makes_then (Some (if c == 0 then w else v)) r (rvalue (integer c)) _ h.by (chosen (c == 0) v w r' r'' h' h'')
+-- plain variables
 
 variable_counted : (o : Option ℕ) (r : Run Rvalue) → VariableIf o r → VariableIf o (counted r)
 variable_counted None r h = tt
@@ -353,32 +301,16 @@ found_member (Some key) offset size r f gives h = record {
       );
 }
 
-module _ (env : Env) where
-  mutual
-    constant_makes : (e : Expression) → MakesIf (constant_of e) (evaluate env e)
-    constant_makes (expression kind line node) = node_makes node kind line
+-- the name of a static object, which a string literal has not
+static_found : (env : Env) (n : ℕ) (is_literal : Option Bool)
+    → FoundIf (named_key is_literal n) (node_place env (static n))
+static_found env n None = tt
+static_found env n (Some true) = tt
+static_found env n (Some false) = record {
+  by = λ s. (pointer_to n s.objects, s.work + 1, refl, right_base (Static n) s);
+}
 
-    node_makes : (n : Node) (kind : Kind) (line : ℕ) → MakesIf (constant_node n kind) (value env n kind line)
-    node_makes (constant w) kind line = record { by = λ s. (s.work + 1, refl) }
-    node_makes (parenthesized a) kind line = makes_counted (constant_of a) (evaluate env a) (constant_makes a)
-    node_makes (cast a) kind line = makes_counted (constant_fit kind (constant_of a)) _
-        (makes_fit kind (constant_of a) (evaluate env a) (constant_makes a))
-    node_makes (convert a) kind line = makes_fit kind (constant_of a) (evaluate env a) (constant_makes a)
-    node_makes (unary op a) kind line =
-        let t = integer_type (scalar_of (kind_of a)) in
-        makes_counted (constant_unary op t (constant_of a)) _
-        (makes_unary op t (constant_of a) (evaluate env a) (constant_makes a))
-    node_makes (binary op a b) kind line =
-        let t = integer_type (scalar_of (kind_of a)) in
-        makes_counted (constant_binary op t (constant_of a) (constant_of b)) _
-        (makes_binary op t line (constant_of a) (constant_of b) (evaluate env a) (evaluate env b) (constant_makes a)
-        (constant_makes b))
-    node_makes (conditional c a b) kind line =
-        makes_counted (constant_choice (constant_of c) (constant_of a) (constant_of b)) _
-        (makes_choice (constant_of c) (constant_of a) (constant_of b) (evaluate env c) (evaluate env a) (evaluate env b)
-        (constant_makes c) (constant_makes a) (constant_makes b))
-    node_makes n kind line = tt
-
+module _ (env : Env) (ls : List Bool) where
   mutual
     variable_made : (e : Expression) → VariableIf (variable_of e) (evaluate env e)
     variable_made (expression kind line node) = variable_at node kind line
@@ -394,64 +326,64 @@ module _ (env : Env) where
   index_made None None r h h' = tt
 
   index_is : (e : Expression) → IndexIs (index_of e) (evaluate env e)
-  index_is e = index_made (constant_of e) (variable_of e) (evaluate env e) (constant_makes e) (variable_made e)
+  index_is e = index_made (constant_word e) (variable_of e) (evaluate env e) (constant_makes env e) (variable_made e)
 
   mutual
-    pointer_found : (e : Expression) → FoundIf (pointer_key e) (evaluate env e)
+    pointer_found : (e : Expression) → FoundIf (pointer_key ls e) (evaluate env e)
     pointer_found (expression (OfScalar Pointer) line node) = node_found node line
     pointer_found (expression (OfScalar (Integer t)) line node) = tt
     pointer_found (expression Void line node) = tt
     pointer_found (expression (Structure n) line node) = tt
     pointer_found (expression (Array n) line node) = tt
 
-    node_found : (n : Node) (line : ℕ) → FoundIf (node_key n) (value env n (OfScalar Pointer) line)
+    node_found : (n : Node) (line : ℕ) → FoundIf (node_key ls n) (value env n (OfScalar Pointer) line)
     node_found (plain x) line = record { by = λ s. (plain_value x s, s.work + 1, refl, right_base (Plain x) s) }
-    node_found (decay p) line = found_pointer (place_key p) (place env p) (place_found p)
-    node_found (address p) line = found_counted (place_key p) _
-        (found_pointer (place_key p) (place env p) (place_found p))
-    node_found (parenthesized a) line = found_counted (pointer_key a) (evaluate env a) (pointer_found a)
-    node_found (cast a) line = found_counted (pointer_key a) _
-        (found_pointer (pointer_key a) (evaluate env a) (pointer_found a))
-    node_found (convert a) line = found_pointer (pointer_key a) (evaluate env a) (pointer_found a)
+    node_found (decay p) line = found_pointer (place_key ls p) (place env p) (place_found p)
+    node_found (address p) line = found_counted (place_key ls p) _
+        (found_pointer (place_key ls p) (place env p) (place_found p))
+    node_found (parenthesized a) line = found_counted (pointer_key ls a) (evaluate env a) (pointer_found a)
+    node_found (cast a) line = found_counted (pointer_key ls a) _
+        (found_pointer (pointer_key ls a) (evaluate env a) (pointer_found a))
+    node_found (convert a) line = found_pointer (pointer_key ls a) (evaluate env a) (pointer_found a)
     node_found (offset_by PointerPlusIndex size a b) line =
-        found_counted (key_plus (pointer_key a) (index_of b) size) _
-        (found_plus (pointer_key a) (index_of b) size (evaluate env a) (evaluate env b) (pointer_found a)
+        found_counted (key_plus (pointer_key ls a) (index_of b) size) _
+        (found_plus (pointer_key ls a) (index_of b) size (evaluate env a) (evaluate env b) (pointer_found a)
         (index_is b))
     node_found (offset_by IndexPlusPointer size a b) line =
-        found_counted (key_plus (pointer_key b) (index_of a) size) _
-        (found_index (pointer_key b) (index_of a) size (evaluate env b) (evaluate env a) (pointer_found b)
+        found_counted (key_plus (pointer_key ls b) (index_of a) size) _
+        (found_index (pointer_key ls b) (index_of a) size (evaluate env b) (evaluate env a) (pointer_found b)
         (index_is a))
     node_found (offset_by PointerMinusIndex size a b) line =
-        found_counted (key_minus (pointer_key a) (index_of b) size) _
-        (found_minus (pointer_key a) (index_of b) size (evaluate env a) (evaluate env b) (pointer_found a)
+        found_counted (key_minus (pointer_key ls a) (index_of b) size) _
+        (found_minus (pointer_key ls a) (index_of b) size (evaluate env a) (evaluate env b) (pointer_found a)
         (index_is b))
     node_found n line = tt
 
-    pub place_found : (p : Lvalue) → FoundIf (place_key p) (place env p)
+    pub place_found : (p : Lvalue) → FoundIf (place_key ls p) (place env p)
     place_found (lvalue kind line node) = lvalue_found node
 
-    lvalue_found : (n : LvalueNode) → FoundIf (lvalue_key n) (node_place env n)
+    lvalue_found : (n : LvalueNode) → FoundIf (lvalue_key ls n) (node_place env n)
     lvalue_found (automatic x) = record { by = λ s. (home_pointer x s, s.work + 1, refl, right_base (Automatic x) s) }
-    lvalue_found (static n) = record { by = λ s. (pointer_to n s.objects, s.work + 1, refl, right_base (Static n) s) }
-    lvalue_found (deref a) = found_counted (pointer_key a) _
-        (found_pointer (pointer_key a) (evaluate env a) (pointer_found a))
+    lvalue_found (static n) = static_found env n (slice_get ls n)
+    lvalue_found (deref a) = found_counted (pointer_key ls a) _
+        (found_pointer (pointer_key ls a) (evaluate env a) (pointer_found a))
     lvalue_found (index PointerPlusIndex size a b) =
-        found_counted (key_plus (pointer_key a) (index_of b) size) _
-        (found_plus (pointer_key a) (index_of b) size (evaluate env a) (evaluate env b) (pointer_found a)
+        found_counted (key_plus (pointer_key ls a) (index_of b) size) _
+        (found_plus (pointer_key ls a) (index_of b) size (evaluate env a) (evaluate env b) (pointer_found a)
         (index_is b))
     lvalue_found (index IndexPlusPointer size a b) =
-        found_counted (key_plus (pointer_key b) (index_of a) size) _
-        (found_index (pointer_key b) (index_of a) size (evaluate env b) (evaluate env a) (pointer_found b)
+        found_counted (key_plus (pointer_key ls b) (index_of a) size) _
+        (found_index (pointer_key ls b) (index_of a) size (evaluate env b) (evaluate env a) (pointer_found b)
         (index_is a))
     lvalue_found (index PointerMinusIndex size a b) =
-        found_counted (key_minus (pointer_key a) (index_of b) size) _
-        (found_minus (pointer_key a) (index_of b) size (evaluate env a) (evaluate env b) (pointer_found a)
+        found_counted (key_minus (pointer_key ls a) (index_of b) size) _
+        (found_minus (pointer_key ls a) (index_of b) size (evaluate env a) (evaluate env b) (pointer_found a)
         (index_is b))
-    lvalue_found (member p offset size) = found_counted (member_key (place_key p) offset size) _
-        (found_member (place_key p) offset size (place env p) _ (λ v s. refl) (place_found p))
-    lvalue_found (arrow a offset size) = found_counted (member_key (pointer_key a) offset size) _
-        (found_member (pointer_key a) offset size (evaluate env a) _ (λ v s. refl) (pointer_found a))
-    lvalue_found (parenthesized_lvalue p) = found_counted (place_key p) (place env p) (place_found p)
+    lvalue_found (member p offset size) = found_counted (member_key (place_key ls p) offset size) _
+        (found_member (place_key ls p) offset size (place env p) _ (λ v s. refl) (place_found p))
+    lvalue_found (arrow a offset size) = found_counted (member_key (pointer_key ls a) offset size) _
+        (found_member (pointer_key ls a) offset size (evaluate env a) _ (λ v s. refl) (pointer_found a))
+    lvalue_found (parenthesized_lvalue p) = found_counted (place_key ls p) (place env p) (place_found p)
     lvalue_found n = tt
 
   same_given : {q q' : Rvalue} {s s' : State} → Gives q s ≡ Gives q' s' → (q ≡ q') × (s ≡ s')
@@ -459,8 +391,8 @@ module _ (env : Env) where
 
   -- the key of an lvalue gives its pointer where it was found
   pub place_right : (p : Lvalue) (s s1 : State) (q : Rvalue) → place env p s ≡ Gives q s1 → (key : Key)
-      → place_key p ≡ Some key → Right key s1 q.value
-  place_right p s s1 q is key e = by (place_key p) (place_found p) e
+      → place_key ls p ≡ Some key → Right key s1 q.value
+  place_right p s s1 q is key e = by (place_key ls p) (place_found p) e
     where
       by : (ok : Option Key) → FoundIf ok (place env p) → ok ≡ Some key → Right key s1 q.value
       by None h e = cc

@@ -51,7 +51,7 @@ use Rattle.tac_ir.specs.Stage.{Temps, no_temps, with_temp, Frame, Stage, Begins,
 use Rattle.tac_ir.specs.Meaning.{code_of, keys_of, variables_in, blocks_in, function_in, at_node, header_of_code}
 use Rattle.tac_ir.specs.Meaning.{setting_of_code, begun, called_at, called, given_to, act_at, line_in, objects_before}
 use Rattle.tac_ir.specs.Meaning.{step, first_stage, tac_meaning}
-use Rattle.c_lower.specs.Programs.{function_exits, LowersBody, LowersFunction, result_in, height_in, LowersAt}
+use Rattle.c_lower.specs.Programs.{literals_of, function_exits, LowersBody, LowersFunction, result_in, height_in, LowersAt}
 use Rattle.c_lower.specs.Programs.{IsLowered}
 use Rattle.c_lower.proofs.Comes.{Reached, Goes, reached_from}
 use Rattle.c_lower.proofs.Temporaries.{loops_in, placed, put_same}
@@ -242,7 +242,7 @@ module _ (g : Setting) (t : Tac) (limit : ℕ) (q : Caller) (frames : List Frame
 
 module _ (p : Program) (budgets : BudgetSizes) (mapped : AreMapped (setting_of p budgets).sizes)
     (valid : is_valid_program p ≡ true) (t : Tac) (limit : ℕ)
-    (lowers : (f : ℕ) → LowersAt t.texts (result_in (setting_of p budgets).results (function_at p.functions f))
+    (lowers : (f : ℕ) → LowersAt t.texts (literals_of p.statics) (result_in (setting_of p budgets).results (function_at p.functions f))
     (height_in p.statics f (function_at p.functions f)) (function_at p.functions f) (function_in t f)) where
   abbrev g : Setting
   g = setting_of p budgets
@@ -261,7 +261,7 @@ module _ (p : Program) (budgets : BudgetSizes) (mapped : AreMapped (setting_of p
   -- a call whose turn has begun
   begun_runs : (n f : ℕ) (fn : Function) (c : CodeFunction) (vs : List Rvalue) (line : ℕ) (frames : List Frame) (k : ℕ)
       (s : State) → AllCallsRun n → function_in t f ≡ Some c
-      → LowersFunction t.texts (result_of g fn.type_number) (height_in p.statics f (Some fn)) fn c → FunctionNames u fn
+      → LowersFunction t.texts (literals_of p.statics) (result_of g fn.type_number) (height_in p.statics f (Some fn)) fn c → FunctionNames u fn
       → IsValidFunction p fn → (around : Scope) → IsGood (within_program around) s
       → ArgumentsAre (length u.functions) (kinds_in fn.parameters) vs s.objects → limit < n + s.turns
       → Called g t limit 0 (caller s) frames
@@ -276,7 +276,7 @@ module _ (p : Program) (budgets : BudgetSizes) (mapped : AreMapped (setting_of p
       >>= (λ completion. change (back_to q) >> done (returned_by result completion)) in
       let base = scope_of u fn in
       let inner : Context = record { scope = base; sizes = g.sizes } in
-      let b : LowersBody (placed t f (all_of fn)) result c.entry fn.body =
+      let b : LowersBody (placed t f (literals_of p.statics) (all_of fn)) result c.entry fn.body =
       subst (λ o. LowersBody
       (record {
         code = code_of o;
@@ -284,6 +284,7 @@ module _ (p : Program) (budgets : BudgetSizes) (mapped : AreMapped (setting_of p
         blocks = blocks_in o;
         loops = loops_in o;
         texts = t.texts;
+        literals = literals_of p.statics;
         variables = all_of fn;
       }) result c.entry fn.body) (sym is) low.body in
       let variables : variables_in (function_in t f) ≡ all_of fn = ap variables_in is
@@ -300,14 +301,14 @@ module _ (p : Program) (budgets : BudgetSizes) (mapped : AreMapped (setting_of p
       (λ completion. change (back_to q) >> done (returned_by result completion))) 0 refl (omega arith) (omega arith)
       (end_goes g t limit q frames result f b.0 b.1 _ k2 s3 (in_order (each_of env fn.body) s3) b.3 b.4
       (statements_run t n env refl base g.sizes inside (λ vs. callers (context_of base g.sizes (all_of fn) vs).scope)
-      (λ y e. expression_stays p.functions g limit n (all_of fn) y e) f variables ok.sized
+      (λ y e. expression_stays p.functions g limit n (all_of fn) y e) f (literals_of p.statics) variables ok.sized
       (fn.parameters ++ body_variables fn) frames outside_loops fn.body c.entry _ no_temps k2 s3
       (sized_body fn ok.sized) b.2 ok.body up.good (omega (arith, e2, lt))))))
 
   call_by : (c0 n f : ℕ) (vs : List Rvalue) (line : ℕ) (frames : List Frame) (x : Stage) (k : ℕ) (s : State)
       (of : Option Function) (oc : Option CodeFunction) → AllCallsRun n
       → step g t x ≡ called_at g oc f vs line frames (at_work (k + c0) s) → seen x ≡ moment_at (at_work k s) [] None
-      → function_in t f ≡ oc → LowersAt t.texts (result_in g.results of) (height_in p.statics f of) of oc
+      → function_in t f ≡ oc → LowersAt t.texts (literals_of p.statics) (result_in g.results of) (height_in p.statics f of) of oc
       → NamesFound u of → ValidIf p of
       → (q : Signature) → SignatureIs u.types q of → ArgumentsAre (length u.functions) q.parameters vs s.objects
       → (around : Scope) → IsGood (within_program around) s → limit < suc n + s.turns
@@ -386,16 +387,16 @@ module _ (g : Setting) (t : Tac) (limit : ℕ) where
         },
       )
 
-line_is : (texts : List (List ℕ)) (result : Kind) (height : ℕ) (of : Option Function) (oc : Option CodeFunction)
-    → LowersAt texts result height of oc → line_in oc ≡ line_of of
-line_is texts result height None None h = refl
-line_is texts result height None (Some c) h = absurd h
-line_is texts result height (Some f) None h = absurd h
-line_is texts result height (Some f) (Some c) h = ap (λ (x : Header). x.line) h.header
+line_is : (texts : List (List ℕ)) (literals : List Bool) (result : Kind) (height : ℕ) (of : Option Function) (oc : Option CodeFunction)
+    → LowersAt texts literals result height of oc → line_in oc ≡ line_of of
+line_is texts literals result height None None h = refl
+line_is texts literals result height None (Some c) h = absurd h
+line_is texts literals result height (Some f) None h = absurd h
+line_is texts literals result height (Some f) (Some c) h = ap (λ (x : Header). x.line) h.header
 
 module _ (p : Program) (budgets : BudgetSizes) (mapped : AreMapped (setting_of p budgets).sizes)
     (valid : is_valid_program p ≡ true) (t : Tac)
-    (lowers : (f : ℕ) → LowersAt t.texts (result_in (setting_of p budgets).results (function_at p.functions f))
+    (lowers : (f : ℕ) → LowersAt t.texts (literals_of p.statics) (result_in (setting_of p budgets).results (function_at p.functions f))
     (height_in p.statics f (function_at p.functions f)) (function_at p.functions f) (function_in t f)) (input : List ℕ)
     (main : t.main ≡ p.main) where
   abbrev first : State
@@ -414,7 +415,7 @@ module _ (p : Program) (budgets : BudgetSizes) (mapped : AreMapped (setting_of p
       (line_of (function_at p.functions t.main)) [] (Begins first) 0 first
       (record {
         steps = ap (λ l. called (setting_of p budgets) t t.main [] l [] first)
-            (line_is t.texts _ _ (function_at p.functions t.main) (function_in t t.main) (lowers t.main));
+            (line_is t.texts _ _ _ (function_at p.functions t.main) (function_in t t.main) (lowers t.main));
         seen_now =
             refl;
       })
@@ -454,10 +455,10 @@ module _ (p : Program) (t : Tac) (h : IsLowered p t) where
       }) h.bytes
 
   functions_lower : (budgets : BudgetSizes) (f : ℕ)
-      → LowersAt t.texts (result_in (setting_of p budgets).results (function_at p.functions f))
+      → LowersAt t.texts (literals_of p.statics) (result_in (setting_of p budgets).results (function_at p.functions f))
       (height_in p.statics f (function_at p.functions f)) (function_at p.functions f) (function_in t f)
   functions_lower budgets f = subst
-      (λ rs. LowersAt t.texts (result_in rs (function_at p.functions f))
+      (λ rs. LowersAt t.texts (literals_of p.statics) (result_in rs (function_at p.functions f))
       (height_in p.statics f (function_at p.functions f)) (function_at p.functions f) (function_in t f)) h.results
       (h.functions f)
 

@@ -91,24 +91,24 @@ kind_at (v ∷ vs) (suc x) kind e = kind_at vs x kind e
 module _ (t : Tac) (n : ℕ) (env : Env) (sc : Context) (sure : Calling sc env)
     (calls : CallsRun env.setting t env.limit sc env.call n)
     (stays : (y : ℕ) (e : Expression) → assigns y e ≡ false → Stays y (evaluate env e)) (u : ℕ) (frames : List Frame)
-    (vars : List Variable) (sized : AllSized sc.scope.variables) where
+    (literals : List Bool) (vars : List Variable) (sized : AllSized sc.scope.variables) where
   value_at : (e : Expression) (n0 n1 : ℕ) (temps : Temps) (k : ℕ) (s : State)
-      → LowersExpression (placed t u vars) e 0 n0 n1 → is_valid sc.scope e ≡ true → IsGood sc s
+      → LowersExpression (placed t u literals vars) e 0 n0 n1 → is_valid sc.scope e ≡ true → IsGood sc s
       → env.limit < n + s.turns
       → Goes env.setting t env.limit 0 2 u frames (λ v. n1) (ValueIn 0 temps) (Stands u n0 temps frames (at_work k s)) k
       s (evaluate env e s)
   value_at e n0 n1 temps k s tr ok good lt = goes_less 2 (two_left e)
-      (expression_runs t n env sc sure calls stays u frames vars e 0 n0 n1 temps k s tr ok good lt)
+      (expression_runs t n env sc sure calls stays u frames literals vars e 0 n0 n1 temps k s tr ok good lt)
 
   pub result_at : (e : Expression) (n0 n1 : ℕ) (temps : Temps) (k : ℕ) (s : State)
-      → LowersArgument (placed t u vars) e 0 n0 n1 → is_valid sc.scope e ≡ true → IsGood sc s → env.limit < n + s.turns
+      → LowersArgument (placed t u literals vars) e 0 n0 n1 → is_valid sc.scope e ≡ true → IsGood sc s → env.limit < n + s.turns
       → Goes env.setting t env.limit 0 1 u frames (λ v. n1) (ValueIn 0 temps) (Stands u n0 temps frames (at_work k s)) k
       s (argument (kind_of e) (line_of e) (evaluate env e) s)
-  result_at e n0 n1 temps k s tr ok good lt = argument_at t n env sc sure calls stays u frames vars e 0 n0 tr.0 n1 temps
+  result_at e n0 n1 temps k s tr ok good lt = argument_at t n env sc sure calls stays u frames literals vars e 0 n0 tr.0 n1 temps
       k s tr.1 tr.2 ok good lt
 
   pub condition_runs : (e : Option Expression) (n0 x y : ℕ) (temps : Temps) (k : ℕ) (s : State)
-      → LowersCondition (placed t u vars) e n0 x y → is_condition_if sc.scope e ≡ true → IsGood sc s
+      → LowersCondition (placed t u literals vars) e n0 x y → is_condition_if sc.scope e ≡ true → IsGood sc s
       → env.limit < n + s.turns
       → Goes env.setting t env.limit 0 0 u frames (λ b. cond b x y) Anyhow (Stands u n0 temps frames (at_work k s)) k s
       (holds env e s)
@@ -119,7 +119,7 @@ module _ (t : Tac) (n : ℕ) (env : Env) (sc : Context) (sure : Calling sc env)
       (ap (λ (z : Rvalue). is_zero z.value) p1.value))
 
   pub part_runs : (e : Option Expression) (n0 n1 : ℕ) (temps : Temps) (k : ℕ) (s : State)
-      → LowersPart (placed t u vars) e n0 n1 → is_expression_if sc.scope e ≡ true → IsGood sc s
+      → LowersPart (placed t u literals vars) e n0 n1 → is_expression_if sc.scope e ≡ true → IsGood sc s
       → env.limit < n + s.turns
       → Goes env.setting t env.limit 0 0 u frames (λ v. n1) Anyhow (Stands u n0 temps frames (at_work k s)) k s
       (perform env e s)
@@ -130,7 +130,7 @@ module _ (t : Tac) (n : ℕ) (env : Env) (sc : Context) (sure : Calling sc env)
 
   -- a part of the object of variable x, to whose first byte p points
   content_runs : (x : ℕ) (kind : Kind) (p : Value) (whole offset : ℕ) (content : Content) (n0 n1 : ℕ) (temps : Temps)
-      (k : ℕ) (s : State) → LowersContent (placed t u vars) x offset content n0 n1 → is_content sc.scope content ≡ true
+      (k : ℕ) (s : State) → LowersContent (placed t u literals vars) x offset content n0 n1 → is_content sc.scope content ≡ true
       → ContentNames sc.scope whole offset content → IsGood sc s → IsBase sure p whole s.objects
       → object_kind sc.scope.variables x ≡ Some kind → home_pointer x s ≡ p → env.limit < n + s.turns
       → Goes env.setting t env.limit 0 0 u frames (λ v. n1) Anyhow (Stands u n0 temps frames (at_work k s)) k s
@@ -177,7 +177,7 @@ module _ (t : Tac) (n : ℕ) (env : Env) (sc : Context) (sure : Calling sc env)
       (goes_last F (acts_store_bytes p offset bytes) (λ _ s2 k2 e2. goes_done (omega arith) refl refl tt)))
 
   parts_run : (x : ℕ) (kind : Kind) (p : Value) (whole : ℕ) (parts : List Part) (n0 n1 : ℕ) (temps : Temps) (k : ℕ)
-      (s : State) → LowersParts (placed t u vars) x parts n0 n1 → are_parts sc.scope whole parts ≡ true
+      (s : State) → LowersParts (placed t u literals vars) x parts n0 n1 → are_parts sc.scope whole parts ≡ true
       → PartsName sc.scope whole parts → IsGood sc s → IsBase sure p whole s.objects
       → object_kind sc.scope.variables x ≡ Some kind → home_pointer x s ≡ p → env.limit < n + s.turns
       → Goes env.setting t env.limit 0 0 u frames (λ v. n1) Anyhow (Stands u n0 temps frames (at_work k s)) k s
@@ -193,7 +193,7 @@ module _ (t : Tac) (n : ℕ) (env : Env) (sc : Context) (sure : Calling sc env)
       (home_kept x kind s s1 (good.homes x kind has) lv1.frame lv1.lives ∙ hp) (omega (arith, le1, lt)))
 
   object_runs : (x : ℕ) (parts : List Part) (n0 n1 : ℕ) (temps : Temps) (k : ℕ) (s : State)
-      → LowersInitializer (placed t u vars) x (Some (of_object parts)) n0 n1 → (kind : Kind)
+      → LowersInitializer (placed t u literals vars) x (Some (of_object parts)) n0 n1 → (kind : Kind)
       → object_kind sc.scope.variables x ≡ Some kind → are_parts sc.scope (size_of_kind kind) parts ≡ true
       → PartsName sc.scope (size_of_kind kind) parts → IsGood sc s → env.limit < n + s.turns
       → Goes env.setting t env.limit 0 0 u frames (λ v. n1) Anyhow (Stands u n0 temps frames (at_work k s)) k s
@@ -222,7 +222,7 @@ module _ (t : Tac) (n : ℕ) (env : Env) (sc : Context) (sure : Calling sc env)
       has refl lt))
 
   initializer_runs : (x : ℕ) (i : Option Initializer) (n0 n1 : ℕ) (temps : Temps) (k : ℕ) (s : State)
-      → LowersInitializer (placed t u vars) x i n0 n1 → is_initializer sc.scope x i ≡ true
+      → LowersInitializer (placed t u literals vars) x i n0 n1 → is_initializer sc.scope x i ≡ true
       → InitializerNames sc.scope x i → IsGood sc s → env.limit < n + s.turns
       → Goes env.setting t env.limit 0 0 u frames (λ v. n1) Anyhow (Stands u n0 temps frames (at_work k s)) k s
       (initialize env x i s)
@@ -244,7 +244,7 @@ module _ (t : Tac) (n : ℕ) (env : Env) (sc : Context) (sure : Calling sc env)
           subst (λ k. are_parts sc.scope (size_of_kind k) parts ≡ true) (kind_at sc.scope.variables x kind has) v.1
 
   declared_run : (ds : List DeclaredVariable) (n0 n1 : ℕ) (temps : Temps) (k : ℕ) (s : State)
-      → LowersDeclared (placed t u vars) ds n0 n1 → are_declared sc.scope ds ≡ true → IsGood sc s
+      → LowersDeclared (placed t u literals vars) ds n0 n1 → are_declared sc.scope ds ≡ true → IsGood sc s
       → env.limit < n + s.turns
       → Goes env.setting t env.limit 0 0 u frames (λ v. n1) Anyhow (Stands u n0 temps frames (at_work k s)) k s
       (initialize_all env ds s)
@@ -257,7 +257,7 @@ module _ (t : Tac) (n : ℕ) (env : Env) (sc : Context) (sure : Calling sc env)
       (λ z s1 t1 k1 p1 le1 is1 lv1 w1.
       declared_run ds tr.0 n1 t1 k1 s1 tr.2 v.1 lv1.good (omega (arith, le1, lt)))
 
-  pub first_runs : (f : First) (n0 n1 : ℕ) (temps : Temps) (k : ℕ) (s : State) → LowersFirst (placed t u vars) f n0 n1
+  pub first_runs : (f : First) (n0 n1 : ℕ) (temps : Temps) (k : ℕ) (s : State) → LowersFirst (placed t u literals vars) f n0 n1
       → is_first sc.scope f ≡ true → IsGood sc s → env.limit < n + s.turns
       → Goes env.setting t env.limit 0 0 u frames (λ v. n1) Anyhow (Stands u n0 temps frames (at_work k s)) k s
       (perform_first env f s)
@@ -269,14 +269,14 @@ module _ (t : Tac) (n : ℕ) (env : Env) (deep : env.depth ≡ suc n) (base : Sc
     (inside : Inside base sizes env)
     (callers : (vs : List Variable)
     → CallsRun env.setting t env.limit (context_of base sizes env.variables vs) env.call n)
-    (stays : (y : ℕ) (e : Expression) → assigns y e ≡ false → Stays y (evaluate env e)) (u : ℕ)
+    (stays : (y : ℕ) (e : Expression) → assigns y e ≡ false → Stays y (evaluate env e)) (u : ℕ) (literals : List Bool)
     (same : variables_in (function_in t u) ≡ env.variables) (all_sized : AllSized env.variables) where
   -- where some variables can be named
   abbrev at : List Variable → Context
   at vs = context_of base sizes env.variables vs
 
   abbrev here : Placed
-  here = placed t u env.variables
+  here = placed t u literals env.variables
 
   condition_at : (vs : List Variable) (frames : List Frame) (e : Option Expression) (n0 x y : ℕ) (temps : Temps) (k : ℕ)
       (s : State) → AllSized vs → LowersCondition here e n0 x y → is_condition_if (at vs).scope e ≡ true
@@ -284,7 +284,7 @@ module _ (t : Tac) (n : ℕ) (env : Env) (deep : env.depth ≡ suc n) (base : Sc
       → Goes env.setting t env.limit 0 0 u frames (λ b. cond b x y) Anyhow (Stands u n0 temps frames (at_work k s)) k s
       (holds env e s)
   condition_at vs frames e n0 x y temps k s sized tr ok good lt = condition_runs t n env (at vs) (inside.calling vs)
-      (callers vs) stays u frames env.variables sized e n0 x y temps k s tr ok good lt
+      (callers vs) stays u frames literals env.variables sized e n0 x y temps k s tr ok good lt
 
   value_of : (vs : List Variable) (frames : List Frame) (e : Expression) (n0 n1 : ℕ) (temps : Temps) (k : ℕ) (s : State)
       → AllSized vs → LowersExpression here e 0 n0 n1 → is_valid (at vs).scope e ≡ true → IsGood (at vs) s
@@ -292,7 +292,7 @@ module _ (t : Tac) (n : ℕ) (env : Env) (deep : env.depth ≡ suc n) (base : Sc
       → Goes env.setting t env.limit 0 2 u frames (λ v. n1) (ValueIn 0 temps) (Stands u n0 temps frames (at_work k s)) k
       s (evaluate env e s)
   value_of vs frames e n0 n1 temps k s sized tr ok good lt = value_at t n env (at vs) (inside.calling vs) (callers vs)
-      stays u frames env.variables sized e n0 n1 temps k s tr ok good lt
+      stays u frames literals env.variables sized e n0 n1 temps k s tr ok good lt
 
   after_value : (vs : List Variable) (e : Expression) → is_valid (at vs).scope e ≡ true → (s : State) → IsGood (at vs) s
       → After (at vs) s (ValueIs (length base.functions) (kind_of e)) (evaluate env e s)
@@ -319,13 +319,13 @@ module _ (t : Tac) (n : ℕ) (env : Env) (deep : env.depth ≡ suc n) (base : Sc
     statement_runs vs frames within empty n0 x temps k s sized tr ok good lt = goes_counted
         (goes_at tr (goes_done {a = Normal} (omega arith) refl refl tt))
     statement_runs vs frames within (declaration ds) n0 x temps k s sized tr ok good lt =
-        goes_then (declared_run t n env (at vs) (inside.calling vs) (callers vs) stays u frames env.variables sized ds
+        goes_then (declared_run t n env (at vs) (inside.calling vs) (callers vs) stays u frames literals env.variables sized ds
         n0 x.next temps k s tr ok good lt)
         (λ v s1 t1 k1 p1 le1 is1. goes_done {a = Normal} (omega arith) refl refl tt)
     statement_runs vs frames within (block line body) n0 x temps k s sized tr ok good lt =
         let numbers = block_variables body in
         goes_counted (goes_less {b = 5} 2 (omega arith)
-        (scoped_goes env.setting t env.limit u frames base sizes inside.at inside.mapped env.variables same vs numbers 6
+        (scoped_goes env.setting t env.limit u frames base sizes inside.at inside.mapped literals env.variables same vs numbers 6
         5 line n0 tr.0 tr.1 x temps k _ _ tr.2.0 tr.2.1 tr.2.2 tr.2.3 good (λ frames k1 s1 good1 e1.
         goes_frame 6 0 0 (statements_run (opened numbers 0 env.variables vs) frames within body tr.0 tr.1 temps k1 s1
         (sized_opened numbers 0 env.variables vs all_sized sized) tr.3 ok good1 (omega (arith, e1, lt))))))
@@ -383,18 +383,18 @@ module _ (t : Tac) (n : ℕ) (env : Env) (deep : env.depth ≡ suc n) (base : Sc
         let v = five (is_first (at d).scope first) (is_condition_if (at d).scope condition)
         (is_expression_if (at d).scope step) (is_statement (at d).scope inside_loop st) _ ok in
         goes_counted (goes_less {b = 4} 2 (omega arith)
-        (scoped_goes env.setting t env.limit u frames base sizes inside.at inside.mapped env.variables same vs numbers 6
+        (scoped_goes env.setting t env.limit u frames base sizes inside.at inside.mapped literals env.variables same vs numbers 6
         4 line n0 tr.0 tr.5 x temps k _ _ tr.7.0 tr.7.1 tr.7.2 tr.7.3 good (λ frames k0 s0 good0 e0.
         goes_sure _ ((first_sure (inside.calling d) first (first_names (agree_same (at d).scope) first v.0)).by s0
         good0 tt)
-        (first_runs t n env (at d) (inside.calling d) (callers d) stays u frames env.variables more first tr.0 tr.1
+        (first_runs t n env (at d) (inside.calling d) (callers d) stays u frames literals env.variables more first tr.0 tr.1
         temps k0 s0 tr.8 v.0 good0 (omega (arith, e0, lt))) (λ z s1 t1 k1 p1 le1 is1 lv1 w1.
         goes_frame 3 3 2
         (turns_run env.setting t env.limit n u frames (at d) (length base.functions) base.result tr.1 tr.2 tr.3 tr.4
         tr.6 tr.5 _ _ _ (holds_at d condition v.1) (executed d inside_loop st v.3)
         (perform_sure (inside.calling d) step (expression_if (agree_same (at d).scope) step v.2))
         (λ t k s w l. condition_at d frames condition tr.1 tr.2 tr.5.next t k s more tr.9 v.1 w l)
-        (λ temps k s w l. part_runs t n env (at d) (inside.calling d) (callers d) stays u frames env.variables more step
+        (λ temps k s w l. part_runs t n env (at d) (inside.calling d) (callers d) stays u frames literals env.variables more step
         tr.4 tr.1 temps k s tr.12 v.2 w l)
         (λ t k s w l. goes_less 2 (left_in_loop st v.4)
         (statement_runs d frames inside_loop st tr.3 _ t k s more tr.13 v.3 w l))
@@ -410,7 +410,7 @@ module _ (t : Tac) (n : ℕ) (env : Env) (deep : env.depth ≡ suc n) (base : Sc
         (λ w s1 t1 k1 p1 le1 is1 lv1 w1.
         let all = items_of env is in
         goes_counted (goes_less {b = 7} 2 (omega arith)
-        (scoped_goes env.setting t env.limit u frames base sizes inside.at inside.mapped env.variables same vs numbers
+        (scoped_goes env.setting t env.limit u frames base sizes inside.at inside.mapped literals env.variables same vs numbers
         16 7 line tr.0 tr.1 tr.4 x t1 k1 _ _ tr.6.0 tr.6.1 tr.6.2 tr.6.3 lv1.good (λ frames k2 s2 good2 e2.
         goes_counted_as (compared w.value.word (labels_of all)) (16 + compared w.value.word (labels_of all))
         (omega arith)
@@ -431,7 +431,7 @@ module _ (t : Tac) (n : ℕ) (env : Env) (deep : env.depth ≡ suc n) (base : Sc
     statement_runs vs frames within (return (Some e)) n0 x temps k s sized tr ok good lt =
         let v = three (is_valid (at vs).scope e) (is_kind (kind_of e) base.result) (is_value (kind_of e)) ok in
         goes_counted (goes_then
-        (result_at t n env (at vs) (inside.calling vs) (callers vs) stays u frames env.variables sized e n0
+        (result_at t n env (at vs) (inside.calling vs) (callers vs) stays u frames literals env.variables sized e n0
         x.returns temps k _ tr v.0 good lt)
         (λ v s1 t1 k1 p1 le1 is1. goes_done {a = Returned v} (omega arith) refl refl p1.value))
 
@@ -484,7 +484,7 @@ module _ (t : Tac) (n : ℕ) (env : Env) (deep : env.depth ≡ suc n) (base : Sc
         (goes_frame 16 0 0 (h k))
     cases_run vs frames within (items labels st is) c0 n0 other x all v temps k s sized tr ok good ev lt h =
         let q = both (is_statement (at vs).scope within st) (are_items (at vs).scope within is) ok in
-        labels_go labels n0 other c0 tr.0 x _ _ _ _ all v env.variables temps k s tr.2 ev
+        labels_go labels n0 other c0 tr.0 x _ _ _ _ all v literals env.variables temps k s tr.2 ev
         (λ ls k. goes_counted_as (length ls) 0 (omega arith)
         (goes_sure _ ((executed vs within st q.0).by _ good tt)
         (goes_less 0 (omega arith)
@@ -505,7 +505,7 @@ module _ (t : Tac) (n : ℕ) (env : Env) (deep : env.depth ≡ suc n) (base : Sc
         (goes_done {a = Normal} (omega arith) refl refl tt)
     default_run vs frames within (items labels st is) c0 n0 other x temps k s sized tr ok good lt h =
         let q = both (is_statement (at vs).scope within st) (are_items (at vs).scope within is) ok in
-        default_goes labels n0 other c0 tr.0 x _ _ _ env.variables temps k s tr.2
+        default_goes labels n0 other c0 tr.0 x _ _ _ literals env.variables temps k s tr.2
         (λ ls k. goes_counted_as (length ls) 0 (omega arith)
         (goes_sure _ ((executed vs within st q.0).by _ good tt)
         (goes_less 0 (omega arith)

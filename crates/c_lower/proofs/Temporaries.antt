@@ -1,5 +1,5 @@
 -- The code of a function as its code is said to be placed, and what temporaries hold.
-use Rattle.std.proofs.Common.{◌≡◌, ◌≢◌, ℕ, ◌<◌, List, [], Option, Some, None, refl, ap, ◌∙◌, arith, eq-eqb, ne_eqb}
+use Rattle.std.proofs.Common.{◌≡◌, ◌≢◌, ℕ, ◌<◌, Bool, List, [], Option, Some, None, refl, ap, ◌∙◌, arith, eq-eqb, ne_eqb}
 use Rattle.std.specs.Prelude.{if◌then◌else◌}
 use Rattle.c_tree.specs.declared.program.Variable.{Variable}
 use Rattle.source_meaning.specs.State.{State, Rvalue}
@@ -14,14 +14,15 @@ abbrev pub loops_in : Option CodeFunction → List CountedLoop
 loops_in None = []
 loops_in (Some c) = c.loops
 
--- the code of a function, by its number, over variables
-abbrev pub placed : Tac → (function : ℕ) → List Variable → Placed
-placed t u variables = record {
+-- the code of a function, by its number, over variables, where some static objects are string literals
+abbrev pub placed : Tac → (function : ℕ) → (literals : List Bool) → List Variable → Placed
+placed t u literals variables = record {
   code = code_of (function_in t u);
   keys = keys_of (function_in t u);
   blocks = blocks_in (function_in t u);
   loops = loops_in (function_in t u);
   texts = t.texts;
+  literals = literals;
   variables = variables;
 }
 

@@ -189,17 +189,17 @@ module _ {g : Setting} {t : Tac} {limit u : ℕ} {frames : List Frame} where
 
   -- the contents of a structure are taken
   taking_runs : (fc : ℕ) (kind : Kind) (line d n0 n1 : ℕ) (before temps : Temps) (k : ℕ) (s : State) (v : Rvalue)
-      (vars : List Variable) → LowersTaking (placed t u vars) kind line d n0 n1 → temps d ≡ v
+      (literals : List Bool) (vars : List Variable) → LowersTaking (placed t u literals vars) kind line d n0 n1 → temps d ≡ v
       → KeepsBelow d before temps → ValueIs fc kind v s.objects
       → Goes g t limit 2 1 u frames (λ v. n1) (ValueIn d before) (Stands u n0 temps frames (at_work k s)) k s
       (take_value kind line v s)
-  taking_runs fc Void line d n0 n1 before temps k s v vars tr e below h = goes_at tr
+  taking_runs fc Void line d n0 n1 before temps k s v literals vars tr e below h = goes_at tr
       (goes_done (omega arith) refl refl (record { value = e; below = below }))
-  taking_runs fc (OfScalar c) line d n0 n1 before temps k s v vars tr e below h = goes_at tr
+  taking_runs fc (OfScalar c) line d n0 n1 before temps k s v literals vars tr e below h = goes_at tr
       (goes_done (omega arith) refl refl (record { value = e; below = below }))
-  taking_runs fc (Array m) line d n0 n1 before temps k s v vars tr e below h = goes_at tr
+  taking_runs fc (Array m) line d n0 n1 before temps k s v literals vars tr e below h = goes_at tr
       (goes_done (omega arith) refl refl (record { value = e; below = below }))
-  taking_runs fc (Structure m) line d n0 n1 before temps k s v vars tr e below h =
+  taking_runs fc (Structure m) line d n0 n1 before temps k s v literals vars tr e below h =
       let F : Rvalue → State → Stage = given_in u n1 temps d frames in
       let z = at_work (k + 1) s in
       goes_step 1 tr refl
@@ -245,7 +245,7 @@ false_by false e = refl
 module _ (t : Tac) (n : ℕ) (env : Env) (sc : Context) (sure : Calling sc env)
     (calls : CallsRun env.setting t env.limit sc env.call n)
     (stays : (y : ℕ) (e : Expression) → assigns y e ≡ false → Stays y (evaluate env e)) (u : ℕ) (frames : List Frame)
-    (vars : List Variable) where
+    (literals : List Bool) (vars : List Variable) where
   abbrev g : Setting
   g = env.setting
 
@@ -278,21 +278,21 @@ module _ (t : Tac) (n : ℕ) (env : Env) (sc : Context) (sure : Calling sc env)
 
   mutual
     pub expression_runs : (e : Expression) (d n0 n1 : ℕ) (temps : Temps) (k : ℕ) (s : State)
-        → LowersExpression (placed t u vars) e d n0 n1 → is_valid sc.scope e ≡ true → IsGood sc s → limit < n + s.turns
+        → LowersExpression (placed t u literals vars) e d n0 n1 → is_valid sc.scope e ≡ true → IsGood sc s → limit < n + s.turns
         → Goes g t limit 0 (left e) u frames (λ v. n1) (ValueIn d temps) (Stands u n0 temps frames (at_work k s)) k s
         (evaluate env e s)
     expression_runs (expression kind line node) d n0 n1 temps k s tr ok good lt = node_runs node kind line d n0 n1 temps
         k s tr ok good lt
 
     two : (e : Expression) (d n0 n1 : ℕ) (temps : Temps) (k : ℕ) (s : State)
-        → LowersExpression (placed t u vars) e d n0 n1 → is_valid sc.scope e ≡ true → IsGood sc s → limit < n + s.turns
+        → LowersExpression (placed t u literals vars) e d n0 n1 → is_valid sc.scope e ≡ true → IsGood sc s → limit < n + s.turns
         → Goes g t limit 0 2 u frames (λ v. n1) (ValueIn d temps) (Stands u n0 temps frames (at_work k s)) k s
         (evaluate env e s)
     two (expression kind line node) d n0 n1 temps k s tr ok good lt = goes_less 2 (two_left_by (is_convert node))
         (node_runs node kind line d n0 n1 temps k s tr ok good lt)
 
     node_runs : (node : Node) (kind : Kind) (line d n0 n1 : ℕ) (temps : Temps) (k : ℕ) (s : State)
-        → LowersNode (placed t u vars) node kind line d n0 n1 → is_node sc.scope node kind ≡ true → IsGood sc s
+        → LowersNode (placed t u literals vars) node kind line d n0 n1 → is_node sc.scope node kind ≡ true → IsGood sc s
         → limit < n + s.turns
         → Goes g t limit 0 (left_by (is_convert node)) u frames (λ v. n1) (ValueIn d temps)
         (Stands u n0 temps frames (at_work k s)) k s (value env node kind line s)
@@ -323,8 +323,8 @@ module _ (t : Tac) (n : ℕ) (env : Env) (sc : Context) (sure : Calling sc env)
         (ap (λ (v : Rvalue). keyed keys tr.1 z v.value
         (admitted (mode_for j) (size_of_kind pk) v s1.objects
         (came (read_rvalue pk (is_through (mode_for j)) v (lvalue_line p) z) F))) p1.value
-        ∙ key_opens keys tr.1 (read_key p) s1 q.value tr.2
-        (if_right j (place_key p) s1 q.value (place_right env p s s1 q is1)) (k1 + w) _
+        ∙ key_opens keys tr.1 (read_key literals p) s1 q.value tr.2
+        (if_right j (place_key literals p) s1 q.value (place_right env literals p s s1 q is1)) (k1 + w) _
         ∙ access_opens (function_count sc) p (size_of_kind pk) q s1.objects w1.reach _
         ∙ ap (λ b. came (read_rvalue pk b q (lvalue_line p) z) F) (through_is j))
         (goes_last F (acts_read_rvalue pk j q (lvalue_line p))
@@ -480,9 +480,9 @@ module _ (t : Tac) (n : ℕ) (env : Env) (sc : Context) (sure : Calling sc env)
         ∙ ap (λ (y : Rvalue). keyed keys tr.2 z q.value
         (admitted (mode_for j) size q s2.objects
         (moved_from pk y s2.objects (came (write_rvalue pk (is_through (mode_for j)) q.value at y z) F)))) p2.value
-        ∙ key_opens keys tr.2 (write_key p a) s2 q.value tr.3
-        (if_right j (key_after a (place_key p)) s2 q.value
-        (later a s1 s2 x is2 lv2 (place_key p) q.value w1.tag (place_right env p _ s1 q is1))) (k2 + w) _
+        ∙ key_opens keys tr.2 (write_key literals p a) s2 q.value tr.3
+        (if_right j (key_after a (place_key literals p)) s2 q.value
+        (later a s1 s2 x is2 lv2 (place_key literals p) q.value w1.tag (place_right env literals p _ s1 q is1))) (k2 + w) _
         ∙ access_opens (function_count sc) p size q s2.objects
         (reach_later (function_count sc) (basis_of p) nm.1 size q s1.objects s2.objects lv2.lives w1.reach) _
         ∙ value_moves (function_count sc) pk x s2.objects
@@ -528,9 +528,9 @@ module _ (t : Tac) (n : ℕ) (env : Env) (sc : Context) (sure : Calling sc env)
         (admitted (mode_for j) (scalar_size sk) q s2.objects
         (came (as_rvalue (update sk (is_through (mode_for j)) q.value at (updated w sk x.value line) Prefix) z)
         F))) p2.value
-        ∙ key_opens keys tr.2 (write_key p a) s2 q.value tr.3
-        (if_right j (key_after a (place_key p)) s2 q.value
-        (later a s1 s2 y is2 lv2 (place_key p) q.value w1.tag (place_right env p _ s1 q is1))) (k2 + w') _
+        ∙ key_opens keys tr.2 (write_key literals p a) s2 q.value tr.3
+        (if_right j (key_after a (place_key literals p)) s2 q.value
+        (later a s1 s2 y is2 lv2 (place_key literals p) q.value w1.tag (place_right env literals p _ s1 q is1))) (k2 + w') _
         ∙ access_opens (function_count sc) p (scalar_size sk) q s2.objects
         (reach_scalar (function_count sc) (basis_of p) (lvalue_kind p) (updates_scalar w (lvalue_kind p) nm.2) q
         s2.objects (reach_later (function_count sc) (basis_of p) nm.1 (size_of_kind (lvalue_kind p)) q s1.objects
@@ -573,8 +573,8 @@ module _ (t : Tac) (n : ℕ) (env : Env) (sc : Context) (sure : Calling sc env)
         (admitted (mode_for j) (scalar_size sk) x s1.objects
         (came (as_rvalue (update sk (is_through (mode_for j)) x.value at (updated w sk (integer 1) line) fixity) z)
         F))) p1.value
-        ∙ key_opens keys tr.1 (read_key p) s1 q.value tr.2
-        (if_right j (place_key p) s1 q.value (place_right env p _ s1 q is1)) (k1 + w') _
+        ∙ key_opens keys tr.1 (read_key literals p) s1 q.value tr.2
+        (if_right j (place_key literals p) s1 q.value (place_right env literals p _ s1 q is1)) (k1 + w') _
         ∙ access_opens (function_count sc) p (scalar_size sk) q s1.objects
         (reach_scalar (function_count sc) (basis_of p) (lvalue_kind p) (updates_scalar w (lvalue_kind p) nm.2) q
         s1.objects w1.reach) _
@@ -658,7 +658,7 @@ module _ (t : Tac) (n : ℕ) (env : Env) (sc : Context) (sure : Calling sc env)
         (ap (λ (z : Rvalue). rvalue (converted kind z.value)) p1.value) p1.below)))
 
     pub lvalue_runs : (p : Lvalue) (d n0 n1 : ℕ) (temps : Temps) (k : ℕ) (s : State)
-        → LowersLvalue (placed t u vars) p d n0 n1 → is_valid_lvalue sc.scope p ≡ true → IsGood sc s
+        → LowersLvalue (placed t u literals vars) p d n0 n1 → is_valid_lvalue sc.scope p ≡ true → IsGood sc s
         → limit < n + s.turns
         → Goes g t limit 0 7 u frames (λ v. n1) (ValueIn d temps) (Stands u n0 temps frames (at_work k s)) k s
         (place env p s)
@@ -666,7 +666,7 @@ module _ (t : Tac) (n : ℕ) (env : Env) (sc : Context) (sure : Calling sc env)
         good lt
 
     place_runs : (node : LvalueNode) (kind : Kind) (d n0 n1 : ℕ) (temps : Temps) (k : ℕ) (s : State)
-        → LowersPlace (placed t u vars) node d n0 n1 → is_valid_lvalue_node sc.scope node kind ≡ true → IsGood sc s
+        → LowersPlace (placed t u literals vars) node d n0 n1 → is_valid_lvalue_node sc.scope node kind ≡ true → IsGood sc s
         → limit < n + s.turns
         → Goes g t limit 0 7 u frames (λ v. n1) (ValueIn d temps) (Stands u n0 temps frames (at_work k s)) k s
         (node_place env node s)
@@ -725,7 +725,7 @@ module _ (t : Tac) (n : ℕ) (env : Env) (sc : Context) (sure : Calling sc env)
         (goes_frame 8 0 7 (lvalue_runs p d n0 n1 temps k _ tr v.0 good lt)))
 
     pub argument_at : (e : Expression) (d n0 j n1 : ℕ) (temps : Temps) (k : ℕ) (s : State)
-        → LowersExpression (placed t u vars) e d n0 j → LowersTaking (placed t u vars) (kind_of e) (line_of e) d j n1
+        → LowersExpression (placed t u literals vars) e d n0 j → LowersTaking (placed t u literals vars) (kind_of e) (line_of e) d j n1
         → is_valid sc.scope e ≡ true → IsGood sc s → limit < n + s.turns
         → Goes g t limit 0 1 u frames (λ v. n1) (ValueIn d temps) (Stands u n0 temps frames (at_work k s)) k s
         (argument (kind_of e) (line_of e) (evaluate env e) s)
@@ -733,10 +733,10 @@ module _ (t : Tac) (n : ℕ) (env : Env) (sc : Context) (sure : Calling sc env)
         goes_sure _ (after (expression kind line node) ok _ good)
         (goes_less 2 (two_left_by (is_convert node)) (node_runs node kind line d n0 j temps k s tr ok good lt))
         (λ v s1 t1 k1 p1 le1 is1 lv1 w1.
-        taking_runs (function_count sc) kind line d j n1 temps t1 k1 s1 v vars take p1.value p1.below w1)
+        taking_runs (function_count sc) kind line d j n1 temps t1 k1 s1 v literals vars take p1.value p1.below w1)
 
     arguments_run : (es : Expressions) (d n0 n1 : ℕ) (temps : Temps) (k : ℕ) (s : State)
-        → LowersArguments (placed t u vars) es d n0 n1 → are_valid sc.scope es ≡ true → IsGood sc s
+        → LowersArguments (placed t u literals vars) es d n0 n1 → are_valid sc.scope es ≡ true → IsGood sc s
         → limit < n + s.turns
         → Goes g t limit 0 0 u frames (λ vs. n1) (ValuesIn d temps (count es)) (Stands u n0 temps frames (at_work k s))
         k s (each_value (values env es) s)

@@ -1,62 +1,21 @@
 -- The key of a judged lvalue: what its pointer is over plain variables and the places of named objects.
-use Rattle.std.specs.Prelude.{ℕ, ◌+◌, ◌-◌, ◌*◌, ◌%◌, ◌^◌, Bool, true, false, ◌||◌, ◌==◌, if◌then◌else◌, List, [], ◌∷◌}
-use Rattle.std.specs.Prelude.{Option, Some, None}
-use Rattle.obj_memory.specs.declared.operator.BinaryOperator.{BinaryOperator}
-use Rattle.obj_memory.specs.declared.operator.UnaryOperator.{UnaryOperator}
-use Rattle.obj_memory.specs.declared.int_type.IntType.{IntType}
-use Rattle.obj_memory.specs.declared.value.Scalar.TheVariants.{Integer, Pointer}
-use Rattle.obj_memory.specs.Integers.{fit}
-use Rattle.obj_memory.specs.Operators.{unary_value, binary_value}
-use Rattle.c_tree.specs.declared.expression.Kind.{Kind}
+use Rattle.std.specs.Prelude.{ℕ, ◌+◌, ◌-◌, ◌*◌, ◌%◌, ◌^◌, Bool, true, false, ◌||◌, List, [], ◌∷◌, Option, Some, None}
+use Rattle.std.specs.Prelude.{slice_get}
+use Rattle.obj_memory.specs.declared.value.Scalar.TheVariants.{Pointer}
 use Rattle.c_tree.specs.declared.expression.Kind.TheVariants.{Scalar as OfScalar}
 use Rattle.c_tree.specs.declared.expression.OffsetForm.TheVariants.{PointerPlusIndex, IndexPlusPointer}
 use Rattle.c_tree.specs.declared.expression.OffsetForm.TheVariants.{PointerMinusIndex}
-use Rattle.c_tree.specs.Tree.{Expression, expression, Lvalue, lvalue, Node, constant, plain, decay, address}
-use Rattle.c_tree.specs.Tree.{parenthesized, cast, convert, unary, binary, offset_by, conditional, LvalueNode}
-use Rattle.c_tree.specs.Tree.{automatic, static, deref, index, member, arrow, member_of_value, parenthesized_lvalue}
-use Rattle.c_tree.specs.Tree.{kind_of}
+use Rattle.c_tree.specs.Tree.{Expression, expression, Lvalue, lvalue, Node, plain, decay, address, parenthesized, cast}
+use Rattle.c_tree.specs.Tree.{convert, offset_by, LvalueNode, automatic, static, deref, index, member, arrow}
+use Rattle.c_tree.specs.Tree.{member_of_value, parenthesized_lvalue}
 use Rattle.c_tree.specs.Walk.{assigns}
-use Rattle.source_meaning.specs.Actions.{scalar_of, integer_type}
+use Rattle.c_const.specs.Integers.{constant_word}
 use Rattle.source_meaning.specs.Expressions.{is_judged}
 use Rattle.tac_ir.specs.declared.key.Base.{Base}
 use Rattle.tac_ir.specs.declared.key.Base.TheVariants.{Plain, Automatic, Static}
 use Rattle.tac_ir.specs.declared.key.Scaled.{Scaled}
 use Rattle.tac_ir.specs.declared.key.Member.{Member}
 use Rattle.tac_ir.specs.declared.key.Key.{Key}
-
--- integer constant expressions (C99 6.6 paragraph 6)
-
-abbrev pub constant_fit : Kind → Option ℕ → Option ℕ
-constant_fit (OfScalar (Integer t)) (Some w) = Some (fit t w)
-constant_fit kind w = None
-
-abbrev pub constant_unary : UnaryOperator → IntType → Option ℕ → Option ℕ
-constant_unary op t None = None
-constant_unary op t (Some w) = Some (unary_value op t w)
-
-abbrev pub constant_binary : BinaryOperator → IntType → (left right : Option ℕ) → Option ℕ
-constant_binary op t (Some v) (Some w) = binary_value op t v w
-constant_binary op t v w = None
-
-abbrev pub constant_choice : (condition first second : Option ℕ) → Option ℕ
-constant_choice (Some c) (Some v) (Some w) = Some (if c == 0 then w else v)
-constant_choice c v w = None
-
--- the word of an integer constant expression
-abbrev mutual
-  pub constant_of : Expression → Option ℕ
-  constant_of (expression kind line node) = constant_node node kind
-
-  pub constant_node : Node → Kind → Option ℕ
-  constant_node (constant w) kind = Some w
-  constant_node (parenthesized a) kind = constant_of a
-  constant_node (cast a) kind = constant_fit kind (constant_of a)
-  constant_node (convert a) kind = constant_fit kind (constant_of a)
-  constant_node (unary op a) kind = constant_unary op (integer_type (scalar_of (kind_of a))) (constant_of a)
-  constant_node (binary op a b) kind = constant_binary op (integer_type (scalar_of (kind_of a))) (constant_of a)
-      (constant_of b)
-  constant_node (conditional c a b) kind = constant_choice (constant_of c) (constant_of a) (constant_of b)
-  constant_node n kind = None
 
 -- a plain integer variable, in parentheses or not
 abbrev mutual
@@ -79,8 +38,9 @@ index_by (Some w) x = OfConstant w
 index_by None (Some x) = OfVariable x
 index_by None None = OfOther
 
+-- an integer constant expression (C99 6.6 paragraph 6), or the name of a plain variable
 abbrev pub index_of : Expression → Index
-index_of e = index_by (constant_of e) (variable_of e)
+index_of e = index_by (constant_word e) (variable_of e)
 
 -- keys
 
@@ -90,6 +50,11 @@ base_key b = Some (record { base = b; path = []; constant = 0; scaled = None })
 abbrev pub moved_key : (offset : ℕ) → Key → Key
 moved_key offset key = record
     { base = key.base; path = key.path; constant = (key.constant + offset) % 2 ^ 64; scaled = key.scaled }
+
+-- the name of a static object; a string literal is one without a name (C99 6.4.5)
+abbrev pub named_key : (is_literal : Option Bool) → (number : ℕ) → Option Key
+named_key (Some false) n = base_key (Static n)
+named_key is_literal n = None
 
 -- at most one scaled variable is added
 abbrev pub scaled_key : Option Scaled → Key → (variable size : ℕ) → Option Key
@@ -124,39 +89,40 @@ member_key (Some key) offset size = Some (record {
   scaled = key.scaled;
 })
 
+-- Of each static object of the program it is told whether it is a string literal.
 abbrev mutual
   -- of a pointer's value; casts of pointers and parentheses are passed through
-  pub pointer_key : Expression → Option Key
-  pointer_key (expression (OfScalar Pointer) line node) = node_key node
-  pointer_key (expression kind line node) = None
+  pub pointer_key : (literals : List Bool) → Expression → Option Key
+  pointer_key ls (expression (OfScalar Pointer) line node) = node_key ls node
+  pointer_key ls (expression kind line node) = None
 
-  pub node_key : Node → Option Key
-  node_key (plain x) = base_key (Plain x)
-  node_key (decay p) = place_key p
-  node_key (address p) = place_key p
-  node_key (parenthesized a) = pointer_key a
-  node_key (cast a) = pointer_key a
-  node_key (convert a) = pointer_key a
-  node_key (offset_by PointerPlusIndex size a b) = key_plus (pointer_key a) (index_of b) size
-  node_key (offset_by IndexPlusPointer size a b) = key_plus (pointer_key b) (index_of a) size
-  node_key (offset_by PointerMinusIndex size a b) = key_minus (pointer_key a) (index_of b) size
-  node_key n = None
+  pub node_key : (literals : List Bool) → Node → Option Key
+  node_key ls (plain x) = base_key (Plain x)
+  node_key ls (decay p) = place_key ls p
+  node_key ls (address p) = place_key ls p
+  node_key ls (parenthesized a) = pointer_key ls a
+  node_key ls (cast a) = pointer_key ls a
+  node_key ls (convert a) = pointer_key ls a
+  node_key ls (offset_by PointerPlusIndex size a b) = key_plus (pointer_key ls a) (index_of b) size
+  node_key ls (offset_by IndexPlusPointer size a b) = key_plus (pointer_key ls b) (index_of a) size
+  node_key ls (offset_by PointerMinusIndex size a b) = key_minus (pointer_key ls a) (index_of b) size
+  node_key ls n = None
 
   -- of an lvalue
-  pub place_key : Lvalue → Option Key
-  place_key (lvalue kind line node) = lvalue_key node
+  pub place_key : (literals : List Bool) → Lvalue → Option Key
+  place_key ls (lvalue kind line node) = lvalue_key ls node
 
-  pub lvalue_key : LvalueNode → Option Key
-  lvalue_key (automatic x) = base_key (Automatic x)
-  lvalue_key (static n) = base_key (Static n)
-  lvalue_key (deref a) = pointer_key a
-  lvalue_key (index PointerPlusIndex size a b) = key_plus (pointer_key a) (index_of b) size
-  lvalue_key (index IndexPlusPointer size a b) = key_plus (pointer_key b) (index_of a) size
-  lvalue_key (index PointerMinusIndex size a b) = key_minus (pointer_key a) (index_of b) size
-  lvalue_key (member p offset size) = member_key (place_key p) offset size
-  lvalue_key (arrow a offset size) = member_key (pointer_key a) offset size
-  lvalue_key (member_of_value a offset size) = None
-  lvalue_key (parenthesized_lvalue p) = place_key p
+  pub lvalue_key : (literals : List Bool) → LvalueNode → Option Key
+  lvalue_key ls (automatic x) = base_key (Automatic x)
+  lvalue_key ls (static n) = named_key (slice_get ls n) n
+  lvalue_key ls (deref a) = pointer_key ls a
+  lvalue_key ls (index PointerPlusIndex size a b) = key_plus (pointer_key ls a) (index_of b) size
+  lvalue_key ls (index IndexPlusPointer size a b) = key_plus (pointer_key ls b) (index_of a) size
+  lvalue_key ls (index PointerMinusIndex size a b) = key_minus (pointer_key ls a) (index_of b) size
+  lvalue_key ls (member p offset size) = member_key (place_key ls p) offset size
+  lvalue_key ls (arrow a offset size) = member_key (pointer_key ls a) offset size
+  lvalue_key ls (member_of_value a offset size) = None
+  lvalue_key ls (parenthesized_lvalue p) = place_key ls p
 
 -- whether an expression assigns a plain variable of a key
 
@@ -190,8 +156,8 @@ abbrev pub key_if : (is_judged : Bool) → Option Key → Option Key
 key_if true key = key
 key_if false key = None
 
-abbrev pub read_key : Lvalue → Option Key
-read_key p = key_if (is_judged p) (place_key p)
+abbrev pub read_key : (literals : List Bool) → Lvalue → Option Key
+read_key ls p = key_if (is_judged p) (place_key ls p)
 
-abbrev pub write_key : Lvalue → Expression → Option Key
-write_key p a = key_if (is_judged p) (key_after a (place_key p))
+abbrev pub write_key : (literals : List Bool) → Lvalue → Expression → Option Key
+write_key ls p a = key_if (is_judged p) (key_after a (place_key ls p))

@@ -52,7 +52,7 @@ abbrev mutual
   LowersNode c (function f) kind line d n0 n1 = Holds c n0 (tac.FunctionPointer d f n1)
   LowersNode c (plain x) kind line d n0 n1 = Holds c n0 (tac.GetPlain d x n1)
   LowersNode c (read p) kind line d n0 n1 =
-      (k : ℕ) × (key : Option ℕ) × KeyIs c.keys key (read_key p) × LowersLvalue c p d n0 k
+      (k : ℕ) × (key : Option ℕ) × KeyIs c.keys key (read_key c.literals p) × LowersLvalue c p d n0 k
       × Holds c k (tac.Read (lvalue_kind p) (mode_for (is_judged p)) (lvalue_line p) key d d n1)
   LowersNode c (decay p) kind line d n0 n1 = LowersLvalue c p d n0 n1
   LowersNode c (address p) kind line d n0 n1 = LowersLvalue c p d n0 n1
@@ -89,13 +89,13 @@ abbrev mutual
       (k : ℕ) × (kb : ℕ) × (ke : ℕ) × LowersExpression c a d n0 k × Holds c k (tac.Branch d kb ke)
       × LowersExpression c b d kb n1 × LowersExpression c e d ke n1
   LowersNode c (assign p a) kind line d n0 n1 =
-      (k1 : ℕ) × (k2 : ℕ) × (key : Option ℕ) × KeyIs c.keys key (write_key p a) × LowersLvalue c p d n0 k1
+      (k1 : ℕ) × (k2 : ℕ) × (key : Option ℕ) × KeyIs c.keys key (write_key c.literals p a) × LowersLvalue c p d n0 k1
       × LowersExpression c a (d + 1) k1 k2
       × Holds c k2 (tac.Write (lvalue_kind p) (mode_for (is_judged p)) (lvalue_line p) key d d (d + 1) n1)
   LowersNode c (assign_plain x a) kind line d n0 n1 =
       (k : ℕ) × LowersExpression c a d n0 k × Holds c k (tac.SetPlain x.variable d n1)
   LowersNode c (compound u p a) kind line d n0 n1 =
-      (k1 : ℕ) × (k2 : ℕ) × (key : Option ℕ) × KeyIs c.keys key (write_key p a) × LowersLvalue c p d n0 k1
+      (k1 : ℕ) × (k2 : ℕ) × (key : Option ℕ) × KeyIs c.keys key (write_key c.literals p a) × LowersLvalue c p d n0 k1
       × LowersExpression c a (d + 1) k1 k2
       × Holds c k2 (tac.Update u (scalar_of (lvalue_kind p)) Prefix (mode_for (is_judged p)) (lvalue_line p) line key d
       d (Temporary (d + 1)) n1)
@@ -103,7 +103,7 @@ abbrev mutual
       (k : ℕ) × LowersExpression c a d n0 k
       × Holds c k (tac.UpdatePlain u (scalar_of kind) Prefix line d x.variable (Temporary d) n1)
   LowersNode c (step u fixity p) kind line d n0 n1 =
-      (k : ℕ) × (key : Option ℕ) × KeyIs c.keys key (read_key p) × LowersLvalue c p d n0 k
+      (k : ℕ) × (key : Option ℕ) × KeyIs c.keys key (read_key c.literals p) × LowersLvalue c p d n0 k
       × Holds c k (tac.Update u (scalar_of (lvalue_kind p)) fixity (mode_for (is_judged p)) (lvalue_line p) line key d d
       One n1)
   LowersNode c (step_plain u fixity x) kind line d n0 n1 =

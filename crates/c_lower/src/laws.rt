@@ -1,6 +1,6 @@
 //! Laws of the definitions, each as the contract of a function that does nothing.
 
-ghost use Rattle.std.specs.Prelude.{◌≡◌, ◌≤◌, ℕ, List, true, Some};
+ghost use Rattle.std.specs.Prelude.{◌≡◌, ◌≤◌, ℕ, Bool, List, true, Some};
 ghost use Rattle.behaviours.specs.Behaviour.{Follows};
 ghost use Rattle.behaviours.specs.Steps.{run};
 ghost use Rattle.sb_base.specs.Budgets.{BudgetSizes};
@@ -39,10 +39,10 @@ pub fn lowered_code_is_never_stuck()
         → run (step (setting_of_code t budgets) t) k (first_stage t budgets input) ≡ Stuck → ⊥ }
 {}
 
-/// The key of an lvalue gives its pointer where it was found.
+/// The key of an lvalue gives its pointer where it was found, whichever static objects are string literals.
 pub fn keys_give_pointers()
-    ensures { (env : Env) (p : Lvalue) (s t : State) (q : Rvalue) → place env p s ≡ Gives q t → (key : Key)
-        → place_key p ≡ Some key → gives key t q.value ≡ true }
+    ensures { (env : Env) (literals : List Bool) (p : Lvalue) (s t : State) (q : Rvalue) → place env p s ≡ Gives q t
+        → (key : Key) → place_key literals p ≡ Some key → gives key t q.value ≡ true }
 {}
 
 /// The code of an expression never has more values waiting than the height of the expression counts.

@@ -20,6 +20,7 @@ use Rattle.c_tree.specs.Programs.{Function, Program}
 use Rattle.c_tree.specs.Statements.{expression_statement, declaration, if_then, first_expression, for, return}
 use Rattle.c_tree.specs.Tree.{automatic}
 use Rattle.c_tree.specs.Blocks.{no_variable}
+use Rattle.c_const.specs.Integers.{constant_word}
 use Rattle.source_meaning.specs.Meaning.{meaning}
 use Rattle.source_meaning_rows.proofs.Samples.{int, pointer, number, plain, address, convert, compare, assign}
 use Rattle.source_meaning_rows.proofs.Samples.{set_plain, step_plain, library, read, lvalue, deref, with_value}
@@ -36,7 +37,7 @@ use Rattle.tac_ir.specs.declared.function.Tac.{Tac}
 use Rattle.tac_ir.specs.Temporaries.{temporaries}
 use Rattle.tac_ir.specs.Meaning.{tac_meaning}
 use Rattle.source_meaning.specs.Calls.{function_at}
-use Rattle.c_lower.specs.Programs.{result_in, height_in, LowersFunction, LowersAt, IsLowered}
+use Rattle.c_lower.specs.Programs.{result_in, height_in, LowersFunction, LowersAt, literals_of, IsLowered}
 
 function_main : Function
 function_main = defined 1 0 [] (plain_variable pointer ∷ plain_variable int ∷ object_variable int ∷ []) 328
@@ -154,8 +155,8 @@ checked_run : seen (tac_meaning checked_code default_sizes [] 80)
 unfolding checked_code code_of function_with code_with computing
 checked_run = refl
 
-body : LowersFunction [] int 2 function_main (function_with (code_with (tac.Read int Unchecked 2 (Some 0) 0 0 26) []))
-unfolding function_main function_with code_with are_most computing
+body : LowersFunction [] [] int 2 function_main (function_with (code_with (tac.Read int Unchecked 2 (Some 0) 0 0 26) []))
+unfolding function_main function_with code_with are_most constant_word computing
 body = record {
   header = refl;
   homes = each_most 2 (code_with (tac.Read int Unchecked 2 (Some 0) 0 0 26) []) refl;
@@ -221,7 +222,7 @@ body = record {
   );
 }
 
-functions_lowered : (f : ℕ) → LowersAt lowered_code.texts
+functions_lowered : (f : ℕ) → LowersAt lowered_code.texts (literals_of program.statics)
     (result_in lowered_code.results (function_at program.functions f))
     (height_in program.statics f (function_at program.functions f)) (function_at program.functions f)
     (slice_get lowered_code.functions f)

@@ -1,14 +1,15 @@
 //! Lowers programs to three-address code, puts in the checks, and runs the code before and after that over objects.
 //! Standard input has rows, with a line `%%` between each two. The first line of one has its name, the bytes of the
 //! heap and of the stack, the budget `calls`, the numbers of blocks, of keys and of turns, the work of the meaning or
-//! `-`, the word `accesses` or `-`, and the bytes of the input in hexadecimal digits. The text of a program stands
-//! behind it.
+//! `-`, the word `accesses` or `-`, the word `tables` or `-`, and the bytes of the input in hexadecimal digits. The
+//! text of a program stands behind it.
 //!
-//! Of each row the first line tells how many checks `insert` puts in, all, spatial and temporal ones. A line for the
-//! run before and one for the run after tell the status and the report, in parentheses what a wrong access was found
-//! by, and the output; where the work of the meaning is given, the turns, and whether the run's work is within 8 times
-//! that; and the accesses where they are asked for. The last line of all has the kinds of instructions that no run came
-//! to: `Reserved`, which stands nowhere in code that is done, and `Skip`, which stands where a check was dropped.
+//! Of each row the first line tells how many checks `insert` puts in, all, spatial and temporal ones. Where tables are
+//! asked for a line for each function tells the keys of its accesses and its counted loops. A line for the run before
+//! and one for the run after tell the status and the report, in parentheses what a wrong access was found by, and the
+//! output; where the work of the meaning is given, the turns, and whether the run's work is within 8 times that; and
+//! the accesses where they are asked for. The last line of all has the kinds of instructions that no run came to:
+//! `Reserved`, which stands nowhere in code that is done, and `Skip`, which stands where a check was dropped.
 //!
 //! `stdin` and `stdout` are made by `rows.py` beside them, from the texts of `rows/` and from what
 //! `source_meaning_rows` proves of their meaning. A word says how far the program of a text goes instead: `type`,
@@ -18,10 +19,12 @@
 mod lowered;
 mod row;
 mod shown;
+mod tables;
 
 use crate::lowered::{lowered, typed};
 use crate::row::Row;
 use crate::shown::{count_checks, put_run};
+use crate::tables::put_tables;
 use anyhow::{Result, bail};
 use c_tree::Program;
 use check_insert::{checks, insert};
@@ -75,6 +78,9 @@ fn put_program(rt: &HostRuntime, row: &Row, program: &Program, done: &mut [bool]
         row.name,
         checks(&checked)
     )?;
+    if row.has_tables {
+        put_tables(rt, &code)?;
+    }
     put_code(rt, "before", row, &code, done)?;
     put_code(rt, "after", row, &checked, done)
 }

@@ -14,6 +14,8 @@ pub struct Row<'a> {
     pub work: Option<u64>,
     /// Whether its accesses are asked for.
     pub has_accesses: bool,
+    /// Whether the keys and counted loops of its code are asked for.
+    pub has_tables: bool,
     pub input: Vec<u8>,
     pub text: &'a str,
 }
@@ -49,12 +51,14 @@ impl<'a> Row<'a> {
         let budgets = budgets(&mut words)?;
         let work = words.next().context("work")?.parse().ok();
         let has_accesses = words.next().context("accesses")? == "accesses";
+        let has_tables = words.next().context("tables")? == "tables";
         let input = hex::decode(alloc, words.next().unwrap_or(""))?;
         Ok(Row {
             name,
             budgets,
             work,
             has_accesses,
+            has_tables,
             input,
             text,
         })

@@ -38,7 +38,8 @@ use Rattle.tac_ir.specs.Edges.{LeadsTo}
 use Rattle.tac_ir.specs.declared.function.StaticData.{StaticData}
 use Rattle.tac_ir.specs.Meaning.{function_in, header_of_code, placed_data, setting_of_code}
 use Rattle.c_lower.specs.Placed.{Placed, Holds}
-use Rattle.c_lower.specs.Programs.{IsLowered, LowersAt, LowersFunction, placed_in, function_exits, result_in, height_in}
+use Rattle.c_lower.specs.Programs.{IsLowered, LowersAt, LowersFunction, literals_of, placed_in, function_exits}
+use Rattle.c_lower.specs.Programs.{result_in, height_in}
 use Rattle.check_insert.specs.Inserted.{Inserted, InsertedAt, FunctionIn, StandsFor, Has}
 use Rattle.compiled_programs.specs.Programs as p
 use Rattle.metadata_plan.specs.Registers.{all_variables}
@@ -235,13 +236,13 @@ inserted_some None (Some x) c' i e = absurd i
 inserted_some (Some c) None c' i e = absurd i
 inserted_some (Some c) (Some x) c' i e = (c, refl, subst (FunctionIn c) (same_Some x c' e) i)
 
-lowered_at : (texts : List (List ℕ)) (result : Option Function → Kind) (height : Option Function → ℕ)
+lowered_at : (texts : List (List ℕ)) (literals : List Bool) (result : Option Function → Kind) (height : Option Function → ℕ)
     (o : Option Function) (o' : Option CodeFunction) (f : Function) (c : CodeFunction)
-    → LowersAt texts (result o) (height o) o o' → o ≡ Some f → o' ≡ Some c
-    → LowersFunction texts (result (Some f)) (height (Some f)) f c
-lowered_at texts result height o o' f c l e e' =
-    subst (λ x. LowersAt texts (result (Some f)) (height (Some f)) (Some f) x) e'
-    (subst (λ x. LowersAt texts (result x) (height x) x o') e l)
+    → LowersAt texts literals (result o) (height o) o o' → o ≡ Some f → o' ≡ Some c
+    → LowersFunction texts literals (result (Some f)) (height (Some f)) f c
+lowered_at texts literals result height o o' f c l e e' =
+    subst (λ x. LowersAt texts literals (result (Some f)) (height (Some f)) (Some f) x) e'
+    (subst (λ x. LowersAt texts literals (result x) (height x) x o') e l)
 
 at_return : (t : Tac) (variables : ℕ) (c : Placed) (k n : ℕ) → Holds c n (tac.Return 0)
     → SafeWithin (is_integer_instruction t variables) c.code k n
@@ -345,9 +346,9 @@ module _ (q : Program) (t r : Tac) (valid : is_valid_program q ≡ true) (ints :
     pub lowered : (c : CodeFunction) × (slice_get t.functions u ≡ Some c) × FunctionIn c c'
     lowered = inserted_some (slice_get t.functions u) (slice_get r.functions u) c' (ins.functions u) at
 
-    pub lowers : LowersFunction t.texts (result_in t.results (Some f)) (height_in q.statics u (Some f)) f lowered.0
+    pub lowers : LowersFunction t.texts (literals_of q.statics) (result_in t.results (Some f)) (height_in q.statics u (Some f)) f lowered.0
     lowers =
-        lowered_at t.texts (result_in t.results) (height_in q.statics u) (function_at q.functions u)
+        lowered_at t.texts (literals_of q.statics) (result_in t.results) (height_in q.statics u) (function_at q.functions u)
         (slice_get t.functions u) f lowered.0 (low.functions u) function_is.1 lowered.1
 
     -- its code is safe
@@ -356,7 +357,7 @@ module _ (q : Program) (t r : Tac) (valid : is_valid_program q ≡ true) (ints :
     safe_before k =
         let c = lowered.0 in
         let n = length (all_of f) in
-        let w = placed_in t.texts f c in
+        let w = placed_in t.texts (literals_of q.statics) f c in
         let b = lowers.body in
         let none : HaveNone r n w = record {
           none = λ numbers. no_objects (block_objects (all_of f) numbers)

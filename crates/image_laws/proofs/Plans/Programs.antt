@@ -140,7 +140,7 @@ module _ (q : Program) (t r : Tac) (valid : is_valid_program q ≡ true) (ints :
         let within = live_before r _ d c inserted live.steps d.entry z
         (safe_before q t r valid ints low ins u c at live.steps)
         (subst (λ n. LiveWithin c.code live.steps n z) inserted.entry live.within) in
-        none_is_live _ _ _ _ d z (lowers q t r valid ints low ins u c at)
+        none_is_live _ _ _ _ _ d z (lowers q t r valid ints low ins u c at)
         (record { steps = live.steps; within = within })
 
     has_room : HasRoom c

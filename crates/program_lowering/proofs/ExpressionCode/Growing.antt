@@ -1,6 +1,6 @@
 -- Code and tables that grow.
 use Rattle.std.proofs.Common.{◌≡◌, ℕ, zero, suc, ◌+◌, ◌*◌, ◌≤◌, List, [], ◌∷◌, ◌++◌, length, Some, None, refl, sym, ap}
-use Rattle.std.proofs.Common.{subst, arith}
+use Rattle.std.proofs.Common.{◌∙◌, subst, arith}
 use Rattle.std.proofs.lemmas.Option.{same_Some}
 use Rattle.c_tree.specs.declared.expression.Kind.TheVariants.{Void, Scalar as OfScalar, Structure, Array}
 use Rattle.tac_ir.specs.declared.instruction.Instruction.{Instruction}
@@ -58,6 +58,7 @@ fills_after k f = record {
   blocks = λ n x h. f.blocks n x (k.blocks n x h);
   loops = λ n x h. f.loops n x (k.loops n x h);
   texts = λ n x h. f.texts n x (k.texts n x h);
+  literals = f.literals ∙ k.literals;
 }
 
 pub fills_before : {a b : Emitter} {c : Placed} {m : ℕ} {k : Weights → ℕ} → Emits a b m k → Fills b c → Fills a c
@@ -70,6 +71,7 @@ keeps_all = record {
   blocks = λ n x h. h;
   loops = λ n x h. h;
   texts = λ n x h. h;
+  literals = refl;
 }
 
 pub keeps_on : {a b c : Emitter} → Keeps a b → Keeps b c → Keeps a c
@@ -79,6 +81,7 @@ keeps_on k l = record {
   blocks = λ n x h. l.blocks n x (k.blocks n x h);
   loops = λ n x h. l.loops n x (k.loops n x h);
   texts = λ n x h. l.texts n x (k.texts n x h);
+  literals = l.literals ∙ k.literals;
 }
 
 pub emits_none : {a : Emitter} {k : Weights → ℕ} (m : ℕ) → Emits a a m k
@@ -109,6 +112,7 @@ added_emits {a} {b} {n} {i} m h le = record {
     blocks = stays_by a.blocks.items b.blocks.items h.blocks;
     loops = stays_by a.loops.items b.loops.items h.loops;
     texts = stays_by a.texts.items b.texts.items h.texts;
+    literals = h.literals;
   };
   fits = λ limit most f. record {
     by = λ k x g. from_more (λ y. temporaries y ≤ limit) a.code.items i f.by (omega (arith, le, most)) k x
@@ -129,14 +133,16 @@ added_holds {n = n} {i = i} h r f = f.code n i r (added_has h)
 -- where the code stays as it is
 pub same_emits : (a b : Emitter) → b.code.items ≡ a.code.items → Stays a.keys.items b.keys.items
     → Stays a.blocks.items b.blocks.items
-    → Stays a.loops.items b.loops.items → Stays a.texts.items b.texts.items → Emits a b 0 no_weight
-same_emits a b code keys blocks loops texts = record {
+    → Stays a.loops.items b.loops.items → Stays a.texts.items b.texts.items
+    → b.literals.items ≡ a.literals.items → Emits a b 0 no_weight
+same_emits a b code keys blocks loops texts literals = record {
   kept = record {
     code = stays_by a.code.items b.code.items code;
     keys = keys;
     blocks = blocks;
     loops = loops;
     texts = texts;
+    literals = literals;
   };
   fits = λ limit le f. record { by = λ n i h. f.by n i (subst (λ l. HasAt l n i) code h) };
   grown = λ w. omega (arith, ap (λ is. code_weight is w) code);
@@ -148,21 +154,21 @@ no_key a = record { emits = emits_none 0; is = λ c f. tt }
 pub some_key : (a b : Emitter) (key : Key) (n : ℕ) → b.code.items ≡ a.code.items → b.keys.items ≡ a.keys.items
     ++ key ∷ []
     → b.blocks.items ≡ a.blocks.items → b.loops.items ≡ a.loops.items → b.texts.items ≡ a.texts.items
-    → n ≡ length a.keys.items → KeyAdded a b (Some key) (Some n)
-some_key a b key n code keys blocks loops texts at = record {
+    → b.literals.items ≡ a.literals.items → n ≡ length a.keys.items → KeyAdded a b (Some key) (Some n)
+some_key a b key n code keys blocks loops texts literals at = record {
   emits = same_emits a b code (one_more a.keys.items b.keys.items key keys)
       (stays_by a.blocks.items b.blocks.items blocks)
-      (stays_by a.loops.items b.loops.items loops) (stays_by a.texts.items b.texts.items texts);
+      (stays_by a.loops.items b.loops.items loops) (stays_by a.texts.items b.texts.items texts) literals;
   is = λ c f. f.keys n key (has_last a.keys.items b.keys.items key n keys at);
 }
 
 pub text_added : (a b : Emitter) (text : List ℕ) (n : ℕ) → b.code.items ≡ a.code.items → b.keys.items ≡ a.keys.items
     → b.blocks.items ≡ a.blocks.items → b.loops.items ≡ a.loops.items → b.texts.items ≡ a.texts.items ++ text ∷ []
-    → n ≡ length a.texts.items → TextAdded a b text n
-text_added a b text n code keys blocks loops texts at = record {
+    → b.literals.items ≡ a.literals.items → n ≡ length a.texts.items → TextAdded a b text n
+text_added a b text n code keys blocks loops texts literals at = record {
   emits = same_emits a b code (stays_by a.keys.items b.keys.items keys) (stays_by a.blocks.items b.blocks.items blocks)
       (stays_by a.loops.items b.loops.items loops)
-      (one_more a.texts.items b.texts.items text texts);
+      (one_more a.texts.items b.texts.items text texts) literals;
   is = λ c f. f.texts n text (has_last a.texts.items b.texts.items text n texts at);
 }
 

@@ -21,7 +21,7 @@ use Rattle.program_lowering.specs.ExpressionCode.Sizes.{nodes, lvalue_nodes, arg
 use Rattle.program_lowering.specs.ExpressionCode.Weights.{Weights, weight_of, weight_if, no_weight, takings_weight}
 use Rattle.program_lowering.specs.ExpressionCode.Weights.{weight_made}
 use Rattle.program_lowering.specs.ExpressionCode.Weights.{expression_weight, lvalue_weight, arguments_weight}
-use Rattle.program_lowering.specs.ExpressionCode.Emitted.{Added, IsReal, arguments_used}
+use Rattle.program_lowering.specs.ExpressionCode.Emitted.{Added, Fills, IsReal, arguments_used}
 use Rattle.program_lowering.specs.ExpressionCode.Last.{key_in, last_in, last_at, KeyAdded, TextAdded, FormatAdded}
 use Rattle.program_lowering.specs.ExpressionCode.Last.{TextIs}
 use Rattle.program_lowering.specs.ExpressionCode.Shapes.{operands_in, operands_at, operands_of, lvalue_operands}
@@ -44,7 +44,7 @@ RealIn None = Unit {0}
 RealIn (Some i) = IsReal i
 
 last_stands : (c : Placed) (kind : Kind) (line d : ℕ) (key : Option ℕ) (text m k n : ℕ) (node : Node)
-    → KeyIs c.keys key (key_in node) → TextIs c node text → StandsAs c (last_in node kind line d key text m) k m
+    → KeyIs c.keys key (key_in c.literals node) → TextIs c node text → StandsAs c (last_in node kind line d key text m) k m
     → LowersOperands c (operands_in node) d n k → LowersNode c node kind line d n m
 last_stands c kind line d key text m k n (constant w) q t h o =
     subst (λ j. StandsAs c (last_in (constant w) kind line d key text m) j m) (sym o) h
@@ -486,10 +486,17 @@ no_format_in c (printf format es) n h = absurd h
 pub no_format : (a : Emitter) (node : Node) (n : ℕ) → HasNone node → FormatAdded a a node n
 no_format a node n h = record { emits = emits_none 0; is = λ c f. no_format_in c node n h }
 
+-- the key of an access is that of the code in which it stands
+
+key_stands : {a b : Emitter} {node : Node} {key : Option ℕ} {c : Placed}
+    → KeyAdded a b (key_in a.literals.items node) key → Fills b c → KeyIs c.keys key (key_in c.literals node)
+key_stands {node = node} {key = key} {c = c} ka f =
+    subst (λ ls. KeyIs c.keys key (key_in ls node)) (sym (fills_before ka.emits f).literals) (ka.is c f)
+
 -- what an expression does is added
 
 added_as : {a b c x : Emitter} {kind : Kind} {line d k m text : ℕ} {node : Node} {key : Option ℕ} {i : Instruction}
-    → KeyAdded a b (key_in node) key → FormatAdded b c node text → last_in node kind line d key text m ≡ Some i
+    → KeyAdded a b (key_in a.literals.items node) key → FormatAdded b c node text → last_in node kind line d key text m ≡ Some i
     → Added c x k i → Finishes a x (expression kind line node) d k m
 added_as {a = a} {c = c} {x = x} {kind = kind} {line = line} {d = d} {k = k} {m = m} {text = text} {node = node} {key =
     key} {i = i}
@@ -507,25 +514,25 @@ added_as {a = a} {c = c} {x = x} {kind = kind} {line = line} {d = d} {k = k} {m 
           (λ w. omega (arith, weight w));
       stands = λ p f n o.
           let g = fills_before more f in
-          last_stands p kind line d key text m k n node (ka.is p (fills_before fa.emits g)) (fa.is p g)
+          last_stands p kind line d key text m k n node (key_stands ka (fills_before fa.emits g)) (fa.is p g)
           (subst (λ j. StandsAs p j k m) (sym e) (f.code k i real (added_has h))) o;
     }
 
 pub some_last : {a b c x : Emitter} {kind : Kind} {line d k m text : ℕ} {node : Node} {key : Option ℕ} {i : Instruction}
-    {l : Option Instruction} → KeyAdded a b (key_in node) key → FormatAdded b c node text
+    {l : Option Instruction} → KeyAdded a b (key_in a.literals.items node) key → FormatAdded b c node text
     → l ≡ last_in node kind line d key text m → l ≡ Some i → Added c x k i
     → Finishes a x (expression kind line node) d k m
 some_last ka fa l s h = added_as ka fa (sym l ∙ s) h
 
 pub none_last : {a b c : Emitter} {kind : Kind} {line d m text : ℕ} {node : Node} {key : Option ℕ}
-    {l : Option Instruction} → KeyAdded a b (key_in node) key → FormatAdded b c node text
+    {l : Option Instruction} → KeyAdded a b (key_in a.literals.items node) key → FormatAdded b c node text
     → l ≡ last_in node kind line d key text m → l ≡ None → Finishes a c (expression kind line node) d m m
 none_last {kind = kind} {line = line} {d = d} {m = m} {text = text} {node = node} {key = key} ka fa l s =
     let most = d + used (expression kind line node) in
     record {
       emits = emits_then most (finish_weight (expression kind line node)) ka.emits fa.emits (omega arith) (omega arith)
           (λ w. omega arith);
-      stands = λ p f n o. last_stands p kind line d key text m m n node (ka.is p (fills_before fa.emits f)) (fa.is p f)
+      stands = λ p f n o. last_stands p kind line d key text m m n node (key_stands ka (fills_before fa.emits f)) (fa.is p f)
           (subst (λ j. StandsAs p j m m) (sym s ∙ l) refl) o;
     }
 

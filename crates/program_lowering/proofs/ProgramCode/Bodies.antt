@@ -1,5 +1,5 @@
 -- Bodies of functions, and functions with their tables.
-use Rattle.std.proofs.Common.{◌≡◌, ℕ, ◌+◌, ◌≤◌, ◌<◌, ◌^◌, List, [], ◌∷◌, refl, sym, ap, ◌∙◌, subst, arith}
+use Rattle.std.proofs.Common.{◌≡◌, ℕ, ◌+◌, ◌≤◌, ◌<◌, ◌^◌, Bool, List, [], ◌∷◌, refl, sym, ap, ◌∙◌, subst, arith}
 use Rattle.c_tree.specs.declared.expression.Kind.{Kind}
 use Rattle.c_tree.specs.declared.program.Variable.{Variable}
 use Rattle.c_tree.specs.Blocks.{all_of, body_variables}
@@ -30,12 +30,13 @@ none_has : {A : Type 0} (xs : List A) (n : ℕ) (x : A) → xs ≡ [] → HasAt 
 none_has [] n x e h = cc
 none_has (y ∷ xs) n x e h = cc
 
-pub body_code : {vs : List Variable} {ss : Statements} {result : Kind} {texts : List (List ℕ)} {a b c d : Emitter}
-    {returns end entry : ℕ} {x : Exits} → a.code.items ≡ [] → a.texts.items ≡ texts → Added a b returns (tac.Return 0)
+pub body_code : {vs : List Variable} {ss : Statements} {result : Kind} {texts : List (List ℕ)} {literals : List Bool}
+    {a b c d : Emitter} {returns end entry : ℕ} {x : Exits} → a.code.items ≡ [] → a.texts.items ≡ texts
+    → a.literals.items ≡ literals → Added a b returns (tac.Return 0)
     → Added b c end (tac.ZeroOf result 0 returns) → exits_of x ≡ function_exits end returns
-    → StatementsCode vs c d ss entry x → BodyCode vs ss result texts d entry
+    → StatementsCode vs c d ss entry x → BodyCode vs ss result texts literals d entry
 body_code {vs = vs} {ss = ss} {texts = texts} {a = a} {returns = returns} {end = end} {entry = entry} {x = x} none same
-    r z q h =
+    told r z q h =
     let most = each_height ss in
     let one = each_needs_one ss in
     let er = added_emits most r (omega (arith, one)) in
@@ -44,6 +45,7 @@ body_code {vs = vs} {ss = ss} {texts = texts} {a = a} {returns = returns} {end =
     let whole = emits_then most (body_weight vs ss) two h.emits (omega arith) (omega arith) (λ w. omega arith) in
     record {
       texts_stay = λ n t k. whole.kept.texts n t (subst (λ l. HasAt l n t) (sym same) k);
+      literals_same = whole.kept.literals ∙ told;
       homes = whole.fits most (omega arith)
           (record { by = λ n i k. absurd (none_has a.code.items n i none k) });
       weight = λ w. omega (arith, whole.grown w, ap (λ is. code_weight is w) none);
@@ -60,31 +62,33 @@ body_code {vs = vs} {ss = ss} {texts = texts} {a = a} {returns = returns} {end =
 -- a function is that of its body
 
 pub function_code : {texts : List
-    (List ℕ)} {result : Kind} {b : Body} {l : Lowered} {vs : List Variable} {ss : Statements}
+    (List ℕ)} {literals : List Bool} {result : Kind} {b : Body} {l : Lowered} {vs : List Variable} {ss : Statements}
     {parameters variables entered : List Variable} (f : Function) → vs ≡ all_of f → ss ≡ f.body
     → parameters ≡ f.parameters
-    → variables ≡ f.variables → entered ≡ body_variables f → BodyCode vs ss result texts b.code b.entry
-    → Completes f.line f.type_number f.room parameters variables entered b l → FunctionCode f result texts l
-function_code {texts = texts} {result = result} {b = b} {l = l} {vs = vs} {ss = ss} f all same ep ev ee of w =
-    let h = subst (λ us. BodyCode us f.body result texts b.code b.entry) all
-    (subst (λ us. BodyCode vs us result texts b.code b.entry) same of) in
+    → variables ≡ f.variables → entered ≡ body_variables f → BodyCode vs ss result texts literals b.code b.entry
+    → Completes f.line f.type_number f.room parameters variables entered b l → FunctionCode f result texts literals l
+function_code {texts = texts} {literals = literals} {result = result} {b = b} {l = l} {vs = vs} {ss = ss} f all same ep ev ee of w =
+    let h = subst (λ us. BodyCode us f.body result texts literals b.code b.entry) all
+    (subst (λ us. BodyCode vs us result texts literals b.code b.entry) same of) in
     record {
       texts_stay = λ n t k. subst (λ ts. HasAt ts n t) (sym w.texts_are) (h.texts_stay n t k);
+      literals_same = w.literals_are ∙ h.literals_same;
       is = λ ts later.
-          let fills : Fills b.code (placed_in ts f l.function) = record {
+          let fills : Fills b.code (placed_in ts literals f l.function) = record {
             code = λ n i r k. subst (λ is. HasAt is n i) (sym w.code_is) k;
             keys = λ n k g. subst (λ ks. HasAt ks n k) (sym w.keys_are) g;
             blocks = λ n k g. subst (λ ks. HasAt ks n k) (sym w.blocks_are) g;
             loops = λ n k g. subst (λ ks. HasAt ks n k) (sym w.loops_are) g;
             texts = λ n t k. later n t (subst (λ us. HasAt us n t) (sym w.texts_are) k);
+            literals = sym h.literals_same;
           } in
           record {
             header = headers f l.function w.line_is w.type_is (w.parameters_are ∙ ep) (w.variables_are ∙ ev)
                 (w.entered_are ∙ ee) w.room_is;
             homes = λ n i k. h.homes.by n i (subst (λ is. HasAt is n i) w.code_is k);
             weight = λ v. omega (arith, h.weight v, ap (λ is. code_weight is v) w.code_is);
-            body = subst (λ n. LowersBody (placed_in ts f l.function) result n f.body) (sym w.entry_is)
-                (h.stands (placed_in ts f l.function) refl fills);
+            body = subst (λ n. LowersBody (placed_in ts literals f l.function) result n f.body) (sym w.entry_is)
+                (h.stands (placed_in ts literals f l.function) refl fills);
           };
     }
   where

@@ -1,5 +1,5 @@
 -- Functions in turn, and the program of them.
-use Rattle.std.proofs.Common.{◌≡◌, ℕ, zero, suc, ◌+◌, ◌≤◌, ◌<◌, List, [], ◌∷◌, ◌++◌, length, map, drop, refl, sym, ap}
+use Rattle.std.proofs.Common.{◌≡◌, ℕ, zero, suc, ◌+◌, ◌≤◌, ◌<◌, Bool, List, [], ◌∷◌, ◌++◌, length, map, drop, refl, sym, ap}
 use Rattle.std.proofs.Common.{◌∙◌, subst, arith, append_assoc, append-nil, le_trans}
 use Rattle.std.proofs.lemmas.List.{drop_all}
 use Rattle.std.specs.Prelude.{get_or, slice_get, max}
@@ -16,7 +16,7 @@ use Rattle.tac_ir.specs.declared.function.StaticData.{StaticData}
 use Rattle.tac_ir.specs.declared.function.Tac.{Tac}
 use Rattle.tac_ir.specs.Meaning.{header_of_code}
 use Rattle.c_lower.specs.Placed.{HasAt}
-use Rattle.c_lower.specs.Programs.{LowersAt, LowersFunction, IsLowered, result_in, height_in}
+use Rattle.c_lower.specs.Programs.{literals_of, LowersAt, LowersFunction, IsLowered, result_in, height_in}
 use Rattle.program_lowering.specs.ExpressionCode.Weights.{Weights}
 use Rattle.program_lowering.specs.ExpressionCode.Emitted.{Stays}
 use Rattle.program_lowering.proofs.ExpressionCode.Growing.{stays_all}
@@ -31,127 +31,133 @@ use Rattle.program_lowering.specs.ProgramCode.Whole.{AreFunctions, Holding, Asse
 use Rattle.program_lowering.specs.ProgramCode.Weights.{functions_weight, codes_weight, IsWeighed}
 
 -- what is done makes, with the code of the functions from a number on, the code of all
-pub record Done (results : List Kind) (fs : List CodeOfFunction) (i : ℕ) (l : Lowering) : Type 0 where
+pub record Done (literals : List Bool) (results : List Kind) (fs : List CodeOfFunction) (i : ℕ) (l : Lowering)
+    : Type 0 where
+  pub literals_same : l.literals.items ≡ literals
   pub by : (ts : List (List ℕ)) → Stays l.texts.items ts → (rest : List CodeFunction)
-      → AreFunctions ts results (map function_of (drop i fs)) rest
-      → AreFunctions ts results (map function_of fs) (l.functions.items ++ rest)
+      → AreFunctions ts literals results (map function_of (drop i fs)) rest
+      → AreFunctions ts literals results (map function_of fs) (l.functions.items ++ rest)
 
-pub done_none : (results : List Kind) (fs : List CodeOfFunction) (l : Lowering) → l.functions.items ≡ []
-    → Done results fs 0 l
-done_none results fs l e = record {
-  by = λ ts s rest h. subst (λ xs. AreFunctions ts results (map function_of fs) (xs ++ rest)) (sym e) h;
+pub done_none : (literals : List Bool) (results : List Kind) (fs : List CodeOfFunction) (l : Lowering)
+    → l.functions.items ≡ [] → l.literals.items ≡ literals → Done literals results fs 0 l
+done_none literals results fs l e same = record {
+  literals_same = same;
+  by = λ ts s rest h. subst (λ xs. AreFunctions ts literals results (map function_of fs) (xs ++ rest)) (sym e) h;
 }
 
-pub done_more : {results : List Kind} {l m : Lowering} (fs : List CodeOfFunction) (i : ℕ) (x : CodeOfFunction)
+pub done_more : {literals : List Bool} {results : List Kind} {l m : Lowering} (fs : List CodeOfFunction) (i : ℕ) (x : CodeOfFunction)
     → i < length fs
-    → x ≡ get_or fs i x → Done results fs i l → Holding l m results (function_of x) → Done results fs (i + 1) m
-done_more {results = results} {l = l} {m = m} fs i x lt is d h = record {
+    → x ≡ get_or fs i x → Done literals results fs i l → Holding l m results (function_of x) → Done literals results fs (i + 1) m
+done_more {literals = literals} {results = results} {l = l} {m = m} fs i x lt is d h = record {
+  literals_same = h.literals_same ∙ d.literals_same;
   by = λ ts s rest k.
-      let own = h.is ts s in
+      let own = subst (λ ls. IsFunction ts ls (get_or results (function_of x).type_number Void) (function_of x) h.code)
+      d.literals_same (h.is ts s) in
       let from : map function_of (drop i fs) ≡ function_of x ∷ map function_of (drop (i + 1) fs) =
       ap (map function_of) (drop_from fs i x lt is) in
       let before = d.by ts (λ n t g. s n t (h.texts_stay n t g)) (h.code ∷ rest)
-      (subst (λ xs. AreFunctions ts results xs (h.code ∷ rest)) (sym from) (own, k)) in
+      (subst (λ xs. AreFunctions ts literals results xs (h.code ∷ rest)) (sym from) (own, k)) in
       let joined : l.functions.items ++ (h.code ∷ rest) ≡ m.functions.items ++ rest =
       sym (ap (λ xs. xs ++ rest) h.functions ∙ append_assoc l.functions.items (h.code ∷ []) rest) in
-      subst (AreFunctions ts results (map function_of fs)) joined before;
+      subst (AreFunctions ts literals results (map function_of fs)) joined before;
 }
 
-pub done_all : {results : List Kind} {l : Lowering} (fs : List CodeOfFunction) (i : ℕ) → i ≡ length fs
-    → Done results fs i l
-    → AreFunctions l.texts.items results (map function_of fs) l.functions.items
-done_all {results = results} {l = l} fs i e d =
+pub done_all : {literals : List Bool} {results : List Kind} {l : Lowering} (fs : List CodeOfFunction) (i : ℕ) → i ≡ length fs
+    → Done literals results fs i l
+    → AreFunctions l.texts.items literals results (map function_of fs) l.functions.items
+done_all {literals = literals} {results = results} {l = l} fs i e d =
     let none : drop i fs ≡ [] = drop_all i fs (omega (arith, e)) in
-    subst (AreFunctions l.texts.items results (map function_of fs)) (append-nil l.functions.items)
+    subst (AreFunctions l.texts.items literals results (map function_of fs)) (append-nil l.functions.items)
     (d.by l.texts.items (stays_all l.texts.items) []
-    (subst (λ xs. AreFunctions l.texts.items results (map function_of xs) []) (sym none) tt))
+    (subst (λ xs. AreFunctions l.texts.items literals results (map function_of xs) []) (sym none) tt))
 
 -- one more function
 
 pub held : {a b : Lowering} {results : List Kind} {f : Function} {texts : List (List ℕ)} {w : Lowered}
     → texts ≡ a.texts.items
-    → FunctionCode f (get_or results f.type_number Void) texts w
+    → FunctionCode f (get_or results f.type_number Void) texts a.literals.items w
     → b.functions.items ≡ a.functions.items ++ w.function ∷ []
-    → b.texts.items ≡ w.texts.items → Holding a b results f
-held {w = w} et h ef eb = record {
+    → b.texts.items ≡ w.texts.items → b.literals.items ≡ w.literals.items → Holding a b results f
+held {w = w} et h ef eb el = record {
   code = w.function;
   functions = ef;
   texts_stay = λ n t k. subst (λ ts. HasAt ts n t) (sym eb) (h.texts_stay n t (subst (λ ts. HasAt ts n t) (sym et) k));
+  literals_same = el ∙ h.literals_same;
   is = λ ts s. h.is ts (λ n t k. s n t (subst (λ us. HasAt us n t) (sym eb) k));
 }
 
 -- the program
 
-headers_same : (ts : List (List ℕ)) (results : List Kind) (fs : List Function) (cs : List CodeFunction)
-    → AreFunctions ts results fs cs → map header_of_code cs ≡ map header_of fs
-headers_same ts results [] [] h = refl
-headers_same ts results [] (c ∷ cs) h = absurd h
-headers_same ts results (f ∷ fs) [] h = absurd h
-headers_same ts results (f ∷ fs) (c ∷ cs) h =
-    ap (λ x. x ∷ map header_of_code cs) h.0.header ∙ ap (λ xs. header_of f ∷ xs) (headers_same ts results fs cs h.1)
+headers_same : (ts : List (List ℕ)) (literals : List Bool) (results : List Kind) (fs : List Function) (cs : List CodeFunction)
+    → AreFunctions ts literals results fs cs → map header_of_code cs ≡ map header_of fs
+headers_same ts literals results [] [] h = refl
+headers_same ts literals results [] (c ∷ cs) h = absurd h
+headers_same ts literals results (f ∷ fs) [] h = absurd h
+headers_same ts literals results (f ∷ fs) (c ∷ cs) h =
+    ap (λ x. x ∷ map header_of_code cs) h.0.header ∙ ap (λ xs. header_of f ∷ xs) (headers_same ts literals results fs cs h.1)
 
 room_enough : (statics : List StaticObject) (n : ℕ) (f : Function)
     → each_height f.body ≤ max 1 (function_height statics n f)
 room_enough statics n f = omega (arith, height_of_each f.body)
 
-one_lowered : (ts : List (List ℕ)) (result : Kind) (statics : List StaticObject) (n : ℕ) (f : Function)
+one_lowered : (ts : List (List ℕ)) (literals : List Bool) (result : Kind) (statics : List StaticObject) (n : ℕ) (f : Function)
     (c : CodeFunction)
-    → IsFunction ts result f c → LowersFunction ts result (function_height statics n f) f c
-one_lowered ts result statics n f c h = record {
+    → IsFunction ts literals result f c → LowersFunction ts literals result (function_height statics n f) f c
+one_lowered ts literals result statics n f c h = record {
   header = h.header;
   homes = λ k i e. le_trans (h.homes k i e) (room_enough statics n f);
   body = h.body;
 }
 
-functions_lowered : (ts : List (List ℕ)) (results : List Kind) (statics : List StaticObject) (n : ℕ)
+functions_lowered : (ts : List (List ℕ)) (literals : List Bool) (results : List Kind) (statics : List StaticObject) (n : ℕ)
     (fs : List Function)
-    (cs : List CodeFunction) → AreFunctions ts results fs cs → (k : ℕ)
-    → LowersAt ts (result_in results (function_at fs k)) (height_in statics n (function_at fs k)) (function_at fs k)
+    (cs : List CodeFunction) → AreFunctions ts literals results fs cs → (k : ℕ)
+    → LowersAt ts literals (result_in results (function_at fs k)) (height_in statics n (function_at fs k)) (function_at fs k)
     (slice_get cs k)
-functions_lowered ts results statics n [] [] h k = tt
-functions_lowered ts results statics n [] (c ∷ cs) h k = absurd h
-functions_lowered ts results statics n (f ∷ fs) [] h k = absurd h
-functions_lowered ts results statics n (f ∷ fs) (c ∷ cs) h zero =
-    one_lowered ts (get_or results f.type_number Void) statics n f c h.0
-functions_lowered ts results statics n (f ∷ fs) (c ∷ cs) h (suc k) = functions_lowered ts results statics n fs cs h.1 k
+functions_lowered ts literals results statics n [] [] h k = tt
+functions_lowered ts literals results statics n [] (c ∷ cs) h k = absurd h
+functions_lowered ts literals results statics n (f ∷ fs) [] h k = absurd h
+functions_lowered ts literals results statics n (f ∷ fs) (c ∷ cs) h zero =
+    one_lowered ts literals (get_or results f.type_number Void) statics n f c h.0
+functions_lowered ts literals results statics n (f ∷ fs) (c ∷ cs) h (suc k) = functions_lowered ts literals results statics n fs cs h.1 k
 
 pub lowered_from : (p : Program) (t : Tac) → AreInitial p t.statics
-    → AreFunctions t.texts t.results p.functions t.functions
+    → AreFunctions t.texts (literals_of p.statics) t.results p.functions t.functions
     → t.results ≡ map (λ (f : FunctionType). f.result) p.function_types → t.main ≡ p.main
     → t.global_bytes ≡ statics_end p.statics 0 → IsLowered p t
 lowered_from p t s h results main bytes = record {
-  headers = headers_same t.texts t.results p.functions t.functions h;
+  headers = headers_same t.texts (literals_of p.statics) t.results p.functions t.functions h;
   results = results;
   main = main;
   bytes = bytes;
   statics = λ budgets. s.by budgets;
-  functions = λ f. functions_lowered t.texts t.results p.statics f p.functions t.functions h f;
+  functions = λ f. functions_lowered t.texts (literals_of p.statics) t.results p.statics f p.functions t.functions h f;
 }
 
-pub weighed : (ts : List (List ℕ)) (results : List Kind) (fs : List Function) (cs : List CodeFunction) (w : Weights)
-    → AreFunctions ts results fs cs → codes_weight cs w ≤ functions_weight fs w
-weighed ts results [] [] w h = omega arith
-weighed ts results [] (c ∷ cs) w h = absurd h
-weighed ts results (f ∷ fs) [] w h = absurd h
-weighed ts results (f ∷ fs) (c ∷ cs) w h = omega (arith, h.0.weight w, weighed ts results fs cs w h.1)
+pub weighed : (ts : List (List ℕ)) (literals : List Bool) (results : List Kind) (fs : List Function) (cs : List CodeFunction) (w : Weights)
+    → AreFunctions ts literals results fs cs → codes_weight cs w ≤ functions_weight fs w
+weighed ts literals results [] [] w h = omega arith
+weighed ts literals results [] (c ∷ cs) w h = absurd h
+weighed ts literals results (f ∷ fs) [] w h = absurd h
+weighed ts literals results (f ∷ fs) (c ∷ cs) w h = omega (arith, h.0.weight w, weighed ts literals results fs cs w h.1)
 
 pub program_from : {statics : List StaticData} {results : List Kind} {l : Lowering} {main bytes : ℕ} {t : Tac}
     (p : Program)
     → Assembles main bytes statics results l t → main ≡ p.main → bytes ≡ statics_end p.statics 0 → AreInitial p statics
-    → results ≡ results_of p.function_types → AreFunctions l.texts.items results p.functions l.functions.items
+    → results ≡ results_of p.function_types → AreFunctions l.texts.items (literals_of p.statics) results p.functions l.functions.items
     → IsLowered p t
 program_from {l = l} {t = t} p a em eb s er h =
-    let kinds = subst (λ ks. AreFunctions l.texts.items ks p.functions l.functions.items) (sym a.results_are) h in
-    let texts = subst (λ ts. AreFunctions ts t.results p.functions l.functions.items) (sym a.texts_are) kinds in
-    let whole = subst (AreFunctions t.texts t.results p.functions) (sym a.functions_are) texts in
+    let kinds = subst (λ ks. AreFunctions l.texts.items (literals_of p.statics) ks p.functions l.functions.items) (sym a.results_are) h in
+    let texts = subst (λ ts. AreFunctions ts (literals_of p.statics) t.results p.functions l.functions.items) (sym a.texts_are) kinds in
+    let whole = subst (AreFunctions t.texts (literals_of p.statics) t.results p.functions) (sym a.functions_are) texts in
     lowered_from p t (subst (AreInitial p) (sym a.statics_are) s) whole (a.results_are ∙ er) (a.main_is ∙ em)
     (a.bytes_are ∙ eb)
 
 pub weighed_from : {statics : List StaticData} {results : List Kind} {l : Lowering} {main bytes : ℕ} {t : Tac}
     (p : Program)
-    → Assembles main bytes statics results l t → AreFunctions l.texts.items results p.functions l.functions.items
+    → Assembles main bytes statics results l t → AreFunctions l.texts.items (literals_of p.statics) results p.functions l.functions.items
     → IsWeighed p t
 weighed_from {results = results} {l = l} p a h = record {
   by = λ w. subst (λ cs. codes_weight cs w ≤ functions_weight p.functions w) (sym a.functions_are)
-      (weighed l.texts.items results p.functions l.functions.items w h);
+      (weighed l.texts.items (literals_of p.statics) results p.functions l.functions.items w h);
 }

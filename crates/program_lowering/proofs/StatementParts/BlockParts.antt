@@ -21,11 +21,11 @@ use Rattle.program_lowering.specs.StatementParts.Weights.{weight_where, objects_
 
 pub block_added : (a b : Emitter) (numbers : List ℕ) (n : ℕ) → b.code.items ≡ a.code.items → b.keys.items ≡ a.keys.items
     → b.blocks.items ≡ a.blocks.items ++ numbers ∷ [] → b.loops.items ≡ a.loops.items → b.texts.items ≡ a.texts.items
-    → n ≡ length a.blocks.items → BlockAdded a b numbers n
-block_added a b numbers n code keys blocks loops texts at = record {
+    → b.literals.items ≡ a.literals.items → n ≡ length a.blocks.items → BlockAdded a b numbers n
+block_added a b numbers n code keys blocks loops texts literals at = record {
   emits = same_emits a b code (stays_by a.keys.items b.keys.items keys)
       (one_more a.blocks.items b.blocks.items numbers blocks)
-      (stays_by a.loops.items b.loops.items loops) (stays_by a.texts.items b.texts.items texts);
+      (stays_by a.loops.items b.loops.items loops) (stays_by a.texts.items b.texts.items texts) literals;
   is = λ c f. f.blocks n numbers (has_last a.blocks.items b.blocks.items numbers n blocks at);
 }
 

@@ -64,6 +64,7 @@ filled_fills {a = a} {b = b} {n = n} f h g = record {
   blocks = λ m x k. g.blocks m x (subst (λ l. HasAt l m x) (sym f.blocks) k);
   loops = λ m x k. g.loops m x (subst (λ l. HasAt l m x) (sym f.loops) k);
   texts = λ m x k. g.texts m x (subst (λ l. HasAt l m x) (sym f.texts) k);
+  literals = g.literals ∙ f.literals;
 }
 
 pub filled_keeps : {a b e : Emitter} {n : ℕ} {i : Instruction} → Filled a b n i → Keeps e a → length e.code.items ≤ n
@@ -76,6 +77,7 @@ filled_keeps {a = a} {b = b} {e = e} {n = n} f k le = record {
   blocks = λ m x h. subst (λ l. HasAt l m x) (sym f.blocks) (k.blocks m x h);
   loops = λ m x h. subst (λ l. HasAt l m x) (sym f.loops) (k.loops m x h);
   texts = λ m x h. subst (λ l. HasAt l m x) (sym f.texts) (k.texts m x h);
+  literals = f.literals ∙ k.literals;
 }
 
 fits_by : {a b : Emitter} {n : ℕ} {i : Instruction} (limit : ℕ) → Filled a b n i → Has a n tac.Reserved
@@ -183,12 +185,12 @@ pub some_loop : (a b : Emitter) (r : Range) (n setting : ℕ) (h : ForHead) → 
       condition = h.condition;
       turn = h.turn;
       step = h.step;
-    } ∷ [] → b.texts.items ≡ a.texts.items → n ≡ length a.loops.items
+    } ∷ [] → b.texts.items ≡ a.texts.items → b.literals.items ≡ a.literals.items → n ≡ length a.loops.items
     → LoopAdded a b (parts_with (Some r)) setting h (Some n)
-some_loop a b r n setting h code keys blocks loops texts at = record {
+some_loop a b r n setting h code keys blocks loops texts literals at = record {
   emits = same_emits a b code (stays_by a.keys.items b.keys.items keys) (stays_by a.blocks.items b.blocks.items blocks)
       (one_more a.loops.items b.loops.items _ loops)
-      (stays_by a.texts.items b.texts.items texts);
+      (stays_by a.texts.items b.texts.items texts) literals;
   is = λ c f. f.loops n _ (has_last a.loops.items b.loops.items _ n loops at);
 }
 

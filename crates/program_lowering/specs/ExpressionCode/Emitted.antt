@@ -22,6 +22,7 @@ pub record Added (before after : Emitter) (node : ℕ) (instruction : Instructio
   pub blocks : after.blocks.items ≡ before.blocks.items
   pub loops : after.loops.items ≡ before.loops.items
   pub texts : after.texts.items ≡ before.texts.items
+  pub literals : after.literals.items ≡ before.literals.items
 
 -- what stands in a table stays
 abbrev pub Stays : {A : Type 0} → (before after : List A) → Type 0
@@ -33,6 +34,7 @@ pub record Keeps (before after : Emitter) : Type 0 where
   pub blocks : Stays before.blocks.items after.blocks.items
   pub loops : Stays before.loops.items after.loops.items
   pub texts : Stays before.texts.items after.texts.items
+  pub literals : after.literals.items ≡ before.literals.items
 
 -- a node that is filled later says nothing yet
 abbrev pub IsReal : Instruction → Type 0
@@ -46,6 +48,7 @@ pub record Fills (emitter : Emitter) (placed : Placed) : Type 0 where
   pub blocks : Stays emitter.blocks.items placed.blocks
   pub loops : Stays emitter.loops.items placed.loops
   pub texts : Stays emitter.texts.items placed.texts
+  pub literals : placed.literals ≡ emitter.literals.items
 
 -- no instruction needs more temporaries
 pub record Fits (limit : ℕ) (emitter : Emitter) : Type 0 where

@@ -1,5 +1,5 @@
 -- What an expression or an lvalue itself does, once its operands are there: one instruction, or none.
-use Rattle.std.specs.Prelude.{ℕ, ◌+◌, ◌*◌, List, Option, Some, None}
+use Rattle.std.specs.Prelude.{ℕ, ◌+◌, ◌*◌, Bool, List, Option, Some, None}
 use Rattle.c_tree.specs.declared.expression.Kind.{Kind}
 use Rattle.c_tree.specs.declared.expression.Fixity.TheVariants.{Prefix}
 use Rattle.c_tree.specs.Tree.{Node, constant, function, plain, read}
@@ -22,12 +22,12 @@ use Rattle.program_lowering.specs.ExpressionCode.Weights.{no_weight, taking_weig
 use Rattle.program_lowering.specs.ExpressionCode.Emitted.{Fills, Emits}
 
 -- the key of its access
-abbrev pub key_in : Node → Option Key
-key_in (read p) = read_key p
-key_in (assign p a) = write_key p a
-key_in (compound u p a) = write_key p a
-key_in (step u fixity p) = read_key p
-key_in n = None
+abbrev pub key_in : (literals : List Bool) → Node → Option Key
+key_in ls (read p) = read_key ls p
+key_in ls (assign p a) = write_key ls p a
+key_in ls (compound u p a) = write_key ls p a
+key_in ls (step u fixity p) = read_key ls p
+key_in ls n = None
 
 -- with the number of that key, and that of its format
 abbrev pub last_in : Node → Kind → (line d : ℕ) → (key : Option ℕ) → (text next : ℕ) → Option Instruction

@@ -1,5 +1,5 @@
 -- The code of functions, whatever texts the program gets besides.
-use Rattle.std.specs.Prelude.{◌≡◌, ◌≤◌, ℕ, List, Some, slice_get}
+use Rattle.std.specs.Prelude.{◌≡◌, ◌≤◌, ℕ, Bool, List, Some, slice_get}
 use Rattle.c_tree.specs.declared.expression.Kind.{Kind}
 use Rattle.c_tree.specs.declared.program.Variable.{Variable}
 use Rattle.c_tree.specs.Programs.{Function}
@@ -19,11 +19,12 @@ use Rattle.program_lowering.specs.declared.programs.body.Body.{Body}
 use Rattle.program_lowering.specs.declared.programs.function.Lowered.{Lowered}
 use Rattle.program_lowering.specs.ProgramCode.Weights.{body_weight, function_weight}
 
--- of the body of a function with these variables, behind the texts of the program so far
-pub record BodyCode (vs : List Variable) (ss : Statements) (result : Kind) (texts : List (List ℕ)) (emitter : Emitter)
-    (entry : ℕ)
-    : Type 0 where
+-- of the body of a function with these variables, behind the texts of the program so far, where some static objects
+-- are string literals
+pub record BodyCode (vs : List Variable) (ss : Statements) (result : Kind) (texts : List (List ℕ))
+    (literals : List Bool) (emitter : Emitter) (entry : ℕ) : Type 0 where
   pub texts_stay : Stays texts emitter.texts.items
+  pub literals_same : emitter.literals.items ≡ literals
   pub homes : Fits (each_height ss) emitter
   pub weight : (w : Weights) → code_weight emitter.code.items w ≤ body_weight vs ss w
   pub stands : (c : Placed) → c.variables ≡ vs → Fills emitter c → LowersBody c result entry ss
@@ -44,15 +45,19 @@ pub record Completes (line type_number room : ℕ) (parameters variables entered
   pub blocks_are : lowered.function.blocks ≡ body.code.blocks.items
   pub loops_are : lowered.function.loops ≡ body.code.loops.items
   pub texts_are : lowered.texts.items ≡ body.code.texts.items
+  pub literals_are : lowered.literals.items ≡ body.code.literals.items
 
 -- code of a function in a program with these texts
-pub record IsFunction (texts : List (List ℕ)) (result : Kind) (function : Function) (c : CodeFunction) : Type 0 where
+pub record IsFunction (texts : List (List ℕ)) (literals : List Bool) (result : Kind) (function : Function)
+    (c : CodeFunction) : Type 0 where
   pub header : header_of_code c ≡ header_of function
   pub homes : (n : ℕ) (i : Instruction) → slice_get c.code n ≡ Some i → temporaries i ≤ each_height function.body
   pub weight : (w : Weights) → code_weight c.code w ≤ function_weight function w
-  pub body : LowersBody (placed_in texts function c) result c.entry function.body
+  pub body : LowersBody (placed_in texts literals function c) result c.entry function.body
 
 -- whatever texts come later
-pub record FunctionCode (function : Function) (result : Kind) (texts : List (List ℕ)) (lowered : Lowered) : Type 0 where
+pub record FunctionCode (function : Function) (result : Kind) (texts : List (List ℕ)) (literals : List Bool)
+    (lowered : Lowered) : Type 0 where
   pub texts_stay : Stays texts lowered.texts.items
-  pub is : (ts : List (List ℕ)) → Stays lowered.texts.items ts → IsFunction ts result function lowered.function
+  pub literals_same : lowered.literals.items ≡ literals
+  pub is : (ts : List (List ℕ)) → Stays lowered.texts.items ts → IsFunction ts literals result function lowered.function

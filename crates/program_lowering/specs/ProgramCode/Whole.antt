@@ -17,11 +17,12 @@ abbrev pub is_ready : Function → Bool
 is_ready f = nat_le (each_height f.body) f.room && each_decided f.body
 
 -- the code of functions by number
-abbrev pub AreFunctions : (texts : List (List ℕ)) → (results : List Kind) → List Function → List CodeFunction → Type 0
-AreFunctions texts results [] [] = Unit {0}
-AreFunctions texts results (f ∷ fs) (c ∷ cs) =
-    IsFunction texts (get_or results f.type_number Void) f c × AreFunctions texts results fs cs
-AreFunctions texts results _ _ = ⊥
+abbrev pub AreFunctions : (texts : List (List ℕ)) → (literals : List Bool) → (results : List Kind) → List Function
+    → List CodeFunction → Type 0
+AreFunctions texts literals results [] [] = Unit {0}
+AreFunctions texts literals results (f ∷ fs) (c ∷ cs) =
+    IsFunction texts literals (get_or results f.type_number Void) f c × AreFunctions texts literals results fs cs
+AreFunctions texts literals results _ _ = ⊥
 
 -- what the functions of each type give
 abbrev pub results_of : List FunctionType → List Kind
@@ -32,7 +33,8 @@ pub record Holding (before after : Lowering) (results : List Kind) (function : F
   pub code : CodeFunction
   pub functions : after.functions.items ≡ before.functions.items ++ code ∷ []
   pub texts_stay : Stays before.texts.items after.texts.items
-  pub is : (ts : List (List ℕ)) → Stays after.texts.items ts → IsFunction ts
+  pub literals_same : after.literals.items ≡ before.literals.items
+  pub is : (ts : List (List ℕ)) → Stays after.texts.items ts → IsFunction ts before.literals.items
       (get_or results function.type_number Void) function code
 
 -- a program has these parts

@@ -28,6 +28,7 @@ pub record Filled (before after : Emitter) (node : ℕ) (instruction : Instructi
   pub blocks : after.blocks.items ≡ before.blocks.items
   pub loops : after.loops.items ≡ before.loops.items
   pub texts : after.texts.items ≡ before.texts.items
+  pub literals : after.literals.items ≡ before.literals.items
 
 -- a node is reserved
 pub record Waits (emitter : Emitter) (node : ℕ) : Type 0 where

@@ -7,7 +7,8 @@ use tac_ir::key::Key;
 use tac_ir::{CountedLoop, Instruction};
 use tree_containers::Items;
 
-/// The code of a function so far with its tables, and the texts of the program.
+/// The code of a function so far with its tables, the texts of the program, and for each of its static objects whether
+/// it is a string literal.
 #[derive(Drop)]
 pub struct Emitter {
     pub alloc: Global,
@@ -17,6 +18,7 @@ pub struct Emitter {
     pub blocks: Vec<Items<usize>>,
     pub loops: Vec<CountedLoop>,
     pub texts: Vec<Items<u8>>,
+    pub literals: Vec<bool>,
 }
 
 /// Where both operands of `&&` or `||` lead.
@@ -35,13 +37,14 @@ impl Emitter {
     ghost use Rattle.program_lowering.specs.ExpressionCode.Emitted.{Added};
     ghost use Rattle.program_lowering.specs.ExpressionCode.Last.{KeyAdded, TextAdded, TakingCode, Outcomes};
 
-    /// An emitter of a function, with the texts of the program so far.
-    pub fn new(alloc: Global, texts: Vec<Items<u8>>) -> Emitter
+    /// An emitter of a function, with the texts of the program so far and its string literals.
+    pub fn new(alloc: Global, texts: Vec<Items<u8>>, literals: Vec<bool>) -> Emitter
         ensures code { result.code.items ≡ [] }
         ensures keys { result.keys.items ≡ [] }
         ensures blocks { result.blocks.items ≡ [] }
         ensures loops { result.loops.items ≡ [] }
         ensures texts { result.texts.items ≡ texts.items }
+        ensures literals { result.literals.items ≡ literals.items }
     {
         Emitter {
             alloc,
@@ -50,6 +53,7 @@ impl Emitter {
             blocks: Vec::new(alloc),
             loops: Vec::new(alloc),
             texts,
+            literals,
         }
     }
 

@@ -22,15 +22,15 @@ impl Emitter {
     // The number of the key of an expression's access, where it has one.
     #[tactic(auto, using(crate::proofs::ExpressionCode::Growing::keys_added))]
     fn key_in(&mut self, node: &Node) -> Result<Option<usize>, AllocError>
-        ensures { IfOk result (λ n. KeyAdded self.old self.new (key_in (node_of node.now)) n) }
+        ensures { IfOk result (λ n. KeyAdded self.old self.new (key_in self.old.literals.items (node_of node.now)) n) }
     {
         match node {
             Node::Read(p) | Node::Step(_, _, p) => {
-                let key = read_key(self.alloc, p.get())?;
+                let key = read_key(self.alloc, &self.literals, p.get())?;
                 self.add_key(key)
             }
             Node::Assign(p, a) | Node::Compound(_, p, a) => {
-                let key = write_key(self.alloc, p.get(), a.get())?;
+                let key = write_key(self.alloc, &self.literals, p.get(), a.get())?;
                 self.add_key(key)
             }
             _ => Ok(None),

@@ -1,16 +1,17 @@
 //! Keys, from the base to the last member.
 
-ghost use Rattle.std.specs.Prelude.{◌≡◌, ◌+◌, ◌-◌, ◌*◌, ◌%◌, ◌^◌, List, [], IfOk};
+ghost use Rattle.std.specs.Prelude.{◌≡◌, ◌+◌, ◌-◌, ◌*◌, ◌%◌, ◌^◌, List, [], IfOk, slice_get};
 ghost use Rattle.source_meaning.specs.Expressions.{is_judged};
 ghost use Rattle.tac_ir.specs.declared.key.Member.{Member};
 ghost use Rattle.c_tree.specs.View.{expression_of, lvalue_of};
 ghost use Rattle.c_lower.specs.Keys.{base_key, key_plus, key_minus, member_key, index_of, pointer_key, place_key};
 ghost use Rattle.c_lower.specs.Keys.{read_key, write_key, assigns_base, assigns_scaled, assigns_path, assigns_key};
-ghost use Rattle.c_lower.specs.Keys.{moved_key, scaled_key};
+ghost use Rattle.c_lower.specs.Keys.{moved_key, scaled_key, named_key};
 ghost use Rattle.program_lowering.specs.AccessKeys.Built.{key_with, key_on};
 
 use crate::keys::assigned::assigns;
-use crate::keys::constant::{constant, variable};
+use crate::keys::variable::variable;
+use c_const::constant_word;
 use c_tree::{Expression, Kind, Lvalue, LvalueNode, Node, OffsetForm};
 use obj_memory::Scalar;
 use std::alloc::{AllocError, Global};
@@ -36,6 +37,16 @@ fn begun(base: Base) -> Option<KeyHead>
         constant: 0,
         scaled: None,
     })
+}
+
+// The name of a static object; a string literal is one without a name.
+fn named(literals: &[bool], number: usize) -> Option<KeyHead>
+    ensures { key_with result [] ≡ named_key (slice_get literals.now number) number }
+{
+    match literals.get(number) {
+        Some(false) => begun(Base::Static(number)),
+        _ => None,
+    }
 }
 
 // An index of elements added to a constant.
@@ -98,7 +109,7 @@ fn plus(head: Option<KeyHead>, index: &Expression, size: u64) -> Option<KeyHead>
 {
     match head {
         None => None,
-        Some(head) => match constant(index) {
+        Some(head) => match constant_word(index) {
             Some(word) => moved_forward(head, word, size),
             None => match variable(index) {
                 Some(x) => scaled(head, x, size),
@@ -113,7 +124,7 @@ fn minus(head: Option<KeyHead>, index: &Expression, size: u64) -> Option<KeyHead
     ensures { (path : List Member)
         → key_with result path ≡ key_minus (key_with head path) (index_of (expression_of index.now)) size }
 {
-    match (head, constant(index)) {
+    match (head, constant_word(index)) {
         (Some(head), Some(word)) => moved_back(head, word, size),
         _ => None,
     }
@@ -149,29 +160,34 @@ fn narrowed(
     }
 }
 
-// The key of a pointer's value, whose path is put into an empty list.
+// The key of a pointer's value, whose path is put into an empty list. Of each static object it is told whether it is a
+// string literal.
 #[cycle(key)]
-fn pointer_head(path: &mut Vec<Member>, e: &Expression) -> Result<Option<KeyHead>, AllocError>
+fn pointer_head(
+    path: &mut Vec<Member>,
+    literals: &[bool],
+    e: &Expression,
+) -> Result<Option<KeyHead>, AllocError>
     requires { path.old.items ≡ [] }
-    ensures { IfOk result (λ key. key_with key path.new.items ≡ pointer_key (expression_of e.now)) }
+    ensures { IfOk result (λ key. key_with key path.new.items ≡ pointer_key literals.now (expression_of e.now)) }
 {
     match e.kind {
         Kind::Scalar(Scalar::Pointer) => match &e.node {
             Node::Plain(x) => Ok(begun(Base::Plain(*x))),
-            Node::Decay(p) | Node::Address(p) => place_head(path, p.get()),
+            Node::Decay(p) | Node::Address(p) => place_head(path, literals, p.get()),
             Node::Parenthesized(a) | Node::Cast(a) | Node::Convert(a) => {
-                pointer_head(path, a.get())
+                pointer_head(path, literals, a.get())
             }
             Node::Offset(OffsetForm::PointerPlusIndex, size, a, b) => {
-                let head = pointer_head(path, a.get())?;
+                let head = pointer_head(path, literals, a.get())?;
                 Ok(plus(head, b.get(), *size))
             }
             Node::Offset(OffsetForm::IndexPlusPointer, size, a, b) => {
-                let head = pointer_head(path, b.get())?;
+                let head = pointer_head(path, literals, b.get())?;
                 Ok(plus(head, a.get(), *size))
             }
             Node::Offset(OffsetForm::PointerMinusIndex, size, a, b) => {
-                let head = pointer_head(path, a.get())?;
+                let head = pointer_head(path, literals, a.get())?;
                 Ok(minus(head, b.get(), *size))
             }
             _ => Ok(None),
@@ -184,36 +200,40 @@ fn pointer_head(path: &mut Vec<Member>, e: &Expression) -> Result<Option<KeyHead
 
 // The key of an lvalue, in the same way.
 #[cycle(key)]
-fn place_head(path: &mut Vec<Member>, p: &Lvalue) -> Result<Option<KeyHead>, AllocError>
+fn place_head(
+    path: &mut Vec<Member>,
+    literals: &[bool],
+    p: &Lvalue,
+) -> Result<Option<KeyHead>, AllocError>
     requires { path.old.items ≡ [] }
-    ensures { IfOk result (λ key. key_with key path.new.items ≡ place_key (lvalue_of p.now)) }
+    ensures { IfOk result (λ key. key_with key path.new.items ≡ place_key literals.now (lvalue_of p.now)) }
 {
     match &p.node {
         LvalueNode::Automatic(x) => Ok(begun(Base::Automatic(*x))),
-        LvalueNode::Static(number) => Ok(begun(Base::Static(*number))),
-        LvalueNode::Deref(a) => pointer_head(path, a.get()),
+        LvalueNode::Static(number) => Ok(named(literals, *number)),
+        LvalueNode::Deref(a) => pointer_head(path, literals, a.get()),
         LvalueNode::Index(OffsetForm::PointerPlusIndex, size, a, b) => {
-            let head = pointer_head(path, a.get())?;
+            let head = pointer_head(path, literals, a.get())?;
             Ok(plus(head, b.get(), *size))
         }
         LvalueNode::Index(OffsetForm::IndexPlusPointer, size, a, b) => {
-            let head = pointer_head(path, b.get())?;
+            let head = pointer_head(path, literals, b.get())?;
             Ok(plus(head, a.get(), *size))
         }
         LvalueNode::Index(OffsetForm::PointerMinusIndex, size, a, b) => {
-            let head = pointer_head(path, a.get())?;
+            let head = pointer_head(path, literals, a.get())?;
             Ok(minus(head, b.get(), *size))
         }
         LvalueNode::Member(inner, offset, size) => {
-            let head = place_head(path, inner.get())?;
+            let head = place_head(path, literals, inner.get())?;
             narrowed(path, head, *offset, *size)
         }
         LvalueNode::Arrow(a, offset, size) => {
-            let head = pointer_head(path, a.get())?;
+            let head = pointer_head(path, literals, a.get())?;
             narrowed(path, head, *offset, *size)
         }
         LvalueNode::MemberOfValue(_, _, _) => Ok(None),
-        LvalueNode::Parenthesized(inner) => place_head(path, inner.get()),
+        LvalueNode::Parenthesized(inner) => place_head(path, literals, inner.get()),
     }
 }
 
@@ -282,14 +302,14 @@ fn whole(head: KeyHead, path: Vec<Member>) -> Key
 /// The key of an lvalue that is read, where its access is judged and its pointer has a key. An error comes where there
 /// is
 /// no memory for it.
-pub fn read_key(alloc: Global, p: &Lvalue) -> Result<Option<Key>, AllocError>
-    ensures { IfOk result (λ key. key ≡ read_key (lvalue_of p.now)) }
+pub fn read_key(alloc: Global, literals: &[bool], p: &Lvalue) -> Result<Option<Key>, AllocError>
+    ensures { IfOk result (λ key. key ≡ read_key literals.now (lvalue_of p.now)) }
 {
     if !is_judged(p) {
         return Ok(None);
     }
     let mut path = Vec::new(alloc);
-    match place_head(&mut path, p)? {
+    match place_head(&mut path, literals, p)? {
         Some(head) => Ok(Some(whole(head, path))),
         None => Ok(None),
     }
@@ -297,14 +317,19 @@ pub fn read_key(alloc: Global, p: &Lvalue) -> Result<Option<Key>, AllocError>
 
 /// The key of an lvalue that is written after the right side is evaluated: there is none where the right side assigns a
 /// plain variable of it. An error comes where there is no memory for it.
-pub fn write_key(alloc: Global, p: &Lvalue, right: &Expression) -> Result<Option<Key>, AllocError>
-    ensures { IfOk result (λ key. key ≡ write_key (lvalue_of p.now) (expression_of right.now)) }
+pub fn write_key(
+    alloc: Global,
+    literals: &[bool],
+    p: &Lvalue,
+    right: &Expression,
+) -> Result<Option<Key>, AllocError>
+    ensures { IfOk result (λ key. key ≡ write_key literals.now (lvalue_of p.now) (expression_of right.now)) }
 {
     if !is_judged(p) {
         return Ok(None);
     }
     let mut path = Vec::new(alloc);
-    match place_head(&mut path, p)? {
+    match place_head(&mut path, literals, p)? {
         Some(head) if !assigns_key(right, head, &path) => Ok(Some(whole(head, path))),
         _ => Ok(None),
     }

@@ -2,13 +2,13 @@
 
 ghost use Rattle.std.specs.Prelude.{◌≡◌, option_map};
 ghost use Rattle.c_tree.specs.View.{expression_of, first_of, initializer_of, statement_of};
-ghost use Rattle.c_lower.specs.Counted.{int_constant, set_to, set_by, set_first, compared_with, is_one, counts_up};
-ghost use Rattle.c_lower.specs.Counted.{counted_by, counted_parts};
+ghost use Rattle.c_lower.specs.Counted.{int_constant, is_one, int_variable, bare_name, is_variable, set_to, set_by_name};
+ghost use Rattle.c_lower.specs.Counted.{set_by, set_first, compared_with, counts_up, counted_by, counted_parts};
 ghost use Rattle.program_lowering.specs.StatementParts.Counting.{setting_with, parts_with};
 
-use crate::keys::constant::constant;
 use crate::parts::assigned::statement_assigns;
-use c_tree::{Expression, First, Initializer, Kind, Node, Statement, Update};
+use c_const::constant_word;
+use c_tree::{Expression, First, Initializer, Kind, Node, PlainName, Statement, Update};
 use obj_memory::{BinaryOperator, IntType, Scalar};
 
 /// A plain variable, by its number in the function, and a word.
@@ -26,12 +26,62 @@ pub struct Range {
     pub bound: u64,
 }
 
+// An integer constant expression whose own type is int.
 fn int_constant(e: &Expression) -> Option<u64>
     ensures { result ≡ int_constant (expression_of e.now) }
 {
+    match &e.node {
+        Node::Convert(_) => None,
+        _ => match e.kind {
+            Kind::Scalar(Scalar::Integer(IntType::Int)) => constant_word(e),
+            _ => None,
+        },
+    }
+}
+
+// Whether it is the constant 1 of type int.
+fn is_one(e: &Expression) -> bool
+    ensures { result ≡ is_one (expression_of e.now) }
+{
     match e.kind {
-        Kind::Scalar(Scalar::Integer(IntType::Int)) => constant(e),
+        Kind::Scalar(Scalar::Integer(IntType::Int)) => match &e.node {
+            Node::Constant(word) => *word == 1,
+            _ => false,
+        },
+        _ => false,
+    }
+}
+
+// An int variable by its name alone.
+fn int_variable(e: &Expression) -> Option<usize>
+    ensures { result ≡ int_variable (expression_of e.now) }
+{
+    match e.kind {
+        Kind::Scalar(Scalar::Integer(IntType::Int)) => match &e.node {
+            Node::Plain(x) => Some(*x),
+            _ => None,
+        },
         _ => None,
+    }
+}
+
+// An assigned variable whose name stands in no parentheses.
+fn bare_name(x: PlainName) -> Option<usize>
+    ensures { result ≡ bare_name x }
+{
+    if x.parentheses == 0 {
+        Some(x.variable)
+    } else {
+        None
+    }
+}
+
+fn is_variable(v: usize, x: Option<usize>) -> bool
+    ensures { result ≡ is_variable v x }
+{
+    match x {
+        Some(x) => x == v,
+        None => false,
     }
 }
 
@@ -44,11 +94,20 @@ fn set_to(variable: usize, word: Option<u64>) -> Option<Set>
     }
 }
 
+fn set_by_name(variable: Option<usize>, word: Option<u64>) -> Option<Set>
+    ensures { setting_with result ≡ set_by_name variable word }
+{
+    match variable {
+        Some(x) => set_to(x, word),
+        None => None,
+    }
+}
+
 fn set_by(e: &Expression) -> Option<Set>
     ensures { setting_with result ≡ set_by (expression_of e.now) }
 {
     match &e.node {
-        Node::SetPlain(x, a) => set_to(x.variable, int_constant(a.get())),
+        Node::SetPlain(x, a) => set_by_name(bare_name(*x), int_constant(a.get())),
         _ => None,
     }
 }
@@ -74,25 +133,12 @@ fn compared_with(condition: &Option<Expression>) -> Option<Set>
 {
     match condition {
         Some(e) => match &e.node {
-            Node::Binary(BinaryOperator::Less, a, b) => match a.get().kind {
-                Kind::Scalar(Scalar::Integer(IntType::Int)) => match &a.get().node {
-                    Node::Plain(x) => set_to(*x, int_constant(b.get())),
-                    _ => None,
-                },
-                _ => None,
-            },
+            Node::Binary(BinaryOperator::Less, a, b) => {
+                set_by_name(int_variable(a.get()), int_constant(b.get()))
+            }
             _ => None,
         },
         None => None,
-    }
-}
-
-fn is_one(word: Option<u64>) -> bool
-    ensures { result ≡ is_one word }
-{
-    match word {
-        Some(word) => word == 1,
-        None => false,
     }
 }
 
@@ -101,17 +147,14 @@ fn counts_up(v: usize, step: &Option<Expression>) -> bool
 {
     match step {
         Some(e) => match &e.node {
-            Node::StepPlain(Update::Arithmetic(BinaryOperator::Add, IntType::Int), _, x) =>
-                x.variable == v,
+            Node::StepPlain(Update::Arithmetic(BinaryOperator::Add, IntType::Int), _, x) => {
+                is_variable(v, bare_name(*x))
+            }
             Node::SetPlain(x, sum) => match &sum.get().node {
-                Node::Binary(BinaryOperator::Add, a, b) => match a.get().kind {
-                    Kind::Scalar(Scalar::Integer(IntType::Int)) => match &a.get().node {
-                        Node::Plain(y) => x.variable == v
-                            && (*y == v && is_one(int_constant(b.get()))),
-                        _ => false,
-                    },
-                    _ => false,
-                },
+                Node::Binary(BinaryOperator::Add, a, b) => {
+                    is_variable(v, bare_name(*x))
+                        && (is_variable(v, int_variable(a.get())) && is_one(b.get()))
+                }
                 _ => false,
             },
             _ => false,

@@ -23,20 +23,21 @@ pub struct Body {
 }
 
 /// Lowers the body of a function with these variables, which gives a value of this kind, behind the texts of the
-/// program so far. At its end it gives 0.
+/// program so far, where it is told of each static object whether it is a string literal. At its end it gives 0.
 pub fn lower_body(
     alloc: Global,
     variables: &[Variable],
     body: &[Statement],
     kind: Kind,
     texts: Vec<Items<u8>>,
+    literals: Vec<bool>,
 ) -> Result<Body, AllocError>
     requires height { each_height (statements_in (map statement_of body.now)) < 2 ^ 64 }
     requires decided { each_decided (statements_in (map statement_of body.now)) ≡ true }
     ensures { IfOk result (λ b. BodyCode variables.now (statements_in (map statement_of body.now)) kind texts.items
-        b.code b.entry) }
+        literals.items b.code b.entry) }
 {
-    let mut code = Emitter::new(alloc, texts);
+    let mut code = Emitter::new(alloc, texts, literals);
     let returns = code.add(Instruction::Return { from: 0 })?;
     let end = code.add(Instruction::ZeroOf {
         kind,

@@ -15,11 +15,12 @@ use std::alloc::{AllocError, Global};
 use tac_ir::CodeFunction;
 use tree_containers::Items;
 
-/// The code of a function, and the texts of the program so far.
+/// The code of a function, the texts of the program so far, and its string literals.
 #[derive(Drop)]
 pub struct Lowered {
     pub function: CodeFunction,
     pub texts: Vec<Items<u8>>,
+    pub literals: Vec<bool>,
 }
 
 fn copied(alloc: Global, variables: &[Variable]) -> Result<Items<Variable>, AllocError>
@@ -46,6 +47,7 @@ fn complete(
         blocks,
         loops,
         texts,
+        literals,
     } = code;
     Lowered {
         function: CodeFunction {
@@ -62,20 +64,23 @@ fn complete(
             loops: Items::from_vec(loops),
         },
         texts,
+        literals,
     }
 }
 
-/// Lowers a function, which gives a value of this kind, behind the texts of the program so far.
+/// Lowers a function, which gives a value of this kind, behind the texts of the program so far, where it is told of
+/// each static object whether it is a string literal.
 #[tactic(auto, using(crate::proofs::ProgramCode::Bodies::rooms))]
 pub fn lower_function(
     alloc: Global,
     f: &Function,
     kind: Kind,
     texts: Vec<Items<u8>>,
+    literals: Vec<bool>,
 ) -> Result<Lowered, AllocError>
     requires height { each_height (function_of f.now).body ≤ f.now.room }
     requires decided { each_decided (function_of f.now).body ≡ true }
-    ensures { IfOk result (λ r. FunctionCode (function_of f.now) kind texts.items r) }
+    ensures { IfOk result (λ r. FunctionCode (function_of f.now) kind texts.items literals.items r) }
 {
     // A number that is read is known to be in the range of its type: the room is less than 2^64.
     let _room = f.room;
@@ -86,6 +91,6 @@ pub fn lower_function(
     let variables = copied(alloc, f.variables.as_slice())?;
     let opened = entered_variables(alloc, f)?;
     let entered = Items::from_vec(opened);
-    let body = lower_body(alloc, numbered, statements, kind, texts)?;
+    let body = lower_body(alloc, numbered, statements, kind, texts, literals)?;
     Ok(complete(f, parameters, variables, entered, body))
 }

@@ -3,9 +3,9 @@
 ghost use Rattle.std.specs.Prelude.{◌≡◌, ◌≤◌, true, IfOk, map, length, get_or, Some};
 ghost use Rattle.std.specs.List.{list_all};
 ghost use Rattle.c_tree.specs.declared.expression.Kind.TheVariants.{Void};
-ghost use Rattle.c_tree.specs.View.{function_of, function_type_of, program_of};
+ghost use Rattle.c_tree.specs.View.{function_of, function_type_of, program_of, static_of};
 ghost use Rattle.c_tree.specs.ValidProgram.{is_valid_program};
-ghost use Rattle.c_lower.specs.Programs.{IsLowered};
+ghost use Rattle.c_lower.specs.Programs.{IsLowered, literals_of};
 ghost use Rattle.source_meaning.specs.Meaning.{statics_end};
 ghost use Rattle.static_data.specs.Data.{first_fault, program_pointers, OnNotConstant};
 ghost use Rattle.program_lowering.specs.ProgramCode.Whole.{is_ready, AreFunctions, Holding, results_of, Assembles};
@@ -13,18 +13,30 @@ ghost use Rattle.program_lowering.specs.ProgramCode.Weights.{IsWeighed};
 
 use crate::programs::function::lower_function;
 use c_const::contents::InitialFault;
-use c_tree::{Function, FunctionType, Kind, Program};
+use c_tree::{Function, FunctionType, Kind, Program, StaticObject};
 use static_data::pointers::global_bytes;
 use static_data::static_data;
 use std::alloc::{AllocError, Global};
 use tac_ir::{CodeFunction, StaticData, Tac};
 use tree_containers::Items;
 
-/// The functions of a program so far, and its texts.
+/// The functions of a program so far, its texts, and for each of its static objects whether it is a string literal.
 #[derive(Drop)]
 pub struct Lowering {
     pub functions: Vec<CodeFunction>,
     pub texts: Vec<Items<u8>>,
+    pub literals: Vec<bool>,
+}
+
+// Of each static object whether it is a string literal.
+fn literals(alloc: Global, statics: &[StaticObject]) -> Result<Vec<bool>, AllocError>
+    ensures { IfOk result (λ ls. ls.items ≡ literals_of (map static_of statics.now)) }
+{
+    let mut literals = Vec::new(alloc);
+    for object in statics {
+        literals.push(object.is_literal)?;
+    }
+    Ok(literals)
 }
 
 // What the functions of each type give.
@@ -61,12 +73,14 @@ fn with_function(
     let Lowering {
         mut functions,
         texts,
+        literals,
     } = done;
-    let lowered = lower_function(alloc, f, result_of(results, f.type_number), texts)?;
+    let lowered = lower_function(alloc, f, result_of(results, f.type_number), texts, literals)?;
     functions.push(lowered.function)?;
     Ok(Lowering {
         functions,
         texts: lowered.texts,
+        literals: lowered.literals,
     })
 }
 
@@ -75,14 +89,17 @@ fn lower_functions(
     alloc: Global,
     functions: &[Function],
     results: &[Kind],
+    literals: Vec<bool>,
 ) -> Result<Lowering, AllocError>
     requires { list_all is_ready (map function_of functions.now) ≡ true }
     ensures { IfOk result
-        (λ l. AreFunctions l.texts.items results.now (map function_of functions.now) l.functions.items) }
+        (λ l. AreFunctions l.texts.items literals.items results.now (map function_of functions.now)
+        l.functions.items) }
 {
     let mut done = Lowering {
         functions: Vec::new(alloc),
         texts: Vec::new(alloc),
+        literals,
     };
     for i in 0..functions.len() {
         done = with_function(alloc, done, &functions[i], results)?;
@@ -100,7 +117,11 @@ fn assembled(
 ) -> Tac
     ensures { Assembles main global_bytes statics results.items lowered result }
 {
-    let Lowering { functions, texts } = lowered;
+    let Lowering {
+        functions,
+        texts,
+        literals: _,
+    } = lowered;
     Tac {
         functions: Items::from_vec(functions),
         results: Items::from_vec(results),
@@ -131,7 +152,10 @@ pub fn lower(alloc: Global, program: &Program) -> Result<Tac, InitialFault>
         return Err(InitialFault::Memory);
     };
     let kinds = results.as_slice();
-    let Ok(lowered) = lower_functions(alloc, functions, kinds) else {
+    let Ok(literals) = literals(alloc, objects) else {
+        return Err(InitialFault::Memory);
+    };
+    let Ok(lowered) = lower_functions(alloc, functions, kinds, literals) else {
         return Err(InitialFault::Memory);
     };
     let bytes = global_bytes(objects);

@@ -1,6 +1,7 @@
 use Rattle.std.proofs.Common.{map, refl, ap, ◌∙◌, subst}
 use Rattle.std.specs.List.{list_all}
 use Rattle.c_tree.specs.View.{program_of, function_of, function_type_of, static_of}
+use Rattle.c_lower.specs.Programs.{literals_of}
 use Rattle.source_meaning.specs.Meaning.{statics_end}
 use Rattle.program_lowering.specs.ProgramCode.Whole.{AreFunctions, is_ready, results_of}
 use Rattle.program_lowering.proofs.ProgramCode.InTurn.{program_from, weighed_from}
@@ -15,11 +16,16 @@ lower_functions-requires c =
 pub returns : goal.returns
 returns c =
     let p = program_of c.args.program.now in
-    let kinds = subst (λ ks. AreFunctions c.in-Ok-lower_functions.lowered.texts.items ks
+    let told = c.in-Ok-literals.ensures ∙ ap (λ os. literals_of (map static_of os)) c.as_slice-objects.ensures in
+    let named = subst (λ ls. AreFunctions c.in-Ok-lower_functions.lowered.texts.items ls c.as_slice-kinds.result.now
+    (map function_of c.as_slice-functions.result.now) c.in-Ok-lower_functions.lowered.functions.items) told
+    c.in-Ok-lower_functions.ensures in
+    let kinds = subst (λ ks. AreFunctions c.in-Ok-lower_functions.lowered.texts.items (literals_of p.statics) ks
     (map function_of c.as_slice-functions.result.now) c.in-Ok-lower_functions.lowered.functions.items)
-    c.as_slice-kinds.ensures.value c.in-Ok-lower_functions.ensures in
-    let all = subst (λ fs. AreFunctions c.in-Ok-lower_functions.lowered.texts.items c.in-Ok.results.items
-    (map function_of fs) c.in-Ok-lower_functions.lowered.functions.items) c.as_slice-functions.ensures kinds in
+    c.as_slice-kinds.ensures.value named in
+    let all = subst (λ fs. AreFunctions c.in-Ok-lower_functions.lowered.texts.items (literals_of p.statics)
+    c.in-Ok.results.items (map function_of fs) c.in-Ok-lower_functions.lowered.functions.items)
+    c.as_slice-functions.ensures kinds in
     let bytes = c.global_bytes-bytes.ensures
     ∙ ap (λ os. statics_end (map static_of os) 0) c.as_slice-objects.ensures in
     let results = c.in-Ok.ensures ∙ ap (λ ts. results_of (map function_type_of ts)) c.as_slice-types.ensures in

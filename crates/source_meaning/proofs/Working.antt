@@ -47,6 +47,9 @@ counts_on {r = r} {f = f} m n h g = record { counts = λ s. counts_on_by m n s (
 counts_then : {A B : Type 0} {r : Run A} {q : Run B} (m n : ℕ) → Counts m r → Counts n q → Counts (m + n) (r >> q)
 counts_then {r = r} {q = q} m n h g = record { counts = λ s. counts_on_by m n s (r s) (λ _. q) (h.counts s) (λ _. g) }
 
+counts_as : {A : Type 0} {r : Run A} (m n : ℕ) → m ≡ n → Counts m r → Counts n r
+counts_as {r = r} m n e h = subst (λ k. Counts k r) e h
+
 counts_tally : (n : ℕ) → Counts n (tally n)
 counts_tally n = record { counts = λ s. omega arith }
 
@@ -81,9 +84,10 @@ module _ (vs : List Variable) (rest : Counts 0 (place_variables vs)) where
   counts_first v true is bytes others has =
       counts_on 2 0 (counts_place_object (size_of_kind v.kind)
       (bytes zero v.kind (ap (λ b. if b then Some v.kind else None) is)))
-      (λ home. counts_on 0 0 rest (λ homes. counts_action acts_done))
+      (λ home. counts_on 0 0 rest (λ homes. counts_action (acts_done {a = home ∷ homes})))
   counts_first v false is bytes others has =
-      counts_on 0 2 (counts_action acts_done) (λ home. counts_on 2 0 (others has) (λ homes. counts_action acts_done))
+      counts_on {A = Home} 0 2 (counts_action (acts_done {a = NoObject}))
+      (λ home. counts_on 2 0 (others has) (λ homes. counts_action (acts_done {a = home ∷ homes})))
 
 counts_place : (vs : List Variable) → HaveBytes vs → has_objects vs ≡ true → Counts 2 (place_variables vs)
 counts_place [] bytes has = cc
@@ -107,9 +111,13 @@ counts_enter_block g vs line bytes has =
 -- structures that are taken and objects that are zeroed
 
 counts_taken : (c : Option ObjectState) (size : ℕ) (v : Value) (line : ℕ) → Counts size (taken c size v line)
-counts_taken None size v line = counts_on 0 size (counts_action (acts_located false size v line))
-    (λ p. counts_then size 0 (counts_tally size) (record { counts = λ s. omega arith }))
-counts_taken (Some c) size v line = counts_then size 0 (counts_tally size) (record { counts = λ s. omega arith })
+counts_taken None size v line = counts_as (0 + size) size (omega arith)
+    (counts_on 0 size (counts_action (acts_located false size v line))
+    (λ p. counts_as (size + 0) size (omega arith)
+    (counts_then size 0 (counts_tally size) (counts_action (acts_read
+    {f = λ s. with_contents size p.offset (object_at s.objects p.object)} (λ k s. refl))))))
+counts_taken (Some c) size v line = counts_as (size + 0) size (omega arith)
+    (counts_then size 0 (counts_tally size) (counts_action (acts_done {a = with_contents size v.word c})))
 
 pub counts_take : (size line : ℕ) (v : Rvalue) → Counts size (take_value (Structure size) line v)
 counts_take size line v = counts_taken v.contents size v.value line
@@ -144,7 +152,7 @@ module _ (functions : List Function) (g : Setting) (limit n : ℕ) where
   counts_begun : (f : Function) (vs : List Rvalue) (line : ℕ)
       → Counts 2 (enter_begun (env_of functions g limit n (all_of f)) f vs line)
   counts_begun f vs line =
-      counts_on 0 2 (counts_action (acts_read (λ k s. refl)))
+      counts_on 0 2 (counts_action (acts_read {f = caller} (λ k s. refl)))
       (λ c. counts_then 1 1 (record {
         counts = λ s. set_up_gives 1 s (set_up g (header_of f) vs line s)
             ((counts_set_up g (header_of f) vs line).counts s);
@@ -152,7 +160,7 @@ module _ (functions : List Function) (g : Setting) (limit n : ℕ) where
       (counts_on 1 0 (counts_then 1 0 (counts_tally 1)
       (counts_nothing (alike_body functions g limit n (all_of f) f.body)))
       (λ completion. counts_on 0 0 (counts_returned (result_of g f.type_number) completion)
-      (λ v. counts_then 0 0 (counts_action (acts_back_to c)) (counts_action acts_done)))))
+      (λ v. counts_then 0 0 (counts_action (acts_back_to c)) (counts_action (acts_done {a = v}))))))
 
   counts_found : (o : Option Function) (vs : List Rvalue) (line : ℕ)
       → Counts 2 (enter_found (env_of functions g limit n []) o vs line)

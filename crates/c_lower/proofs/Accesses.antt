@@ -90,7 +90,8 @@ pub seven_left : (j : Bool) → 7 ≤ place_left j
 seven_left true = omega arith
 seven_left false = omega arith
 
-pub read_cost : (kind : Kind) (j : Bool) → 1 + entries_of kind + checks_of (mode_for j) + left_by kind false ≤ place_left j
+pub read_cost : (kind : Kind) (j : Bool)
+    → 1 + entries_of kind + checks_of (mode_for j) + left_by kind false ≤ place_left j
 read_cost (OfScalar Pointer) true = omega arith
 read_cost (OfScalar Pointer) false = omega arith
 read_cost (OfScalar (Integer t)) true = omega arith

@@ -1,5 +1,6 @@
 -- How code comes to what a part of the source means: rules that follow the source's run.
-use Rattle.std.proofs.Common.{◌≡◌, ℕ, ◌+◌, ◌-◌, ◌*◌, ◌≤◌, List, [], Option, Some, None, Bool, true, false, refl, sym, ap}
+use Rattle.std.proofs.Common.{◌≡◌, ℕ, ◌+◌, ◌-◌, ◌*◌, ◌≤◌, List, [], Option, Some, None, Bool, true, false, refl, sym}
+use Rattle.std.proofs.Common.{ap}
 use Rattle.std.proofs.Common.{◌∙◌, subst, arith}
 use Rattle.std.specs.Prelude.{cond, nat_lt}
 use Rattle.std.proofs.lemmas.Bool.{ltb-false}
@@ -82,8 +83,10 @@ module _ {g : Setting} {t : Tac} where
   spent_all le r = record { steps = r.steps; comes = r.comes; turns = r.turns; work = omega (arith, r.work) }
 
   module _ {limit : ℕ} {A : Type 0} {u : ℕ} {frames : List Frame} {to : A → ℕ} {P : A → Temps → State → Type 0} where
-    from_by : {c d : ℕ} {b : A → ℕ} {x x1 : Stage} {k k1 : ℕ} {s s1 : State} (o : Outcome A) → (j : ℕ) → run (step g t) j x ≡ x1
-        → s.turns ≤ s1.turns → k1 + d + 8 * s.work ≤ k + c + 8 * s1.work → GoesLeaving g t limit d b u frames to P x1 k1 s1 o
+    from_by : {c d : ℕ} {b : A → ℕ} {x x1 : Stage} {k k1 : ℕ} {s s1 : State} (o : Outcome A) → (j : ℕ)
+        → run (step g t) j x ≡ x1
+        → s.turns ≤ s1.turns → k1 + d + 8 * s.work ≤ k + c + 8 * s1.work
+        → GoesLeaving g t limit d b u frames to P x1 k1 s1 o
         → GoesLeaving g t limit c b u frames to P x k s o
     from_by (Gives a s') j e turns work h = let q = h.by in record
         { by = (q.0, q.1, q.2, reached_from j e turns work q.3) }
@@ -139,7 +142,8 @@ module _ {g : Setting} {t : Tac} where
         ∙ ap (λ w. act g t i u temps frames (at_work (k + w) s)) costs ∙ does) (omega arith) (omega arith) h
 
     -- that costs 1
-    pub goes_step : (c : ℕ) {b : A → ℕ} {n : ℕ} {i : Instruction} {temps : Temps} {k : ℕ} {s : State} {x : Stage} {o : Outcome A}
+    pub goes_step : (c : ℕ) {b : A → ℕ} {n : ℕ} {i : Instruction} {temps : Temps} {k : ℕ} {s : State} {x : Stage}
+        {o : Outcome A}
         → at_node t u n ≡ Some i → cost i ≡ 1 → act g t i u temps frames (at_work (k + 1) s) ≡ x
         → GoesLeaving g t limit c b u frames to P x (k + 1) s o
         → GoesLeaving g t limit (1 + c) b u frames to P (Stands u n temps frames (at_work k s)) k s o
@@ -162,7 +166,8 @@ module _ {g : Setting} {t : Tac} where
     goes_pause {x = x} {k = k} e le = record
         { by = (x, k, e, record { steps = 0; comes = refl; turns = omega arith; work = omega arith }, le) }
 
-    pub goes_at : {c : ℕ} {b : A → ℕ} {n n' : ℕ} {temps : Temps} {z : State} {k : ℕ} {s : State} {o : Outcome A} → n ≡ n'
+    pub goes_at : {c : ℕ} {b : A → ℕ} {n n' : ℕ} {temps : Temps} {z : State} {k : ℕ} {s : State} {o : Outcome A}
+        → n ≡ n'
         → GoesLeaving g t limit c b u frames to P (Stands u n' temps frames z) k s o
         → GoesLeaving g t limit c b u frames to P (Stands u n temps frames z) k s o
     goes_at {c = c} {b = b} {temps = temps} {z = z} {k = k} {s = s} {o = o} e h =
@@ -195,8 +200,8 @@ module _ {g : Setting} {t : Tac} where
 
   -- one thing after another: the first may spend what the source pays, or all
   module _ {limit : ℕ} {A B : Type 0} {u : ℕ} {frames frames' : List Frame} {to : A → ℕ}
-      {P : A → Temps → State → Type 0} {to' : B → ℕ} {P' : B → Temps → State → Type 0} {c : ℕ} {b : A → ℕ} {b' : B → ℕ} {x : Stage} {k : ℕ}
-      {s : State} where
+      {P : A → Temps → State → Type 0} {to' : B → ℕ} {P' : B → Temps → State → Type 0} {c : ℕ} {b : A → ℕ}
+      {b' : B → ℕ} {x : Stage} {k : ℕ} {s : State} where
     after_by : (o : Outcome A) (f : A → Run B) → GoesLeaving g t limit c b u frames to P x k s o
         → ((a : A) (s' : State) (temps : Temps) (k' : ℕ) → P a temps s' → s.turns ≤ s'.turns → o ≡ Gives a s'
         → GoesLeaving g t limit (b a) b' u frames' to' P' (Stands u (to a) temps frames (at_work k' s')) k' s' (f a s'))
@@ -214,13 +219,15 @@ module _ {g : Setting} {t : Tac} where
 
     pub goes_then : {o : Outcome A} {f : A → Run B} → GoesLeaving g t limit 0 b u frames to P x k s o
         → ((a : A) (s' : State) (temps : Temps) (k' : ℕ) → P a temps s' → s.turns ≤ s'.turns → o ≡ Gives a s'
-        → GoesLeaving g t limit (c + b a) b' u frames' to' P' (Stands u (to a) temps frames (at_work k' s')) k' s' (f a s'))
+        → GoesLeaving g t limit (c + b a) b' u frames' to' P' (Stands u (to a) temps frames (at_work k' s'))
+        k' s' (f a s'))
         → GoesLeaving g t limit c b' u frames' to' P' x k s (on o f)
     goes_then {o = o} {f = f} h next = then_by o f h next
       where
         then_by : (o : Outcome A) (f : A → Run B) → GoesLeaving g t limit 0 b u frames to P x k s o
             → ((a : A) (s' : State) (temps : Temps) (k' : ℕ) → P a temps s' → s.turns ≤ s'.turns → o ≡ Gives a s'
-            → GoesLeaving g t limit (c + b a) b' u frames' to' P' (Stands u (to a) temps frames (at_work k' s')) k' s' (f a s'))
+            → GoesLeaving g t limit (c + b a) b' u frames' to' P' (Stands u (to a) temps frames (at_work k' s'))
+            k' s' (f a s'))
             → GoesLeaving g t limit c b' u frames' to' P' x k s (on o f)
         then_by (Gives a s') f h next = let q = h.by in let r = q.3 in from_by (f a s') r.steps r.comes r.turns
             (omega (arith, r.work)) (next a s' q.0 q.1 q.2 r.turns refl)
@@ -229,13 +236,14 @@ module _ {g : Setting} {t : Tac} where
 
   -- the same where the source's state is good, and stays so
   module _ {limit : ℕ} {sc : Context} {A B : Type 0} {u : ℕ} {frames frames' : List Frame} {to : A → ℕ}
-      {P : A → Temps → State → Type 0} {to' : B → ℕ} {P' : B → Temps → State → Type 0} {c : ℕ} {b : A → ℕ} {b' : B → ℕ} {x : Stage} {k : ℕ}
-      {s : State} where
+      {P : A → Temps → State → Type 0} {to' : B → ℕ} {P' : B → Temps → State → Type 0} {c : ℕ} {b : A → ℕ}
+      {b' : B → ℕ} {x : Stage} {k : ℕ} {s : State} where
     pub goes_sure : (Q : A → Objects → Type 0) {o : Outcome A} {f : A → Run B} → After sc s Q o
         → GoesLeaving g t limit 0 b u frames to P x k s o
         → ((a : A) (s' : State) (temps : Temps) (k' : ℕ) → P a temps s' → s.turns ≤ s'.turns → o ≡ Gives a s'
         → Leaves sc s s' → Q a s'.objects
-        → GoesLeaving g t limit (c + b a) b' u frames' to' P' (Stands u (to a) temps frames (at_work k' s')) k' s' (f a s'))
+        → GoesLeaving g t limit (c + b a) b' u frames' to' P' (Stands u (to a) temps frames (at_work k' s'))
+        k' s' (f a s'))
         → GoesLeaving g t limit c b' u frames' to' P' x k s (on o f)
     goes_sure Q {o = o} {f = f} after h next =
         goes_then h (λ a s' temps k' p le is. let w = subst (λ o. After sc s Q o) is after in next a s' temps k' p le is
@@ -243,7 +251,8 @@ module _ {g : Setting} {t : Tac} where
 
   -- what is known of a run that the code comes to
   module _ {limit : ℕ} {sc : Context} {A : Type 0} {u : ℕ} {frames : List Frame} {to : A → ℕ}
-      {P : A → Temps → State → Type 0} {c : ℕ} {b : A → ℕ} {x : Stage} {k : ℕ} {s : State} (Q : A → Objects → Type 0) where
+      {P : A → Temps → State → Type 0} {c : ℕ} {b : A → ℕ} {x : Stage} {k : ℕ} {s : State}
+      (Q : A → Objects → Type 0) where
     with_by : (o : Outcome A) → After sc s Q o → GoesLeaving g t limit c b u frames to P x k s o
         → GoesLeaving g t limit c b u frames to (λ a temps s'. P a temps s' × Leaves sc s s' × Q a s'.objects) x k s o
     with_by (Gives a s') after h = let q = h.by in record { by = (q.0, q.1, (q.2, after.0, after.1), q.3) }
@@ -360,7 +369,8 @@ module _ {g : Setting} {t : Tac} where
         goes_step c has refl (ap (λ q. Stands u (cond q other taken) temps frames (at_work (k + 1) s)) e) h'
 
     -- two ways, by whether a value is 0
-    pub goes_branch : (c : ℕ) (v : Rvalue) (r r' : Run A) {b : A → ℕ} {n a taken other : ℕ} {temps : Temps} {k : ℕ} {s : State}
+    pub goes_branch : (c : ℕ) (v : Rvalue) (r r' : Run A) {b : A → ℕ} {n a taken other : ℕ} {temps : Temps} {k : ℕ}
+        {s : State}
         → at_node t u n ≡ Some (Branch a taken other) → temps a ≡ v
         → GoesLeaving g t limit c b u frames to P (Stands u other temps frames (at_work (k + 1) s)) (k + 1) s (r s)
         → GoesLeaving g t limit c b u frames to P (Stands u taken temps frames (at_work (k + 1) s)) (k + 1) s (r' s)
@@ -370,10 +380,11 @@ module _ {g : Setting} {t : Tac} where
         h h'
 
     -- a turn begins, where one is left
-    turn_by : (c : ℕ) (q : Bool) (r : Run A) {b : A → ℕ} {n m : ℕ} {counted : Option ℕ} {temps : Temps} {k : ℕ} {s : State}
+    turn_by : (c : ℕ) (q : Bool) (r : Run A) {b : A → ℕ} {n m : ℕ} {counted : Option ℕ} {temps : Temps} {k : ℕ}
+        {s : State}
         → at_node t u n ≡ Some (Turn counted m) → nat_lt s.turns limit ≡ q
-        → GoesLeaving g t limit c b u frames to P (Stands u m temps frames (at_work (k + 1) (begun s))) (k + 1) (begun s)
-        (r (begun s)) → GoesLeaving g t limit (1 + c) b u frames to P (Stands u n temps frames (at_work k s)) k s
+        → GoesLeaving g t limit c b u frames to P (Stands u m temps frames (at_work (k + 1) (begun s)))
+        (k + 1) (begun s) (r (begun s)) → GoesLeaving g t limit (1 + c) b u frames to P (Stands u n temps frames (at_work k s)) k s
         (on (choose q (λ s. Gives (tt {0}) (begun s)) (λ s. Paused s) s) (λ _. r))
     turn_by c true r {temps = temps} {k = k} {s = s} has e h =
         from_by (r (begun s)) 1 (ap (λ j. act_at g t j u temps frames (at_work k s)) has) (omega arith) (omega arith) h
@@ -381,7 +392,7 @@ module _ {g : Setting} {t : Tac} where
 
     pub goes_turn : (c : ℕ) (r : Run A) {b : A → ℕ} {n m : ℕ} {counted : Option ℕ} {temps : Temps} {k : ℕ} {s : State}
         → at_node t u n ≡ Some (Turn counted m)
-        → GoesLeaving g t limit c b u frames to P (Stands u m temps frames (at_work (k + 1) (begun s))) (k + 1) (begun s)
-        (r (begun s)) → GoesLeaving g t limit (1 + c) b u frames to P (Stands u n temps frames (at_work k s)) k s
+        → GoesLeaving g t limit c b u frames to P (Stands u m temps frames (at_work (k + 1) (begun s)))
+        (k + 1) (begun s) (r (begun s)) → GoesLeaving g t limit (1 + c) b u frames to P (Stands u n temps frames (at_work k s)) k s
         (on (begin_turn limit s) (λ _. r))
     goes_turn c r {s = s} has h = turn_by c (nat_lt s.turns limit) r has refl h

@@ -34,7 +34,8 @@ use Rattle.tac_ir.specs.Meaning.{act_at}
 use Rattle.tac_ir.specs.Costs.{handed_bytes, heavier}
 use Rattle.c_lower.specs.Placed.{HasAt}
 use Rattle.c_lower.specs.Statements.{Exits, LowersEntry, LowersLeaving, in_loop, in_switch, LowersLabels, any_default}
-use Rattle.c_lower.proofs.Comes.{GoesLeaving, Goes, goes_from, goes_spare, goes_framed, goes_steps, goes_step, goes_done}
+use Rattle.c_lower.proofs.Comes.{GoesLeaving, Goes, goes_from, goes_spare, goes_framed, goes_steps, goes_step}
+use Rattle.c_lower.proofs.Comes.{goes_done}
 use Rattle.c_lower.proofs.Comes.{goes_at, goes_leaving, goes_after, goes_sure, goes_heavier, goes_turn, goes_pause}
 use Rattle.c_lower.proofs.KeyStays.{pointer_kept}
 use Rattle.c_lower.proofs.Temporaries.{placed}
@@ -145,7 +146,8 @@ module _ {g : Setting} {t : Tac} {limit u : ℕ} {frames : List Frame} {x : Exit
   -- more to spend, and more left
   pub completes_frame : (y c b : ℕ) → Completes g t limit c b u frames x stage k s o
       → Completes g t limit (c + y) (b + y) u frames x stage k s o
-  completes_frame y c b h = goes_leaving (with_result (b + y)) (more_with_result b y) (goes_framed y c (with_result b) h)
+  completes_frame y c b h =
+      goes_leaving (with_result (b + y)) (more_with_result b y) (goes_framed y c (with_result b) h)
 
 module _ {g : Setting} {t : Tac} {limit u : ℕ} {frames : List Frame} where
   pub next_goes : {c b : ℕ} (f : Completion) (mid : ℕ) (x : Exits) (temps : Temps) (k : ℕ) (s : State)
@@ -225,7 +227,9 @@ module _ {g : Setting} {t : Tac} {limit u : ℕ} {frames : List Frame} where
           → ((k : ℕ) → Completes g t limit (16 + compared v.value.word (ls ++ more)) 16 u frames x
           (Stands u tr.0 temps frames (at_work k s)) k s
           (run_items (or_default (items_at (labels_from (is_case_of v.value.word) ls) i rest others) all) s))
-          → Completes g t limit (16 + elim (w == v.value.word) [ true ↦ 1 | false ↦ 1 + compared v.value.word (ls ++ more) ]) 16 u frames x (Stands u c0 temps frames (at_work k s)) k s
+          → Completes g t limit
+          (16 + elim (w == v.value.word) [ true ↦ 1 | false ↦ 1 + compared v.value.word (ls ++ more) ]) 16 u frames x
+          (Stands u c0 temps frames (at_work k s)) k s
           (run_items (or_default
           (items_at (elim (w == v.value.word)
           [ true ↦ Some (Case w ∷ ls) | false ↦ labels_from (is_case_of v.value.word) ls ]) i rest others) all) s)
@@ -357,8 +361,8 @@ module _ (g : Setting) (t : Tac) (limit u : ℕ) (frames : List Frame) (base : S
   objects_are b has = ap (λ vars. block_objects vars (if_there (slice_get (blocks_in (function_in t u)) b))) same
       ∙ ap (λ o. block_objects all (if_there o)) has
 
-  -- What runs in a block: entering costs 7, for which at least 8 are left of what placing its objects counts, and leaving
-  -- 2 of what the body leaves. A block without objects is nothing.
+  -- What runs in a block: entering costs 7, for which at least 8 are left of what placing its objects counts, and
+  -- leaving 2 of what the body leaves. A block without objects is nothing.
   scoped_by : (c e : ℕ) (q : Bool) → has_objects own ≡ q
       → (line n0 b0 : ℕ) (y x : Exits) (temps : Temps) (k : ℕ) (s : State) (body : Run Completion)
       → LowersEntry (placed t u all) q numbers line n0 b0 → LowersLeaving (placed t u all) q y x

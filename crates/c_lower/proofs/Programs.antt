@@ -18,7 +18,7 @@ use Rattle.c_tree.specs.declared.expression.Kind.{Kind}
 use Rattle.c_tree.specs.declared.expression.Kind.TheVariants.{Void, Scalar as OfScalar, Structure, Array}
 use Rattle.c_tree.specs.Kinds.{has_size, size_of_kind, is_scalar, Signature}
 use Rattle.c_tree.specs.Programs.{Function, Program}
-use Rattle.c_tree.specs.Blocks.{no_variable, all_of, block_variables, body_variables, closed}
+use Rattle.c_tree.specs.Blocks.{all_of, block_variables, body_variables, closed}
 use Rattle.c_tree.specs.Valid.{Scope}
 use Rattle.c_tree.specs.ValidProgram.{is_variable, are_parameters, are_statements, declares_all, function_scope}
 use Rattle.c_tree.specs.ValidProgram.{signature_at, is_function_type, are_all_different, is_static_object, is_function}
@@ -221,7 +221,8 @@ module _ (g : Setting) (t : Tac) (limit : ℕ) (q : Caller) (frames : List Frame
           refl,
           ends 2 0 x _ _ k k1 (made + 3 + handed_bytes v) s s1 s2
               (ap (λ j. step g t (act_at g t j f temps frames (at_work k1 s1))) he
-              ∙ returned (with_temp temps 0 v) made s1 v (put_same temps 0 v)) refl (omega (arith, handed_zero result)) r,
+              ∙ returned (with_temp temps 0 v) made s1 v (put_same temps 0 v)) refl
+              (omega (arith, handed_zero result)) r,
         )
 
     given : (completion : Completion) (x : Stage) (k : ℕ) (s s1 : State) (temps : Temps) (k1 : ℕ)
@@ -306,8 +307,8 @@ module _ (p : Program) (budgets : BudgetSizes) (mapped : AreMapped (setting_of p
       let variables : variables_in (function_in t f) ≡ all_of fn = ap variables_in is
       ∙ ap (λ (h : Header). h.parameters ++ h.variables) low.header in
       let inside : Inside base g.sizes env = inside_good p budgets mapped (valid_names p valid) limit n fn in
-      called_from g t limit q frames 0 0 8 8 4 4 _ (came (heavier (set_up g (header_of fn) vs line) (at_work k s)) F) k k
-      s s _ 0 (ap (λ h. came (heavier (set_up g h vs line) (at_work k s)) F) low.header) (omega arith) (omega arith)
+      called_from g t limit q frames 0 0 8 8 4 4 _
+      (came (heavier (set_up g (header_of fn) vs line) (at_work k s)) F) k k s s _ 0 (ap (λ h. came (heavier (set_up g h vs line) (at_work k s)) F) low.header) (omega arith) (omega arith)
       (omega arith)
       (set_up_goes g t limit q frames inner s.objects k s (set_up g (header_of fn) vs line s)
       (set_up g (header_of fn) vs line (at_work k s)) F R ((acts_set_up g (header_of fn) vs line).acts s k)
@@ -393,7 +394,8 @@ module _ (p : Program) (budgets : BudgetSizes) (mapped : AreMapped (setting_of p
 
 module _ (g : Setting) (t : Tac) (limit : ℕ) where
   meets_by : (o : Outcome Rvalue) (q : Caller) (s : State) → s.work ≡ 0 → s.turns ≡ 0
-      → Called g t limit 0 4 0 q [] (Begins s) 0 s o → (m : ℕ) × Meets 8 (moment_of o) (seen (run (step g t) m (Begins s)))
+      → Called g t limit 0 4 0 q [] (Begins s) 0 s o
+      → (m : ℕ) × Meets 8 (moment_of o) (seen (run (step g t) m (Begins s)))
   meets_by (Gives v s') q s w z h =
       let r = h.3 in
       let n = length (report_of (Exit (int_of v.value.word))) in (

@@ -59,13 +59,14 @@ use Rattle.c_lower.specs.Statements.{Exits, LowersContent, LowersParts, LowersIn
 use Rattle.c_lower.specs.Statements.{LowersCondition, LowersPart, LowersFirst, in_switch, has_default, LowersStatement}
 use Rattle.c_lower.specs.Statements.{LowersStatements, LowersItems}
 use Rattle.c_lower.proofs.Comes.{GoesLeaving, Goes, goes_from, goes_counted, goes_counted_as, goes_spare, goes_steps}
-use Rattle.c_lower.proofs.Comes.{goes_step, goes_done, goes_at, goes_less, goes_after, goes_then, goes_sure, goes_heavier}
+use Rattle.c_lower.proofs.Comes.{goes_step, goes_done, goes_at, goes_less, goes_after, goes_then, goes_sure}
+use Rattle.c_lower.proofs.Comes.{goes_heavier}
 use Rattle.c_lower.proofs.Comes.{goes_last_heavier}
 use Rattle.c_lower.proofs.Accesses.{left_by, three_left, converted_left, taken_left, store_cost, direct_is_live}
 use Rattle.c_lower.proofs.Accesses.{value_moves}
 use Rattle.c_lower.proofs.Temporaries.{placed, put_same, ValueIn}
 use Rattle.c_lower.proofs.Values.{CallsRun, text_at, false_by, expression_runs, argument_at}
-use Rattle.c_lower.proofs.Flow.{exit_of, LeftBy, Completes, Anyhow, home_kept, sized_opened, completes_less}
+use Rattle.c_lower.proofs.Flow.{Completes, Anyhow, home_kept, sized_opened, completes_less}
 use Rattle.c_lower.proofs.Flow.{completes_frame, next_goes, test_goes, switch_left, choose_goes, labels_go}
 use Rattle.c_lower.proofs.Flow.{default_goes, turns_run, turns_before_run, scoped_goes}
 
@@ -106,7 +107,8 @@ module _ (t : Tac) (n : ℕ) (env : Env) (sc : Context) (sure : Calling sc env)
   pub result_at : (e : Expression) (n0 n1 : ℕ) (temps : Temps) (k : ℕ) (s : State)
       → LowersArgument (placed t u vars) e 0 n0 n1 → is_valid sc.scope e ≡ true → IsGood sc s → env.limit < n + s.turns
       → GoesLeaving env.setting t env.limit 0 (λ w. taken_left (kind_of e) + handed_bytes w) u frames (λ v. n1)
-      (ValueIn 0 temps) (Stands u n0 temps frames (at_work k s)) k s (argument (kind_of e) (line_of e) (evaluate env e) s)
+      (ValueIn 0 temps) (Stands u n0 temps frames (at_work k s)) k s
+      (argument (kind_of e) (line_of e) (evaluate env e) s)
   result_at e n0 n1 temps k s tr ok good lt = argument_at t n env sc sure calls stays u frames vars e 0 n0 tr.0 n1 temps
       k s tr.1 tr.2 ok good lt
 
@@ -334,8 +336,8 @@ module _ (t : Tac) (n : ℕ) (env : Env) (deep : env.depth ≡ suc n) (base : Sc
         goes_counted (completes_less {b = 6} 2 (omega arith)
         (scoped_goes env.setting t env.limit u frames base sizes inside.at inside.mapped env.variables all_sized same vs
         numbers 1 6 line n0 tr.0 tr.1 x temps k _ _ tr.2.0 tr.2.1 good (λ frames k1 s1 good1 e1.
-        completes_frame 8 0 0 (statements_run (opened numbers 0 env.variables vs) frames within body tr.0 tr.1 temps k1 s1
-        (sized_opened numbers 0 env.variables vs all_sized sized) tr.3 ok good1 (omega (arith, e1, lt))))))
+        completes_frame 8 0 0 (statements_run (opened numbers 0 env.variables vs) frames within body tr.0 tr.1 temps
+        k1 s1 (sized_opened numbers 0 env.variables vs all_sized sized) tr.3 ok good1 (omega (arith, e1, lt))))))
     statement_runs vs frames within (if_then e st) n0 x temps k s sized tr ok good lt =
         let v = three (is_condition (at vs).scope e) (is_statement (at vs).scope within st) _ ok in
         goes_counted
@@ -456,7 +458,8 @@ module _ (t : Tac) (n : ℕ) (env : Env) (deep : env.depth ≡ suc n) (base : Sc
         (statement_runs vs frames within st n0 (record x { next = tr.0 }) temps k s sized tr.1 v.0 good lt))
         (λ f s1 t1 k1 p1 le1 is1 lv1 w1.
         next_goes f tr.0 x t1 k1 s1 _ (omega arith) p1
-        (goes_spare 0 (omega arith) (statements_run vs frames within ss tr.0 x t1 k1 s1 sized tr.2 v.1 lv1.good (omega (arith, le1, lt)))))
+        (goes_spare 0 (omega arith)
+        (statements_run vs frames within ss tr.0 x t1 k1 s1 sized tr.2 v.1 lv1.good (omega (arith, le1, lt)))))
 
     -- the items of a switch, from one on
     items_run : (vs : List Variable) (frames : List Frame) (within : Surrounding) (is : SwitchItems) (c0 n0 other : ℕ)
@@ -474,7 +477,8 @@ module _ (t : Tac) (n : ℕ) (env : Env) (deep : env.depth ≡ suc n) (base : Sc
         (statement_runs vs frames within st n0 (record x { next = tr.1 }) temps k _ sized tr.3 q.0 good lt))
         (λ f s1 t1 k1 p1 le1 is1 lv1 w1.
         next_goes f tr.1 x t1 k1 s1 _ (omega arith) p1
-        (goes_spare 0 (omega arith) (items_run vs frames within is tr.0 tr.1 other x t1 k1 s1 sized tr.4 q.1 lv1.good
+        (goes_spare 0 (omega arith)
+        (items_run vs frames within is tr.0 tr.1 other x t1 k1 s1 sized tr.4 q.1 lv1.good
         (omega (arith, le1, lt))))))
 
     -- the items that are run
@@ -484,7 +488,8 @@ module _ (t : Tac) (n : ℕ) (env : Env) (deep : env.depth ≡ suc n) (base : Sc
         → env.limit < n + s.turns
         → ((k : ℕ) → Completes env.setting t env.limit 0 0 u frames x
         (Stands u other temps frames (at_work k s)) k s (run_items (items_from is_default all) s))
-        → Completes env.setting t env.limit (16 + compared v.value.word (labels_of (items_of env is))) 16 u frames x (Stands u c0 temps frames (at_work k s)) k s
+        → Completes env.setting t env.limit (16 + compared v.value.word (labels_of (items_of env is))) 16 u frames x
+        (Stands u c0 temps frames (at_work k s)) k s
         (run_items (or_default (items_from (is_case_of v.value.word) (items_of env is)) all) s)
     cases_run vs frames within no_items c0 n0 other x all v temps k s sized tr ok good ev lt h = goes_at tr.0
         (completes_frame 16 0 0 (h k))
@@ -497,7 +502,8 @@ module _ (t : Tac) (n : ℕ) (env : Env) (deep : env.depth ≡ suc n) (base : Sc
         (statement_runs vs frames within st n0 (record x { next = tr.1 }) temps k _ sized tr.3 q.0 good lt))
         (λ f s1 t1 k1 p1 le1 is1 lv1 w1.
         next_goes f tr.1 x t1 k1 s1 _ (omega arith) p1
-        (goes_spare 0 (omega arith) (items_run vs frames within is tr.0 tr.1 other x t1 k1 s1 sized tr.4 q.1 lv1.good
+        (goes_spare 0 (omega arith)
+        (items_run vs frames within is tr.0 tr.1 other x t1 k1 s1 sized tr.4 q.1 lv1.good
         (omega (arith, le1, lt)))))))
         (λ k. cases_run vs frames within is tr.0 tr.1 other x all v temps k s sized tr.4 q.1 good ev lt h)
 
@@ -518,7 +524,8 @@ module _ (t : Tac) (n : ℕ) (env : Env) (deep : env.depth ≡ suc n) (base : Sc
         (statement_runs vs frames within st n0 (record x { next = tr.1 }) temps k _ sized tr.3 q.0 good lt))
         (λ f s1 t1 k1 p1 le1 is1 lv1 w1.
         next_goes f tr.1 x t1 k1 s1 _ (omega arith) p1
-        (goes_spare 0 (omega arith) (items_run vs frames within is tr.0 tr.1 other x t1 k1 s1 sized tr.4 q.1 lv1.good
+        (goes_spare 0 (omega arith)
+        (items_run vs frames within is tr.0 tr.1 other x t1 k1 s1 sized tr.4 q.1 lv1.good
         (omega (arith, le1, lt)))))))
         (λ none. default_run vs frames within is tr.0 tr.1 other x temps k s sized tr.4 q.1 good lt
         (λ e. h (ap (λ b. b || has_default is) none ∙ e)))

@@ -1,5 +1,5 @@
 -- The code of expressions and lvalues does what they mean.
-use Rattle.std.proofs.Common.{◌≡◌, ℕ, ◌+◌, ◌-◌, ◌*◌, ◌<◌, ◌≤◌, List, [], ◌∷◌, Option, Some, None, Bool, true, false}
+use Rattle.std.proofs.Common.{◌≡◌, ℕ, ◌+◌, ◌*◌, ◌<◌, ◌≤◌, List, [], ◌∷◌, Option, Some, None, Bool, true, false}
 use Rattle.std.proofs.Common.{refl}
 use Rattle.std.proofs.Common.{sym, ap, ◌∙◌, subst, arith}
 use Rattle.std.specs.Prelude.{◌&&◌, not, cond, ◌==◌}
@@ -22,7 +22,7 @@ use Rattle.c_tree.specs.declared.format.Directive.TheVariants as directive
 use Rattle.c_tree.specs.declared.format.Piece.{Piece}
 use Rattle.c_tree.specs.Format.{pieces, directives}
 use Rattle.c_tree.specs.Kinds.{size_of_kind, is_kind, is_value, is_array, is_size, has_member, pointer}
-use Rattle.c_tree.specs.Kinds.{routine_signature, fits_directive, fit_directives}
+use Rattle.c_tree.specs.Kinds.{fits_directive, fit_directives}
 use Rattle.c_tree.specs.Tree.{Expression, expression, Expressions, no_expressions, expressions, Lvalue, lvalue, Node}
 use Rattle.c_tree.specs.Tree.{constant, function, plain, read, decay, address, parenthesized, deref_function}
 use Rattle.c_tree.specs.Tree.{address_function, cast, convert, unary, binary, offset_by, difference, logical_and}
@@ -72,7 +72,8 @@ use Rattle.c_lower.specs.Placed.{HasAt}
 use Rattle.c_lower.specs.Keys.{place_key, key_after, key_if, read_key, write_key}
 use Rattle.c_lower.specs.Values.{mode_for, LowersTaking, count, LowersExpression, LowersNode, LowersLvalue, LowersPlace}
 use Rattle.c_lower.specs.Values.{LowersArguments}
-use Rattle.c_lower.proofs.Comes.{Reached, GoesLeaving, Goes, goes_from, goes_counted, goes_counted_as, goes_spare, goes_frame}
+use Rattle.c_lower.proofs.Comes.{Reached, GoesLeaving, Goes, goes_from, goes_counted, goes_counted_as, goes_spare}
+use Rattle.c_lower.proofs.Comes.{goes_frame}
 use Rattle.c_lower.proofs.Comes.{goes_steps, goes_step, goes_done, goes_over, goes_at, goes_weak, goes_less, goes_then}
 use Rattle.c_lower.proofs.Comes.{goes_sure, goes_last, goes_last_heavier, goes_branch}
 use Rattle.c_lower.proofs.KeyValues.{Right, key_opens, place_right}
@@ -377,7 +378,8 @@ module _ (t : Tac) (n : ℕ) (env : Env) (sc : Context) (sure : Calling sc env)
         let v = four (is_valid_lvalue sc.scope p) (is_lvalue p) (is_array (lvalue_kind p)) (is_kind kind pointer) ok in
         six_left kind (goes_sure _ (after_place p v.0 _ good) (lvalue_runs p d n0 n1 temps k s tr v.0 good lt)
         (λ q s1 t1 k1 p1 le1 is1 lv1 w1.
-        goes_done (omega (arith, seven_left (is_judged p))) refl refl (turned (lvalue_contents (function_count sc) p v.1 q s1.objects w1) p1)))
+        goes_done (omega (arith, seven_left (is_judged p))) refl refl
+        (turned (lvalue_contents (function_count sc) p v.1 q s1.objects w1) p1)))
     node_runs (address p) kind line d n0 n1 temps k s tr ok good lt =
         let v = three (is_valid_lvalue sc.scope p) (is_lvalue p) (is_kind kind pointer) ok in
         six_left kind (goes_counted

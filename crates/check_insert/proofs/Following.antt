@@ -1,5 +1,6 @@
 -- Code with checks does what code without them does.
-use Rattle.std.proofs.Common.{◌≡◌, ℕ, ◌+◌, ◌-◌, ◌*◌, ◌≤◌, List, [], ◌∷◌, Option, Some, None, Bool, true, false, refl, sym}
+use Rattle.std.proofs.Common.{◌≡◌, ℕ, ◌+◌, ◌-◌, ◌*◌, ◌≤◌, List, [], ◌∷◌, Option, Some, None, Bool, true, false, refl}
+use Rattle.std.proofs.Common.{sym}
 use Rattle.std.proofs.Common.{ap, ◌∙◌, subst, arith}
 use Rattle.std.specs.Prelude.{slice_get, map, ◌&&◌, length, ◌++◌}
 use Rattle.behaviours.specs.Behaviour.{Behaviour, Meets, Follows, IsSource}
@@ -205,7 +206,8 @@ module _ (g : Setting) (t t' : Tac) (ins : Inserted t t') where
   called_by (Some c) None h f vs line frames s = absurd h
   called_by (Some c) (Some c') h f vs line frames s =
       ap (λ x. came (heavier (set_up g x vs line) (begun s)) (λ _ z. Stands f c'.entry no_temps frames z)) h.header
-      ∙ ap (λ e. came (heavier (set_up g (header_of_code c) vs line) (begun s)) (λ _ z. Stands f e no_temps frames z)) h.entry
+      ∙ ap (λ e. came (heavier (set_up g (header_of_code c) vs line) (begun s))
+      (λ _ z. Stands f e no_temps frames z)) h.entry
 
   called_same : (f : ℕ) (vs : List Rvalue) (line : ℕ) (frames : List Frame) (s : State)
       → called g t' f vs line frames s ≡ called g t f vs line frames s
@@ -377,7 +379,8 @@ module _ (g : Setting) (t t' : Tac) (ins : Inserted t t') where
       checked u n h.0 h.1 (scalar_size k) line a (1 + stores_of (OfScalar k) + 0) key _ temps frames s
       (moved_from (OfScalar k) (temps b) s.objects)
       (heavier (write_rvalue (OfScalar k) true (temps a).value line (temps b))) (given_in u m temps d frames)
-      (λ none. heavier_ends (write_ends k (temps a).value line (temps b))) (moved_passes (OfScalar k) (temps b) s.objects) h.2 h.3 h.4
+      (λ none. heavier_ends (write_ends k (temps a).value line (temps b)))
+      (moved_passes (OfScalar k) (temps b) s.objects) h.2 h.3 h.4
       refl (λ k. refl) (s.work + (1 + stores_of (OfScalar k) + 2)) (omega arith) _ refl fine
   instruction_by (Write (Structure size) Unchecked line key d a b m) u n temps frames s h fine =
       checked u n h.0 h.1 size line a 6 key _ temps frames s (moved_from (Structure size) (temps b) s.objects)

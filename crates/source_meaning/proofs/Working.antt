@@ -1,7 +1,7 @@
 -- What laying out and moving objects counts at least, and a call.
 use Rattle.std.proofs.Common.{◌≡◌, ℕ, zero, suc, ◌+◌, ◌≤◌, List, [], ◌∷◌, Option, Some, None, Bool, true, false, refl}
-use Rattle.std.proofs.Common.{sym, ap, ◌∙◌, subst, arith}
-use Rattle.std.specs.Prelude.{get_or, ◌||◌, if◌then◌else◌}
+use Rattle.std.proofs.Common.{sym, ap, subst, arith}
+use Rattle.std.specs.Prelude.{◌||◌, if◌then◌else◌}
 use Rattle.obj_memory.specs.declared.value.Value.{Value}
 use Rattle.obj_memory.specs.Objects.{ObjectState, object_at}
 use Rattle.c_tree.specs.declared.expression.Kind.{Kind}
@@ -10,20 +10,18 @@ use Rattle.c_tree.specs.declared.program.Variable.{Variable}
 use Rattle.c_tree.specs.Programs.{Function}
 use Rattle.c_tree.specs.Kinds.{size_of_kind}
 use Rattle.c_tree.specs.Blocks.{all_of}
-use Rattle.source_meaning.specs.State.{State, Rvalue, Home, NoObject, InObject, Outcome, Gives, Ended, Paused, Run, on}
-use Rattle.source_meaning.specs.State.{◌>>=◌, ◌>>◌, done, choose, change, tally, Header, Setting}
-use Rattle.source_meaning.specs.Actions.{located}
+use Rattle.source_meaning.specs.State.{State, Rvalue, Home, NoObject, Outcome, Gives, Ended, Paused, Run, on}
+use Rattle.source_meaning.specs.State.{◌>>=◌, ◌>>◌, done, choose, tally, Header, Setting}
 use Rattle.source_meaning.specs.Structures.{taken, take_value, with_contents}
 use Rattle.source_meaning.specs.Initializers.{zero_home, zero_variable}
-use Rattle.source_meaning.specs.Expressions.{counted}
-use Rattle.source_meaning.specs.Statements.{Completion, in_order, each_of}
+use Rattle.source_meaning.specs.Statements.{Completion}
 use Rattle.source_meaning.specs.Blocks.{has_objects, place_object, place_variables, place_block, enter_block}
-use Rattle.source_meaning.specs.Calls.{call_tests, lay_out, set_up, header_of, caller, back_to, returned_by, result_of}
+use Rattle.source_meaning.specs.Calls.{call_tests, lay_out, set_up, header_of, caller, returned_by, result_of}
 use Rattle.source_meaning.specs.Calls.{enter_begun, enter_found, function_at, calls, env_of}
 use Rattle.source_meaning.specs.Acting.{at_work, ActsBy, IsAction, RunsAlikeBy, RunsAlike, state_of}
 use Rattle.source_meaning.specs.Good.{Context, object_kind, IsGood}
 use Rattle.source_meaning.specs.Working.{CountsBy, Counts, CountsAtOnce, HaveBytes}
-use Rattle.source_meaning.proofs.Acting.{acts_then, acts_on, acts_read, acts_private, acts_done}
+use Rattle.source_meaning.proofs.Acting.{acts_then, acts_read, acts_done}
 use Rattle.source_meaning.proofs.ActionsAct.{acts_located, acts_test_space, acts_test_keys, acts_place_variables}
 use Rattle.source_meaning.proofs.ActionsAct.{acts_call_tests, acts_lay_out, acts_returned, acts_back_to}
 use Rattle.source_meaning.proofs.RunsAlike.{alike_action, alike_turn, alike_body}

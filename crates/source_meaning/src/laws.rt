@@ -154,7 +154,7 @@ pub fn calls_do_the_same_at_any_work()
         → RunsAlike (calls functions g limit n f vs line) }
 {}
 
-/// What objects are laid out, taken and zeroed for is counted: a block with objects, each of which has a byte, counts at
+/// Objects that are laid out, taken or zeroed are counted: a block with objects, each of which has a byte, counts at
 /// least two units, a structure that is taken its bytes, and so does a variable that is zeroed. A call counts itself at
 /// once, and its body where it returns.
 pub fn objects_and_calls_are_counted()

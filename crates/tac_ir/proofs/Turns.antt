@@ -131,14 +131,14 @@ heavier_by s k (Gives a s') o' h =
     let more = 3 * (s'.work - s.work) in (
       h.0 + more,
       ap (fourfold k) h.1
-      ∙ ap (λ n. Gives a (record s' { work = h.0 + n })) (more_is_same k h.0 s s' h.2),
+          ∙ ap (λ n. Gives a (record s' { work = h.0 + n })) (more_is_same k h.0 s s' h.2),
       spent_by k h.0 more s s' h.2,
     )
 heavier_by s k (Ended e s') o' h =
     let more = 3 * (s'.work - s.work) in (
       h.0 + more,
       ap (fourfold k) h.1
-      ∙ ap (λ n. Ended e (record s' { work = h.0 + n })) (more_is_same k h.0 s s' h.2),
+          ∙ ap (λ n. Ended e (record s' { work = h.0 + n })) (more_is_same k h.0 s s' h.2),
       spent_by k h.0 more s s' h.2,
     )
 heavier_by s k (Paused s') o' h = absurd h

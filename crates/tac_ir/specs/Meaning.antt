@@ -185,7 +185,8 @@ act g t (Narrow offset size d a m) u temps frames s =
 act g t (Member offset size d a m) u temps frames s = Stands u m (with_temp temps d (member_of offset size (temps a)))
     frames s
 act g t (Take kind line d a m) u temps frames s =
-    moved_from kind (temps a) s.objects (came (heavier (take_value kind line (temps a)) s) (given_in u m temps d frames))
+    moved_from kind (temps a) s.objects
+    (came (heavier (take_value kind line (temps a)) s) (given_in u m temps d frames))
 act g t (Read kind mode line key d a m) u temps frames s =
     keyed (keys_of (function_in t u)) key s (temps a).value (admitted mode (size_of_kind kind) (temps a) s.objects
     (came (read_rvalue kind (is_through mode) (temps a) line s) (given_in u m temps d frames)))

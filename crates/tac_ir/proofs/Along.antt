@@ -100,8 +100,7 @@ act_along g t (UpdatePlain w k f line d x right m) u temps frames s = came_along
     frames _ (given_in u m temps d frames) (λ v z. record { by = inl (refl, inl refl) })
 act_along g t (HomePointer d x m) u temps frames s = record { by = inl (refl, inl refl) }
 act_along g t (StaticPointer d n m) u temps frames s = record { by = inl (refl, inl refl) }
-act_along g t (ZeroOf kind d m) u temps frames s = came_along (ZeroOf kind d m) u frames _ (given_in u m temps d frames)
-    (λ v z. record { by = inl (refl, inl refl) })
+act_along g t (ZeroOf kind d m) u temps frames s = record { by = inl (refl, inl refl) }
 act_along g t (Convert kind d a m) u temps frames s = record { by = inl (refl, inl refl) }
 act_along g t (Unary op ty d a m) u temps frames s = record { by = inl (refl, inl refl) }
 act_along g t (Binary op ty line d a b m) u temps frames s = came_along (Binary op ty line d a b m) u frames _

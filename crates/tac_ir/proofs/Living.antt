@@ -21,7 +21,7 @@ use Rattle.source_meaning.specs.Staying.{KeepsLives}
 use Rattle.source_meaning.proofs.Living.{lives_on, lives_then, lives_operate, lives_updated, lives_update}
 use Rattle.source_meaning.proofs.Living.{lives_take_value, lives_read_rvalue, lives_write_rvalue, lives_set_plain}
 use Rattle.source_meaning.proofs.Living.{lives_update_plain, lives_zero_variable, lives_store_bytes, lives_routine}
-use Rattle.source_meaning.proofs.Living.{lives_print, lives_callee, lives_set_up, lives_enter_block, lives_make_zero}
+use Rattle.source_meaning.proofs.Living.{lives_print, lives_callee, lives_set_up, lives_enter_block}
 use Rattle.tac_ir.specs.declared.instruction.Mode.{Mode}
 use Rattle.tac_ir.specs.declared.instruction.Mode.TheVariants.{Named, Unchecked, Judged}
 use Rattle.tac_ir.specs.declared.instruction.Test.{Test}
@@ -131,8 +131,7 @@ act_lives g t (UpdatePlain w k f line d x right m) u temps frames s e =
     came_keeps s _ (given_in u m temps d frames)
     (lives_as (lives_update_plain x (updated w k (right_value right temps) line) f
     (lives_updated w k (right_value right temps) line))) (λ _ z. stands_keeps)
-act_lives g t (ZeroOf kind d m) u temps frames s e =
-    came_keeps s _ (given_in u m temps d frames) (lives_heavier (lives_make_zero kind)) (λ _ z. stands_keeps)
+act_lives g t (ZeroOf kind d m) u temps frames s e = record { by = λ o l. l }
 act_lives g t (Binary op ty line d a b m) u temps frames s e =
     came_keeps s _ (given_in u m temps d frames) (lives_as (lives_operate op ty (temps a).value (temps b).value line))
     (λ _ z. stands_keeps)

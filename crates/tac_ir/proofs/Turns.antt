@@ -1,6 +1,6 @@
 -- A step begins at most one turn, and code that follows a source is never stuck.
 use Rattle.std.proofs.Common.{◌≡◌, ℕ, ◌+◌, ◌-◌, ◌*◌, ◌≤◌, List, [], ◌∷◌, length, Option, Some, None, Bool, true, false}
-use Rattle.std.proofs.Common.{refl, ap}
+use Rattle.std.proofs.Common.{refl, ap, ◌∙◌}
 use Rattle.std.proofs.Common.{arith}
 use Rattle.std.specs.Prelude.{slice_get, get_or}
 use Rattle.behaviours.specs.Shown.{End}
@@ -29,14 +29,13 @@ use Rattle.source_meaning.proofs.Acting.{acts_then, acts_on, acts_done, acts_ski
 use Rattle.source_meaning.proofs.ActionsAct.{acts_update_plain, acts_operate, acts_updated, acts_update}
 use Rattle.source_meaning.proofs.ActionsAct.{acts_take_value, acts_read_rvalue, acts_write_rvalue, acts_callee}
 use Rattle.source_meaning.proofs.ActionsAct.{acts_set_up, acts_enter_block, acts_zero_variable, acts_store_bytes}
-use Rattle.source_meaning.proofs.ActionsAct.{local_make_zero}
 use Rattle.source_meaning.proofs.LibraryActs.{acts_routine, acts_print}
 use Rattle.tac_ir.specs.declared.instruction.Mode.{Mode}
 use Rattle.tac_ir.specs.declared.instruction.Mode.TheVariants.{Named, Unchecked, Judged}
 use Rattle.tac_ir.specs.declared.instruction.Test.{Test}
 use Rattle.tac_ir.specs.declared.instruction.Test.TheVariants.{Spatial, Temporal}
 use Rattle.tac_ir.specs.declared.instruction.Instruction.{Instruction}
-use Rattle.tac_ir.specs.declared.instruction.Instruction.TheVariants.{SetPlain, UpdatePlain, ZeroOf, Binary, Take, Read}
+use Rattle.tac_ir.specs.declared.instruction.Instruction.TheVariants.{SetPlain, UpdatePlain, Binary, Take, Read}
 use Rattle.tac_ir.specs.declared.instruction.Instruction.TheVariants.{Write, Update, Judge, Zero, StorePart, StoreText}
 use Rattle.tac_ir.specs.declared.instruction.Instruction.TheVariants.{Library, Print, Call, CallThrough, EnterBlock}
 use Rattle.tac_ir.specs.declared.instruction.Instruction.TheVariants.{LeaveBlock, Return}
@@ -177,8 +176,6 @@ module _ (g : Setting) (t : Tac) where
       run_within _ _ _ s (acts_as
       (acts_update_plain x (updated w k (right_value right temps) line) f
       (acts_updated w k (right_value right temps) line))) (omega arith) (λ v s' le. le)
-  act_within (ZeroOf kind d m) u temps frames s =
-      run_within _ _ _ s (acts_heavier (local_make_zero kind).action) (omega arith) (λ v s' le. le)
   act_within (Binary op ty line d a b m) u temps frames s =
       run_within _ _ _ s (acts_as (acts_operate op ty (temps a).value (temps b).value line)) (omega arith)
       (λ v s' le. le)

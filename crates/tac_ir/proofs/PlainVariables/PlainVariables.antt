@@ -25,7 +25,6 @@ use Rattle.source_meaning.proofs.Local.{local_read, local_tally, local_changes, 
 use Rattle.source_meaning.proofs.ActionsAct.{local_operate, local_updated, local_update, local_take_value}
 use Rattle.source_meaning.proofs.ActionsAct.{local_read_rvalue, local_write_rvalue, local_zero_variable}
 use Rattle.source_meaning.proofs.ActionsAct.{local_store_bytes, local_as_rvalue, local_take_key, local_make_object}
-use Rattle.source_meaning.proofs.ActionsAct.{local_make_zero}
 use Rattle.source_meaning.proofs.LibraryActs.{local_routine, local_print}
 use Rattle.source_meaning.proofs.Stays.{stays_on, stays_local, stays_done, stays_read, stays_set}
 use Rattle.tac_ir.specs.declared.instruction.Mode.{Mode}
@@ -223,9 +222,7 @@ act_keeps g t (SetPlain x a m) u temps frames s y e = came_keeps s (set_plain x 
 act_keeps g t (UpdatePlain w k f line d x right m) u temps frames s y e =
     came_keeps s _ (given_in u m temps d frames)
     (keeps_stays y (stays_update x y e w k (right_value right temps) line f)) (λ _ z. stands_keeps)
-act_keeps g t (ZeroOf kind d m) u temps frames s y e =
-    came_keeps s _ (given_in u m temps d frames) (keeps_heavier y (keeps_local y (local_make_zero kind)))
-    (λ _ z. stands_keeps)
+act_keeps g t (ZeroOf kind d m) u temps frames s y e = record { by = refl }
 act_keeps g t (Binary op ty line d a b m) u temps frames s y e =
     came_keeps s _ (given_in u m temps d frames) (keeps_local y (local_as_rvalue
     (local_operate op ty (temps a).value (temps b).value line)))

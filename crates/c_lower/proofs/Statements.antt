@@ -1,6 +1,6 @@
 -- The code of statements does what they mean.
-use Rattle.std.proofs.Common.{◌≡◌, ℕ, zero, suc, ◌+◌, ◌<◌, ◌≤◌, List, [], ◌∷◌, Option, Some, None, Bool, true, false}
-use Rattle.std.proofs.Common.{refl, sym, ap, ◌∙◌, subst, arith}
+use Rattle.std.proofs.Common.{◌≡◌, ℕ, zero, suc, ◌+◌, ◌-◌, ◌*◌, ◌<◌, ◌≤◌, List, [], ◌∷◌, Option, Some, None, Bool}
+use Rattle.std.proofs.Common.{true, false, refl, sym, ap, ◌∙◌, subst, arith}
 use Rattle.std.specs.Prelude.{not, cond, if◌then◌else◌, ◌||◌, length, map}
 use Rattle.addr_map.specs.Places.{MapSizes}
 use Rattle.obj_memory.specs.declared.value.Value.{Value}
@@ -17,7 +17,7 @@ use Rattle.c_tree.specs.Statements.{do_while, for, switch, break, continue, retu
 use Rattle.c_tree.specs.Statements.{statements, SwitchItems, no_items, items}
 use Rattle.c_tree.specs.Blocks.{block_variables, switch_variables, first_variables, opened}
 use Rattle.c_tree.specs.Walk.{assigns}
-use Rattle.c_tree.specs.Valid.{Scope, at_number, within, is_valid, is_condition}
+use Rattle.c_tree.specs.Valid.{Scope, at_number, within, is_converted, is_valid, is_condition}
 use Rattle.c_tree.specs.ValidProgram.{is_content, is_part, are_parts, is_initializer, are_declared, is_first}
 use Rattle.c_tree.specs.ValidProgram.{is_condition_if, is_expression_if, is_declaration, Inside as Surrounding}
 use Rattle.c_tree.specs.ValidProgram.{in_loop as inside_loop, in_switch as inside_switch, is_statement, are_statements}
@@ -32,9 +32,11 @@ use Rattle.source_meaning.specs.Statements.{Normal, Broken, Continued, Returned,
 use Rattle.source_meaning.specs.Statements.{perform_first, LabeledRun, run_labeled, is_case_of, is_default, items_from}
 use Rattle.source_meaning.specs.Statements.{labels_of, compared, or_default, run_items, execute, each_of, items_of}
 use Rattle.source_meaning.specs.Acting.{at_work}
+use Rattle.source_meaning.specs.Working.{HaveBytes}
 use Rattle.source_meaning.specs.Staying.{Stays}
 use Rattle.source_meaning.specs.Good.{Context, function_count, object_kind, IsGood, After, Sure, Any, ValueIs}
 use Rattle.source_meaning.specs.Good.{CompletionIs, context_of, Calling, Inside}
+use Rattle.source_meaning.proofs.Acting.{acts_then, acts_tally}
 use Rattle.source_meaning.proofs.ActionsAct.{acts_write_rvalue, acts_store_bytes}
 use Rattle.source_meaning.proofs.Holding.{named_less}
 use Rattle.source_meaning.proofs.Naming.{ContentNames, PartsName, InitializerNames}
@@ -49,22 +51,24 @@ use Rattle.source_meaning.proofs.SureFlow.{holds_sure, perform_sure, first_sure,
 use Rattle.tac_ir.specs.declared.function.Tac.{Tac}
 use Rattle.tac_ir.specs.Stage.{Temps, Frame, Stage, Stands, came}
 use Rattle.tac_ir.specs.Accesses.{only_if, is_live_at, moved_from, is_home}
-use Rattle.tac_ir.specs.Costs.{entries_of}
+use Rattle.tac_ir.specs.Costs.{parts_of, handed_bytes, fourfold, heavier}
 use Rattle.tac_ir.specs.Meaning.{variables_in, function_in, act_at}
 use Rattle.c_lower.specs.Placed.{Placed}
 use Rattle.c_lower.specs.Values.{LowersExpression, LowersArgument}
 use Rattle.c_lower.specs.Statements.{Exits, LowersContent, LowersParts, LowersInitializer, LowersDeclared}
 use Rattle.c_lower.specs.Statements.{LowersCondition, LowersPart, LowersFirst, in_switch, has_default, LowersStatement}
 use Rattle.c_lower.specs.Statements.{LowersStatements, LowersItems}
-use Rattle.c_lower.proofs.Comes.{Goes, goes_from, goes_counted, goes_counted_as, goes_spare, goes_frame, goes_steps}
-use Rattle.c_lower.proofs.Comes.{goes_step, goes_done, goes_at, goes_less, goes_after, goes_then, goes_sure, goes_came}
-use Rattle.c_lower.proofs.Comes.{goes_last}
-use Rattle.c_lower.proofs.Accesses.{store_cost, direct_is_live, value_moves}
+use Rattle.c_lower.proofs.Comes.{GoesLeaving, Goes, goes_from, goes_counted, goes_counted_as, goes_spare, goes_steps}
+use Rattle.c_lower.proofs.Comes.{goes_step, goes_done, goes_at, goes_less, goes_after, goes_then, goes_sure}
+use Rattle.c_lower.proofs.Comes.{goes_heavier}
+use Rattle.c_lower.proofs.Comes.{goes_last_heavier}
+use Rattle.c_lower.proofs.Accesses.{left_by, three_left, converted_left, taken_left, store_cost, direct_is_live}
+use Rattle.c_lower.proofs.Accesses.{value_moves}
 use Rattle.c_lower.proofs.Temporaries.{placed, put_same, ValueIn}
-use Rattle.c_lower.proofs.Values.{CallsRun, two_left, text_at, false_by, expression_runs, argument_at}
-use Rattle.c_lower.proofs.Flow.{exit_of, LeftBy, Anyhow, home_kept, AllSized, sized_opened, next_goes, test_goes}
-use Rattle.c_lower.proofs.Flow.{switch_left, choose_goes, labels_go, default_goes, turns_run, turns_before_run}
-use Rattle.c_lower.proofs.Flow.{scoped_goes}
+use Rattle.c_lower.proofs.Values.{CallsRun, text_at, false_by, expression_runs, argument_at}
+use Rattle.c_lower.proofs.Flow.{Completes, Anyhow, home_kept, sized_opened, completes_less}
+use Rattle.c_lower.proofs.Flow.{completes_frame, next_goes, test_goes, switch_left, choose_goes, labels_go}
+use Rattle.c_lower.proofs.Flow.{default_goes, turns_run, turns_before_run, scoped_goes}
 
 -- what a statement leaves for a turn that follows
 abbrev pub left_of : (is_declaration : Bool) → ℕ
@@ -91,19 +95,20 @@ kind_at (v ∷ vs) (suc x) kind e = kind_at vs x kind e
 module _ (t : Tac) (n : ℕ) (env : Env) (sc : Context) (sure : Calling sc env)
     (calls : CallsRun env.setting t env.limit sc env.call n)
     (stays : (y : ℕ) (e : Expression) → assigns y e ≡ false → Stays y (evaluate env e)) (u : ℕ) (frames : List Frame)
-    (literals : List Bool) (vars : List Variable) (sized : AllSized sc.scope.variables) where
+    (literals : List Bool) (vars : List Variable) (sized : HaveBytes sc.scope.variables) where
   value_at : (e : Expression) (n0 n1 : ℕ) (temps : Temps) (k : ℕ) (s : State)
       → LowersExpression (placed t u literals vars) e 0 n0 n1 → is_valid sc.scope e ≡ true → IsGood sc s
       → env.limit < n + s.turns
-      → Goes env.setting t env.limit 0 2 u frames (λ v. n1) (ValueIn 0 temps) (Stands u n0 temps frames (at_work k s)) k
+      → Goes env.setting t env.limit 0 3 u frames (λ v. n1) (ValueIn 0 temps) (Stands u n0 temps frames (at_work k s)) k
       s (evaluate env e s)
-  value_at e n0 n1 temps k s tr ok good lt = goes_less 2 (two_left e)
+  value_at e n0 n1 temps k s tr ok good lt = goes_less 3 (three_left (kind_of e) (is_converted e))
       (expression_runs t n env sc sure calls stays u frames literals vars e 0 n0 n1 temps k s tr ok good lt)
 
   pub result_at : (e : Expression) (n0 n1 : ℕ) (temps : Temps) (k : ℕ) (s : State)
       → LowersArgument (placed t u literals vars) e 0 n0 n1 → is_valid sc.scope e ≡ true → IsGood sc s → env.limit < n + s.turns
-      → Goes env.setting t env.limit 0 1 u frames (λ v. n1) (ValueIn 0 temps) (Stands u n0 temps frames (at_work k s)) k
-      s (argument (kind_of e) (line_of e) (evaluate env e) s)
+      → GoesLeaving env.setting t env.limit 0 (λ w. taken_left (kind_of e) + handed_bytes w) u frames (λ v. n1)
+      (ValueIn 0 temps) (Stands u n0 temps frames (at_work k s)) k s
+      (argument (kind_of e) (line_of e) (evaluate env e) s)
   result_at e n0 n1 temps k s tr ok good lt = argument_at t n env sc sure calls stays u frames literals vars e 0 n0 tr.0 n1 temps
       k s tr.1 tr.2 ok good lt
 
@@ -115,8 +120,8 @@ module _ (t : Tac) (n : ℕ) (env : Env) (sc : Context) (sure : Calling sc env)
   condition_runs None n0 x y temps k s tr ok good lt = goes_at tr (goes_done {a = true} (omega arith) refl refl tt)
   condition_runs (Some e) n0 x y temps k s tr ok good lt =
       goes_then (value_at e n0 tr.0 temps k s tr.1 (both (is_valid sc.scope e) _ ok).0 good lt)
-      (λ v s1 t1 k1 p1 le1 is1. test_goes (is_zero v.value) tr.0 x y t1 k1 s1 tr.2
-      (ap (λ (z : Rvalue). is_zero z.value) p1.value))
+      (λ v s1 t1 k1 p1 le1 is1. goes_spare 2 (omega arith) (test_goes (is_zero v.value) tr.0 x y t1 k1 s1 tr.2
+      (ap (λ (z : Rvalue). is_zero z.value) p1.value)))
 
   pub part_runs : (e : Option Expression) (n0 n1 : ℕ) (temps : Temps) (k : ℕ) (s : State)
       → LowersPart (placed t u literals vars) e n0 n1 → is_expression_if sc.scope e ≡ true → IsGood sc s
@@ -137,44 +142,47 @@ module _ (t : Tac) (n : ℕ) (env : Env) (sc : Context) (sure : Calling sc env)
       (store_content env p offset content s)
   content_runs x kind p whole offset (value_content e) n0 n1 temps k s tr ok nm good base has hp lt =
       goes_sure _ ((sure_beside (stable_base sure p whole) (evaluate_sure sure e nm.0)).by _ good base)
-      (value_at e n0 tr.0 temps k s tr.1 (both (is_valid sc.scope e) _ ok).0 good lt)
+      (goes_less (left_by (kind_of e) true) (converted_left (kind_of e) (is_converted e))
+      (expression_runs t n env sc sure calls stays u frames vars e 0 n0 tr.0 temps k s tr.1
+      (both (is_valid sc.scope e) _ ok).0 good lt))
       (λ v s1 t1 k1 p1 le1 is1 lv1 w1.
       let ek = kind_of e in
       let size = size_of_kind ek in
       let q = narrowed offset size p in
       let hp1 : home_pointer x s1 ≡ p = home_kept x kind s s1 (good.homes x kind has) lv1.frame lv1.lives ∙ hp in
-      let w = 1 + entries_of ek in
-      let most = store_cost ek in
+      let w = 1 + parts_of ek in
       let F : Rvalue → State → Stage = λ _ z. Stands u n1 t1 frames z in
       let z = at_work (k1 + w) s1 in
       let part = base_part sure p whole offset size nm.1 s1 lv1.good w1.0 in
-      goes_spare (w + 0) (omega (arith, most))
+      goes_spare (w + 0) (omega (arith, store_cost ek))
       (goes_steps w 0 tr.2 refl
       (ap (λ h. only_if (is_live_at size (narrowed offset size h) s1.objects)
       (moved_from ek (t1 0) s1.objects
-      (came (write_rvalue ek false (narrowed offset size h) (line_of e) (t1 0) z) F))) hp1
+      (came (heavier (write_rvalue ek false (narrowed offset size h) (line_of e) (t1 0)) z) F))) hp1
       ∙ ap (λ y. only_if (is_live_at size q s1.objects)
-      (moved_from ek y s1.objects (came (write_rvalue ek false q (line_of e) y z) F))) p1.value
-      ∙ ap (λ b. only_if b (moved_from ek v s1.objects (came (write_rvalue ek false q (line_of e) v z) F)))
+      (moved_from ek y s1.objects (came (heavier (write_rvalue ek false q (line_of e) y) z) F))) p1.value
+      ∙ ap (λ b. only_if b (moved_from ek v s1.objects (came (heavier (write_rvalue ek false q (line_of e) v) z) F)))
       (direct_is_live s1.objects q size part.1.direct)
       ∙ value_moves (function_count sc) ek v s1.objects w1.1 _)
-      (goes_came F (acts_write_rvalue ek false q (line_of e) v)
+      (goes_heavier F (acts_write_rvalue ek false q (line_of e) v)
       (λ y s2 k2 e2 is2. goes_done (omega arith) refl refl tt))))
   content_runs x kind p whole offset (literal_content bytes) n0 n1 temps k s tr ok nm good base has hp lt =
       let m = length bytes in
-      let s0 : State = record s { work = s.work + (1 + m) } in
+      let s0 : State = record s { work = s.work + 1 } in
       let F : Unit {0} → State → Stage = λ _ z. Stands u n1 temps frames z in
       let z = at_work (k + 1) s0 in
-      goes_counted_as (1 + m) (1 + m) (omega arith)
-      (goes_from {d = 0} {k1 = k + 1 + m} {s1 = s0} 1
-      (ap (λ j. act_at env.setting t j u temps frames (at_work k s0)) tr.2
-      ∙ ap (λ b. only_if (is_live_at (offset + length b) (home_pointer x s) s.objects)
-      (came ((tally (length b) >> store_bytes (home_pointer x s) offset b) z) F)) (text_at t tr.0 bytes tr.1)
-      ∙ ap (λ h. only_if (is_live_at (offset + m) h s.objects) (came ((tally m >> store_bytes h offset bytes) z) F)) hp
-      ∙ ap (λ b. only_if b (came ((tally m >> store_bytes p offset bytes) z) F))
+      let counted : s.work + 1 + m ≡ s.work + (1 + m) = omega arith in
+      subst (λ (work : ℕ). Goes env.setting t env.limit 0 0 u frames (λ v. n1) Anyhow
+      (Stands u n0 temps frames (at_work k s)) k s (store_bytes p offset bytes (record s { work = work }))) counted
+      (goes_counted (goes_step 7 tr.2 refl
+      (ap (λ b. only_if (is_live_at (offset + length b) (home_pointer x s) s.objects)
+      (came (heavier (tally (length b) >> store_bytes (home_pointer x s) offset b) z) F)) (text_at t tr.0 bytes tr.1)
+      ∙ ap (λ h. only_if (is_live_at (offset + m) h s.objects)
+      (came (heavier (tally m >> store_bytes h offset bytes) z) F)) hp
+      ∙ ap (λ b. only_if b (came (heavier (tally m >> store_bytes p offset bytes) z) F))
       (direct_is_live s.objects p (offset + m) (named_less s.objects p whole (offset + m) nm base.1).direct))
-      (omega arith) (omega arith)
-      (goes_last F (acts_store_bytes p offset bytes) (λ _ s2 k2 e2. goes_done (omega arith) refl refl tt)))
+      (goes_last_heavier F (acts_then (acts_tally m) (acts_store_bytes p offset bytes))
+      (λ _ s2 k2 e2 is2. goes_done (omega arith) refl refl tt))))
 
   parts_run : (x : ℕ) (kind : Kind) (p : Value) (whole : ℕ) (parts : List Part) (n0 n1 : ℕ) (temps : Temps) (k : ℕ)
       (s : State) → LowersParts (placed t u literals vars) x parts n0 n1 → are_parts sc.scope whole parts ≡ true
@@ -204,7 +212,8 @@ module _ (t : Tac) (n : ℕ) (env : Env) (sc : Context) (sure : Calling sc env)
       let s1 : State = record s { work = s.work + size; objects = with_zeroed h.object s.objects } in
       let rest : Run (Unit {0}) = read_state (home_pointer x) >>= (λ p. store_parts env p parts) in
       let F : Unit {0} → State → Stage = λ _ z. Stands u tr.0 temps frames z in
-      let z = at_work (k + 1) s in
+      let z = at_work (k + 3) s in
+      let k1 = k + 3 + size + 3 * (k + 3 + size - (k + 3)) in
       let after = subst (λ (home : Home). After sc s (λ _. Any) (zero_home home s)) h.home
       ((sure_zero_variable x).by s good tt) in
       let good1 : IsGood sc s1 = after.0.good in
@@ -213,12 +222,12 @@ module _ (t : Tac) (n : ℕ) (env : Env) (sc : Context) (sure : Calling sc env)
       let same = h.held.size in
       subst (λ (home : Home). Goes env.setting t env.limit 0 0 u frames (λ v. n1) Anyhow
       (Stands u n0 temps frames (at_work k s)) k s (on (zero_home home s) (λ _. rest))) (sym h.home)
-      (goes_from {d = 0} {k1 = k + 1 + size} {s1 = s1} 1
+      (goes_from {d = 0} {k1 = k1} {s1 = s1} 1
       (ap (λ j. act_at env.setting t j u temps frames (at_work k s)) tr.1
-      ∙ ap (λ (home : Home). only_if (is_home home s.objects) (came (zero_home home z) F)) h.home
-      ∙ ap (λ b. only_if b (came (zero_home (InObject h.object) z) F)) h.held.live)
+      ∙ ap (λ (home : Home). only_if (is_home home s.objects) (came (fourfold (k + 3) (zero_home home z)) F)) h.home
+      ∙ ap (λ b. only_if b (came (fourfold (k + 3) (zero_home (InObject h.object) z)) F)) h.held.live)
       (omega arith) (omega (arith, pay, same))
-      (parts_run x kind (home_pointer x s1) (size_of_kind kind) parts tr.0 n1 temps (k + 1 + size) s1 tr.2 ok nm good1 l
+      (parts_run x kind (home_pointer x s1) (size_of_kind kind) parts tr.0 n1 temps k1 s1 tr.2 ok nm good1 l
       has refl lt))
 
   initializer_runs : (x : ℕ) (i : Option Initializer) (n0 n1 : ℕ) (temps : Temps) (k : ℕ) (s : State)
@@ -230,7 +239,7 @@ module _ (t : Tac) (n : ℕ) (env : Env) (sc : Context) (sure : Calling sc env)
   initializer_runs x (Some (of_plain e)) n0 n1 temps k s tr ok nm good lt =
       goes_then (value_at e n0 tr.0 temps k s tr.1 (both (is_valid sc.scope e) _ ok).0 good lt)
       (λ v s1 t1 k1 p1 le1 is1.
-      goes_step 1 tr.2 refl
+      goes_step 2 tr.2 refl
       (ap (λ (w : Rvalue). Stands u n1 t1 frames (at_work (k1 + 1) (with_plain x w.value s1))) p1.value)
       (goes_done (omega arith) refl refl tt))
   initializer_runs x (Some (of_object parts)) n0 n1 temps k s tr ok nm good lt =
@@ -269,8 +278,9 @@ module _ (t : Tac) (n : ℕ) (env : Env) (deep : env.depth ≡ suc n) (base : Sc
     (inside : Inside base sizes env)
     (callers : (vs : List Variable)
     → CallsRun env.setting t env.limit (context_of base sizes env.variables vs) env.call n)
-    (stays : (y : ℕ) (e : Expression) → assigns y e ≡ false → Stays y (evaluate env e)) (u : ℕ) (literals : List Bool)
-    (same : variables_in (function_in t u) ≡ env.variables) (all_sized : AllSized env.variables) where
+    (stays : (y : ℕ) (e : Expression) → assigns y e ≡ false → Stays y (evaluate env e)) (u : ℕ)
+    (literals : List Bool)
+    (same : variables_in (function_in t u) ≡ env.variables) (all_sized : HaveBytes env.variables) where
   -- where some variables can be named
   abbrev at : List Variable → Context
   at vs = context_of base sizes env.variables vs
@@ -279,7 +289,7 @@ module _ (t : Tac) (n : ℕ) (env : Env) (deep : env.depth ≡ suc n) (base : Sc
   here = placed t u literals env.variables
 
   condition_at : (vs : List Variable) (frames : List Frame) (e : Option Expression) (n0 x y : ℕ) (temps : Temps) (k : ℕ)
-      (s : State) → AllSized vs → LowersCondition here e n0 x y → is_condition_if (at vs).scope e ≡ true
+      (s : State) → HaveBytes vs → LowersCondition here e n0 x y → is_condition_if (at vs).scope e ≡ true
       → IsGood (at vs) s → env.limit < n + s.turns
       → Goes env.setting t env.limit 0 0 u frames (λ b. cond b x y) Anyhow (Stands u n0 temps frames (at_work k s)) k s
       (holds env e s)
@@ -287,9 +297,9 @@ module _ (t : Tac) (n : ℕ) (env : Env) (deep : env.depth ≡ suc n) (base : Sc
       (callers vs) stays u frames literals env.variables sized e n0 x y temps k s tr ok good lt
 
   value_of : (vs : List Variable) (frames : List Frame) (e : Expression) (n0 n1 : ℕ) (temps : Temps) (k : ℕ) (s : State)
-      → AllSized vs → LowersExpression here e 0 n0 n1 → is_valid (at vs).scope e ≡ true → IsGood (at vs) s
+      → HaveBytes vs → LowersExpression here e 0 n0 n1 → is_valid (at vs).scope e ≡ true → IsGood (at vs) s
       → env.limit < n + s.turns
-      → Goes env.setting t env.limit 0 2 u frames (λ v. n1) (ValueIn 0 temps) (Stands u n0 temps frames (at_work k s)) k
+      → Goes env.setting t env.limit 0 3 u frames (λ v. n1) (ValueIn 0 temps) (Stands u n0 temps frames (at_work k s)) k
       s (evaluate env e s)
   value_of vs frames e n0 n1 temps k s sized tr ok good lt = value_at t n env (at vs) (inside.calling vs) (callers vs)
       stays u frames literals env.variables sized e n0 n1 temps k s tr ok good lt
@@ -309,9 +319,9 @@ module _ (t : Tac) (n : ℕ) (env : Env) (deep : env.depth ≡ suc n) (base : Sc
 
   mutual
     statement_runs : (vs : List Variable) (frames : List Frame) (within : Surrounding) (st : Statement) (n0 : ℕ)
-        (x : Exits) (temps : Temps) (k : ℕ) (s : State) → AllSized vs → LowersStatement here st n0 x
+        (x : Exits) (temps : Temps) (k : ℕ) (s : State) → HaveBytes vs → LowersStatement here st n0 x
         → is_statement (at vs).scope within st ≡ true → IsGood (at vs) s → env.limit < n + s.turns
-        → Goes env.setting t env.limit 0 (left_of (is_declaration st)) u frames (exit_of x) LeftBy
+        → Completes env.setting t env.limit 0 (left_of (is_declaration st)) u frames x
         (Stands u n0 temps frames (at_work k s)) k s (execute env st s)
     statement_runs vs frames within (expression_statement e) n0 x temps k s sized tr ok good lt =
         goes_counted (goes_then (value_of vs frames e n0 x.next temps k _ sized tr ok good lt)
@@ -324,11 +334,11 @@ module _ (t : Tac) (n : ℕ) (env : Env) (deep : env.depth ≡ suc n) (base : Sc
         (λ v s1 t1 k1 p1 le1 is1. goes_done {a = Normal} (omega arith) refl refl tt)
     statement_runs vs frames within (block line body) n0 x temps k s sized tr ok good lt =
         let numbers = block_variables body in
-        goes_counted (goes_less {b = 5} 2 (omega arith)
-        (scoped_goes env.setting t env.limit u frames base sizes inside.at inside.mapped literals env.variables same vs numbers 6
-        5 line n0 tr.0 tr.1 x temps k _ _ tr.2.0 tr.2.1 tr.2.2 tr.2.3 good (λ frames k1 s1 good1 e1.
-        goes_frame 6 0 0 (statements_run (opened numbers 0 env.variables vs) frames within body tr.0 tr.1 temps k1 s1
-        (sized_opened numbers 0 env.variables vs all_sized sized) tr.3 ok good1 (omega (arith, e1, lt))))))
+        goes_counted (completes_less {b = 6} 2 (omega arith)
+        (scoped_goes env.setting t env.limit u frames base sizes inside.at inside.mapped literals env.variables all_sized same vs
+        numbers 1 6 line n0 tr.0 tr.1 x temps k _ _ tr.2.0 tr.2.1 tr.2.2 tr.2.3 good (λ frames k1 s1 good1 e1.
+        completes_frame 8 0 0 (statements_run (opened numbers 0 env.variables vs) frames within body tr.0 tr.1 temps
+        k1 s1 (sized_opened numbers 0 env.variables vs all_sized sized) tr.3 ok good1 (omega (arith, e1, lt))))))
     statement_runs vs frames within (if_then e st) n0 x temps k s sized tr ok good lt =
         let v = three (is_condition (at vs).scope e) (is_statement (at vs).scope within st) _ ok in
         goes_counted
@@ -336,8 +346,8 @@ module _ (t : Tac) (n : ℕ) (env : Env) (deep : env.depth ≡ suc n) (base : Sc
         (condition_at vs frames (Some e) n0 tr.0 x.next temps k _ sized tr.1 v.0 good lt)
         (λ q s1 t1 k1 p1 le1 is1 lv1 w1.
         choose_goes q tr.0 x.next x t1 k1 s1 _ _
-        (goes_less {b = 8} 2 (omega arith)
-        (goes_frame 8 0 0 (goes_less 0 (omega arith)
+        (completes_less {b = 8} 2 (omega arith)
+        (completes_frame 8 0 0 (completes_less 0 (omega arith)
         (statement_runs vs frames within st tr.0 x t1 k1 s1 sized tr.2 v.1 lv1.good (omega (arith, le1, lt))))))
         (goes_done {a = Normal} (omega arith) refl refl tt)))
     statement_runs vs frames within (if_else e st other) n0 x temps k s sized tr ok good lt =
@@ -348,11 +358,11 @@ module _ (t : Tac) (n : ℕ) (env : Env) (deep : env.depth ≡ suc n) (base : Sc
         (condition_at vs frames (Some e) n0 tr.0 tr.1 temps k _ sized tr.2 v.0 good lt)
         (λ q s1 t1 k1 p1 le1 is1 lv1 w1.
         choose_goes q tr.0 tr.1 x t1 k1 s1 _ _
-        (goes_less {b = 8} 2 (omega arith)
-        (goes_frame 8 0 0 (goes_less 0 (omega arith)
+        (completes_less {b = 8} 2 (omega arith)
+        (completes_frame 8 0 0 (completes_less 0 (omega arith)
         (statement_runs vs frames within st tr.0 x t1 k1 s1 sized tr.3 v.1 lv1.good (omega (arith, le1, lt))))))
-        (goes_less {b = 8} 2 (omega arith)
-        (goes_frame 8 0 0 (goes_less 0 (omega arith)
+        (completes_less {b = 8} 2 (omega arith)
+        (completes_frame 8 0 0 (completes_less 0 (omega arith)
         (statement_runs vs frames within other tr.1 x t1 k1 s1 sized tr.4 v.3 lv1.good
         (omega (arith, le1, lt))))))))
     statement_runs vs frames within (while_do e st) n0 x temps k s sized tr ok good lt =
@@ -363,7 +373,7 @@ module _ (t : Tac) (n : ℕ) (env : Env) (deep : env.depth ≡ suc n) (base : Sc
         _ _ _ (holds_at vs (Some e) v.0) (executed vs inside_loop st v.1) sure_skip
         (λ t k s w l. condition_at vs frames (Some e) n0 tr.0 x.next t k s sized tr.2 v.0 w l)
         (λ t k s w l. goes_done {a = tt} (omega arith) refl refl tt)
-        (λ t k s w l. goes_less 2 (left_in_loop st v.2)
+        (λ t k s w l. completes_less 2 (left_in_loop st v.2)
         (statement_runs vs frames inside_loop st tr.1 _ t k s sized tr.4 v.1 w l))
         tr.3 env.depth (omega (arith, deep)) temps k _ good (omega (arith, lt, deep)) lt))
     statement_runs vs frames within (do_while st e) n0 x temps k s sized tr ok good lt =
@@ -373,7 +383,7 @@ module _ (t : Tac) (n : ℕ) (env : Env) (deep : env.depth ≡ suc n) (base : Sc
         (turns_before_run env.setting t env.limit n u frames (at vs) (length base.functions) base.result n0 tr.0 tr.1
         None x _ _ (holds_at vs (Some e) v.2) (executed vs inside_loop st v.0)
         (λ t k s w l. condition_at vs frames (Some e) tr.1 n0 x.next t k s sized tr.4 v.2 w l)
-        (λ t k s w l. goes_less 2 (left_in_loop st v.1)
+        (λ t k s w l. completes_less 2 (left_in_loop st v.1)
         (statement_runs vs frames inside_loop st tr.0 _ t k s sized tr.3 v.0 w l))
         tr.2 env.depth (omega (arith, deep)) temps k _ good (omega (arith, lt, deep)) lt))
     statement_runs vs frames within (for line first condition step st) n0 x temps k s sized tr ok good lt =
@@ -382,21 +392,21 @@ module _ (t : Tac) (n : ℕ) (env : Env) (deep : env.depth ≡ suc n) (base : Sc
         let more = sized_opened numbers 0 env.variables vs all_sized sized in
         let v = five (is_first (at d).scope first) (is_condition_if (at d).scope condition)
         (is_expression_if (at d).scope step) (is_statement (at d).scope inside_loop st) _ ok in
-        goes_counted (goes_less {b = 4} 2 (omega arith)
-        (scoped_goes env.setting t env.limit u frames base sizes inside.at inside.mapped literals env.variables same vs numbers 6
-        4 line n0 tr.0 tr.5 x temps k _ _ tr.7.0 tr.7.1 tr.7.2 tr.7.3 good (λ frames k0 s0 good0 e0.
+        goes_counted (completes_less {b = 5} 2 (omega arith)
+        (scoped_goes env.setting t env.limit u frames base sizes inside.at inside.mapped literals env.variables all_sized same vs
+        numbers 1 5 line n0 tr.0 tr.5 x temps k _ _ tr.7.0 tr.7.1 tr.7.2 tr.7.3 good (λ frames k0 s0 good0 e0.
         goes_sure _ ((first_sure (inside.calling d) first (first_names (agree_same (at d).scope) first v.0)).by s0
         good0 tt)
         (first_runs t n env (at d) (inside.calling d) (callers d) stays u frames literals env.variables more first tr.0 tr.1
         temps k0 s0 tr.8 v.0 good0 (omega (arith, e0, lt))) (λ z s1 t1 k1 p1 le1 is1 lv1 w1.
-        goes_frame 3 3 2
+        completes_frame 5 3 2
         (turns_run env.setting t env.limit n u frames (at d) (length base.functions) base.result tr.1 tr.2 tr.3 tr.4
         tr.6 tr.5 _ _ _ (holds_at d condition v.1) (executed d inside_loop st v.3)
         (perform_sure (inside.calling d) step (expression_if (agree_same (at d).scope) step v.2))
         (λ t k s w l. condition_at d frames condition tr.1 tr.2 tr.5.next t k s more tr.9 v.1 w l)
         (λ temps k s w l. part_runs t n env (at d) (inside.calling d) (callers d) stays u frames literals env.variables more step
         tr.4 tr.1 temps k s tr.12 v.2 w l)
-        (λ t k s w l. goes_less 2 (left_in_loop st v.4)
+        (λ t k s w l. completes_less 2 (left_in_loop st v.4)
         (statement_runs d frames inside_loop st tr.3 _ t k s more tr.13 v.3 w l))
         tr.10 env.depth (omega (arith, deep)) t1 k1 s1 lv1.good (omega (arith, le1, e0, lt, deep))
         (omega (arith, le1, e0, lt)))))))
@@ -409,9 +419,9 @@ module _ (t : Tac) (n : ℕ) (env : Env) (deep : env.depth ≡ suc n) (base : Sc
         (goes_sure _ (after_value vs e v.0 _ good) (value_of vs frames e n0 tr.0 temps k _ sized tr.5 v.0 good lt)
         (λ w s1 t1 k1 p1 le1 is1 lv1 w1.
         let all = items_of env is in
-        goes_counted (goes_less {b = 7} 2 (omega arith)
-        (scoped_goes env.setting t env.limit u frames base sizes inside.at inside.mapped literals env.variables same vs numbers
-        16 7 line tr.0 tr.1 tr.4 x t1 k1 _ _ tr.6.0 tr.6.1 tr.6.2 tr.6.3 lv1.good (λ frames k2 s2 good2 e2.
+        goes_counted (completes_less {b = 6} 2 (omega arith)
+        (scoped_goes env.setting t env.limit u frames base sizes inside.at inside.mapped literals env.variables all_sized same vs
+        numbers 12 6 line tr.0 tr.1 tr.4 x t1 k1 _ _ tr.6.0 tr.6.1 tr.6.2 tr.6.3 lv1.good (λ frames k2 s2 good2 e2.
         goes_counted_as (compared w.value.word (labels_of all)) (16 + compared w.value.word (labels_of all))
         (omega arith)
         (goes_after
@@ -436,26 +446,27 @@ module _ (t : Tac) (n : ℕ) (env : Env) (deep : env.depth ≡ suc n) (base : Sc
         (λ v s1 t1 k1 p1 le1 is1. goes_done {a = Returned v} (omega arith) refl refl p1.value))
 
     pub statements_run : (vs : List Variable) (frames : List Frame) (within : Surrounding) (ss : Statements) (n0 : ℕ)
-        (x : Exits) (temps : Temps) (k : ℕ) (s : State) → AllSized vs → LowersStatements here ss n0 x
+        (x : Exits) (temps : Temps) (k : ℕ) (s : State) → HaveBytes vs → LowersStatements here ss n0 x
         → are_statements (at vs).scope within ss ≡ true → IsGood (at vs) s → env.limit < n + s.turns
-        → Goes env.setting t env.limit 0 0 u frames (exit_of x) LeftBy (Stands u n0 temps frames (at_work k s)) k s
+        → Completes env.setting t env.limit 0 0 u frames x (Stands u n0 temps frames (at_work k s)) k s
         (in_order (each_of env ss) s)
     statements_run vs frames within no_statements n0 x temps k s sized tr ok good lt = goes_at tr
         (goes_done {a = Normal} (omega arith) refl refl tt)
     statements_run vs frames within (statements st ss) n0 x temps k s sized tr ok good lt =
         let v = both (is_statement (at vs).scope within st) (are_statements (at vs).scope within ss) ok in
         goes_sure _ ((executed vs within st v.0).by _ good tt)
-        (goes_less 0 (omega arith)
+        (completes_less 0 (omega arith)
         (statement_runs vs frames within st n0 (record x { next = tr.0 }) temps k s sized tr.1 v.0 good lt))
         (λ f s1 t1 k1 p1 le1 is1 lv1 w1.
         next_goes f tr.0 x t1 k1 s1 _ (omega arith) p1
-        (statements_run vs frames within ss tr.0 x t1 k1 s1 sized tr.2 v.1 lv1.good (omega (arith, le1, lt))))
+        (goes_spare 0 (omega arith)
+        (statements_run vs frames within ss tr.0 x t1 k1 s1 sized tr.2 v.1 lv1.good (omega (arith, le1, lt)))))
 
     -- the items of a switch, from one on
     items_run : (vs : List Variable) (frames : List Frame) (within : Surrounding) (is : SwitchItems) (c0 n0 other : ℕ)
-        (x : Exits) (temps : Temps) (k : ℕ) (s : State) → AllSized vs → LowersItems here is c0 n0 other x
+        (x : Exits) (temps : Temps) (k : ℕ) (s : State) → HaveBytes vs → LowersItems here is c0 n0 other x
         → are_items (at vs).scope within is ≡ true → IsGood (at vs) s → env.limit < n + s.turns
-        → Goes env.setting t env.limit 0 0 u frames (exit_of x) LeftBy (Stands u n0 temps frames (at_work k s)) k s
+        → Completes env.setting t env.limit 0 0 u frames x (Stands u n0 temps frames (at_work k s)) k s
         (in_order (map run_labeled (items_of env is)) s)
     items_run vs frames within no_items c0 n0 other x temps k s sized tr ok good lt = goes_at tr.1
         (goes_done {a = Normal} (omega arith) refl refl tt)
@@ -463,43 +474,45 @@ module _ (t : Tac) (n : ℕ) (env : Env) (deep : env.depth ≡ suc n) (base : Sc
         let q = both (is_statement (at vs).scope within st) (are_items (at vs).scope within is) ok in
         goes_counted_as (length labels) 0 (omega arith)
         (goes_sure _ ((executed vs within st q.0).by _ good tt)
-        (goes_less 0 (omega arith)
+        (completes_less 0 (omega arith)
         (statement_runs vs frames within st n0 (record x { next = tr.1 }) temps k _ sized tr.3 q.0 good lt))
         (λ f s1 t1 k1 p1 le1 is1 lv1 w1.
         next_goes f tr.1 x t1 k1 s1 _ (omega arith) p1
+        (goes_spare 0 (omega arith)
         (items_run vs frames within is tr.0 tr.1 other x t1 k1 s1 sized tr.4 q.1 lv1.good
-        (omega (arith, le1, lt)))))
+        (omega (arith, le1, lt))))))
 
     -- the items that are run
     cases_run : (vs : List Variable) (frames : List Frame) (within : Surrounding) (is : SwitchItems) (c0 n0 other : ℕ)
-        (x : Exits) (all : List LabeledRun) (v : Rvalue) (temps : Temps) (k : ℕ) (s : State) → AllSized vs
+        (x : Exits) (all : List LabeledRun) (v : Rvalue) (temps : Temps) (k : ℕ) (s : State) → HaveBytes vs
         → LowersItems here is c0 n0 other x → are_items (at vs).scope within is ≡ true → IsGood (at vs) s → temps 0 ≡ v
         → env.limit < n + s.turns
-        → ((k : ℕ) → Goes env.setting t env.limit 0 0 u frames (exit_of x) LeftBy
+        → ((k : ℕ) → Completes env.setting t env.limit 0 0 u frames x
         (Stands u other temps frames (at_work k s)) k s (run_items (items_from is_default all) s))
-        → Goes env.setting t env.limit (16 + compared v.value.word (labels_of (items_of env is))) 16 u frames
-        (exit_of x) LeftBy (Stands u c0 temps frames (at_work k s)) k s
+        → Completes env.setting t env.limit (16 + compared v.value.word (labels_of (items_of env is))) 16 u frames x
+        (Stands u c0 temps frames (at_work k s)) k s
         (run_items (or_default (items_from (is_case_of v.value.word) (items_of env is)) all) s)
     cases_run vs frames within no_items c0 n0 other x all v temps k s sized tr ok good ev lt h = goes_at tr.0
-        (goes_frame 16 0 0 (h k))
+        (completes_frame 16 0 0 (h k))
     cases_run vs frames within (items labels st is) c0 n0 other x all v temps k s sized tr ok good ev lt h =
         let q = both (is_statement (at vs).scope within st) (are_items (at vs).scope within is) ok in
         labels_go labels n0 other c0 tr.0 x _ _ _ _ all v literals env.variables temps k s tr.2 ev
         (λ ls k. goes_counted_as (length ls) 0 (omega arith)
         (goes_sure _ ((executed vs within st q.0).by _ good tt)
-        (goes_less 0 (omega arith)
+        (completes_less 0 (omega arith)
         (statement_runs vs frames within st n0 (record x { next = tr.1 }) temps k _ sized tr.3 q.0 good lt))
         (λ f s1 t1 k1 p1 le1 is1 lv1 w1.
         next_goes f tr.1 x t1 k1 s1 _ (omega arith) p1
+        (goes_spare 0 (omega arith)
         (items_run vs frames within is tr.0 tr.1 other x t1 k1 s1 sized tr.4 q.1 lv1.good
-        (omega (arith, le1, lt))))))
+        (omega (arith, le1, lt)))))))
         (λ k. cases_run vs frames within is tr.0 tr.1 other x all v temps k s sized tr.4 q.1 good ev lt h)
 
     default_run : (vs : List Variable) (frames : List Frame) (within : Surrounding) (is : SwitchItems) (c0 n0 other : ℕ)
-        (x : Exits) (temps : Temps) (k : ℕ) (s : State) → AllSized vs → LowersItems here is c0 n0 other x
+        (x : Exits) (temps : Temps) (k : ℕ) (s : State) → HaveBytes vs → LowersItems here is c0 n0 other x
         → are_items (at vs).scope within is ≡ true → IsGood (at vs) s → env.limit < n + s.turns
         → (has_default is ≡ false → other ≡ x.next)
-        → Goes env.setting t env.limit 0 0 u frames (exit_of x) LeftBy (Stands u other temps frames (at_work k s)) k s
+        → Completes env.setting t env.limit 0 0 u frames x (Stands u other temps frames (at_work k s)) k s
         (run_items (items_from is_default (items_of env is)) s)
     default_run vs frames within no_items c0 n0 other x temps k s sized tr ok good lt h = goes_at (h refl)
         (goes_done {a = Normal} (omega arith) refl refl tt)
@@ -508,11 +521,12 @@ module _ (t : Tac) (n : ℕ) (env : Env) (deep : env.depth ≡ suc n) (base : Sc
         default_goes labels n0 other c0 tr.0 x _ _ _ literals env.variables temps k s tr.2
         (λ ls k. goes_counted_as (length ls) 0 (omega arith)
         (goes_sure _ ((executed vs within st q.0).by _ good tt)
-        (goes_less 0 (omega arith)
+        (completes_less 0 (omega arith)
         (statement_runs vs frames within st n0 (record x { next = tr.1 }) temps k _ sized tr.3 q.0 good lt))
         (λ f s1 t1 k1 p1 le1 is1 lv1 w1.
         next_goes f tr.1 x t1 k1 s1 _ (omega arith) p1
+        (goes_spare 0 (omega arith)
         (items_run vs frames within is tr.0 tr.1 other x t1 k1 s1 sized tr.4 q.1 lv1.good
-        (omega (arith, le1, lt))))))
+        (omega (arith, le1, lt)))))))
         (λ none. default_run vs frames within is tr.0 tr.1 other x temps k s sized tr.4 q.1 good lt
         (λ e. h (ap (λ b. b || has_default is) none ∙ e)))

@@ -1,5 +1,6 @@
 -- The code of expressions and lvalues does what they mean.
-use Rattle.std.proofs.Common.{◌≡◌, ℕ, ◌+◌, ◌<◌, ◌≤◌, List, [], ◌∷◌, Option, Some, None, Bool, true, false, refl}
+use Rattle.std.proofs.Common.{◌≡◌, ℕ, ◌+◌, ◌*◌, ◌<◌, ◌≤◌, List, [], ◌∷◌, Option, Some, None, Bool, true, false}
+use Rattle.std.proofs.Common.{refl}
 use Rattle.std.proofs.Common.{sym, ap, ◌∙◌, subst, arith}
 use Rattle.std.specs.Prelude.{◌&&◌, not, cond, ◌==◌}
 use Rattle.addr_map.specs.Places.{function_address}
@@ -16,7 +17,12 @@ use Rattle.c_tree.specs.declared.program.Variable.{Variable}
 use Rattle.c_tree.specs.declared.expression.Kind.{Kind}
 use Rattle.c_tree.specs.declared.expression.Kind.TheVariants.{Void, Scalar as OfScalar, Structure, Array}
 use Rattle.c_tree.specs.declared.expression.Fixity.TheVariants.{Prefix}
+use Rattle.c_tree.specs.declared.format.Directive.{Directive}
+use Rattle.c_tree.specs.declared.format.Directive.TheVariants as directive
+use Rattle.c_tree.specs.declared.format.Piece.{Piece}
+use Rattle.c_tree.specs.Format.{pieces, directives}
 use Rattle.c_tree.specs.Kinds.{size_of_kind, is_kind, is_value, is_array, is_size, has_member, pointer}
+use Rattle.c_tree.specs.Kinds.{fits_directive, fit_directives}
 use Rattle.c_tree.specs.Tree.{Expression, expression, Expressions, no_expressions, expressions, Lvalue, lvalue, Node}
 use Rattle.c_tree.specs.Tree.{constant, function, plain, read, decay, address, parenthesized, deref_function}
 use Rattle.c_tree.specs.Tree.{address_function, cast, convert, unary, binary, offset_by, difference, logical_and}
@@ -26,7 +32,7 @@ use Rattle.c_tree.specs.Tree.{index, member, arrow, member_of_value, parenthesiz
 use Rattle.c_tree.specs.Tree.{lvalue_kind, lvalue_line}
 use Rattle.c_tree.specs.Walk.{assigns}
 use Rattle.c_tree.specs.Valid.{is_lvalue, is_converted, is_convert, is_conversion, is_valid, is_node, are_valid}
-use Rattle.c_tree.specs.Valid.{is_valid_lvalue, is_valid_lvalue_node, is_plain, is_operand}
+use Rattle.c_tree.specs.Valid.{is_valid_lvalue, is_valid_lvalue_node, is_plain, is_operand, are_printed}
 use Rattle.source_meaning.specs.State.{State, Rvalue, Outcome, Gives, Ended, Paused, Run, on, done, stop, choose}
 use Rattle.source_meaning.specs.State.{Setting, Env}
 use Rattle.source_meaning.specs.Actions.{integer, is_zero, scalar_of, integer_type, converted, offset_value}
@@ -37,16 +43,17 @@ use Rattle.source_meaning.specs.Structures.{member_of}
 use Rattle.source_meaning.specs.Library.{routine}
 use Rattle.source_meaning.specs.Printing.{print_formatted}
 use Rattle.source_meaning.specs.Expressions.{nodes_of, function_pointer, header_at, has_type, callee_by, callee}
-use Rattle.source_meaning.specs.Expressions.{is_judged, argument, evaluate, value, place, node_place, values}
+use Rattle.source_meaning.specs.Expressions.{is_judged, is_node_judged, argument, evaluate, value, place, node_place}
+use Rattle.source_meaning.specs.Expressions.{values}
 use Rattle.source_meaning.specs.Calls.{Caller, caller, back_to}
 use Rattle.source_meaning.specs.Meaning.{moment_at}
 use Rattle.source_meaning.specs.Acting.{at_work}
 use Rattle.source_meaning.specs.Staying.{KeptBy, Stays}
 use Rattle.source_meaning.specs.Good.{Context, function_count, IsGood, Leaves, After, ValueIs, LvalueIs, ArgumentsAre}
 use Rattle.source_meaning.specs.Good.{basis_of, signature_in, taking, Calling}
-use Rattle.source_meaning.proofs.Naming.{ValueNames}
-use Rattle.source_meaning.proofs.ValidNames.{both, three, four, five, six, none_like, writable, names, value_names}
-use Rattle.source_meaning.proofs.ValidNames.{lvalue_names, row_names}
+use Rattle.source_meaning.proofs.Naming.{ValueNames, IsNoStructure}
+use Rattle.source_meaning.proofs.ValidNames.{both, three, four, five, six, none_like, none_conversion, none_routine}
+use Rattle.source_meaning.proofs.ValidNames.{writable, names, value_names, lvalue_names, row_names}
 use Rattle.source_meaning.proofs.ValidProgramNames.{agree_same}
 use Rattle.source_meaning.proofs.SureTree.{evaluate_sure, place_sure, values_sure, argument_sure}
 use Rattle.source_meaning.proofs.ActionsAct.{acts_operate, acts_updated, acts_update, acts_update_plain}
@@ -57,7 +64,7 @@ use Rattle.tac_ir.specs.declared.key.Key.{Key}
 use Rattle.tac_ir.specs.declared.function.Tac.{Tac}
 use Rattle.tac_ir.specs.Stage.{Temps, with_temp, gathered, Frame, Waits, Stage, Stands, Over, came, seen}
 use Rattle.tac_ir.specs.Accesses.{admitted, moved_from, is_through}
-use Rattle.tac_ir.specs.Costs.{entries_of, checks_of}
+use Rattle.tac_ir.specs.Costs.{entries_of, stores_of, updates_of, checks_of, bytes_in, handed_bytes, heavier}
 use Rattle.tac_ir.specs.Meaning.{keys_of, function_in, if_there, text_in, at_node, keyed, given_in}
 use Rattle.tac_ir.specs.Meaning.{given_to, called, act_at, step as advance}
 use Rattle.tac_ir.proofs.Turns.{acts_as}
@@ -65,12 +72,15 @@ use Rattle.c_lower.specs.Placed.{HasAt}
 use Rattle.c_lower.specs.Keys.{place_key, key_after, key_if, read_key, write_key}
 use Rattle.c_lower.specs.Values.{mode_for, LowersTaking, count, LowersExpression, LowersNode, LowersLvalue, LowersPlace}
 use Rattle.c_lower.specs.Values.{LowersArguments}
-use Rattle.c_lower.proofs.Comes.{Reached, Goes, goes_from, goes_counted, goes_counted_as, goes_spare, goes_frame}
+use Rattle.c_lower.proofs.Comes.{Reached, GoesLeaving, Goes, goes_from, goes_counted, goes_counted_as, goes_spare}
+use Rattle.c_lower.proofs.Comes.{goes_frame}
 use Rattle.c_lower.proofs.Comes.{goes_steps, goes_step, goes_done, goes_over, goes_at, goes_weak, goes_less, goes_then}
-use Rattle.c_lower.proofs.Comes.{goes_sure, goes_last, goes_branch}
+use Rattle.c_lower.proofs.Comes.{goes_sure, goes_last, goes_last_heavier, goes_branch}
 use Rattle.c_lower.proofs.KeyValues.{Right, key_opens, place_right}
 use Rattle.c_lower.proofs.KeyStays.{right_after}
-use Rattle.c_lower.proofs.Accesses.{through_is, access_cost, access_opens, value_moves, reach_later, reach_scalar}
+use Rattle.c_lower.proofs.Accesses.{left_by, three_left, four_left, most_left, converted_left, plainly_left}
+use Rattle.c_lower.proofs.Accesses.{taken_left, taken_pays, place_left, seven_left, read_cost, write_cost, update_cost}
+use Rattle.c_lower.proofs.Accesses.{through_is, access_opens, value_moves, reach_later, reach_scalar}
 use Rattle.c_lower.proofs.Accesses.{updates_scalar, plain_is_no_structure, plain_contents, reach_contents}
 use Rattle.c_lower.proofs.Temporaries.{placed, KeepsBelow, ValueIn, ValuesIn, put_value}
 use Rattle.c_lower.proofs.Temporaries.{turned, over}
@@ -91,16 +101,17 @@ if_right false ok s v h k e = cc
 -- calls
 
 module _ (g : Setting) (t : Tac) (limit : ℕ) where
-  -- what a call comes to: the caller that waits, with the result
-  abbrev pub Called : (c : ℕ) → Caller → List Frame → Stage → ℕ → State → Outcome Rvalue → Type 0
-  Called c q frames x k s (Gives v s') =
-      (s1 : State) × (k' : ℕ) × (s' ≡ back_to q s1) × Reached g t c 0 x k s s1 (given_to frames v (at_work k' s1)) k'
-  Called c q frames x k s (Ended e s') = (k' : ℕ) × Reached g t c 0 x k s s' (Over e (at_work k' s')) k'
-  Called c q frames x k s (Paused s') =
-      (x' : Stage) × (k' : ℕ) × (seen x' ≡ moment_at (at_work k' s') [] None) × Reached g t c 0 x k s s' x' k'
+  -- what a call comes to: the caller that waits, with the result; `back` units are left then, and `over` units where
+  -- the run ends in it or pauses
+  abbrev pub Called : (c back over : ℕ) → Caller → List Frame → Stage → ℕ → State → Outcome Rvalue → Type 0
+  Called c back over q frames x k s (Gives v s') =
+      (s1 : State) × (k' : ℕ) × (s' ≡ back_to q s1) × Reached g t c back x k s s1 (given_to frames v (at_work k' s1)) k'
+  Called c back over q frames x k s (Ended e s') = (k' : ℕ) × Reached g t c over x k s s' (Over e (at_work k' s')) k'
+  Called c back over q frames x k s (Paused s') =
+      (x' : Stage) × (k' : ℕ) × (seen x' ≡ moment_at (at_work k' s') [] None) × Reached g t c over x k s s' x' k'
       × (limit ≤ s'.turns)
 
-  -- a stage from which one step calls a function; nothing is begun where no turn is left
+  -- a stage from which one step calls a function, at a cost; nothing is begun where no turn is left
   pub record Calls (c f : ℕ) (vs : List Rvalue) (line : ℕ) (frames : List Frame) (x : Stage) (k : ℕ) (s : State) : Type
       0 where
     pub steps : advance g t x ≡ called g t f vs line frames (at_work (k + c) s)
@@ -110,14 +121,14 @@ module _ (g : Setting) (t : Tac) (limit : ℕ) where
   CallsRun sc called_as n = (c f : ℕ) (vs : List Rvalue) (line : ℕ) (frames : List Frame) (x : Stage) (k : ℕ)
       (s : State) → Calls c f vs line frames x k s → IsGood sc s
       → ArgumentsAre (function_count sc) (taking sc f) vs s.objects → limit < n + s.turns
-      → Called c (caller s) frames x k s (called_as f vs line s)
+      → Called c 8 0 (caller s) frames x k s (called_as f vs line s)
 
 module _ {g : Setting} {t : Tac} {limit u : ℕ} {frames : List Frame} where
   -- 1 or 0, by a test
   flag_goes : (q : Bool) (d n one none n1 : ℕ) (before temps : Temps) (k : ℕ) (s : State)
       → at_node t u n ≡ Some (tac.Branch d one none) → at_node t u none ≡ Some (tac.Constant d 0 n1)
       → at_node t u one ≡ Some (tac.Constant d 1 n1) → is_zero (temps d).value ≡ q → KeepsBelow d before temps
-      → Goes g t limit 6 3 u frames (λ v. n1) (ValueIn d before) (Stands u n temps frames (at_work k s)) k s
+      → Goes g t limit 6 4 u frames (λ v. n1) (ValueIn d before) (Stands u n temps frames (at_work k s)) k s
       (Gives (rvalue (integer (one_if (not q)))) s)
   flag_goes true d n one none n1 before temps k s h hz ho e below =
       goes_step 5 h refl (ap (λ q. Stands u (cond q none one) temps frames (at_work (k + 1) s)) e)
@@ -128,13 +139,19 @@ module _ {g : Setting} {t : Tac} {limit u : ℕ} {frames : List Frame} where
       (goes_step 4 ho refl refl
       (goes_done (omega arith) refl refl (put_value d (rvalue (integer 1)) _ before temps s refl below)))
 
+  -- six units are enough for any expression that is no conversion
+  six_left : {c : ℕ} {n1 d : ℕ} {before : Temps} {x : Stage} {k : ℕ} {s : State} {o : Outcome Rvalue} (kind : Kind)
+      → Goes g t limit c 6 u frames (λ v. n1) (ValueIn d before) x k s o
+      → Goes g t limit c (left_by kind false) u frames (λ v. n1) (ValueIn d before) x k s o
+  six_left kind h = goes_less (left_by kind false) (most_left kind) h
+
   -- back from a call
-  back_by : (n1 d : ℕ) (before temps : Temps) (x : Stage) (k : ℕ) (s : State) (o : Outcome Rvalue)
+  back_by : (c n1 d : ℕ) (before temps : Temps) (x : Stage) (k : ℕ) (s : State) (o : Outcome Rvalue)
       → KeepsBelow d before temps
-      → Called g t limit 1 (caller s)
+      → Called g t limit c 8 0 (caller s)
       (Waits (record { function = u; node = n1; place = d; caller = caller s; temps = temps }) ∷ frames) x k s o
-      → Goes g t limit 1 0 u frames (λ v. n1) (ValueIn d before) x k s o
-  back_by n1 d before temps x k s (Gives v s') below h =
+      → Goes g t limit c 8 u frames (λ v. n1) (ValueIn d before) x k s o
+  back_by c n1 d before temps x k s (Gives v s') below h =
       let e = h.2 in
       let r = h.3 in
       record {
@@ -150,8 +167,8 @@ module _ {g : Setting} {t : Tac} {limit u : ℕ} {frames : List Frame} where
           },
         );
       }
-  back_by n1 d before temps x k s (Ended e s') below h = record { by = h }
-  back_by n1 d before temps x k s (Paused s') below h = record { by = h }
+  back_by c n1 d before temps x k s (Ended e s') below h = record { by = h }
+  back_by c n1 d before temps x k s (Paused s') below h = record { by = h }
 
   -- a call through a pointer
   module _ (n : ℕ) (sc : Context) (env : Env) (sure : Calling sc env) (same : env.setting ≡ g)
@@ -162,69 +179,96 @@ module _ {g : Setting} {t : Tac} {limit u : ℕ} {frames : List Frame} where
       (below : KeepsBelow d before temps) where
     through_if : (word f : ℕ) (q : Bool)
         → (word == function_address f && has_type (header_at env.setting.functions f) type_number) ≡ q
-        → advance g t x ≡ came (choose q (done f) (stop (BadCall line)) (at_work (k + 1) s))
+        → advance g t x ≡ came (choose q (done f) (stop (BadCall line)) (at_work (k + 8) s))
         (λ f z. called g t f vs line
         (Waits (record { function = u; node = n1; place = d; caller = caller s; temps = temps }) ∷ frames) z)
-        → Goes g t limit 1 0 u frames (λ v. n1) (ValueIn d before) x k s
+        → Goes g t limit 8 8 u frames (λ v. n1) (ValueIn d before) x k s
         (on (choose q (done f) (stop (BadCall line)) s) (λ f. env.call f vs line))
     through_if word f true is e =
         let typed = sure.typed f type_number (both _ _ is).1 in
-        back_by n1 d before temps x k s (env.call f vs line s) below
-        (calls 1 f vs line _ x k s (record { steps = e; seen_now = now }) good
+        back_by 8 n1 d before temps x k s (env.call f vs line s) below
+        (calls 8 f vs line _ x k s (record { steps = e; seen_now = now }) good
         (subst (λ q. ArgumentsAre (function_count sc) q.parameters vs s.objects) (sym typed) arguments) lt)
     through_if word f false is e = goes_from 1 e (omega arith) (omega arith)
-        (goes_over {c = 0} {k = k + 1} {s = s} {s' = s} refl refl)
+        (goes_over {c = 0} {k = k + 8} {s = s} {s' = s} refl refl)
 
     through_goes : (word : ℕ) (tag : Tag)
-        → advance g t x ≡ came (callee_by env.setting.functions type_number word tag line (at_work (k + 1) s))
+        → advance g t x ≡ came (callee_by env.setting.functions type_number word tag line (at_work (k + 8) s))
         (λ f z. called g t f vs line
         (Waits (record { function = u; node = n1; place = d; caller = caller s; temps = temps }) ∷ frames) z)
-        → Goes g t limit 1 0 u frames (λ v. n1) (ValueIn d before) x k s
+        → Goes g t limit 8 8 u frames (λ v. n1) (ValueIn d before) x k s
         (on (callee_by env.setting.functions type_number word tag line s) (λ f. env.call f vs line))
     through_goes word Untagged e = goes_from 1 e (omega arith) (omega arith)
-        (goes_over {c = 0} {k = k + 1} {s = s} {s' = s} refl refl)
+        (goes_over {c = 0} {k = k + 8} {s = s} {s' = s} refl refl)
     through_goes word (OfObject o b) e = goes_from 1 e (omega arith) (omega arith)
-        (goes_over {c = 0} {k = k + 1} {s = s} {s' = s} refl refl)
+        (goes_over {c = 0} {k = k + 8} {s = s} {s' = s} refl refl)
     through_goes word (OfFunction f) e = through_if word f _ refl e
 
-  -- the contents of a structure are taken
+  -- the contents of a structure are taken; what is counted for its bytes pays for handing them on
   taking_runs : (fc : ℕ) (kind : Kind) (line d n0 n1 : ℕ) (before temps : Temps) (k : ℕ) (s : State) (v : Rvalue)
       (literals : List Bool) (vars : List Variable) → LowersTaking (placed t u literals vars) kind line d n0 n1 → temps d ≡ v
       → KeepsBelow d before temps → ValueIs fc kind v s.objects
-      → Goes g t limit 2 1 u frames (λ v. n1) (ValueIn d before) (Stands u n0 temps frames (at_work k s)) k s
-      (take_value kind line v s)
-  taking_runs fc Void line d n0 n1 before temps k s v literals vars tr e below h = goes_at tr
+      → GoesLeaving g t limit (left_by kind true) (λ w. taken_left kind + handed_bytes w) u frames (λ v. n1)
+      (ValueIn d before) (Stands u n0 temps frames (at_work k s)) k s (take_value kind line v s)
+  taking_runs fc Void line d n0 n1 before temps k s v literals vars tr e below h =
+      let none = ap bytes_in h.structure in goes_at tr
       (goes_done (omega arith) refl refl (record { value = e; below = below }))
-  taking_runs fc (OfScalar c) line d n0 n1 before temps k s v literals vars tr e below h = goes_at tr
+  taking_runs fc (OfScalar c) line d n0 n1 before temps k s v literals vars tr e below h =
+      let none = ap bytes_in h.structure in goes_at tr
       (goes_done (omega arith) refl refl (record { value = e; below = below }))
-  taking_runs fc (Array m) line d n0 n1 before temps k s v literals vars tr e below h = goes_at tr
+  taking_runs fc (Array m) line d n0 n1 before temps k s v literals vars tr e below h =
+      let none = ap bytes_in h.structure in goes_at tr
       (goes_done (omega arith) refl refl (record { value = e; below = below }))
   taking_runs fc (Structure m) line d n0 n1 before temps k s v literals vars tr e below h =
       let F : Rvalue → State → Stage = given_in u n1 temps d frames in
-      let z = at_work (k + 1) s in
-      goes_step 1 tr refl
-      (ap (λ v. moved_from (Structure m) v s.objects (came (take_value (Structure m) line v z) F)) e
+      let z = at_work (k + 5) s in
+      goes_steps 5 1 tr refl
+      (ap (λ v. moved_from (Structure m) v s.objects (came (heavier (take_value (Structure m) line v) z) F)) e
       ∙ value_moves fc (Structure m) v s.objects h _)
-      (goes_last F (acts_take_value (Structure m) line v)
-      (λ w s' k' e'. goes_done (omega arith) refl refl (put_value d w w before temps s' refl below)))
-
--- what the code of an expression leaves for what follows: it pays for a conversion and two units more
-abbrev pub left_by : (is_converted : Bool) → ℕ
-left_by true = 2
-left_by false = 3
+      (goes_last_heavier F (acts_take_value (Structure m) line v)
+      (λ w s' k' e' is.
+      let paid = taken_pays m line v s w s' is in
+      goes_done (omega (arith, paid)) refl refl (put_value d w w before temps s' refl below)))
 
 abbrev pub left : Expression → ℕ
-left e = left_by (is_converted e)
+left e = left_by (kind_of e) (is_converted e)
 
-two_left_by : (b : Bool) → 2 ≤ left_by b
-two_left_by true = omega arith
-two_left_by false = omega arith
+not_converted : (e : Expression) → is_converted e ≡ false → 4 ≤ left e
+not_converted e h = let same = ap (left_by (kind_of e)) h in omega (arith, same, four_left (kind_of e))
 
-pub two_left : (e : Expression) → 2 ≤ left e
-two_left e = two_left_by (is_converted e)
+-- what the arguments of a call leave
+abbrev args_left : Expressions → ℕ
+args_left no_expressions = 0
+args_left (expressions e es) = taken_left (kind_of e) + args_left es
 
-three_left : (e : Expression) → is_converted e ≡ false → 3 ≤ left e
-three_left e h = let same : left e ≡ 3 = ap left_by h in omega (arith, same)
+-- those of a format are no structures
+fits_plain : (d : Directive) (k : Kind) → fits_directive d k ≡ true → taken_left k ≡ 3
+fits_plain d Void e = refl
+fits_plain d (OfScalar k) e = refl
+fits_plain d (Array n) e = refl
+fits_plain directive.Int (Structure n) e = cc
+fits_plain directive.UnsignedInt (Structure n) e = cc
+fits_plain directive.Hexadecimal (Structure n) e = cc
+fits_plain directive.Character (Structure n) e = cc
+fits_plain directive.Long (Structure n) e = cc
+fits_plain directive.UnsignedLong (Structure n) e = cc
+fits_plain directive.String (Structure n) e = cc
+
+printed_left : (ds : List Directive) (es : Expressions) → fit_directives ds (kinds_of es) ≡ true
+    → args_left es ≡ 3 * count es
+printed_left [] no_expressions h = refl
+printed_left [] (expressions e es) h = cc
+printed_left (d ∷ ds) no_expressions h = cc
+printed_left (d ∷ ds) (expressions e es) h =
+    let q = both (fits_directive d (kind_of e)) (fit_directives ds (kinds_of es)) h in
+    let one = fits_plain d (kind_of e) q.0 in
+    let others = printed_left ds es q.1 in
+    omega arith
+
+formatted_left : (ps : Option (List Piece)) (es : Expressions) → are_printed ps (kinds_of es) ≡ true
+    → args_left es ≡ 3 * count es
+formatted_left None es h = cc
+formatted_left (Some ps) es h = printed_left (directives ps) es h
 
 pointer_contents : (fc : ℕ) (a : Expression) → is_kind (kind_of a) pointer ≡ true → (x : Rvalue) (objects : Objects)
     → ValueIs fc (kind_of a) x objects → x ≡ rvalue x.value
@@ -286,27 +330,27 @@ module _ (t : Tac) (n : ℕ) (env : Env) (sc : Context) (sure : Calling sc env)
 
     two : (e : Expression) (d n0 n1 : ℕ) (temps : Temps) (k : ℕ) (s : State)
         → LowersExpression (placed t u literals vars) e d n0 n1 → is_valid sc.scope e ≡ true → IsGood sc s → limit < n + s.turns
-        → Goes g t limit 0 2 u frames (λ v. n1) (ValueIn d temps) (Stands u n0 temps frames (at_work k s)) k s
+        → Goes g t limit 0 3 u frames (λ v. n1) (ValueIn d temps) (Stands u n0 temps frames (at_work k s)) k s
         (evaluate env e s)
-    two (expression kind line node) d n0 n1 temps k s tr ok good lt = goes_less 2 (two_left_by (is_convert node))
+    two (expression kind line node) d n0 n1 temps k s tr ok good lt = goes_less 3 (three_left kind (is_convert node))
         (node_runs node kind line d n0 n1 temps k s tr ok good lt)
 
     node_runs : (node : Node) (kind : Kind) (line d n0 n1 : ℕ) (temps : Temps) (k : ℕ) (s : State)
         → LowersNode (placed t u literals vars) node kind line d n0 n1 → is_node sc.scope node kind ≡ true → IsGood sc s
         → limit < n + s.turns
-        → Goes g t limit 0 (left_by (is_convert node)) u frames (λ v. n1) (ValueIn d temps)
+        → Goes g t limit 0 (left_by kind (is_convert node)) u frames (λ v. n1) (ValueIn d temps)
         (Stands u n0 temps frames (at_work k s)) k s (value env node kind line s)
     node_runs (constant w) kind line d n0 n1 temps k s tr ok good lt =
-        goes_counted (goes_step 7 tr refl refl
-        (goes_done (omega arith) refl refl (put_value d (rvalue (integer w)) _ temps temps _ refl (λ i l. refl))))
+        six_left kind (goes_counted (goes_step 7 tr refl refl
+        (goes_done (omega arith) refl refl (put_value d (rvalue (integer w)) _ temps temps _ refl (λ i l. refl)))))
     node_runs (function f) kind line d n0 n1 temps k s tr ok good lt =
-        goes_counted (goes_step 7 tr refl refl
+        six_left kind (goes_counted (goes_step 7 tr refl refl
         (goes_done (omega arith) refl refl
-        (put_value d (rvalue (function_pointer f)) _ temps temps _ refl (λ i l. refl))))
+        (put_value d (rvalue (function_pointer f)) _ temps temps _ refl (λ i l. refl)))))
     node_runs (plain x) kind line d n0 n1 temps k s tr ok good lt =
-        goes_counted (goes_step 7 tr refl refl
+        six_left kind (goes_counted (goes_step 7 tr refl refl
         (goes_done (omega arith) refl refl
-        (put_value d (rvalue (plain_value x s)) _ temps temps _ refl (λ i l. refl))))
+        (put_value d (rvalue (plain_value x s)) _ temps temps _ refl (λ i l. refl)))))
     node_runs (read p) kind line d n0 n1 temps k s tr ok good lt =
         let v = three (is_valid_lvalue sc.scope p) (is_kind kind (lvalue_kind p)) (is_value kind) ok in
         goes_sure _ (after_place p v.0 _ good) (lvalue_runs p d n0 tr.0 temps k s tr.3 v.0 good lt)
@@ -314,12 +358,13 @@ module _ (t : Tac) (n : ℕ) (env : Env) (sc : Context) (sure : Calling sc env)
         let j = is_judged p in
         let pk = lvalue_kind p in
         let w = 1 + entries_of pk + checks_of (mode_for j) in
-        let most = access_cost pk j in
+        let rest = left_by pk false in
+        let same = ap (λ k. left_by k false) (named (read p) kind ok).1 in
         let F : Rvalue → State → Stage = given_in u n1 t1 d frames in
         let z = at_work (k1 + w) s1 in
         let keys = keys_of (function_in t u) in
-        goes_spare (w + 3) (omega (arith, most))
-        (goes_steps w 3 tr.4 refl
+        goes_spare (w + rest) (omega (arith, read_cost pk j))
+        (goes_steps w rest tr.4 refl
         (ap (λ (v : Rvalue). keyed keys tr.1 z v.value
         (admitted (mode_for j) (size_of_kind pk) v s1.objects
         (came (read_rvalue pk (is_through (mode_for j)) v (lvalue_line p) z) F))) p1.value
@@ -328,134 +373,136 @@ module _ (t : Tac) (n : ℕ) (env : Env) (sc : Context) (sure : Calling sc env)
         ∙ access_opens (function_count sc) p (size_of_kind pk) q s1.objects w1.reach _
         ∙ ap (λ b. came (read_rvalue pk b q (lvalue_line p) z) F) (through_is j))
         (goes_last F (acts_read_rvalue pk j q (lvalue_line p))
-        (λ v s2 k2 e. goes_done (omega arith) refl refl (put_value d v v temps t1 s2 refl p1.below)))))
+        (λ v s2 k2 e. goes_done (omega (arith, same)) refl refl (put_value d v v temps t1 s2 refl p1.below)))))
     node_runs (decay p) kind line d n0 n1 temps k s tr ok good lt =
         let v = four (is_valid_lvalue sc.scope p) (is_lvalue p) (is_array (lvalue_kind p)) (is_kind kind pointer) ok in
-        goes_sure _ (after_place p v.0 _ good) (lvalue_runs p d n0 n1 temps k s tr v.0 good lt)
+        six_left kind (goes_sure _ (after_place p v.0 _ good) (lvalue_runs p d n0 n1 temps k s tr v.0 good lt)
         (λ q s1 t1 k1 p1 le1 is1 lv1 w1.
-        goes_done (omega arith) refl refl (turned (lvalue_contents (function_count sc) p v.1 q s1.objects w1) p1))
+        goes_done (omega (arith, seven_left (is_judged p))) refl refl
+        (turned (lvalue_contents (function_count sc) p v.1 q s1.objects w1) p1)))
     node_runs (address p) kind line d n0 n1 temps k s tr ok good lt =
         let v = three (is_valid_lvalue sc.scope p) (is_lvalue p) (is_kind kind pointer) ok in
-        goes_counted
+        six_left kind (goes_counted
         (goes_sure _ (after_place p v.0 _ good) (lvalue_runs p d n0 n1 temps k _ tr v.0 good lt)
         (λ q s1 t1 k1 p1 le1 is1 lv1 w1.
-        goes_done (omega arith) refl refl (turned (lvalue_contents (function_count sc) p v.1 q s1.objects w1) p1)))
+        goes_done (omega arith) refl refl (turned (lvalue_contents (function_count sc) p v.1 q s1.objects w1) p1))))
     node_runs (parenthesized a) kind line d n0 n1 temps k s tr ok good lt =
         let v = both (is_valid sc.scope a) (is_kind kind (kind_of a)) ok in
-        goes_counted (goes_less {b = 10} 3 (omega arith) (goes_frame 8 0 2 (two a d n0 n1 temps k _ tr v.0 good lt)))
+        six_left kind (goes_counted
+        (goes_less {b = 11} 6 (omega arith) (goes_frame 8 0 3 (two a d n0 n1 temps k _ tr v.0 good lt))))
     node_runs (deref_function a) kind line d n0 n1 temps k s tr ok good lt =
         let v = three (is_valid sc.scope a) (is_kind (kind_of a) pointer) (is_kind kind pointer) ok in
-        goes_counted
+        six_left kind (goes_counted
         (goes_sure _ (after a v.0 _ good) (two a d n0 n1 temps k _ tr v.0 good lt) (λ x s1 t1 k1 p1 le1 is1 lv1 w1.
-        goes_done (omega arith) refl refl (turned (pointer_contents (function_count sc) a v.1 x s1.objects w1) p1)))
+        goes_done (omega arith) refl refl (turned (pointer_contents (function_count sc) a v.1 x s1.objects w1) p1))))
     node_runs (address_function a) kind line d n0 n1 temps k s tr ok good lt =
         let v = three (is_valid sc.scope a) (is_kind (kind_of a) pointer) (is_kind kind pointer) ok in
-        goes_counted
+        six_left kind (goes_counted
         (goes_sure _ (after a v.0 _ good) (two a d n0 n1 temps k _ tr v.0 good lt) (λ x s1 t1 k1 p1 le1 is1 lv1 w1.
-        goes_done (omega arith) refl refl (turned (pointer_contents (function_count sc) a v.1 x s1.objects w1) p1)))
+        goes_done (omega arith) refl refl (turned (pointer_contents (function_count sc) a v.1 x s1.objects w1) p1))))
     node_runs (cast a) kind line d n0 n1 temps k s tr ok good lt =
         let v = both (is_valid sc.scope a) (is_conversion (kind_of a) kind) ok in
-        goes_counted
+        six_left kind (goes_counted
         (goes_then (two a d n0 tr.0 temps k _ tr.1 v.0 good lt) (λ v s1 t1 k1 p1 le1 is1.
-        goes_step 9 tr.2 refl refl
+        goes_step 10 tr.2 refl refl
         (goes_done (omega arith) refl refl
         (put_value d (rvalue (converted kind v.value)) _ temps t1 _
-        (ap (λ (z : Rvalue). rvalue (converted kind z.value)) p1.value) p1.below))))
+        (ap (λ (z : Rvalue). rvalue (converted kind z.value)) p1.value) p1.below)))))
     node_runs (unary op a) kind line d n0 n1 temps k s tr ok good lt =
         let v = both (is_valid sc.scope a) (is_operand op (kind_of a) kind) ok in
         let ty = integer_type (scalar_of (kind_of a)) in
-        goes_counted
+        six_left kind (goes_counted
         (goes_then (two a d n0 tr.0 temps k _ tr.1 v.0 good lt) (λ v s1 t1 k1 p1 le1 is1.
-        goes_step 9 tr.2 refl refl
+        goes_step 10 tr.2 refl refl
         (goes_done (omega arith) refl refl
         (put_value d (rvalue (integer (unary_value op ty v.value.word))) _ temps t1 _
-        (ap (λ (z : Rvalue). rvalue (integer (unary_value op ty z.value.word))) p1.value) p1.below))))
+        (ap (λ (z : Rvalue). rvalue (integer (unary_value op ty z.value.word))) p1.value) p1.below)))))
     node_runs (binary op a b) kind line d n0 n1 temps k s tr ok good lt =
         let v = three (is_valid sc.scope a) (is_valid sc.scope b) _ ok in
         let ty = integer_type (scalar_of (kind_of a)) in
-        goes_counted
+        six_left kind (goes_counted
         (goes_sure _ (after a v.0 _ good) (two a d n0 tr.0 temps k _ tr.2 v.0 good lt) (λ x s1 t1 k1 p1 le1 is1 lv1 w1.
         goes_then (two b (d + 1) tr.0 tr.1 t1 k1 s1 tr.3 v.1 lv1.good (omega (arith, le1, lt)))
         (λ y s2 t2 k2 p2 le2 is2.
         let F : Rvalue → State → Stage = given_in u n1 t2 d frames in
         let z = at_work (k2 + 1) s2 in
-        goes_step 11 tr.4 refl
+        goes_step 13 tr.4 refl
         (ap (λ (v : Rvalue). came (as_rvalue (operate op ty v.value (t2 (d + 1)).value line) z) F)
         (p2.below d (omega arith) ∙ p1.value)
         ∙ ap (λ (v : Rvalue). came (as_rvalue (operate op ty x.value v.value line) z) F) p2.value)
         (goes_last F (acts_as (acts_operate op ty x.value y.value line))
         (λ v s3 k3 e. goes_done (omega arith) refl refl
-        (put_value d v v temps t2 s3 refl (λ i l. p2.below i (omega arith) ∙ p1.below i l)))))))
+        (put_value d v v temps t2 s3 refl (λ i l. p2.below i (omega arith) ∙ p1.below i l))))))))
     node_runs (offset_by form size a b) kind line d n0 n1 temps k s tr ok good lt =
         let v = six (is_valid sc.scope a) (is_valid sc.scope b) _ _ _ _ ok in
-        goes_counted
+        six_left kind (goes_counted
         (goes_sure _ (after a v.0 _ good) (two a d n0 tr.0 temps k _ tr.2 v.0 good lt) (λ x s1 t1 k1 p1 le1 is1 lv1 w1.
         goes_then (two b (d + 1) tr.0 tr.1 t1 k1 s1 tr.3 v.1 lv1.good (omega (arith, le1, lt)))
         (λ y s2 t2 k2 p2 le2 is2.
-        goes_step 11 tr.4 refl refl
+        goes_steps 2 12 tr.4 refl refl
         (goes_done (omega arith) refl refl
         (put_value d (rvalue (offset_value form size x.value y.value)) _ temps t2 _
         (ap (λ (v : Rvalue). rvalue (offset_value form size v.value (t2 (d + 1)).value))
         (p2.below d (omega arith) ∙ p1.value)
         ∙ ap (λ (v : Rvalue). rvalue (offset_value form size x.value v.value)) p2.value)
-        (λ i l. p2.below i (omega arith) ∙ p1.below i l))))))
+        (λ i l. p2.below i (omega arith) ∙ p1.below i l)))))))
     node_runs (difference size a b) kind line d n0 n1 temps k s tr ok good lt =
         let v = six (is_valid sc.scope a) (is_valid sc.scope b) _ _ _ _ ok in
-        goes_counted
+        six_left kind (goes_counted
         (goes_sure _ (after a v.0 _ good) (two a d n0 tr.0 temps k _ tr.2 v.0 good lt) (λ x s1 t1 k1 p1 le1 is1 lv1 w1.
         goes_then (two b (d + 1) tr.0 tr.1 t1 k1 s1 tr.3 v.1 lv1.good (omega (arith, le1, lt)))
         (λ y s2 t2 k2 p2 le2 is2.
-        goes_step 11 tr.4 refl refl
+        goes_step 13 tr.4 refl refl
         (goes_done (omega arith) refl refl
         (put_value d (rvalue (difference_value size x.value y.value)) _ temps t2 _
         (ap (λ (v : Rvalue). rvalue (difference_value size v.value (t2 (d + 1)).value))
         (p2.below d (omega arith) ∙ p1.value)
         ∙ ap (λ (v : Rvalue). rvalue (difference_value size x.value v.value)) p2.value)
-        (λ i l. p2.below i (omega arith) ∙ p1.below i l))))))
+        (λ i l. p2.below i (omega arith) ∙ p1.below i l)))))))
     node_runs (logical_and a b) kind line d n0 n1 temps k s tr ok good lt =
         let v = five (is_valid sc.scope a) (is_valid sc.scope b) _ _ _ ok in
-        goes_counted
+        six_left kind (goes_counted
         (goes_sure _ (after a v.0 _ good) (two a d n0 tr.0 temps k _ tr.5 v.0 good lt) (λ x s1 t1 k1 p1 le1 is1 lv1 w1.
-        goes_branch 9 x _ _ tr.6 p1.value
-        (goes_step 8 tr.9 refl refl
+        goes_branch 10 x _ _ tr.6 p1.value
+        (goes_step 9 tr.9 refl refl
         (goes_done (omega arith) refl refl (put_value d (rvalue (integer 0)) _ temps t1 _ refl p1.below)))
         (goes_then (two b d tr.2 tr.1 t1 (k1 + 1) s1 tr.7 v.1 lv1.good (omega (arith, le1, lt)))
         (λ y s2 t2 k2 p2 le2 is2.
         goes_spare 6 (omega arith)
         (flag_goes (is_zero y.value) d tr.1 tr.4 tr.3 n1 temps t2 k2 s2 tr.8 tr.9 tr.10
-        (ap (λ (v : Rvalue). is_zero v.value) p2.value) (λ i l. p2.below i l ∙ p1.below i l))))))
+        (ap (λ (v : Rvalue). is_zero v.value) p2.value) (λ i l. p2.below i l ∙ p1.below i l)))))))
     node_runs (logical_or a b) kind line d n0 n1 temps k s tr ok good lt =
         let v = five (is_valid sc.scope a) (is_valid sc.scope b) _ _ _ ok in
-        goes_counted
+        six_left kind (goes_counted
         (goes_sure _ (after a v.0 _ good) (two a d n0 tr.0 temps k _ tr.5 v.0 good lt) (λ x s1 t1 k1 p1 le1 is1 lv1 w1.
-        goes_branch 9 x _ _ tr.6 p1.value
+        goes_branch 10 x _ _ tr.6 p1.value
         (goes_then (two b d tr.2 tr.1 t1 (k1 + 1) s1 tr.7 v.1 lv1.good (omega (arith, le1, lt)))
         (λ y s2 t2 k2 p2 le2 is2.
         goes_spare 6 (omega arith)
         (flag_goes (is_zero y.value) d tr.1 tr.4 tr.3 n1 temps t2 k2 s2 tr.8 tr.9 tr.10
         (ap (λ (v : Rvalue). is_zero v.value) p2.value) (λ i l. p2.below i l ∙ p1.below i l))))
-        (goes_step 8 tr.10 refl refl
-        (goes_done (omega arith) refl refl (put_value d (rvalue (integer 1)) _ temps t1 _ refl p1.below)))))
+        (goes_step 9 tr.10 refl refl
+        (goes_done (omega arith) refl refl (put_value d (rvalue (integer 1)) _ temps t1 _ refl p1.below))))))
     node_runs (comma a b) kind line d n0 n1 temps k s tr ok good lt =
         let v = three (is_valid sc.scope a) (is_valid sc.scope b) _ ok in
-        goes_counted
+        six_left kind (goes_counted
         (goes_sure _ (after a v.0 _ good) (two a d n0 tr.0 temps k _ tr.1 v.0 good lt) (λ x s1 t1 k1 p1 le1 is1 lv1 w1.
-        goes_weak {P = ValueIn d t1} {b = 12} (omega arith) (λ v t s p. over p1 p)
-        (goes_frame 10 0 2 (two b d tr.0 n1 t1 k1 s1 tr.2 v.1 lv1.good (omega (arith, le1, lt))))))
+        goes_weak {P = ValueIn d t1} {b = 14} (omega arith) (λ v t s p. over p1 p)
+        (goes_frame 11 0 3 (two b d tr.0 n1 t1 k1 s1 tr.2 v.1 lv1.good (omega (arith, le1, lt)))))))
     node_runs (conditional a b c) kind line d n0 n1 temps k s tr ok good lt =
         let v = six (is_valid sc.scope a) _ (is_valid sc.scope b) (is_valid sc.scope c) _ _ ok in
-        goes_counted
+        six_left kind (goes_counted
         (goes_sure _ (after a v.0 _ good) (two a d n0 tr.0 temps k _ tr.3 v.0 good lt) (λ x s1 t1 k1 p1 le1 is1 lv1 w1.
-        goes_branch 9 x _ _ tr.4 p1.value
-        (goes_weak {P = ValueIn d t1} {b = 11} (omega arith) (λ v t s p. over p1 p)
-        (goes_frame 9 0 2 (two c d tr.2 n1 t1 (k1 + 1) s1 tr.6 v.3 lv1.good (omega (arith, le1, lt)))))
-        (goes_weak {P = ValueIn d t1} {b = 11} (omega arith) (λ v t s p. over p1 p)
-        (goes_frame 9 0 2 (two b d tr.1 n1 t1 (k1 + 1) s1 tr.5 v.2 lv1.good (omega (arith, le1, lt)))))))
+        goes_branch 10 x _ _ tr.4 p1.value
+        (goes_weak {P = ValueIn d t1} {b = 13} (omega arith) (λ v t s p. over p1 p)
+        (goes_frame 10 0 3 (two c d tr.2 n1 t1 (k1 + 1) s1 tr.6 v.3 lv1.good (omega (arith, le1, lt)))))
+        (goes_weak {P = ValueIn d t1} {b = 13} (omega arith) (λ v t s p. over p1 p)
+        (goes_frame 10 0 3 (two b d tr.1 n1 t1 (k1 + 1) s1 tr.5 v.2 lv1.good (omega (arith, le1, lt))))))))
     node_runs (assign p a) kind line d n0 n1 temps k s tr ok good lt =
         let v = six (is_valid_lvalue sc.scope p) (is_lvalue p) (is_valid sc.scope a)
         (is_kind (lvalue_kind p) (kind_of a)) _ _ ok in
         let nm = named (assign p a) kind ok in
-        goes_counted
+        six_left kind (goes_counted
         (goes_sure _ (after_place p v.0 _ good) (lvalue_runs p d n0 tr.0 temps k _ tr.4 v.0 good lt)
         (λ q s1 t1 k1 p1 le1 is1 lv1 w1.
         goes_sure _ (after a v.2 _ lv1.good)
@@ -464,22 +511,23 @@ module _ (t : Tac) (n : ℕ) (env : Env) (sc : Context) (sure : Calling sc env)
         let j = is_judged p in
         let pk = lvalue_kind p in
         let at = lvalue_line p in
-        let w = 1 + entries_of pk + checks_of (mode_for j) in
-        let most = access_cost pk j in
+        let w = 1 + stores_of pk + checks_of (mode_for j) in
+        let most = write_cost pk j in
         let F : Rvalue → State → Stage = given_in u n1 t2 d frames in
         let z = at_work (k2 + w) s2 in
         let keys = keys_of (function_in t u) in
         let size = size_of_kind pk in
-        goes_spare (w + 13) (omega (arith, most))
-        (goes_steps w 13 tr.6 refl
+        goes_spare (w + 12) (omega (arith, most))
+        (goes_steps w 12 tr.6 refl
         (ap (λ (y : Rvalue). keyed keys tr.2 z y.value
         (admitted (mode_for j) size y s2.objects
         (moved_from pk (t2 (d + 1)) s2.objects
-        (came (write_rvalue pk (is_through (mode_for j)) y.value at (t2 (d + 1)) z) F))))
+        (came (heavier (write_rvalue pk (is_through (mode_for j)) y.value at (t2 (d + 1))) z) F))))
         (p2.below d (omega arith) ∙ p1.value)
         ∙ ap (λ (y : Rvalue). keyed keys tr.2 z q.value
         (admitted (mode_for j) size q s2.objects
-        (moved_from pk y s2.objects (came (write_rvalue pk (is_through (mode_for j)) q.value at y z) F)))) p2.value
+        (moved_from pk y s2.objects
+        (came (heavier (write_rvalue pk (is_through (mode_for j)) q.value at y) z) F)))) p2.value
         ∙ key_opens keys tr.2 (write_key literals p a) s2 q.value tr.3
         (if_right j (key_after a (place_key literals p)) s2 q.value
         (later a s1 s2 x is2 lv2 (place_key literals p) q.value w1.tag (place_right env literals p _ s1 q is1))) (k2 + w) _
@@ -487,24 +535,24 @@ module _ (t : Tac) (n : ℕ) (env : Env) (sc : Context) (sure : Calling sc env)
         (reach_later (function_count sc) (basis_of p) nm.1 size q s1.objects s2.objects lv2.lives w1.reach) _
         ∙ value_moves (function_count sc) pk x s2.objects
         (subst (λ y. ValueIs (function_count sc) y x s2.objects) (sym nm.3) w2) _
-        ∙ ap (λ b. came (write_rvalue pk b q.value at x z) F) (through_is j))
-        (goes_last F (acts_write_rvalue pk j q.value at x) (λ y s3 k3 e.
+        ∙ ap (λ b. came (heavier (write_rvalue pk b q.value at x) z) F) (through_is j))
+        (goes_last_heavier F (acts_write_rvalue pk j q.value at x) (λ y s3 k3 e is3.
         goes_done (omega arith) refl refl
-        (put_value d y y temps t2 s3 refl (λ i l. p2.below i (omega arith) ∙ p1.below i l))))))))
+        (put_value d y y temps t2 s3 refl (λ i l. p2.below i (omega arith) ∙ p1.below i l)))))))))
     node_runs (assign_plain x a) kind line d n0 n1 temps k s tr ok good lt =
         let v = three (is_valid sc.scope a) (is_plain sc.scope x.variable (kind_of a)) (is_kind kind (kind_of a)) ok in
         let nm = named (assign_plain x a) kind ok in
-        goes_counted_as (nodes_of x) 16 (omega arith)
+        six_left kind (goes_counted_as (nodes_of x) 16 (omega arith)
         (goes_sure _ (after a v.0 _ good) (two a d n0 tr.0 temps k _ tr.1 v.0 good lt) (λ y s1 t1 k1 p1 le1 is1 lv1 w1.
-        goes_step 17 tr.2 refl
+        goes_step 18 tr.2 refl
         (ap (λ (w : Rvalue). Stands u n1 t1 frames (at_work (k1 + 1) (with_plain x.variable w.value s1))) p1.value)
         (goes_done (omega arith) refl refl
         (turned (plain_contents (function_count sc) (kind_of a) y s1.objects
-        (plain_is_no_structure sc.scope x.variable (kind_of a) nm.1) w1) p1))))
+        (plain_is_no_structure sc.scope x.variable (kind_of a) nm.1) w1) p1)))))
     node_runs (compound w p a) kind line d n0 n1 temps k s tr ok good lt =
         let v = five (is_valid_lvalue sc.scope p) (is_lvalue p) (is_valid sc.scope a) _ _ ok in
         let nm = named (compound w p a) kind ok in
-        goes_counted
+        six_left kind (goes_counted
         (goes_sure _ (after_place p v.0 _ good) (lvalue_runs p d n0 tr.0 temps k _ tr.4 v.0 good lt)
         (λ q s1 t1 k1 p1 le1 is1 lv1 w1.
         goes_sure _ (after a v.2 _ lv1.good)
@@ -513,13 +561,13 @@ module _ (t : Tac) (n : ℕ) (env : Env) (sc : Context) (sure : Calling sc env)
         let j = is_judged p in
         let sk = scalar_of (lvalue_kind p) in
         let at = lvalue_line p in
-        let w' = 1 + entries_of (OfScalar sk) + checks_of (mode_for j) in
-        let most = access_cost (OfScalar sk) j in
+        let w' = 1 + updates_of (OfScalar sk) + checks_of (mode_for j) in
+        let most = update_cost (OfScalar sk) j in
         let F : Rvalue → State → Stage = given_in u n1 t2 d frames in
         let z = at_work (k2 + w') s2 in
         let keys = keys_of (function_in t u) in
-        goes_spare (w' + 13) (omega (arith, most))
-        (goes_steps w' 13 tr.6 refl
+        goes_spare (w' + 11) (omega (arith, most))
+        (goes_steps w' 11 tr.6 refl
         (ap (λ (x : Rvalue). keyed keys tr.2 z x.value
         (admitted (mode_for j) (scalar_size sk) x s2.objects
         (came (as_rvalue (update sk (is_through (mode_for j)) x.value at (updated w sk (t2 (d + 1)).value line)
@@ -538,37 +586,37 @@ module _ (t : Tac) (n : ℕ) (env : Env) (sc : Context) (sure : Calling sc env)
         ∙ ap (λ b. came (as_rvalue (update sk b q.value at (updated w sk y.value line) Prefix) z) F) (through_is j))
         (goes_last F (acts_as (acts_update sk j q.value at w y.value line Prefix)) (λ x s3 k3 e.
         goes_done (omega arith) refl refl
-        (put_value d x x temps t2 s3 refl (λ i l. p2.below i (omega arith) ∙ p1.below i l))))))))
+        (put_value d x x temps t2 s3 refl (λ i l. p2.below i (omega arith) ∙ p1.below i l)))))))))
     node_runs (change_plain w x a) kind line d n0 n1 temps k s tr ok good lt =
         let v = three (is_valid sc.scope a) (is_plain sc.scope x.variable kind) _ ok in
         let sk = scalar_of kind in
-        goes_counted_as (nodes_of x) 16 (omega arith)
+        six_left kind (goes_counted_as (nodes_of x) 16 (omega arith)
         (goes_then (two a d n0 tr.0 temps k _ tr.1 v.0 good lt) (λ y s1 t1 k1 p1 le1 is1.
         let F : Rvalue → State → Stage = given_in u n1 t1 d frames in
-        let z = at_work (k1 + 1) s1 in
-        goes_step 17 tr.2 refl
+        let z = at_work (k1 + 2) s1 in
+        goes_steps 2 17 tr.2 refl
         (ap (λ (v : Rvalue). came (as_rvalue (update_plain x.variable (updated w sk v.value line) Prefix) z)
         F) p1.value)
         (goes_last F (acts_as
         (acts_update_plain x.variable (updated w sk y.value line) Prefix (acts_updated w sk y.value line)))
         (λ v s2 k2 e.
-        goes_done (omega arith) refl refl (put_value d v v temps t1 s2 refl p1.below)))))
+        goes_done (omega arith) refl refl (put_value d v v temps t1 s2 refl p1.below))))))
     node_runs (step w fixity p) kind line d n0 n1 temps k s tr ok good lt =
         let v = four (is_valid_lvalue sc.scope p) (is_lvalue p) _ _ ok in
         let nm = named (step w fixity p) kind ok in
-        goes_counted
+        six_left kind (goes_counted
         (goes_sure _ (after_place p v.0 _ good) (lvalue_runs p d n0 tr.0 temps k _ tr.3 v.0 good lt)
         (λ q s1 t1 k1 p1 le1 is1 lv1 w1.
         let j = is_judged p in
         let sk = scalar_of (lvalue_kind p) in
         let at = lvalue_line p in
-        let w' = 1 + entries_of (OfScalar sk) + checks_of (mode_for j) in
-        let most = access_cost (OfScalar sk) j in
+        let w' = 1 + updates_of (OfScalar sk) + checks_of (mode_for j) in
+        let most = update_cost (OfScalar sk) j in
         let F : Rvalue → State → Stage = given_in u n1 t1 d frames in
         let z = at_work (k1 + w') s1 in
         let keys = keys_of (function_in t u) in
-        goes_spare (w' + 11) (omega (arith, most))
-        (goes_steps w' 11 tr.4 refl
+        goes_spare (w' + 8) (omega (arith, most))
+        (goes_steps w' 8 tr.4 refl
         (ap (λ (x : Rvalue). keyed keys tr.1 z x.value
         (admitted (mode_for j) (scalar_size sk) x s1.objects
         (came (as_rvalue (update sk (is_through (mode_for j)) x.value at (updated w sk (integer 1) line) fixity) z)
@@ -580,39 +628,41 @@ module _ (t : Tac) (n : ℕ) (env : Env) (sc : Context) (sure : Calling sc env)
         s1.objects w1.reach) _
         ∙ ap (λ b. came (as_rvalue (update sk b q.value at (updated w sk (integer 1) line) fixity) z) F) (through_is j))
         (goes_last F (acts_as (acts_update sk j q.value at w (integer 1) line fixity)) (λ x s2 k2 e.
-        goes_done (omega arith) refl refl (put_value d x x temps t1 s2 refl p1.below))))))
+        goes_done (omega arith) refl refl (put_value d x x temps t1 s2 refl p1.below)))))))
     node_runs (step_plain w fixity x) kind line d n0 n1 temps k s tr ok good lt =
         let sk = scalar_of kind in
         let F : Rvalue → State → Stage = given_in u n1 temps d frames in
-        goes_counted_as (nodes_of x) 16 (omega arith)
-        (goes_step 15 tr refl refl
+        six_left kind (goes_counted_as (nodes_of x) 16 (omega arith)
+        (goes_steps 2 14 tr refl refl
         (goes_last F (acts_as
         (acts_update_plain x.variable (updated w sk (integer 1) line) fixity (acts_updated w sk (integer 1) line)))
         (λ v s2 k2 e.
-        goes_done (omega arith) refl refl (put_value d v v temps temps s2 refl (λ i l. refl)))))
+        goes_done (omega arith) refl refl (put_value d v v temps temps s2 refl (λ i l. refl))))))
     node_runs (call f args) kind line d n0 n1 temps k s tr ok good lt =
         let v = three (are_valid sc.scope args) _ _ ok in
         let nm = named (call f args) kind ok in
-        goes_counted
-        (goes_sure _ (after_each args v.0 _ good) (arguments_run args d n0 tr.0 temps k _ tr.1 v.0 good lt)
+        six_left kind (goes_counted
+        (goes_sure _ (after_each args v.0 _ good) (goes_less {b = args_left args} 0 (omega arith)
+        (arguments_leave args d n0 tr.0 temps k _ tr.1 v.0 good lt))
         (λ vs s1 t1 k1 p1 le1 is1 lv1 w1.
         let w = Waits (record { function = u; node = n1; place = d; caller = caller s1; temps = t1 }) in
         let does = ap (λ j. act_at g t j u t1 frames (at_work k1 s1)) tr.2
-        ∙ ap (λ l. called g t f l line (w ∷ frames) (at_work (k1 + 1) s1)) p1.values in
-        goes_less {b = 7} 3 (omega arith)
-        (goes_frame 7 1 0 (back_by n1 d temps t1 _ k1 s1 _ p1.below
-        (calls 1 f vs line (w ∷ frames) _ k1 s1 (record { steps = does; seen_now = refl }) lv1.good
-        (subst (λ ks. ArgumentsAre (function_count sc) ks vs s1.objects) nm.1 w1) (omega (arith, le1, lt)))))))
+        ∙ ap (λ l. called g t f l line (w ∷ frames) (at_work (k1 + 6) s1)) p1.values in
+        goes_less {b = 10} 6 (omega arith)
+        (goes_frame 2 6 8 (back_by 6 n1 d temps t1 _ k1 s1 _ p1.below
+        (calls 6 f vs line (w ∷ frames) _ k1 s1 (record { steps = does; seen_now = refl }) lv1.good
+        (subst (λ ks. ArgumentsAre (function_count sc) ks vs s1.objects) nm.1 w1) (omega (arith, le1, lt))))))))
     node_runs (call_through type_number a args) kind line d n0 n1 temps k s tr ok good lt =
         let v = five (is_valid sc.scope a) _ (are_valid sc.scope args) _ _ ok in
         let nm = named (call_through type_number a args) kind ok in
-        goes_counted
+        six_left kind (goes_counted
         (goes_sure _ (after a v.0 _ good) (two a d n0 tr.0 temps k _ tr.2 v.0 good lt) (λ x s1 t1 k1 p1 le1 is1 lv1 w1.
         goes_sure _ (after_each args v.2 _ lv1.good)
-        (arguments_run args (d + 1) tr.0 tr.1 t1 k1 s1 tr.3 v.2 lv1.good (omega (arith, le1, lt)))
+        (goes_less {b = args_left args} 0 (omega arith)
+        (arguments_leave args (d + 1) tr.0 tr.1 t1 k1 s1 tr.3 v.2 lv1.good (omega (arith, le1, lt))))
         (λ vs s2 t2 k2 p2 le2 is2 lv2 w2.
         let w = Waits (record { function = u; node = n1; place = d; caller = caller s2; temps = t2 }) in
-        let z = at_work (k2 + 1) s2 in
+        let z = at_work (k2 + 8) s2 in
         let e : t2 d ≡ x = p2.below d (omega arith) ∙ p1.value in
         let does =
         ap (λ j. act_at g t j u t2 frames (at_work k2 s2)) tr.4
@@ -621,55 +671,62 @@ module _ (t : Tac) (n : ℕ) (env : Env) (sc : Context) (sure : Calling sc env)
         ∙ ap (λ l. came (callee g.functions type_number x.value line z)
         (λ f z. called g t f l line (w ∷ frames) z)) p2.values
         in
-        goes_less {b = 9} 3 (omega arith)
-        (goes_frame 9 1 0
+        goes_less {b = 11} 6 (omega arith)
+        (goes_frame 3 8 8
         (through_goes n sc env sure refl calls vs line n1 d temps t2 _ k2 s2 lv2.good type_number
         (subst (λ ks. ArgumentsAre (function_count sc) ks vs s2.objects) nm.2 w2) refl (omega (arith, le1, le2, lt))
-        (λ i l. p2.below i (omega arith) ∙ p1.below i l) x.value.word x.value.tag does)))))
+        (λ i l. p2.below i (omega arith) ∙ p1.below i l) x.value.word x.value.tag does))))))
     node_runs (library name args) kind line d n0 n1 temps k s tr ok good lt =
         let v = both (are_valid sc.scope args) _ ok in
+        let plain = subst IsNoStructure (sym (named (library name args) kind ok).2) (none_routine name) in
+        let rest = plainly_left kind false plain in
         goes_counted
-        (goes_then (arguments_run args d n0 tr.0 temps k _ tr.1 v.0 good lt) (λ vs s1 t1 k1 p1 le1 is1.
+        (goes_then (goes_less {b = args_left args} 0 (omega arith)
+        (arguments_leave args d n0 tr.0 temps k _ tr.1 v.0 good lt)) (λ vs s1 t1 k1 p1 le1 is1.
         let F : Rvalue → State → Stage = given_in u n1 t1 d frames in
         goes_counted
-        (goes_step 15 tr.2 refl
-        (ap (λ l. came (as_rvalue (routine g name (values_of l) line) (at_work (k1 + 1) s1)) F) p1.values)
-        (goes_last F (acts_as (acts_routine g name (values_of vs) line))
-        (λ v s2 k2 e. goes_done (omega arith) refl refl (put_value d v v temps t1 s2 refl p1.below))))))
+        (goes_steps 12 4 tr.2 refl
+        (ap (λ l. came (heavier (as_rvalue (routine g name (values_of l) line)) (at_work (k1 + 12) s1)) F) p1.values)
+        (goes_last_heavier F (acts_as (acts_routine g name (values_of vs) line))
+        (λ v s2 k2 e is2. goes_done (omega (arith, rest)) refl refl (put_value d v v temps t1 s2 refl p1.below))))))
     node_runs (printf format args) kind line d n0 n1 temps k s tr ok good lt =
         let v = three (are_valid sc.scope args) _ _ ok in
-        goes_counted (goes_counted
-        (goes_then (arguments_run args d n0 tr.0 temps k _ tr.3 v.0 good lt) (λ vs s1 t1 k1 p1 le1 is1.
+        let each = formatted_left (pieces format) args v.1 in
+        let paid = 2 + 3 * count args in
+        six_left kind (goes_counted (goes_counted
+        (goes_then (arguments_leave args d n0 tr.0 temps k _ tr.3 v.0 good lt) (λ vs s1 t1 k1 p1 le1 is1.
         let F : Rvalue → State → Stage = given_in u n1 t1 d frames in
-        let z = at_work (k1 + 1) s1 in
+        let z = at_work (k1 + paid) s1 in
         goes_counted
-        (goes_step 23 tr.4 refl
-        (ap (λ l. came (as_rvalue (print_formatted (text_in t tr.1) (values_of l) line) z) F) p1.values
-        ∙ ap (λ b. came (as_rvalue (print_formatted b (values_of vs) line) z) F) (text_at t tr.1 format tr.2))
-        (goes_last F (acts_as (acts_print format (values_of vs) line))
-        (λ v s2 k2 e. goes_done (omega arith) refl refl (put_value d v v temps t1 s2 refl p1.below)))))))
+        (goes_spare (paid + 22) (omega (arith, each))
+        (goes_steps paid 22 tr.4 refl
+        (ap (λ l. came (heavier (as_rvalue (print_formatted (text_in t tr.1) (values_of l) line)) z) F) p1.values
+        ∙ ap (λ b. came (heavier (as_rvalue (print_formatted b (values_of vs) line)) z) F) (text_at t tr.1 format tr.2))
+        (goes_last_heavier F (acts_as (acts_print format (values_of vs) line))
+        (λ v s2 k2 e is2. goes_done (omega arith) refl refl (put_value d v v temps t1 s2 refl p1.below)))))))))
     node_runs (convert a) kind line d n0 n1 temps k s tr ok good lt =
         let v = three (is_valid sc.scope a) (is_conversion (kind_of a) kind) _ ok in
-        goes_then (goes_less 3 (three_left a (false_by (is_converted a) v.2))
+        let rest = plainly_left kind true (none_conversion (kind_of a) kind v.1) in
+        goes_then (goes_less 4 (not_converted a (false_by (is_converted a) v.2))
         (expression_runs a d n0 tr.0 temps k s tr.1 v.0 good lt)) (λ v s1 t1 k1 p1 le1 is1.
-        goes_step 2 tr.2 refl refl
-        (goes_done (omega arith) refl refl
+        goes_step 3 tr.2 refl refl
+        (goes_done (omega (arith, rest)) refl refl
         (put_value d (rvalue (converted kind v.value)) _ temps t1 _
         (ap (λ (z : Rvalue). rvalue (converted kind z.value)) p1.value) p1.below)))
 
     pub lvalue_runs : (p : Lvalue) (d n0 n1 : ℕ) (temps : Temps) (k : ℕ) (s : State)
         → LowersLvalue (placed t u literals vars) p d n0 n1 → is_valid_lvalue sc.scope p ≡ true → IsGood sc s
         → limit < n + s.turns
-        → Goes g t limit 0 7 u frames (λ v. n1) (ValueIn d temps) (Stands u n0 temps frames (at_work k s)) k s
-        (place env p s)
+        → Goes g t limit 0 (place_left (is_judged p)) u frames (λ v. n1) (ValueIn d temps)
+        (Stands u n0 temps frames (at_work k s)) k s (place env p s)
     lvalue_runs (lvalue kind line node) d n0 n1 temps k s tr ok good lt = place_runs node kind d n0 n1 temps k s tr ok
         good lt
 
     place_runs : (node : LvalueNode) (kind : Kind) (d n0 n1 : ℕ) (temps : Temps) (k : ℕ) (s : State)
         → LowersPlace (placed t u literals vars) node d n0 n1 → is_valid_lvalue_node sc.scope node kind ≡ true → IsGood sc s
         → limit < n + s.turns
-        → Goes g t limit 0 7 u frames (λ v. n1) (ValueIn d temps) (Stands u n0 temps frames (at_work k s)) k s
-        (node_place env node s)
+        → Goes g t limit 0 (place_left (is_node_judged node)) u frames (λ v. n1) (ValueIn d temps)
+        (Stands u n0 temps frames (at_work k s)) k s (node_place env node s)
     place_runs (automatic x) kind d n0 n1 temps k s tr ok good lt =
         goes_counted (goes_step 7 tr refl refl
         (goes_done (omega arith) refl refl
@@ -690,7 +747,7 @@ module _ (t : Tac) (n : ℕ) (env : Env) (sc : Context) (sure : Calling sc env)
         (goes_sure _ (after a v.0 _ good) (two a d n0 tr.0 temps k _ tr.2 v.0 good lt) (λ x s1 t1 k1 p1 le1 is1 lv1 w1.
         goes_then (two b (d + 1) tr.0 tr.1 t1 k1 s1 tr.3 v.1 lv1.good (omega (arith, le1, lt)))
         (λ y s2 t2 k2 p2 le2 is2.
-        goes_step 11 tr.4 refl refl
+        goes_steps 2 12 tr.4 refl refl
         (goes_done (omega arith) refl refl
         (put_value d (rvalue (offset_value form size x.value y.value)) _ temps t2 _
         (ap (λ (v : Rvalue). rvalue (offset_value form size v.value (t2 (d + 1)).value))
@@ -701,14 +758,16 @@ module _ (t : Tac) (n : ℕ) (env : Env) (sc : Context) (sure : Calling sc env)
         let v = three (is_valid_lvalue sc.scope p) (has_member (lvalue_kind p) offset size) _ ok in
         goes_counted
         (goes_then (lvalue_runs p d n0 tr.0 temps k _ tr.1 v.0 good lt) (λ q s1 t1 k1 p1 le1 is1.
-        goes_step 14 tr.2 refl refl
+        let seven = seven_left (is_judged p) in
+        goes_spare (2 + place_left (is_judged p)) (omega arith)
+        (goes_steps 2 (place_left (is_judged p)) tr.2 refl refl
         (goes_done (omega arith) refl refl
-        (put_value d (member_of offset size q) _ temps t1 _ (ap (member_of offset size) p1.value) p1.below))))
+        (put_value d (member_of offset size q) _ temps t1 _ (ap (member_of offset size) p1.value) p1.below)))))
     place_runs (arrow a offset size) kind d n0 n1 temps k s tr ok good lt =
         let v = three (is_valid sc.scope a) (is_kind (kind_of a) pointer) _ ok in
         goes_counted
         (goes_then (two a d n0 tr.0 temps k _ tr.1 v.0 good lt) (λ q s1 t1 k1 p1 le1 is1.
-        goes_step 9 tr.2 refl refl
+        goes_steps 2 9 tr.2 refl refl
         (goes_done (omega arith) refl refl
         (put_value d (rvalue (narrowed offset size q.value)) _ temps t1 _
         (ap (λ (z : Rvalue). rvalue (narrowed offset size z.value)) p1.value) p1.below))))
@@ -716,37 +775,39 @@ module _ (t : Tac) (n : ℕ) (env : Env) (sc : Context) (sure : Calling sc env)
         let v = three (is_valid sc.scope a) (has_member (kind_of a) offset size) _ ok in
         goes_counted
         (goes_then (two a d n0 tr.0 temps k _ tr.1 v.0 good lt) (λ q s1 t1 k1 p1 le1 is1.
-        goes_step 9 tr.2 refl refl
+        goes_steps 2 9 tr.2 refl refl
         (goes_done (omega arith) refl refl
         (put_value d (member_of offset size q) _ temps t1 _ (ap (member_of offset size) p1.value) p1.below))))
     place_runs (parenthesized_lvalue p) kind d n0 n1 temps k s tr ok good lt =
         let v = both (is_valid_lvalue sc.scope p) (is_kind kind (lvalue_kind p)) ok in
-        goes_counted (goes_less {b = 15} 7 (omega arith)
-        (goes_frame 8 0 7 (lvalue_runs p d n0 n1 temps k _ tr v.0 good lt)))
+        goes_counted (goes_less {b = place_left (is_judged p) + 8} (place_left (is_judged p)) (omega arith)
+        (goes_frame 8 0 (place_left (is_judged p)) (lvalue_runs p d n0 n1 temps k _ tr v.0 good lt)))
 
     pub argument_at : (e : Expression) (d n0 j n1 : ℕ) (temps : Temps) (k : ℕ) (s : State)
         → LowersExpression (placed t u literals vars) e d n0 j → LowersTaking (placed t u literals vars) (kind_of e) (line_of e) d j n1
         → is_valid sc.scope e ≡ true → IsGood sc s → limit < n + s.turns
-        → Goes g t limit 0 1 u frames (λ v. n1) (ValueIn d temps) (Stands u n0 temps frames (at_work k s)) k s
-        (argument (kind_of e) (line_of e) (evaluate env e) s)
+        → GoesLeaving g t limit 0 (λ w. taken_left (kind_of e) + handed_bytes w) u frames (λ v. n1) (ValueIn d temps)
+        (Stands u n0 temps frames (at_work k s)) k s (argument (kind_of e) (line_of e) (evaluate env e) s)
     argument_at (expression kind line node) d n0 j n1 temps k s tr take ok good lt =
         goes_sure _ (after (expression kind line node) ok _ good)
-        (goes_less 2 (two_left_by (is_convert node)) (node_runs node kind line d n0 j temps k s tr ok good lt))
+        (goes_less (left_by kind true) (converted_left kind (is_convert node))
+        (node_runs node kind line d n0 j temps k s tr ok good lt))
         (λ v s1 t1 k1 p1 le1 is1 lv1 w1.
-        taking_runs (function_count sc) kind line d j n1 temps t1 k1 s1 v literals vars take p1.value p1.below w1)
+        goes_spare (left_by kind true) (omega arith)
+        (taking_runs (function_count sc) kind line d j n1 temps t1 k1 s1 v literals vars take p1.value p1.below w1))
 
-    arguments_run : (es : Expressions) (d n0 n1 : ℕ) (temps : Temps) (k : ℕ) (s : State)
+    arguments_leave : (es : Expressions) (d n0 n1 : ℕ) (temps : Temps) (k : ℕ) (s : State)
         → LowersArguments (placed t u literals vars) es d n0 n1 → are_valid sc.scope es ≡ true → IsGood sc s
         → limit < n + s.turns
-        → Goes g t limit 0 0 u frames (λ vs. n1) (ValuesIn d temps (count es)) (Stands u n0 temps frames (at_work k s))
-        k s (each_value (values env es) s)
-    arguments_run no_expressions d n0 n1 temps k s tr ok good lt =
+        → Goes g t limit 0 (args_left es) u frames (λ vs. n1) (ValuesIn d temps (count es))
+        (Stands u n0 temps frames (at_work k s)) k s (each_value (values env es) s)
+    arguments_leave no_expressions d n0 n1 temps k s tr ok good lt =
         goes_at tr (goes_done (omega arith) refl refl (record { values = refl; below = λ i l. refl }))
-    arguments_run (expressions e es) d n0 n1 temps k s tr ok good lt =
+    arguments_leave (expressions e es) d n0 n1 temps k s tr ok good lt =
         let v = both (is_valid sc.scope e) (are_valid sc.scope es) ok in
         goes_sure _ ((argument_sure sure e (names (agree_same sc.scope) e v.0)).by _ good tt)
         (argument_at e d n0 tr.0 tr.1 temps k s tr.2 tr.3 v.0 good lt) (λ x s1 t1 k1 p1 le1 is1 lv1 w1.
-        goes_then (arguments_run es (d + 1) tr.1 n1 t1 k1 s1 tr.4 v.1 lv1.good (omega (arith, le1, lt)))
+        goes_then (arguments_leave es (d + 1) tr.1 n1 t1 k1 s1 tr.4 v.1 lv1.good (omega (arith, le1, lt)))
         (λ xs s2 t2 k2 p2 le2 is2.
         goes_done (omega arith) refl refl (record {
           values = ap (λ z. z ∷ gathered t2 (d + 1) (count es)) (p2.below d (omega arith) ∙ p1.value)

@@ -1,5 +1,6 @@
 -- Code with checks does what code without them does.
-use Rattle.std.proofs.Common.{◌≡◌, ℕ, ◌+◌, ◌*◌, ◌≤◌, List, [], ◌∷◌, Option, Some, None, Bool, true, false, refl, sym}
+use Rattle.std.proofs.Common.{◌≡◌, ℕ, ◌+◌, ◌-◌, ◌*◌, ◌≤◌, List, [], ◌∷◌, Option, Some, None, Bool, true, false, refl}
+use Rattle.std.proofs.Common.{sym}
 use Rattle.std.proofs.Common.{ap, ◌∙◌, subst, arith}
 use Rattle.std.specs.Prelude.{slice_get, map, ◌&&◌, length, ◌++◌}
 use Rattle.behaviours.specs.Behaviour.{Behaviour, Meets, Follows, IsSource}
@@ -45,7 +46,7 @@ use Rattle.tac_ir.specs.Stage.{Temps, no_temps, gathered, Frame, Entered, Stage,
 use Rattle.tac_ir.specs.Stage.{seen}
 use Rattle.tac_ir.specs.Keys.{gives}
 use Rattle.tac_ir.specs.Accesses.{only_if, is_live_at, is_there, is_place, admitted, moved_from}
-use Rattle.tac_ir.specs.Costs.{entries_of, cost, spent}
+use Rattle.tac_ir.specs.Costs.{entries_of, stores_of, updates_of, cost, first_call, spent, fourfold, heavier}
 use Rattle.tac_ir.specs.Meaning.{code_of, keys_of, objects_in, function_in, if_there, keyed_by, keyed, right_value}
 use Rattle.tac_ir.specs.Meaning.{header_of_code, setting_of_code, begun, called_at, called, given_in, act, act_at}
 use Rattle.tac_ir.specs.Meaning.{check, line_in, at_node, step, objects_before, placed_data, first_stage, tac_meaning}
@@ -147,6 +148,16 @@ write_structure_ends : (n : ℕ) (p : Value) (line : ℕ) (v : Rvalue)
 write_structure_ends n p line v = record
     { by = λ e z h. ap (λ o. on o (λ _. give p)) (copy_ends v.contents n p line v.value e z h) }
 
+nothing_more : (n : ℕ) → n + 3 * (n - n) ≡ n
+nothing_more n = omega arith
+
+heavier_ends : {r : Run Rvalue} {size : ℕ} {p : Value} {line : ℕ} → EndsAs r size p line
+    → EndsAs (heavier r) size p line
+heavier_ends h = record {
+  by = λ e z is. ap (fourfold z.work) (h.by e z is)
+      ∙ ap (λ n. Ended e (record z { work = n })) (nothing_more z.work);
+}
+
 update_ends : (k : Scalar) (p : Value) (line : ℕ) (new : Value → Run Value) (f : Fixity)
     → EndsAs (as_rvalue (update k true p line new f)) (scalar_size k) p line
 update_ends k p line new f = record {
@@ -194,8 +205,9 @@ module _ (g : Setting) (t t' : Tac) (ins : Inserted t t') where
   called_by None (Some c') h f vs line frames s = absurd h
   called_by (Some c) None h f vs line frames s = absurd h
   called_by (Some c) (Some c') h f vs line frames s =
-      ap (λ x. came (set_up g x vs line (begun s)) (λ _ z. Stands f c'.entry no_temps frames z)) h.header
-      ∙ ap (λ e. came (set_up g (header_of_code c) vs line (begun s)) (λ _ z. Stands f e no_temps frames z)) h.entry
+      ap (λ x. came (heavier (set_up g x vs line) (begun s)) (λ _ z. Stands f c'.entry no_temps frames z)) h.header
+      ∙ ap (λ e. came (heavier (set_up g (header_of_code c) vs line) (begun s))
+      (λ _ z. Stands f e no_temps frames z)) h.entry
 
   called_same : (f : ℕ) (vs : List Rvalue) (line : ℕ) (frames : List Frame) (s : State)
       → called g t' f vs line frames s ≡ called g t f vs line frames s
@@ -216,18 +228,19 @@ module _ (g : Setting) (t t' : Tac) (ins : Inserted t t') where
       (keys_same u)
   act_same (Judge test size line key a m) u temps frames s = keyed_same key s (temps a).value _ (keys_same u)
   act_same (Print x line d n m) u temps frames s = ap
-      (λ texts. came (as_rvalue (print_formatted (if_there (slice_get texts x)) (values_of (gathered temps d n)) line)
-      s) (given_in u m temps d frames)) ins.texts
+      (λ texts. came (heavier (as_rvalue
+      (print_formatted (if_there (slice_get texts x)) (values_of (gathered temps d n)) line)) s)
+      (given_in u m temps d frames)) ins.texts
   act_same (StoreText n x offset m) u temps frames s =
       ap (λ texts. only_if (is_live_at (offset + length (if_there (slice_get texts n))) (home_pointer x s) s.objects)
-      (came ((tally (length (if_there (slice_get texts n)))
+      (came (heavier (tally (length (if_there (slice_get texts n)))
       >> store_bytes (home_pointer x s) offset (if_there (slice_get texts n))) s)
       (λ _ z. Stands u m temps frames z))) ins.texts
   act_same (Call f line d n m) u temps frames s = called_same f _ line _ s
   act_same (CallThrough type_number line d n m) u temps frames s = came_same
       (callee g.functions type_number (temps d).value line s) _ _ (λ f z. called_same f _ line _ z)
   act_same (EnterBlock b line m) u temps frames s = ap
-      (λ vs. came (enter_block g vs line s) (λ q z. Stands u m temps (Entered b q ∷ frames) z))
+      (λ vs. came (heavier (enter_block g vs line) s) (λ q z. Stands u m temps (Entered b q ∷ frames) z))
       (objects_by (function_in t u) (function_in t' u) (ins.functions u) b)
   act_same i u temps frames s = refl
 
@@ -365,23 +378,24 @@ module _ (g : Setting) (t t' : Tac) (ins : Inserted t t') where
       (read_structure_ends size (temps a) line) (λ x f. refl) h.2 h.3 h.4 refl (λ k. refl) (s.work + 3) (omega arith) _
       refl fine
   instruction_by (Write (OfScalar k) Unchecked line key d a b m) u n temps frames s h fine =
-      checked u n h.0 h.1 (scalar_size k) line a (1 + entries_of (OfScalar k) + 0) key _ temps frames s
-      (moved_from (OfScalar k) (temps b) s.objects) (write_rvalue (OfScalar k) true (temps a).value line (temps b))
-      (given_in u m temps d frames)
-      (λ none. write_ends k (temps a).value line (temps b)) (moved_passes (OfScalar k) (temps b) s.objects) h.2 h.3 h.4
-      refl (λ k. refl) (s.work + (1 + entries_of (OfScalar k) + 2)) (omega arith) _ refl fine
+      checked u n h.0 h.1 (scalar_size k) line a (1 + stores_of (OfScalar k) + 0) key _ temps frames s
+      (moved_from (OfScalar k) (temps b) s.objects)
+      (heavier (write_rvalue (OfScalar k) true (temps a).value line (temps b))) (given_in u m temps d frames)
+      (λ none. heavier_ends (write_ends k (temps a).value line (temps b)))
+      (moved_passes (OfScalar k) (temps b) s.objects) h.2 h.3 h.4
+      refl (λ k. refl) (s.work + (1 + stores_of (OfScalar k) + 2)) (omega arith) _ refl fine
   instruction_by (Write (Structure size) Unchecked line key d a b m) u n temps frames s h fine =
-      checked u n h.0 h.1 size line a 1 key _ temps frames s (moved_from (Structure size) (temps b) s.objects)
-      (write_rvalue (Structure size) true (temps a).value line (temps b)) (given_in u m temps d frames)
-      (λ none. write_structure_ends size (temps a).value line (temps b))
-      (moved_passes (Structure size) (temps b) s.objects) h.2 h.3 h.4 refl (λ k. refl) (s.work + 3) (omega arith) _
+      checked u n h.0 h.1 size line a 6 key _ temps frames s (moved_from (Structure size) (temps b) s.objects)
+      (heavier (write_rvalue (Structure size) true (temps a).value line (temps b))) (given_in u m temps d frames)
+      (λ none. heavier_ends (write_structure_ends size (temps a).value line (temps b)))
+      (moved_passes (Structure size) (temps b) s.objects) h.2 h.3 h.4 refl (λ k. refl) (s.work + 8) (omega arith) _
       refl fine
   instruction_by (Update w k f Unchecked line at key d a right m) u n temps frames s h fine =
-      checked u n h.0 h.1 (scalar_size k) line a (1 + entries_of (OfScalar k) + 0) key _ temps frames s (λ x. x)
+      checked u n h.0 h.1 (scalar_size k) line a (1 + updates_of (OfScalar k) + 0) key _ temps frames s (λ x. x)
       (as_rvalue (update k true (temps a).value line (updated w k (right_value right temps) at) f))
       (given_in u m temps d frames)
       (λ none. update_ends k (temps a).value line (updated w k (right_value right temps) at) f) (λ x f. refl) h.2 h.3
-      h.4 refl (λ k. refl) (s.work + (1 + entries_of (OfScalar k) + 2)) (omega arith) _ refl fine
+      h.4 refl (λ k. refl) (s.work + (1 + updates_of (OfScalar k) + 2)) (omega arith) _ refl fine
   instruction_by (Read kind Named line key d a m) u n temps frames s h fine = stays (Read kind Named line key d a m) u n
       temps frames s h fine
   instruction_by (Read kind Judged line key d a m) u n temps frames s h fine = stays (Read kind Judged line key d a m) u
@@ -402,9 +416,10 @@ module _ (g : Setting) (t t' : Tac) (ins : Inserted t t') where
 
   begins_same : (s : State) → step g t' (Begins s) ≡ step g t (Begins s)
   begins_same s =
-      ap (λ m. called g t' m [] (line_in (function_in t' m)) [] s) ins.main
-      ∙ ap (λ l. called g t' t.main [] l [] s)
-      (line_by (function_in t t.main) (function_in t' t.main) (ins.functions t.main)) ∙ called_same t.main [] _ [] s
+      let z = spent first_call s in
+      ap (λ m. called g t' m [] (line_in (function_in t' m)) [] z) ins.main
+      ∙ ap (λ l. called g t' t.main [] l [] z)
+      (line_by (function_in t t.main) (function_in t' t.main) (ins.functions t.main)) ∙ called_same t.main [] _ [] z
 
   node_by : (oi : Option Instruction) (u n : ℕ) (temps : Temps) (frames : List Frame) (s : State) → at_node t u n ≡ oi
       → IsFine (act_at g t oi u temps frames s)

@@ -19,6 +19,7 @@ use Rattle.source_meaning.specs.Calls.{set_up}
 use Rattle.tac_ir.specs.declared.function.CodeFunction.{CodeFunction}
 use Rattle.tac_ir.specs.declared.function.Tac.{Tac}
 use Rattle.tac_ir.specs.Stage.{no_temps, Frame, Waits, Entered, Stage, Stands, Over, came}
+use Rattle.tac_ir.specs.Costs.{spent, fourfold, heavier}
 use Rattle.tac_ir.specs.Meaning.{header_of_code, begun}
 use Rattle.flat_meaning.specs.declared.instruction.FlatInstruction.TheVariants as flat_code
 use Rattle.flat_meaning.specs.declared.function.FlatFunction.{FlatFunction}
@@ -74,6 +75,10 @@ entry_there m t (Some f) h = record {
       let same : room_if true (Some f) ≡ f.room = ap (λ b. if b then f.room else 0) h.of_runtime in
       omega (arith, h.room);
 }
+
+-- where what a call's set-up counts counts four times
+abbrev heavier_state : (from : ℕ) → State → State
+heavier_state from s = spent (3 * (s.work - from)) s
 
 -- a call that has room
 pub enters_step : (m : MapSizes) (p : FlatProgram) (u q : ℕ) (v : flat.State) (xs : List flat.Frame) (f first into : ℕ)
@@ -162,7 +167,8 @@ module _ (o : OperatorCode) (views : Views) (g : Setting) (t : Tac) (address : (
 
     -- what three-address code does
     abbrev call_stage : Stage
-    call_stage = came (set_up g (header_of_code c) vs line (begun s)) (λ _ z. Stands f c.entry no_temps frames z)
+    call_stage = came (heavier (set_up g (header_of_code c) vs line) (begun s))
+        (λ _ z. Stands f c.entry no_temps frames z)
 
     pub enters_matches : (values : flat.Values) (most : ℕ) (keys : Keys)
         → Comes m p u pc v xs q (record v { turns = v.turns + 1; values = values }) most
@@ -231,7 +237,7 @@ module _ (o : OperatorCode) (views : Views) (g : Setting) (t : Tac) (address : (
         ∙ ap (run (step m p) (z.comes.steps + l.steps)) e
         ∙ run_add (step m p) z.comes.steps l.steps (flat.Stands f 0 in_callee (frame ∷ xs))
         ∙ ap (run (step m p) l.steps) begun_at ∙ l.comes in
-        let t' = laid_out header vs (begun s) in
+        let t' : State = heavier_state s.work (laid_out header vs (begun s)) in
         let many = counted c.parameters in
         let result : Gives (Stands f c.entry no_temps frames t') = record {
           steps = K.steps + (1 + (z.comes.steps + l.steps));
@@ -261,7 +267,7 @@ module _ (o : OperatorCode) (views : Views) (g : Setting) (t : Tac) (address : (
             wait = wait;
           });
         } in
-        subst (λ z. Gives (came z (λ _ y. Stands f c.entry no_temps frames y))) (sym set) result
+        subst (λ z. Gives (came (fourfold s.work z) (λ _ y. Stands f c.entry no_temps frames y))) (sym set) result
 
     pub exhausts : HasAt (body_of (function_in p u)) pc (call_tests m c.room line first)
         → g.sizes.budgets.calls < s.charged + c.room → s.charged ≤ g.sizes.budgets.calls
@@ -271,9 +277,10 @@ module _ (o : OperatorCode) (views : Views) (g : Setting) (t : Tac) (address : (
         (not_le (s.charged + c.room) g.sizes.budgets.calls more)
         in
         let r = tests_end m p u pc v xs c.room line first has low (omega arith) (omega arith) in
-        let result : Gives (Over (Stack line) (record (begun s) { work = s.work + 1 })) =
-        ends o views g t address p ops ex part (flat.Stands u pc v xs) (Stack line)
-        (record (begun s) { work = s.work + 1 }) (record (tested m p u pc v xs c.room line first has low) {
+        let stopped : State = heavier_state s.work (record (begun s) { work = s.work + 1 }) in
+        let result : Gives (Over (Stack line) stopped) =
+        ends o views g t address p ops ex part (flat.Stands u pc v xs) (Stack line) stopped
+        (record (tested m p u pc v xs c.room line first has low) {
           work = v.work
               + r.work;
         }) r.steps (code_of (Stack line)) (report_of (Stack line)) r.comes refl refl
@@ -285,7 +292,7 @@ module _ (o : OperatorCode) (views : Views) (g : Setting) (t : Tac) (address : (
           turns = omega (arith, alike.turns);
         })
         (omega (arith, r.few, work)) in
-        subst (λ z. Gives (came z (λ _ y. Stands f c.entry no_temps frames y))) (sym none) result
+        subst (λ z. Gives (came (fourfold s.work z) (λ _ y. Stands f c.entry no_temps frames y))) (sym none) result
       where
         not_le : (a b : ℕ) → b < a → nat_le a b ≡ false
         not_le a b lt = lt-leb a b lt

@@ -379,7 +379,7 @@ next_laid : body_of operators setting.sizes program next ≡ flat_next.body
 unfolding place_of falls
 next_laid = refl
 
--- ---- both runs, by computation: `main` gives 4, for 40 and 120 units of work
+-- ---- both runs, by computation: `main` gives 4, for 80 and 120 units of work
 
 abbrev ended : (turns work : ℕ) → Moment
 ended turns work = record {
@@ -388,7 +388,7 @@ ended turns work = record {
   work = work;
 }
 
-tac_run : tac_meaning program default_sizes [] 40 ≡ ended 5 40
+tac_run : tac_meaning program default_sizes [] 40 ≡ ended 5 80
 unfolding int_wrap binary_value fit region_size region_start
 tac_run = refl
 

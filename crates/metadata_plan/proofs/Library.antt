@@ -21,7 +21,7 @@ use Rattle.tac_ir.specs.declared.instruction.Instruction.TheVariants as tac
 use Rattle.tac_ir.specs.declared.function.CodeFunction.{CodeFunction}
 use Rattle.tac_ir.specs.declared.function.Tac.{Tac}
 use Rattle.tac_ir.specs.Stage.{Temps, with_temp, Frame, Stage, Stands, Over, came}
-use Rattle.tac_ir.specs.Costs.{spent}
+use Rattle.tac_ir.specs.Costs.{spent, fourfold}
 use Rattle.tac_ir.specs.Meaning.{act, given_in}
 use Rattle.flat_meaning.specs.declared.instruction.FlatInstruction.TheVariants as flat_code
 use Rattle.flat_meaning.specs.declared.function.FlatProgram.{FlatProgram}
@@ -71,6 +71,10 @@ module _ (o : OperatorCode) (views : Views) (g : Setting) (t : Tac) (address : (
   abbrev Gives : Stage → Type 0
   Gives a = Result o views g t address p ops ex part a (flat.Stands u (address u n) v xs)
 
+  -- where what a routine counts counts four times
+  abbrev heavier_state : State → State
+  heavier_state z = spent (3 * (z.work - (s.work + 12))) z
+
   abbrev Node : Instruction → Type 0
   Node i = IsNode o g.sizes t (address u) (body_of (function_in p u)) h.code (address u n) i
 
@@ -79,7 +83,7 @@ module _ (o : OperatorCode) (views : Views) (g : Setting) (t : Tac) (address : (
 
   putchar : (line d count next : ℕ) → slice_get h.code.code n ≡ Some (tac.Library routine.Putchar line d count next)
       → count ≡ 1
-      → Gives (act g t (tac.Library routine.Putchar line d count next) u temps ws (spent 1 s))
+      → Gives (act g t (tac.Library routine.Putchar line d count next) u temps ws (spent 12 s))
   putchar line d count next at one =
       let k = known (tac.Library routine.Putchar line d count next) at in
       let lt : d < most_temporaries c.code = omega (arith, k.temporaries_low) in
@@ -109,11 +113,11 @@ module _ (o : OperatorCode) (views : Views) (g : Setting) (t : Tac) (address : (
         others = r.others;
       } in
       let stage_at : ℕ → Stage = λ z. Stands u next (with_temp temps d (rvalue (integer (z % 256)))) ws
-      (record s { work = s.work + 1 + 1; output = s.output ++ z % 256 ∷ [] }) in
+      (heavier_state (record s { work = s.work + 12 + 1; output = s.output ++ z % 256 ∷ [] })) in
       let word : (temps d).value.word ≡ w = ap (λ (z : Rvalue). z.value.word) (h.holds.temporaries d lt) in
       let result : Gives (stage_at w) =
       stays o views g t address p ops ex part u n temps (with_temp temps d (rvalue (integer (w % 256)))) ws s
-      (record s { work = s.work + 1 + 1; output = s.output ++ w % 256 ∷ [] }) v
+      (heavier_state (record s { work = s.work + 12 + 1; output = s.output ++ w % 256 ∷ [] })) v
       (record put_out { values = r.after }) xs next 10 h run_to
       (holds_temporary c k.integers temps s.plain v.values r.after d (w % 256) h.holds is_set)
       (record {
@@ -125,11 +129,11 @@ module _ (o : OperatorCode) (views : Views) (g : Setting) (t : Tac) (address : (
       })
       (record { objects = refl; frame = refl; stacked = refl; charged = refl }) refl (omega arith)
       (k.on next (inl refl)) in
-      subst (λ z. Gives (act g t (tac.Library routine.Putchar line d z next) u temps ws (spent 1 s))) (sym one)
+      subst (λ z. Gives (act g t (tac.Library routine.Putchar line d z next) u temps ws (spent 12 s))) (sym one)
       (subst (λ z. Gives (stage_at z)) (sym word) result)
 
   getchar : (line d count next : ℕ) → slice_get h.code.code n ≡ Some (tac.Library routine.Getchar line d count next)
-      → Gives (act g t (tac.Library routine.Getchar line d count next) u temps ws (spent 1 s))
+      → Gives (act g t (tac.Library routine.Getchar line d count next) u temps ws (spent 12 s))
   getchar line d count next at = by s.input refl
     where
       k : Node (tac.Library routine.Getchar line d count next)
@@ -146,13 +150,14 @@ module _ (o : OperatorCode) (views : Views) (g : Setting) (t : Tac) (address : (
           (get_comes m p u pc v xs (temporary_register c d) k.put.has.0) k.put.leads)
 
       by : (l : List ℕ) → s.input ≡ l
-          → Gives (came (on (next_byte l (spent 1 s)) (λ z. give z)) (given_in u next temps d ws))
+          → Gives (came (fourfold (s.work + 12) (on (next_byte l (spent 12 s)) (λ z. give z)))
+          (given_in u next temps d ws))
       by [] e =
           let x = temporary_register c d in
           let none : slice_get v.input 0 ≡ None = ap (λ l. slice_get l 0) (h.alike.input ∙ e) in
           let values = put v.values x (2 ^ 64 - 1) in
           stays o views g t address p ops ex part u n temps (with_temp temps d (rvalue (integer (2 ^ 64 - 1)))) ws s
-          (spent 1 s) v (record v { values = values }) xs next 6 h (run_to None none)
+          (heavier_state (spent 12 s)) v (record v { values = values }) xs next 6 h (run_to None none)
           (holds_temporary c k.integers temps s.plain v.values values d (2 ^ 64 - 1) h.holds
           (set_by_put (first_free c) x (2 ^ 64 - 1) v.values))
           (record {
@@ -169,7 +174,7 @@ module _ (o : OperatorCode) (views : Views) (g : Setting) (t : Tac) (address : (
           let some : slice_get v.input 0 ≡ Some b = ap (λ l. slice_get l 0) (h.alike.input ∙ e) in
           let values = put v.values x (b % 256) in
           stays o views g t address p ops ex part u n temps (with_temp temps d (rvalue (integer (b % 256)))) ws s
-          (record (spent 1 s) { input = bs; taken = s.taken + 1 }) v
+          (heavier_state (record (spent 12 s) { input = bs; taken = s.taken + 1 })) v
           (record v { values = values; input = drop 1 v.input; taken = v.taken + 1 }) xs next 6 h (run_to (Some b) some)
           (holds_temporary c k.integers temps s.plain v.values values d (b % 256) h.holds
           (set_by_put (first_free c) x (b % 256) v.values))
@@ -185,15 +190,15 @@ module _ (o : OperatorCode) (views : Views) (g : Setting) (t : Tac) (address : (
 
   exit : (line d count next : ℕ) → slice_get h.code.code n ≡ Some (tac.Library routine.Exit line d count next)
       → count ≡ 1
-      → Gives (act g t (tac.Library routine.Exit line d count next) u temps ws (spent 1 s))
+      → Gives (act g t (tac.Library routine.Exit line d count next) u temps ws (spent 12 s))
   exit line d count next at one =
       let k = known (tac.Library routine.Exit line d count next) at in
       let lt : d < most_temporaries c.code = omega (arith, k.temporaries_low) in
       let x = temporary_register c d in
       let w = v.values x in
       let word : (temps d).value.word ≡ w = ap (λ (z : Rvalue). z.value.word) (h.holds.temporaries d lt) in
-      let result : Gives (Over (ExitWith (int_of w)) (spent 1 s)) =
-      ends o views g t address p ops ex part (flat.Stands u pc v xs) (ExitWith (int_of w)) (spent 1 s)
+      let result : Gives (Over (ExitWith (int_of w)) (heavier_state (spent 12 s))) =
+      ends o views g t address p ops ex part (flat.Stands u pc v xs) (ExitWith (int_of w)) (heavier_state (spent 12 s))
       (record v { work = v.work + weight_of (function_in p u) }) 1 (w % 256) []
       (exit_step m p u pc v xs x k.put.has.0) (status_is w) refl
       (record {
@@ -204,16 +209,16 @@ module _ (o : OperatorCode) (views : Views) (g : Setting) (t : Tac) (address : (
         turns = h.alike.turns;
       })
       (omega (arith, h.work, weight_small (function_in p u))) in
-      subst (λ z. Gives (act g t (tac.Library routine.Exit line d z next) u temps ws (spent 1 s))) (sym one)
-      (subst (λ z. Gives (Over (ExitWith (int_of z)) (spent 1 s))) (sym word) result)
+      subst (λ z. Gives (act g t (tac.Library routine.Exit line d z next) u temps ws (spent 12 s))) (sym one)
+      (subst (λ z. Gives (Over (ExitWith (int_of z)) (heavier_state (spent 12 s)))) (sym word) result)
 
   abort : (line d count next : ℕ) → slice_get h.code.code n ≡ Some (tac.Library routine.Abort line d count next)
-      → Gives (act g t (tac.Library routine.Abort line d count next) u temps ws (spent 1 s))
+      → Gives (act g t (tac.Library routine.Abort line d count next) u temps ws (spent 12 s))
   abort line d count next at =
       let k = known (tac.Library routine.Abort line d count next) at in
       let report = report_of (AbortAt line) in
       let light = weight_small (function_in p u) in
-      ends o views g t address p ops ex part (flat.Stands u pc v xs) (AbortAt line) (spent 1 s)
+      ends o views g t address p ops ex part (flat.Stands u pc v xs) (AbortAt line) (heavier_state (spent 12 s))
       (record v { work = v.work + weight_of (function_in p u) * (1 + length report) }) 1 (code_of (AbortAt line)) report
       (end_step m p u pc v xs (AbortAt line) k.put.has.0) refl refl
       (record {
@@ -230,12 +235,12 @@ module _ (o : OperatorCode) (views : Views) (g : Setting) (t : Tac) (address : (
 
   pub library_step : (r : Routine) (line d count next : ℕ)
       → slice_get h.code.code n ≡ Some (tac.Library r line d count next)
-      → Gives (act g t (tac.Library r line d count next) u temps ws (spent 1 s))
+      → Gives (act g t (tac.Library r line d count next) u temps ws (spent 12 s))
   library_step r line d count next at = by r at (known (tac.Library r line d count next) at).part
     where
       by : (r : Routine) → slice_get h.code.code n ≡ Some (tac.Library r line d count next)
           → is_integer_routine r count ≡ true
-          → Gives (act g t (tac.Library r line d count next) u temps ws (spent 1 s))
+          → Gives (act g t (tac.Library r line d count next) u temps ws (spent 12 s))
       by routine.Putchar e fine = putchar line d count next e (eqb-true count 1 fine)
       by routine.Getchar e fine = getchar line d count next e
       by routine.Exit e fine = exit line d count next e (eqb-true count 1 fine)

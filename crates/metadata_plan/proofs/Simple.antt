@@ -222,15 +222,20 @@ module _ (o : OperatorCode) (views : Views) (g : Setting) (t : Tac) (address : (
       k : Node (tac.ZeroOf kind d next)
       k = known (tac.ZeroOf kind d next) at
 
+      -- no byte is counted
       zero_set : (q : Kind) → Node (tac.ZeroOf q d next)
-          → Gives (Stands u next (with_temp temps d (rvalue (integer 0))) ws (spent 1 s))
+          → Gives (Stands u next (with_temp temps d (rvalue (integer 0))) ws
+          (record s { work = s.work + 1 + 0 + 3 * (s.work + 1 + 0 - (s.work + 1)) }))
       zero_set q k' =
           let x = temporary_register c d in
           let values = put v.values x (low_bits 64 0) in
-          sets_temporary (tac.ZeroOf q d next) k' d 0 next 4 (inl refl) values
+          let counted : s.work + 1 ≡ s.work + 1 + 0 + 3 * (s.work + 1 + 0 - (s.work + 1)) = omega arith in
+          subst (λ (n : ℕ). Gives (Stands u next (with_temp temps d (rvalue (integer 0))) ws (record s { work = n })))
+          counted
+          (sets_temporary (tac.ZeroOf q d next) k' d 0 next 4 (inl refl) values
           (leads_on (pc + 1) (address u next) (record v { values = values }) 2
           (constant_comes m p u pc v xs x 0 k'.put.has.0) k'.put.leads)
-          (constant_set x 0 refl) (omega arith)
+          (constant_set x 0 refl) (omega arith))
 
       by : (q : Kind) → slice_get h.code.code n ≡ Some (tac.ZeroOf q d next) → has_no_pointer q ≡ true
           → Gives (act g t (tac.ZeroOf q d next) u temps ws (spent 1 s))

@@ -17,7 +17,7 @@ use Rattle.tac_ir.specs.declared.instruction.Instruction.TheVariants as tac
 use Rattle.tac_ir.specs.declared.function.CodeFunction.{CodeFunction}
 use Rattle.tac_ir.specs.declared.function.Tac.{Tac}
 use Rattle.tac_ir.specs.Stage.{Temps, with_temp, gathered, Waiting, Frame, Waits, Entered, Stage, Stands, Over}
-use Rattle.tac_ir.specs.Costs.{spent}
+use Rattle.tac_ir.specs.Costs.{handed_bytes, spent}
 use Rattle.tac_ir.specs.Meaning.{function_in as code_in, called_at, called, act, given_to, line_in, objects_before}
 use Rattle.flat_meaning.specs.declared.instruction.FlatInstruction.{FlatInstruction}
 use Rattle.flat_meaning.specs.declared.instruction.FlatInstruction.TheVariants as flat_code
@@ -77,7 +77,7 @@ module _ (o : OperatorCode) (views : Views) (g : Setting) (t : Tac) (address : (
     abbrev Gives : Stage → Type 0
     Gives a = Result o views g t address p ops ex part a (flat.Stands u (address u n) v xs)
 
-    pub alike_spent : IsAlike (spent 1 s) v
+    pub alike_spent : IsAlike (spent 6 s) v
     alike_spent = record {
       input = h.alike.input;
       output = h.alike.output;
@@ -108,7 +108,7 @@ module _ (o : OperatorCode) (views : Views) (g : Setting) (t : Tac) (address : (
       lows = let a = known.temporaries_low in (omega arith, omega arith)
 
       abbrev waits : Waiting
-      waits = record { function = u; node = next; place = d; caller = caller (spent 1 s); temps = temps }
+      waits = record { function = u; node = next; place = d; caller = caller (spent 6 s); temps = temps }
 
       abbrev moves : List FlatInstruction
       moves = argument_moves h.code (first_free h.code) d count
@@ -117,7 +117,7 @@ module _ (o : OperatorCode) (views : Views) (g : Setting) (t : Tac) (address : (
       calls = flat_code.Call f (first_free h.code) (temporary_register h.code d) ∷ []
 
       by_callee : (k : CodeFunction) → code_in t f ≡ Some k → length k.parameters ≡ count
-          → Gives (called_at g (Some k) f (gathered temps d count) line (Waits waits ∷ ws) (spent 1 s))
+          → Gives (called_at g (Some k) f (gathered temps d count) line (Waits waits ∷ ws) (spent 6 s))
       by_callee k is takes =
           let tests = call_tests m k.room line free in
           let whole : HasAt body pc (tests ++ (moves ++ calls)) =
@@ -129,7 +129,7 @@ module _ (o : OperatorCode) (views : Views) (g : Setting) (t : Tac) (address : (
           ⊎_elim
           (λ more. exhausts o views g t address p ops ex part low stack u pc 0 v xs f k is line free
           (temporary_register c d) (gathered temps d count) (Waits waits
-          ∷ ws) (spent 1 s) h.charge alike_spent has_tests
+          ∷ ws) (spent 6 s) h.charge alike_spent has_tests
           more h.fits (omega (arith, h.work)))
           (λ fits.
           let inside : charged p u xs + k.room ≤ m.budgets.calls = omega (arith, h.charge) in
@@ -170,7 +170,7 @@ module _ (o : OperatorCode) (views : Views) (g : Setting) (t : Tac) (address : (
             fits = h.fits;
           } in
           enters_matches o views g t address p ops ex part low stack u pc q v xs f k is line free
-          (temporary_register c d) (gathered temps d count) (Waits waits ∷ ws) (spent 1 s) h.charge alike_spent
+          (temporary_register c d) (gathered temps d count) (Waits waits ∷ ws) (spent 6 s) h.charge alike_spent
           given.values (6 + 2 * count) h.keys K has_call.0
           (λ j lt. gathered_at temps d count j (omega arith)
           ∙ h.holds.temporaries (d + j) (omega (arith, lows.1))
@@ -180,15 +180,19 @@ module _ (o : OperatorCode) (views : Views) (g : Setting) (t : Tac) (address : (
           fits h.stacked (omega (arith, h.work)) h.stands (record { by = (waiting, h.wait.by) }))
           (cases_lt m.budgets.calls (s.charged + k.room))
 
-      pub call_step : Gives (act g t (tac.Call f line d count next) u temps ws (spent 1 s))
+      pub call_step : Gives (act g t (tac.Call f line d count next) u temps ws (spent 6 s))
       call_step =
-          subst (λ z. Gives (called_at g z f (gathered temps d count) line (Waits waits ∷ ws) (spent 1 s)))
+          subst (λ z. Gives (called_at g z f (gathered temps d count) line (Waits waits ∷ ws) (spent 6 s)))
           (sym called_is.is) (by_callee called_is.code called_is.is called_is.count)
 
     -- ---- a return
 
+    -- the state once the value of a temporary is handed on
+    abbrev handed : ℕ → State
+    handed a = spent (handed_bytes (temps a)) (spent 3 s)
+
     pub return_step : (a : ℕ) → slice_get h.code.code n ≡ Some (tac.Return a)
-        → Gives (act g t (tac.Return a) u temps ws (spent 1 s))
+        → Gives (act g t (tac.Return a) u temps ws (spent 3 s))
     return_step a at = by ws xs h.wait.by refl
       where
         known : IsNode o g.sizes t (address u) (body_of (function_in p u)) h.code (address u n) (tac.Return a)
@@ -201,7 +205,7 @@ module _ (o : OperatorCode) (views : Views) (g : Setting) (t : Tac) (address : (
         gives = h.holds.temporaries a known.temporaries_low
 
         ended : (x : flat.Frame) → (x.function ≡ p.entry) × (x.next ≡ 7) × (x.into ≡ 0)
-            → Result o views g t address p ops ex part (Over (ExitWith (int_of (temps a).value.word)) (spent 1 s))
+            → Result o views g t address p ops ex part (Over (ExitWith (int_of (temps a).value.word)) (handed a))
             (flat.Stands u (address u n) v (x ∷ []))
         ended x e =
             let w = v.values (temporary_register h.code a) in
@@ -219,10 +223,10 @@ module _ (o : OperatorCode) (views : Views) (g : Setting) (t : Tac) (address : (
             let comes : run (step m p) 2 (flat.Stands u pc v (x ∷ []))
             ≡ flat.Over (values 0 % 256) [] last =
             ap (step m p) first ∙ second in
-            let result : Result o views g t address p ops ex part (Over (ExitWith (int_of w)) (spent 1 s))
+            let result : Result o views g t address p ops ex part (Over (ExitWith (int_of w)) (handed a))
             (flat.Stands u (address u n) v (x ∷ [])) =
             ends o views g t address p ops ex part (flat.Stands u pc v (x ∷ [])) (ExitWith (int_of w))
-            (spent 1 s) last 2
+            (handed a) last 2
             (values 0 % 256) [] comes (ap (λ z. z % 256) status ∙ status_is w) refl
             (record {
               input = h.alike.input;
@@ -232,12 +236,12 @@ module _ (o : OperatorCode) (views : Views) (g : Setting) (t : Tac) (address : (
               turns = h.alike.turns;
             })
             (omega (arith, h.work, weight_small (function_in p p.entry))) in
-            subst (λ z. Result o views g t address p ops ex part (Over (ExitWith (int_of z)) (spent 1 s))
+            subst (λ z. Result o views g t address p ops ex part (Over (ExitWith (int_of z)) (handed a))
             (flat.Stands u (address u n) v (x ∷ []))) (sym word) result
 
         back : (w : Waiting) (others : List Frame) (x : flat.Frame) (rest : List flat.Frame)
             → WaitsAs g t address p w x rest → AllWait g t address p others rest
-            → Result o views g t address p ops ex part (given_to (Waits w ∷ others) (temps a) (spent 1 s))
+            → Result o views g t address p ops ex part (given_to (Waits w ∷ others) (temps a) (handed a))
             (flat.Stands u (address u n) v (x ∷ rest))
         back w others x rest k wait =
             let value = v.values (temporary_register h.code a) in
@@ -256,7 +260,7 @@ module _ (o : OperatorCode) (views : Views) (g : Setting) (t : Tac) (address : (
             let is_set = subst (λ z. IsSet (first_free k.code) z value x.values
             (with_results x.into 1 v.values (temporary_register h.code a) x.values)) k.into
             (result_set (first_free k.code) x.into (temporary_register h.code a) v.values x.values) in
-            let s' = back_to w.caller (spent 1 s) in
+            let s' = back_to w.caller (handed a) in
             let result : Result o views g t address p ops ex part
             (Stands w.function w.node (with_temp w.temps w.place (rvalue (integer value))) others s')
             (flat.Stands u (address u n) v (x ∷ rest)) = record {
@@ -295,7 +299,7 @@ module _ (o : OperatorCode) (views : Views) (g : Setting) (t : Tac) (address : (
             (flat.Stands u (address u n) v (x ∷ rest))) (sym gives) result
 
         by : (ws' : List Frame) (xs' : List flat.Frame) → AllWait g t address p ws' xs' → xs ≡ xs'
-            → Result o views g t address p ops ex part (given_to ws' (temps a) (spent 1 s))
+            → Result o views g t address p ops ex part (given_to ws' (temps a) (handed a))
             (flat.Stands u (address u n) v xs')
         by ws' [] wait e = absurd wait
         by [] (x ∷ []) wait e = ended x wait
@@ -315,21 +319,23 @@ module _ (o : OperatorCode) (views : Views) (g : Setting) (t : Tac) (address : (
   }
 
   pub begins : (s : State) (x : flat.Stage) → IsFirst views g t p s x
-      → Result o views g t address p ops ex part (called g t t.main [] (line_in (code_in t t.main)) [] s) x
+      → Result o views g t address p ops ex part (called g t t.main [] (line_in (code_in t t.main)) [] (spent 4 s)) x
   begins s x h =
       let main = takes_is (code_in t t.main) 0 part.main in
-      subst (λ z. Result o views g t address p ops ex part (called g t t.main [] (line_in (code_in t t.main)) [] z) x)
+      subst (λ z. Result o views g t address p ops ex part
+      (called g t t.main [] (line_in (code_in t t.main)) [] (spent 4 z)) x)
       (sym h.fresh_is)
       (subst (λ z. Result o views g t address p ops ex part
-      (called g t t.main [] (line_in (code_in t t.main)) [] (fresh g (objects_before t g) h.input)) z)
+      (called g t t.main [] (line_in (code_in t t.main)) [] (spent 4 (fresh g (objects_before t g) h.input))) z)
       (sym h.started_is)
       (subst (λ z. Result o views g t address p ops ex part
-      (called_at g z t.main [] (line_in z) [] (fresh g (objects_before t g) h.input)) (started p h.memory h.input))
+      (called_at g z t.main [] (line_in z) [] (spent 4 (fresh g (objects_before t g) h.input)))
+      (started p h.memory h.input))
       (sym main.is) (by main.code main.is main.count)))
     where
       by : (k : CodeFunction) → code_in t t.main ≡ Some k → length k.parameters ≡ 0
           → Result o views g t address p ops ex part
-          (called_at g (Some k) t.main [] k.line [] (fresh g (objects_before t g) h.input))
+          (called_at g (Some k) t.main [] k.line [] (spent 4 (fresh g (objects_before t g) h.input)))
           (started p h.memory h.input)
       by k is none =
           let entry = entry_there m t (function_in p p.entry) ex.entry in
@@ -363,7 +369,7 @@ module _ (o : OperatorCode) (views : Views) (g : Setting) (t : Tac) (address : (
           second_turn in
           let w : flat.State = record v { turns = 2; work = 0 + two_turns.work } in
           let few = two_turns.few in
-          let s0 = fresh g (objects_before t g) h.input in
+          let s0 : State = spent 4 (fresh g (objects_before t g) h.input) in
           let charge : charged p p.entry [] ≡ 0 = omega (arith, entry.no_room, no_rooms false p) in
           let alike : IsAlike s0 w =
           record { input = refl; output = refl; taken = refl; accesses = refl; turns = omega arith } in

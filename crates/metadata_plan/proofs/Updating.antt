@@ -370,7 +370,7 @@ module _ (o : OperatorCode) (views : Views) (g : Setting) (t : Tac) (address : (
     same_value = ap₂ (binary_value op ty) operands.left_is operands.right_is
 
     abbrev after_state : ℕ → State
-    after_state w = record (spent 1 s) { plain = set s.plain x (integer (fit k w)) }
+    after_state w = record (spent 2 s) { plain = set s.plain x (integer (fit k w)) }
 
     updated_to : (w : ℕ) → binary_value op ty (fit ty (v.values xr)) (right_word c right v.values) ≡ Some w
         → Gives (Stands u next (with_temp temps d (rvalue (integer (given_word f (v.values xr) (fit k w))))) ws
@@ -427,7 +427,7 @@ module _ (o : OperatorCode) (views : Views) (g : Setting) (t : Tac) (address : (
                 others y lt ne nd ∙ sym (put_other v.values xr new y ne)
 
     divided_by_zero : binary_value op ty (fit ty (v.values xr)) (right_word c right v.values) ≡ None
-        → Gives (Over (Divide line) (spent 1 s))
+        → Gives (Over (Divide line) (spent 2 s))
     divided_by_zero e =
         let r = ops.divides m p (moment q2 operands.values (4 + right_most right) operands.comes) op ty free free rr
         (free + 2) line (omega arith) (omega arith) operands.right_low
@@ -436,7 +436,7 @@ module _ (o : OperatorCode) (views : Views) (g : Setting) (t : Tac) (address : (
         let work = scaled (binary_most op + length (report_of (Divide line))) _ r.work r.few light in
         let small = few_of op right inside.1 in
         let K = operands.comes in
-        ends o views g t address p ops ex part (flat.Stands u (address u n) v xs) (Divide line) (spent 1 s)
+        ends o views g t address p ops ex part (flat.Stands u (address u n) v xs) (Divide line) (spent 2 s)
         (record v { values = r.after; work = v.work + K.work + r.work }) (K.steps + r.steps) (code_of (Divide line))
         (report_of (Divide line))
         (run_add (step g.sizes p) K.steps r.steps (flat.Stands u (address u n) v xs)
@@ -453,7 +453,7 @@ module _ (o : OperatorCode) (views : Views) (g : Setting) (t : Tac) (address : (
     -- the instruction, by the operator's value and what the variable held
     abbrev stage_by : (old : Value) → Option ℕ → Stage
     stage_by old q =
-        came (on (on (on (value_or_divide q line (spent 1 s)) (λ z. done (integer (fit k z.word)))) (λ new.
+        came (on (on (on (value_or_divide q line (spent 2 s)) (λ z. done (integer (fit k z.word)))) (λ new.
         (set_plain x new >> done (given f old new)))) (λ z. give z)) (given_in u next temps d ws)
 
     outcome : (q : Option ℕ) → binary_value op ty (fit ty (v.values xr)) (right_word c right v.values) ≡ q
@@ -471,7 +471,7 @@ module _ (o : OperatorCode) (views : Views) (g : Setting) (t : Tac) (address : (
     abbrev old_word : ℕ
     old_word = (plain_value x s).word
 
-    pub integer_update : Gives (act g t i u temps ws (spent 1 s))
+    pub integer_update : Gives (act g t i u temps ws (spent 2 s))
     integer_update =
         let old : fit ty old_word ≡ fit ty (v.values xr) =
         ap (λ (z : Value). fit ty z.word) (h.holds.variables x inside.0) in
@@ -481,7 +481,7 @@ module _ (o : OperatorCode) (views : Views) (g : Setting) (t : Tac) (address : (
 
   pub update_plain_step : (w : Update) (scalar : Scalar) (f : Fixity) (line d x : ℕ) (right : RightOperand) (next : ℕ)
       → slice_get h.code.code n ≡ Some (tac.UpdatePlain w scalar f line d x right next)
-      → Gives (act g t (tac.UpdatePlain w scalar f line d x right next) u temps ws (spent 1 s))
+      → Gives (act g t (tac.UpdatePlain w scalar f line d x right next) u temps ws (spent 2 s))
   update_plain_step w scalar f line d x right next at = by w scalar at
       (and_parts (nat_lt x (length (all_variables c))) (is_integer_update w scalar right)
       (node o views g t address p ops ex part u h.code n (tac.UpdatePlain w scalar f line d x right next) h.there
@@ -490,7 +490,7 @@ module _ (o : OperatorCode) (views : Views) (g : Setting) (t : Tac) (address : (
       by : (w : Update) (scalar : Scalar)
           → slice_get h.code.code n ≡ Some (tac.UpdatePlain w scalar f line d x right next)
           → is_integer_update w scalar right ≡ true
-          → Gives (act g t (tac.UpdatePlain w scalar f line d x right next) u temps ws (spent 1 s))
+          → Gives (act g t (tac.UpdatePlain w scalar f line d x right next) u temps ws (spent 2 s))
       by (Arithmetic op ty) (Integer k) e fine = integer_update op ty k f line d x right next e
       by (Arithmetic op ty) Pointer e fine = cc
       by (Forward size) scalar e fine = cc

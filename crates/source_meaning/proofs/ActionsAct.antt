@@ -38,11 +38,14 @@ use Rattle.source_meaning.specs.Actions.{store, update, load_structure, copy_str
 use Rattle.source_meaning.specs.Actions.{make_object, home_value, put_bytes, take_key}
 use Rattle.source_meaning.specs.State.{Rvalue}
 use Rattle.source_meaning.specs.Structures.{moved_into, put_range, put_contents, copy_value, as_rvalue, write_rvalue}
-use Rattle.source_meaning.specs.Structures.{read_part, read_rvalue, with_contents, taken, take_value}
+use Rattle.source_meaning.specs.Structures.{read_part, read_rvalue, with_contents, taken, take_value, contents_size}
+use Rattle.source_meaning.specs.Structures.{make_zero}
+use Rattle.source_meaning.specs.Statements.{Completion, Normal, Broken, Continued, Returned}
 use Rattle.source_meaning.specs.Expressions.{callee_by, callee}
 use Rattle.source_meaning.specs.Initializers.{zero_object, zero_home, zero_variable, store_bytes}
 use Rattle.source_meaning.specs.Calls.{body_objects, test_charge, call_tests, first_of, rest_of, set_plain_values}
 use Rattle.source_meaning.specs.Calls.{write_parameter, write_parameters, lay_out, set_up, Caller, back_to}
+use Rattle.source_meaning.specs.Calls.{returned_by}
 use Rattle.source_meaning.specs.Blocks.{pass_or_stop, place_object, place_variables, without_homes, test_space}
 use Rattle.source_meaning.specs.Blocks.{test_keys, homes_over, Block, place_block, enter_block, leave_block}
 use Rattle.source_meaning.specs.Acting.{IsAction}
@@ -325,16 +328,19 @@ acts_read_rvalue kind j q line = (local_read_rvalue kind j q line).action
 pub acts_take_value : (kind : Kind) (line : ℕ) (v : Rvalue) → IsAction (take_value kind line v)
 acts_take_value kind line v = (local_take_value kind line v).action
 
+pub local_make_zero : (kind : Kind) → IsLocal (make_zero kind)
+local_make_zero kind = local_then (local_tally (contents_size kind)) local_done
+
 -- calls
 
 acts_pass_or_stop : (b : Bool) (e : Ending) → IsAction (pass_or_stop b e)
 acts_pass_or_stop true e = acts_skip
 acts_pass_or_stop false e = acts_stop
 
-acts_test_space : (g : Setting) (vs : List Variable) (line : ℕ) → IsAction (test_space g vs line)
+pub acts_test_space : (g : Setting) (vs : List Variable) (line : ℕ) → IsAction (test_space g vs line)
 acts_test_space g vs line = search (basic, acts_pass_or_stop)
 
-acts_test_keys : (g : Setting) (vs : List Variable) (line : ℕ) → IsAction (test_keys g vs line)
+pub acts_test_keys : (g : Setting) (vs : List Variable) (line : ℕ) → IsAction (test_keys g vs line)
 acts_test_keys g vs line = acts_choose _ (acts_take_key g line) acts_skip
 
 module _ (g : Setting) (f : Header) (line : ℕ) where
@@ -348,7 +354,7 @@ module _ (g : Setting) (f : Header) (line : ℕ) where
 acts_place_object : (size : ℕ) → IsAction (place_object size)
 acts_place_object size = search (basic, changes, acts_make_object) depth 9
 
-acts_place_variables : (vs : List Variable) → IsAction (place_variables vs)
+pub acts_place_variables : (vs : List Variable) → IsAction (place_variables vs)
 acts_place_variables [] = acts_done
 acts_place_variables (v ∷ vs) =
     acts_on (acts_choose v.is_object (acts_place_object (size_of_kind v.kind)) acts_done)
@@ -376,6 +382,15 @@ acts_lay_out f vs line = search (basic, changes, acts_set_plain_values, acts_pla
 
 pub acts_set_up : (g : Setting) (f : Header) (vs : List Rvalue) (line : ℕ) → IsAction (set_up g f vs line)
 acts_set_up g f vs line = acts_then (acts_tally 1) (acts_then (acts_call_tests g f line) (acts_lay_out f vs line))
+
+pub local_returned : (result : Kind) (completion : Completion) → IsLocal (returned_by result completion)
+local_returned result Normal = local_make_zero result
+local_returned result Broken = local_make_zero result
+local_returned result Continued = local_make_zero result
+local_returned result (Returned v) = local_done
+
+pub acts_returned : (result : Kind) (completion : Completion) → IsAction (returned_by result completion)
+acts_returned result completion = (local_returned result completion).action
 
 pub continues_without : (homes : List Home) (objects : Objects) → Continues objects (without_homes homes objects)
 continues_without [] objects = continues_same objects

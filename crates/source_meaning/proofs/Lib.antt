@@ -28,6 +28,7 @@ pub mod SureMeaning
 pub mod ValidNames
 pub mod ValidProgramNames
 pub mod RunsAlike
+pub mod Working
 pub mod LiveAccesses
 pub mod Living
 pub mod JudgingTests

@@ -51,7 +51,8 @@ use Rattle.source_meaning.specs.Actions.{update_plain, place_or_stop, located, n
 use Rattle.source_meaning.specs.Actions.{move_bytes, load, store, update, load_structure, copy_structure, read_lvalue}
 use Rattle.source_meaning.specs.Actions.{write_lvalue, make_object, put_bytes, take_key, verdict_on, home_value}
 use Rattle.source_meaning.specs.Structures.{as_rvalue, put_range, put_contents, taken, take_value, copy_value}
-use Rattle.source_meaning.specs.Structures.{write_rvalue, read_part, read_rvalue, with_contents}
+use Rattle.source_meaning.specs.Structures.{write_rvalue, read_part, read_rvalue, with_contents, contents_size}
+use Rattle.source_meaning.specs.Structures.{make_zero}
 use Rattle.source_meaning.specs.Initializers.{zero_object, zero_home, zero_variable, store_bytes}
 use Rattle.source_meaning.specs.Expressions.{callee_by, callee}
 use Rattle.source_meaning.specs.Heap.{tally_blocks, block_place, make_block, allocate}
@@ -289,6 +290,9 @@ lives_take_value Void line v = lives_done
 lives_take_value (OfScalar k) line v = lives_done
 lives_take_value (Structure n) line v = lives_taken v.contents n v.value line
 lives_take_value (Array n) line v = lives_done
+
+pub lives_make_zero : (kind : Kind) → KeepsLives (make_zero kind)
+lives_make_zero kind = lives_then (lives_tally (contents_size kind)) lives_done
 
 -- calls and blocks
 

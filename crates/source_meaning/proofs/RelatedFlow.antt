@@ -19,12 +19,13 @@ use Rattle.source_meaning.specs.Statements.{next_after, in_order, holds, perform
 use Rattle.source_meaning.specs.Statements.{run_labeled, is_case_of, is_default, labels_from, items_at, items_from}
 use Rattle.source_meaning.specs.Statements.{labels_of, compared, or_default, run_items, after_switch, run_switch}
 use Rattle.source_meaning.specs.Statements.{execute, each_of, items_of}
-use Rattle.source_meaning.specs.Calls.{header_of, returned_by, result_of, enter_begun, enter_found}
+use Rattle.source_meaning.specs.Calls.{header_of, result_of, enter_begun, enter_found}
 use Rattle.c_tree.specs.declared.program.Variable.{Variable}
 use Rattle.c_tree.specs.Blocks.{all_of, block_objects, block_variables, switch_variables, first_variables}
 use Rattle.source_meaning.specs.Blocks.{has_objects, scoped}
 use Rattle.source_meaning.proofs.Acting.{acts_done, acts_skip, acts_stop, acts_tally, acts_read}
-use Rattle.source_meaning.proofs.ActionsAct.{acts_set_up, acts_back_to, acts_enter_block, acts_leave_block}
+use Rattle.source_meaning.proofs.ActionsAct.{acts_set_up, acts_returned, acts_back_to, acts_enter_block}
+use Rattle.source_meaning.proofs.ActionsAct.{acts_leave_block}
 use Rattle.source_meaning.proofs.Related.{Related, evaluate_related, argument_related, initialize_all_related}
 
 module _ (g : Setting) (variables : List Variable) (limit limit' depth depth' : ℕ)
@@ -187,7 +188,7 @@ module _ (g : Setting) (variables : List Variable) (limit limit' depth depth' : 
     execute_related (return None) = counted_related (done_related (Returned (rvalue (integer 0))))
     execute_related (return (Some e)) = counted_related (h.on (argued e) (λ v. done_related (Returned v)))
 
-    row_related : (ss : Statements) → R _ (in_order (each_of env ss)) (in_order (each_of env' ss))
+    pub row_related : (ss : Statements) → R _ (in_order (each_of env ss)) (in_order (each_of env' ss))
     row_related no_statements = done_related Normal
     row_related (statements s ss) = h.on (execute_related s) (λ completion. next_related completion (row_related ss))
 
@@ -200,8 +201,8 @@ module _ (g : Setting) (variables : List Variable) (limit limit' depth depth' : 
   begun_related f vs line =
       h.on (h.action (acts_read (λ k s. refl))) (λ c. h.on (h.action (acts_set_up g (header_of f) vs line)) (λ _.
       h.on (counted_related (row_related f.body))
-      (λ completion. h.on (h.action (acts_back_to c))
-      (λ _. done_related (returned_by (result_of g f.type_number) completion)))))
+      (λ completion. h.on (h.action (acts_returned (result_of g f.type_number) completion))
+      (λ v. h.on (h.action (acts_back_to c)) (λ _. done_related v)))))
 
 module _ (g : Setting) (variables : List Variable) (limit limit' depth depth' : ℕ)
     (call call' : ℕ → List Rvalue → ℕ → Run Rvalue)

@@ -1,18 +1,20 @@
 -- Every run, with its loops and calls, does the same at any count of work, and adds as much.
 use Rattle.std.proofs.Common.{[], ◌≡◌, ℕ, zero, suc, ◌+◌, Bool, true, false, refl, ap, ◌∙◌, arith, nat_lt, List}
 use Rattle.source_meaning.specs.State.{Rvalue}
+use Rattle.c_tree.specs.declared.program.Variable.{Variable}
 use Rattle.c_tree.specs.Programs.{Function}
+use Rattle.c_tree.specs.Statements.{Statements}
 use Rattle.source_meaning.specs.Statements.{Completion}
 use Rattle.source_meaning.specs.Statements.{Normal, Broken, Continued, Returned}
 use Rattle.source_meaning.specs.State.{State, Outcome, Gives, Ended, Paused, Run, on, ◌>>=◌, pause, choose, change}
 use Rattle.source_meaning.specs.State.{Setting}
 use Rattle.source_meaning.specs.Actions.{begin_turn}
-use Rattle.source_meaning.specs.Statements.{after_body, turns, turns_before}
-use Rattle.source_meaning.specs.Calls.{function_at, calls}
+use Rattle.source_meaning.specs.Statements.{after_body, turns, turns_before, in_order, each_of}
+use Rattle.source_meaning.specs.Calls.{function_at, calls, env_of}
 use Rattle.source_meaning.specs.Acting.{at_work, ActsBy, IsAction, RunsAlikeBy, RunsAlike}
 use Rattle.source_meaning.proofs.Acting.{acts_done}
 use Rattle.source_meaning.proofs.Related.{Related}
-use Rattle.source_meaning.proofs.RelatedFlow.{found_related}
+use Rattle.source_meaning.proofs.RelatedFlow.{row_related, found_related}
 
 from_by : {A : Type 0} (k k1 : ℕ) (s s1 : State) (o o' : Outcome A) → k1 + s.work ≡ k + s1.work → RunsAlikeBy k1 s1 o o'
     → RunsAlikeBy k s o o'
@@ -42,7 +44,7 @@ by_action k s (Gives a s') o' h = (h.0, h.1, h.2.work)
 by_action k s (Ended e s') o' h = (h.0, h.1, h.2.work)
 by_action k s (Paused s') o' h = absurd h
 
-alike_action : {A : Type 0} {r : Run A} → IsAction r → RunsAlike r
+pub alike_action : {A : Type 0} {r : Run A} → IsAction r → RunsAlike r
 alike_action {r = r} h = record { alike = λ s k. by_action k s (r s) (r (at_work k s)) (h.acts s k) }
 
 alike_pause : {A : Type 0} → RunsAlike (pause {A = A})
@@ -56,7 +58,7 @@ turn_by : (b : Bool) → RunsAlike (choose b (change (λ s. record s { turns = s
 turn_by true = record { alike = λ s k. (k, refl, refl) }
 turn_by false = alike_pause
 
-alike_turn : (limit : ℕ) → RunsAlike (begin_turn limit)
+pub alike_turn : (limit : ℕ) → RunsAlike (begin_turn limit)
 alike_turn limit = record { alike = λ s k. (turn_by (nat_lt s.turns limit)).alike s k }
 
 alike_after : (completion : Completion) {rest : Run Completion} → RunsAlike rest
@@ -83,11 +85,12 @@ module _ (limit : ℕ) {condition : Run Bool} {body : Run Completion} (c : RunsA
       (λ _. alike_on b (λ x. alike_after x
       (alike_on c (λ again. alike_choose again (alike_turns_before n) (alike_action acts_done)))))
 
-alike_related : (g : Setting) (limit depth : ℕ) (call : ℕ → List Rvalue → ℕ → Run Rvalue)
+alike_related : (g : Setting) (variables : List Variable) (limit depth : ℕ)
+    (call : ℕ → List Rvalue → ℕ → Run Rvalue)
     → ((f : ℕ) (vs : List Rvalue) (line : ℕ) → RunsAlike (call f vs line))
-    → Related (record { setting = g; variables = []; limit = limit; depth = depth; call = call })
-    (record { setting = g; variables = []; limit = limit; depth = depth; call = call }) (λ A r r'. RunsAlike r)
-alike_related g limit depth call h = record {
+    → Related (record { setting = g; variables = variables; limit = limit; depth = depth; call = call })
+    (record { setting = g; variables = variables; limit = limit; depth = depth; call = call }) (λ A r r'. RunsAlike r)
+alike_related g variables limit depth call h = record {
   on = alike_on;
   action = alike_action;
   turn = alike_turn limit;
@@ -102,5 +105,13 @@ alike_calls functions g limit zero f vs line = alike_pause
 alike_calls functions g limit (suc n) f vs line =
     found_related g [] limit limit (suc n) (suc n) (calls functions g limit n) (calls functions g limit n)
     (λ A r r'. RunsAlike r)
-    (alike_related g limit (suc n) (calls functions g limit n) (alike_calls functions g limit n))
+    (alike_related g [] limit (suc n) (calls functions g limit n) (alike_calls functions g limit n))
     (function_at functions f) vs line
+
+-- the statements of a body
+pub alike_body : (functions : List Function) (g : Setting) (limit n : ℕ) (variables : List Variable)
+    (body : Statements) → RunsAlike (in_order (each_of (env_of functions g limit n variables) body))
+alike_body functions g limit n variables body =
+    row_related g variables limit limit (suc n) (suc n) (calls functions g limit n) (calls functions g limit n)
+    (λ A r r'. RunsAlike r)
+    (alike_related g variables limit (suc n) (calls functions g limit n) (alike_calls functions g limit n)) body

@@ -248,15 +248,20 @@ module _ (env : Env) (y : ℕ) (call_stays : (f : ℕ) (vs : List Rvalue) (line 
 -- a call gives the caller its variables back
 
 module _ (y : ℕ) (result : Kind) (s : State) where
+  given_kept : (o : Outcome Rvalue) → KeptBy y s (on o (λ v. change (back_to (caller s)) >> done v))
+  given_kept (Gives v s') = record { plain = refl; frame = refl }
+  given_kept (Ended e s') = tt
+  given_kept (Paused s') = tt
+
   back_kept : (o : Outcome Completion)
-      → KeptBy y s (on o (λ completion. change (back_to (caller s)) >> done (returned_by result completion)))
-  back_kept (Gives completion s') = record { plain = refl; frame = refl }
+      → KeptBy y s (on o (λ completion. returned_by result completion >>= (λ v. change (back_to (caller s)) >> done v)))
+  back_kept (Gives completion s') = given_kept (returned_by result completion s')
   back_kept (Ended e s') = tt
   back_kept (Paused s') = tt
 
   entered_kept : (o : Outcome (Unit {0})) (r : Run Completion)
       → KeptBy y s (on o (λ _. r >>=
-      (λ completion. change (back_to (caller s)) >> done (returned_by result completion))))
+      (λ completion. returned_by result completion >>= (λ v. change (back_to (caller s)) >> done v))))
   entered_kept (Gives a s') r = back_kept (r s')
   entered_kept (Ended e s') r = tt
   entered_kept (Paused s') r = tt

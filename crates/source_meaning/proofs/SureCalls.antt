@@ -8,7 +8,7 @@ use Rattle.std.proofs.lemmas.Bool.{leb-true}
 use Rattle.sb_base.specs.declared.ending.Ending.TheVariants.{Stack, Keys}
 use Rattle.obj_memory.specs.declared.value.Value.{Value}
 use Rattle.obj_memory.specs.Objects.{Objects, pointer_to}
-use Rattle.obj_memory.specs.Sound.{IsSound, Continues, AreDisjoint}
+use Rattle.obj_memory.specs.Sound.{IsSound, AreDisjoint}
 use Rattle.obj_memory.proofs.Judging.{sound_pointer}
 use Rattle.c_tree.specs.declared.expression.Kind.{Kind}
 use Rattle.c_tree.specs.declared.program.Variable.{Variable}
@@ -23,6 +23,7 @@ use Rattle.addr_map.specs.Places.{MapSizes, AreMapped}
 use Rattle.c_tree.specs.Valid.{Scope}
 use Rattle.source_meaning.specs.Places.{stack_end}
 use Rattle.source_meaning.specs.Actions.{integer, home_value, take_key}
+use Rattle.source_meaning.specs.Structures.{contents_size, make_zero}
 use Rattle.source_meaning.specs.Expressions.{counted}
 use Rattle.source_meaning.specs.Statements.{in_order, each_of}
 use Rattle.source_meaning.specs.Calls.{header_of, body_objects, call_tests, parameter_values, plain_values, plain_count}
@@ -255,14 +256,6 @@ module _ (u : ProgramNames) (f : Function) (names : FunctionNames u f) (g : Sett
 
     -- the return
 
-    returned_is : (result : Kind) (completion : Completion) (old new : Objects) → Continues old new
-        → CompletionIs (length u.functions) result completion old
-        → ArgumentIs (length u.functions) result (returned_by result completion) new
-    returned_is result Normal old new c h = zero_argument _ result new
-    returned_is result Broken old new c h = zero_argument _ result new
-    returned_is result Continued old new c h = zero_argument _ result new
-    returned_is result (Returned v) old new c h = argument_on _ result v old new c h
-
     abbrev given : Kind
     given = (signature_in u.types f.type_number).result
 
@@ -309,15 +302,33 @@ module _ (u : ProgramNames) (f : Function) (names : FunctionNames u f) (g : Sett
         (subst (λ x. EndsBut s.objects s2.objects x) (sym h.frame)
         (ends_but_then s.objects s1.objects s2.objects s1.frame up.ends h.lives.continues h.ended))
 
+    -- where 0 is made, which is work
+    zero_back : (s : State) → IsGood outer s → (s1 s2 : State) → IsSetUp inner s.objects s1 → Leaves inner s1 s2
+        → After outer s (ArgumentIs (length u.functions) given)
+        (on (make_zero given s2) (λ v. change (back_to (caller s)) >> done v))
+    zero_back s good s1 s2 up h =
+        let s3 : State = record s2 { work = s2.work + contents_size given } in (
+          left_good s good s1 s3 up (record { good = h.good; lives = h.lives; frame = h.frame; ended = h.ended }),
+          zero_argument _ given (without_homes s2.frame s2.objects),
+        )
+
+    given_back : (s : State) → IsGood outer s → (s1 s2 : State) → IsSetUp inner s.objects s1 → (completion : Completion)
+        → Leaves inner s1 s2 → CompletionIs (length u.functions) given completion s2.objects
+        → After outer s (ArgumentIs (length u.functions) given)
+        (on (returned_by given completion s2) (λ v. change (back_to (caller s)) >> done v))
+    given_back s good s1 s2 up Normal h is = zero_back s good s1 s2 up h
+    given_back s good s1 s2 up Broken h is = zero_back s good s1 s2 up h
+    given_back s good s1 s2 up Continued h is = zero_back s good s1 s2 up h
+    given_back s good s1 s2 up (Returned v) h is = (
+      left_good s good s1 s2 up h,
+      argument_on _ given v s2.objects (without_homes s2.frame s2.objects) (continues_without s2.frame s2.objects) is,
+    )
+
     returns_by : (s : State) → IsGood outer s → (s1 : State) → IsSetUp inner s.objects s1 → (o : Outcome Completion)
         → After inner s1 (CompletionIs (length u.functions) given) o
         → After outer s (ArgumentIs (length u.functions) given)
-        (on o (λ completion. change (back_to (caller s)) >> done (returned_by given completion)))
-    returns_by s good s1 up (Gives completion s2) h = (
-      left_good s good s1 s2 up h.0,
-      returned_is given completion s2.objects (without_homes s2.frame s2.objects)
-          (continues_without s2.frame s2.objects) h.1,
-    )
+        (on o (λ completion. returned_by given completion >>= (λ v. change (back_to (caller s)) >> done v)))
+    returns_by s good s1 up (Gives completion s2) h = given_back s good s1 s2 up completion h.0 h.1
     returns_by s good s1 up (Ended e s2) h = stops_then s.objects s1.objects s2 up.lives h
     returns_by s good s1 up (Paused s2) h = stops_then s.objects s1.objects s2 up.lives h
 
@@ -328,7 +339,7 @@ module _ (u : ProgramNames) (f : Function) (names : FunctionNames u f) (g : Sett
       runs_by : (s : State) → IsGood outer s → (o : Outcome (Unit {0})) → SetsUpBy inner s.objects o
           → After outer s (ArgumentIs (length u.functions) given)
           (on o (λ _. counted (in_order (each_of here f.body))
-          >>= (λ completion. change (back_to (caller s)) >> done (returned_by given completion))))
+          >>= (λ completion. returned_by given completion >>= (λ v. change (back_to (caller s)) >> done v))))
       runs_by s good (Gives a s1) h =
           returns_by s good s1 h (counted (in_order (each_of here f.body)) s1)
           ((sure_counted (row_sure i (f.parameters ++ body_variables f) f.body names.body)).by s1 h.good tt)
@@ -350,7 +361,7 @@ module _ (u : ProgramNames) (f : Function) (names : FunctionNames u f) (env : En
       subst (λ k. After calling s (ArgumentIs (length u.functions) (signature_in u.types f.type_number).result)
       (on (set_up env.setting (header_of f) vs line s)
       (λ _. counted (in_order (each_of (record env { variables = all_of f }) f.body))
-      >>= (λ completion. change (back_to (caller s)) >> done (returned_by k completion))))) (sym gives)
+      >>= (λ completion. returned_by k completion >>= (λ v. change (back_to (caller s)) >> done v))))) (sym gives)
       (runs_by u f names env.setting sizes i.at i.mapped around vs line env i s good
       (set_up env.setting (header_of f) vs line s)
       (set_up_by u f names env.setting sizes i.at i.mapped around vs line s good args))

@@ -11,7 +11,7 @@ use Rattle.c_tree.specs.Blocks.{all_of, body_variables}
 use Rattle.source_meaning.specs.State.{State, Rvalue, Home, NoObject, InObject, Run, ◌>>=◌, ◌>>◌, done, stop, pause}
 use Rattle.source_meaning.specs.State.{read_state, change, skip, tally, Header, Setting, Env}
 use Rattle.source_meaning.specs.Actions.{integer, begin_turn, home_value}
-use Rattle.source_meaning.specs.Structures.{rvalue, write_rvalue, zero_of}
+use Rattle.source_meaning.specs.Structures.{rvalue, write_rvalue, make_zero}
 use Rattle.source_meaning.specs.Expressions.{counted}
 use Rattle.source_meaning.specs.Statements.{Completion, Normal, Broken, Continued, Returned, in_order, each_of}
 use Rattle.source_meaning.specs.Blocks.{pass_or_stop, test_space, test_keys, place_variables, without_homes}
@@ -129,12 +129,12 @@ back_to c s = record s {
   stacked = c.stacked;
 }
 
--- a function that reaches its end gives 0 with no tag
-abbrev pub returned_by : (result : Kind) → Completion → Rvalue
-returned_by result Normal = zero_of result
-returned_by result Broken = zero_of result
-returned_by result Continued = zero_of result
-returned_by result (Returned v) = v
+-- a function that reaches its end gives 0 with no tag, which is made there
+abbrev pub returned_by : (result : Kind) → Completion → Run Rvalue
+returned_by result Normal = make_zero result
+returned_by result Broken = make_zero result
+returned_by result Continued = make_zero result
+returned_by result (Returned v) = done v
 
 -- what the functions of a type give
 abbrev pub result_of : Setting → (type_number : ℕ) → Kind
@@ -146,8 +146,9 @@ enter_begun env f vs line = do
   c ← read_state caller
   set_up env.setting (header_of f) vs line
   completion ← counted (in_order (each_of env f.body))
+  v ← returned_by (result_of env.setting f.type_number) completion
   change (back_to c)
-  done (returned_by (result_of env.setting f.type_number) completion)
+  done v
 
 abbrev pub enter : Env → Function → (arguments : List Rvalue) → (line : ℕ) → Run Rvalue
 enter env f vs line = do

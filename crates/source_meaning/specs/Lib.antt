@@ -20,4 +20,5 @@ pub mod Keeping
 pub mod Good
 pub mod Judging
 pub mod Staying
+pub mod Working
 pub mod Constants

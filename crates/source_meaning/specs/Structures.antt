@@ -119,3 +119,14 @@ zero_of Void = rvalue (integer 0)
 zero_of (OfScalar k) = rvalue (integer 0)
 zero_of (Structure n) = record { value = integer 0; contents = Some (new_object Automatic 0 n) }
 zero_of (Array n) = rvalue (integer 0)
+
+-- the bytes that a value of a kind has as its contents
+abbrev pub contents_size : Kind → ℕ
+contents_size (Structure n) = n
+contents_size _ = 0
+
+-- 0 of a kind is made; each byte of a structure is work, as where one is taken
+abbrev pub make_zero : Kind → Run Rvalue
+make_zero kind = do
+  tally (contents_size kind)
+  done (zero_of kind)

@@ -15,8 +15,8 @@ ghost use Rattle.obj_memory.specs.declared.value.Scalar.{Scalar};
 ghost use Rattle.obj_memory.specs.declared.value.Place.{Place};
 ghost use Rattle.obj_memory.specs.Sound.{Continues, IsAllowed, IsSoundTag};
 ghost use Rattle.c_tree.specs.declared.expression.Kind.{Kind};
-ghost use Rattle.c_tree.specs.declared.expression.Kind.TheVariants.{Scalar as OfScalar};
-ghost use Rattle.c_tree.specs.Kinds.{routine_signature};
+ghost use Rattle.c_tree.specs.declared.expression.Kind.TheVariants.{Scalar as OfScalar, Structure};
+ghost use Rattle.c_tree.specs.Kinds.{routine_signature, size_of_kind};
 ghost use Rattle.obj_memory.specs.declared.int_type.IntType.TheVariants.{Int};
 ghost use Rattle.obj_memory.specs.declared.value.Scalar.TheVariants.{Integer};
 ghost use Rattle.c_tree.specs.declared.expression.Update.{Update};
@@ -30,7 +30,8 @@ ghost use Rattle.source_meaning.specs.State.{Env, State, Rvalue, Gives, Run, Hea
 ghost use Rattle.source_meaning.specs.Actions.{located, read_lvalue, write_lvalue, read_scalar, write_scalar, updated};
 ghost use Rattle.source_meaning.specs.Actions.{update, update_plain, set_plain, move_bytes, make_object, put_bytes};
 ghost use Rattle.source_meaning.specs.Actions.{take_key, each_value, operate, load, store};
-ghost use Rattle.source_meaning.specs.Structures.{moved_into, put_range, read_rvalue, take_value, write_rvalue};
+ghost use Rattle.source_meaning.specs.Structures.{make_zero, moved_into, put_range, read_rvalue, take_value};
+ghost use Rattle.source_meaning.specs.Structures.{write_rvalue};
 ghost use Rattle.obj_memory.specs.Objects.{ObjectState, Objects, object_at};
 ghost use Rattle.obj_memory.specs.Access.{move_range};
 ghost use Rattle.obj_memory.specs.Integers.{fit};
@@ -43,7 +44,7 @@ ghost use Rattle.source_meaning.specs.Expressions.{callee, evaluate, place, valu
 ghost use Rattle.source_meaning.specs.Initializers.{zero_variable, store_bytes};
 ghost use Rattle.source_meaning.specs.Library.{routine};
 ghost use Rattle.source_meaning.specs.Printing.{print_formatted};
-ghost use Rattle.source_meaning.specs.Blocks.{Block, enter_block, leave_block};
+ghost use Rattle.source_meaning.specs.Blocks.{Block, enter_block, has_objects, leave_block};
 ghost use Rattle.source_meaning.specs.Calls.{Caller, back_to, caller, calls, env_of, function_at, header_of, set_up};
 ghost use Rattle.source_meaning.specs.Meaning.{meaning, outcome, initial_objects, setting_of, start};
 ghost use Rattle.source_meaning.specs.Acting.{IsAction, RunsAlike, state_of};
@@ -61,9 +62,10 @@ ghost use Rattle.source_meaning.specs.Good.{EntersBy, IsEntered, Leaves, Any, Ar
 ghost use Rattle.source_meaning.specs.Good.{Calling, CompletionIs, Context, context_of, file_scope, function_count};
 ghost use Rattle.source_meaning.specs.Good.{Inside, IsGood, LvalueIs, signature_in, Sure, ValueIs, program_context};
 ghost use Rattle.source_meaning.specs.Good.{SetsUpBy, IsSetUp, AreGiven, Basis, IsGiven, IsTagged, on_pointer};
-ghost use Rattle.source_meaning.specs.Good.{plain_type, PlaceIs, Updates, IsOfKind};
+ghost use Rattle.source_meaning.specs.Good.{plain_type, PlaceIs, Updates, IsOfKind, object_kind};
 ghost use Rattle.source_meaning.specs.Judging.{tested};
 ghost use Rattle.source_meaning.specs.Keeping.{AreTagged, IsDirect, IsSoundState};
+ghost use Rattle.source_meaning.specs.Working.{Counts, CountsAtOnce, CountsBy, HaveBytes};
 
 /// More turns show more of the same: what is shown never shrinks, no work and no turn is taken back, and
 /// a run that ended stays as it is.
@@ -115,6 +117,7 @@ pub fn accesses_are_actions()
     ensures write_rvalue { (kind : Kind) (j : Bool) (p : Value) (line : ℕ) (v : Rvalue)
         → IsAction (write_rvalue kind j p line v) }
     ensures taken { (kind : Kind) (line : ℕ) (v : Rvalue) → IsAction (take_value kind line v) }
+    ensures made { (kind : Kind) → IsAction (make_zero kind) }
     ensures updated { (u : Update) (k : Scalar) (right : Value) (line : ℕ) (old : Value)
         → IsAction (updated u k right line old) }
     ensures update { (u : Update) (k : Scalar) (j : Bool) (p : Value) (line : ℕ) (right : Value) (at : ℕ) (f : Fixity)
@@ -149,6 +152,20 @@ pub fn routines_and_calls_are_actions()
 pub fn calls_do_the_same_at_any_work()
     ensures { (functions : List Function) (g : Setting) (limit n f : ℕ) (vs : List Rvalue) (line : ℕ)
         → RunsAlike (calls functions g limit n f vs line) }
+{}
+
+/// Objects that are laid out, taken or zeroed are counted: a block with objects, each of which has a byte, counts at
+/// least two units, a structure that is taken its bytes, and so does a variable that is zeroed. A call counts itself at
+/// once, and its body where it returns.
+pub fn objects_and_calls_are_counted()
+    ensures enter { (g : Setting) (vs : List Variable) (line : ℕ) → HaveBytes vs → has_objects vs ≡ true
+        → Counts 2 (enter_block g vs line) }
+    ensures taken { (size line : ℕ) (v : Rvalue) → Counts size (take_value (Structure size) line v) }
+    ensures zero { (sc : Context) (x : ℕ) (kind : Kind) → object_kind sc.scope.variables x ≡ Some kind → (s : State)
+        → IsGood sc s → CountsBy (size_of_kind kind) s (zero_variable x s) }
+    ensures set_up { (g : Setting) (f : Header) (vs : List Rvalue) (line : ℕ) → CountsAtOnce 1 (set_up g f vs line) }
+    ensures call { (functions : List Function) (g : Setting) (limit n f : ℕ) (vs : List Rvalue) (line : ℕ)
+        → Counts 2 (calls functions g limit n f vs line) }
 {}
 
 /// From a good state every expression, lvalue and list of arguments of a valid program comes to good states with a
@@ -247,6 +264,7 @@ pub fn objects_die_where_they_are_freed()
     ensures write_rvalue { (kind : Kind) (j : Bool) (p : Value) (line : ℕ) (v : Rvalue)
         → KeepsLives (write_rvalue kind j p line v) }
     ensures taken { (kind : Kind) (line : ℕ) (v : Rvalue) → KeepsLives (take_value kind line v) }
+    ensures made { (kind : Kind) → KeepsLives (make_zero kind) }
     ensures updated { (u : Update) (k : Scalar) (right : Value) (line : ℕ) (old : Value)
         → KeepsLives (updated u k right line old) }
     ensures update { (u : Update) (k : Scalar) (j : Bool) (p : Value) (line : ℕ) (right : Value) (at : ℕ) (f : Fixity)
@@ -286,6 +304,7 @@ pub fn variables_change_where_they_are_set()
     ensures write_rvalue { (kind : Kind) (j : Bool) (p : Value) (line : ℕ) (v : Rvalue)
         → Keeps (write_rvalue kind j p line v) }
     ensures taken { (kind : Kind) (line : ℕ) (v : Rvalue) → Keeps (take_value kind line v) }
+    ensures made { (kind : Kind) → Keeps (make_zero kind) }
     ensures updated { (u : Update) (k : Scalar) (right : Value) (line : ℕ) (old : Value)
         → Keeps (updated u k right line old) }
     ensures update { (u : Update) (k : Scalar) (j : Bool) (p : Value) (line : ℕ) (right : Value) (at : ℕ) (f : Fixity)

@@ -22,6 +22,7 @@ use Rattle.tac_ir.specs.declared.key.Key.{Key}
 use Rattle.tac_ir.specs.declared.function.CodeFunction.{CodeFunction}
 use Rattle.tac_ir.specs.declared.function.Tac.{Tac}
 use Rattle.tac_ir.specs.Stage.{Temps, Frame, Waits, Entered, Stage, Stands, came}
+use Rattle.tac_ir.specs.Costs.{handed_bytes, spent, heavier}
 use Rattle.tac_ir.specs.Keys.{gives}
 use Rattle.tac_ir.specs.Accesses.{can_check, only_if, admitted, moved_from}
 use Rattle.tac_ir.specs.Edges.{LeadsTo, GoesAlong}
@@ -73,8 +74,8 @@ module _ (i : Instruction) (u : ℕ) (frames : List Frame) where
       (called_at g c f vs line
       (Waits (record { function = u; node = m; place = d; caller = q; temps = temps }) ∷ frames) s)
   call_along g None f m d vs line q temps s h = record { by = tt }
-  call_along g (Some c) f m d vs line q temps s h = came_along (set_up g (header_of_code c) vs line (begun s)) _
-      (λ a s'. record { by = inr (inl (refl, h)) })
+  call_along g (Some c) f m d vs line q temps s h = came_along (heavier (set_up g (header_of_code c) vs line) (begun s))
+      _ (λ a s'. record { by = inr (inl (refl, h)) })
 
 given_along : (i : Instruction) (u : ℕ) (frames : List Frame) (v : Rvalue) (s : State)
     → GoesAlong i u frames (given_to frames v s)
@@ -157,4 +158,5 @@ act_along g t (CallThrough type_number line d n m) u temps frames s = came_along
 act_along g t (EnterBlock b line m) u temps frames s = came_along (EnterBlock b line m) u frames _
     (λ q z. Stands u m temps (Entered b q ∷ frames) z) (λ v z. record { by = inl (refl, inl refl) })
 act_along g t (LeaveBlock b m) u temps frames s = left_along (LeaveBlock b m) b u m temps frames s (inl refl)
-act_along g t (Return a) u temps frames s = given_along (Return a) u frames (temps a) s
+act_along g t (Return a) u temps frames s = given_along (Return a) u frames (temps a)
+    (spent (handed_bytes (temps a)) s)

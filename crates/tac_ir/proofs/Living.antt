@@ -16,6 +16,7 @@ use Rattle.source_meaning.specs.Blocks.{pass_or_stop}
 use Rattle.source_meaning.specs.Calls.{set_up}
 use Rattle.source_meaning.specs.Judging.{is_within, is_live_tag}
 use Rattle.source_meaning.specs.Acting.{state_of}
+use Rattle.tac_ir.specs.Costs.{fourfold, heavier}
 use Rattle.source_meaning.specs.Staying.{KeepsLives}
 use Rattle.source_meaning.proofs.Living.{lives_on, lives_then, lives_operate, lives_updated, lives_update}
 use Rattle.source_meaning.proofs.Living.{lives_take_value, lives_read_rvalue, lives_write_rvalue, lives_set_plain}
@@ -26,8 +27,9 @@ use Rattle.tac_ir.specs.declared.instruction.Mode.TheVariants.{Named, Unchecked,
 use Rattle.tac_ir.specs.declared.instruction.Test.{Test}
 use Rattle.tac_ir.specs.declared.instruction.Test.TheVariants.{Spatial, Temporal}
 use Rattle.tac_ir.specs.declared.instruction.Instruction.{Instruction}
-use Rattle.tac_ir.specs.declared.instruction.Instruction.TheVariants.{SetPlain, UpdatePlain, Binary, Take, Read, Write}
-use Rattle.tac_ir.specs.declared.instruction.Instruction.TheVariants.{Update, Judge, Zero, StorePart, StoreText, Turn}
+use Rattle.tac_ir.specs.declared.instruction.Instruction.TheVariants.{SetPlain, UpdatePlain, ZeroOf, Binary, Take, Read}
+use Rattle.tac_ir.specs.declared.instruction.Instruction.TheVariants.{Write, Update, Judge, Zero, StorePart, StoreText}
+use Rattle.tac_ir.specs.declared.instruction.Instruction.TheVariants.{Turn}
 use Rattle.tac_ir.specs.declared.instruction.Instruction.TheVariants.{Library, Print, Call, CallThrough, EnterBlock}
 use Rattle.tac_ir.specs.declared.instruction.Instruction.TheVariants.{LeaveBlock, Return, Reserved}
 use Rattle.tac_ir.specs.declared.key.Key.{Key}
@@ -94,6 +96,15 @@ moved_keeps (Array n) v objects s x h = h
 lives_as : {r : Run Value} → KeepsLives r → KeepsLives (as_rvalue r)
 lives_as h = lives_on h (λ v. record { live = λ s n l. l })
 
+heavier_lives : {A : Type 0} (from n : ℕ) (o : Outcome A) → (object_at (state_of o).objects n).is_live ≡ true
+    → (object_at (state_of (fourfold from o)).objects n).is_live ≡ true
+heavier_lives from n (Gives a s) h = h
+heavier_lives from n (Ended e s) h = h
+heavier_lives from n (Paused s) h = h
+
+lives_heavier : {A : Type 0} {r : Run A} → KeepsLives r → KeepsLives (heavier r)
+lives_heavier {r = r} h = record { live = λ s n l. heavier_lives s.work n (r s) (h.live s n l) }
+
 lives_pass : (b : Bool) (e : Ending) → KeepsLives (pass_or_stop b e)
 lives_pass true e = record { live = λ s n l. l }
 lives_pass false e = record { live = λ s n l. l }
@@ -108,8 +119,8 @@ called_keeps : (g : Setting) (c : Option CodeFunction) (f : ℕ) (vs : List Rval
 called_keeps g None f vs line frames s = record { by = tt }
 called_keeps g (Some c) f vs line frames s =
     later_keeps s (begun s) _ (λ o l. l)
-    (came_keeps (begun s) (set_up g (header_of_code c) vs line) _ (lives_set_up g (header_of_code c) vs line)
-    (λ _ z. stands_keeps))
+    (came_keeps (begun s) (heavier (set_up g (header_of_code c) vs line)) _
+    (lives_heavier (lives_set_up g (header_of_code c) vs line)) (λ _ z. stands_keeps))
 
 pub act_lives : (g : Setting) (t : Tac) (i : Instruction) (u : ℕ) (temps : Temps) (frames : List Frame) (s : State)
     → ends_lives i ≡ false → KeepsLivesAt s (act g t i u temps frames s)
@@ -120,12 +131,14 @@ act_lives g t (UpdatePlain w k f line d x right m) u temps frames s e =
     came_keeps s _ (given_in u m temps d frames)
     (lives_as (lives_update_plain x (updated w k (right_value right temps) line) f
     (lives_updated w k (right_value right temps) line))) (λ _ z. stands_keeps)
+act_lives g t (ZeroOf kind d m) u temps frames s e = record { by = λ o l. l }
 act_lives g t (Binary op ty line d a b m) u temps frames s e =
     came_keeps s _ (given_in u m temps d frames) (lives_as (lives_operate op ty (temps a).value (temps b).value line))
     (λ _ z. stands_keeps)
 act_lives g t (Take kind line d a m) u temps frames s e =
     moved_keeps kind (temps a) s.objects s _
-    (came_keeps s _ (given_in u m temps d frames) (lives_take_value kind line (temps a)) (λ _ z. stands_keeps))
+    (came_keeps s _ (given_in u m temps d frames) (lives_heavier (lives_take_value kind line (temps a)))
+    (λ _ z. stands_keeps))
 act_lives g t (Read kind mode line key d a m) u temps frames s e =
     keyed_keeps _ key s _ s _
     (admitted_keeps mode _ (temps a) s.objects s _
@@ -134,7 +147,7 @@ act_lives g t (Read kind mode line key d a m) u temps frames s e =
 act_lives g t (Write kind mode line key d a b m) u temps frames s e =
     keyed_keeps _ key s _ s _ (admitted_keeps mode _ (temps a) s.objects s _ (moved_keeps kind (temps b) s.objects s _
     (came_keeps s _ (given_in u m temps d frames)
-    (lives_write_rvalue kind (is_through mode) (temps a).value line (temps b)) (λ _ z. stands_keeps))))
+    (lives_heavier (lives_write_rvalue kind (is_through mode) (temps a).value line (temps b))) (λ _ z. stands_keeps))))
 act_lives g t (Update w k f mode line at key d a right m) u temps frames s e =
     keyed_keeps _ key s _ s _ (admitted_keeps mode _ (temps a) s.objects s _
     (came_keeps s _ (given_in u m temps d frames)
@@ -146,20 +159,21 @@ act_lives g t (Judge of size line key a m) u temps frames s e =
     (came_keeps s _ (λ _ z. Stands u m temps frames z) (lives_check of size (temps a).value line)
     (λ _ z. stands_keeps)))
 act_lives g t (Zero x m) u temps frames s e = only_keeps s _ _
-    (came_keeps s _ (λ _ z. Stands u m temps frames z) (lives_zero_variable x) (λ _ z. stands_keeps))
+    (came_keeps s _ (λ _ z. Stands u m temps frames z) (lives_heavier (lives_zero_variable x)) (λ _ z. stands_keeps))
 act_lives g t (StorePart kind line x offset a m) u temps frames s e =
     only_keeps s _ _ (moved_keeps kind (temps a) s.objects s _
     (came_keeps s _ (λ _ z. Stands u m temps frames z)
-    (lives_write_rvalue kind false (part_pointer x offset (size_of_kind kind) s) line (temps a))
+    (lives_heavier (lives_write_rvalue kind false (part_pointer x offset (size_of_kind kind) s) line (temps a)))
     (λ _ z. stands_keeps)))
 act_lives g t (StoreText n x offset m) u temps frames s e =
     only_keeps s _ _ (came_keeps s _ (λ _ z. Stands u m temps frames z)
-    (lives_then {r = tally (length (text_in t n))} (record { live = λ s n l. l })
-    (lives_store_bytes (home_pointer x s) offset (text_in t n))) (λ _ z. stands_keeps))
+    (lives_heavier (lives_then {r = tally (length (text_in t n))} (record { live = λ s n l. l })
+    (lives_store_bytes (home_pointer x s) offset (text_in t n)))) (λ _ z. stands_keeps))
 act_lives g t (Library r line d n m) u temps frames s e = came_keeps s _ (given_in u m temps d frames)
-    (lives_as (lives_routine g r (values_of (gathered temps d n)) line e)) (λ _ z. stands_keeps)
+    (lives_heavier (lives_as (lives_routine g r (values_of (gathered temps d n)) line e))) (λ _ z. stands_keeps)
 act_lives g t (Print x line d n m) u temps frames s e = came_keeps s _ (given_in u m temps d frames)
-    (lives_as (lives_print (text_in t x) (values_of (gathered temps d n)) line)) (λ _ z. stands_keeps)
+    (lives_heavier (lives_as (lives_print (text_in t x) (values_of (gathered temps d n)) line)))
+    (λ _ z. stands_keeps)
 act_lives g t (Call f line d n m) u temps frames s e = called_keeps g (function_in t f) f _ line _ s
 act_lives g t (CallThrough type_number line d n m) u temps frames s e =
     came_keeps s (callee g.functions type_number (temps d).value line) _
@@ -167,7 +181,7 @@ act_lives g t (CallThrough type_number line d n m) u temps frames s e =
     (λ f z. called_keeps g (function_in t f) f _ line _ z)
 act_lives g t (EnterBlock b line m) u temps frames s e =
     came_keeps s _ (λ q z. Stands u m temps (Entered b q ∷ frames) z)
-    (lives_enter_block g (objects_in (function_in t u) b) line) (λ _ z. stands_keeps)
+    (lives_heavier (lives_enter_block g (objects_in (function_in t u) b) line)) (λ _ z. stands_keeps)
 act_lives g t (Turn counted m) u temps frames s e = record { by = λ o l. l }
 act_lives g t (LeaveBlock b m) u temps frames s e = cc
 act_lives g t (Return a) u temps frames s e = cc

@@ -1,5 +1,6 @@
 -- A step begins at most one turn, and code that follows a source is never stuck.
-use Rattle.std.proofs.Common.{◌≡◌, ℕ, ◌+◌, ◌≤◌, List, [], ◌∷◌, length, Option, Some, None, Bool, true, false, refl, ap}
+use Rattle.std.proofs.Common.{◌≡◌, ℕ, ◌+◌, ◌-◌, ◌*◌, ◌≤◌, List, [], ◌∷◌, length, Option, Some, None, Bool, true, false}
+use Rattle.std.proofs.Common.{refl, ap, ◌∙◌}
 use Rattle.std.proofs.Common.{arith}
 use Rattle.std.specs.Prelude.{◌==◌, slice_get, get_or}
 use Rattle.behaviours.specs.Shown.{End}
@@ -23,7 +24,7 @@ use Rattle.sb_base.specs.declared.ending.Ending.{Ending}
 use Rattle.sb_base.specs.declared.ending.Ending.TheVariants as ending
 use Rattle.source_meaning.specs.Calls.{set_up}
 use Rattle.source_meaning.specs.Judging.{is_within}
-use Rattle.source_meaning.specs.Acting.{at_work, ActsBy, IsAction}
+use Rattle.source_meaning.specs.Acting.{at_work, Advances, ActsBy, IsAction}
 use Rattle.source_meaning.proofs.Acting.{acts_then, acts_on, acts_done, acts_skip, acts_stop, acts_read, acts_tally}
 use Rattle.source_meaning.proofs.ActionsAct.{acts_update_plain, acts_operate, acts_updated, acts_update}
 use Rattle.source_meaning.proofs.ActionsAct.{acts_take_value, acts_read_rvalue, acts_write_rvalue, acts_callee}
@@ -34,8 +35,8 @@ use Rattle.tac_ir.specs.declared.instruction.Mode.TheVariants.{Named, Unchecked,
 use Rattle.tac_ir.specs.declared.instruction.Test.{Test}
 use Rattle.tac_ir.specs.declared.instruction.Test.TheVariants.{Spatial, Temporal}
 use Rattle.tac_ir.specs.declared.instruction.Instruction.{Instruction}
-use Rattle.tac_ir.specs.declared.instruction.Instruction.TheVariants.{SetPlain, UpdatePlain, Binary, Take, Read, Write}
-use Rattle.tac_ir.specs.declared.instruction.Instruction.TheVariants.{Update, Judge, Zero, StorePart, StoreText}
+use Rattle.tac_ir.specs.declared.instruction.Instruction.TheVariants.{SetPlain, UpdatePlain, Binary, Take, Read}
+use Rattle.tac_ir.specs.declared.instruction.Instruction.TheVariants.{Write, Update, Judge, Zero, StorePart, StoreText}
 use Rattle.tac_ir.specs.declared.instruction.Instruction.TheVariants.{Library, Print, Call, CallThrough, EnterBlock}
 use Rattle.tac_ir.specs.declared.instruction.Instruction.TheVariants.{LeaveBlock, Return}
 use Rattle.tac_ir.specs.declared.key.Key.{Key}
@@ -43,8 +44,8 @@ use Rattle.tac_ir.specs.declared.function.CodeFunction.{CodeFunction}
 use Rattle.tac_ir.specs.declared.function.Tac.{Tac}
 use Rattle.tac_ir.specs.Stage.{Temps, gathered, Frame, Waits, Entered, Stage, Begins, Stands, Over, Stuck, came, seen}
 use Rattle.tac_ir.specs.Keys.{gives}
-use Rattle.tac_ir.specs.Accesses.{can_check, only_if, is_live_at, is_there, is_place, admitted, moved_from, is_home, is_through}
-use Rattle.tac_ir.specs.Costs.{cost, spent}
+use Rattle.tac_ir.specs.Accesses.{only_if, can_check, is_live_at, is_there, is_place, admitted, moved_from, is_home, is_through}
+use Rattle.tac_ir.specs.Costs.{cost, first_call, handed_bytes, spent, fourfold, heavier}
 use Rattle.tac_ir.specs.Meaning.{objects_in, function_in, text_in, keyed_by, keyed, right_value, part_pointer, check}
 use Rattle.tac_ir.specs.Meaning.{header_of_code, setting_of_code, given_to, left_for, called_at, called, act, act_at}
 use Rattle.tac_ir.specs.Meaning.{at_node, step, first_stage, tac_meaning}
@@ -103,6 +104,48 @@ left_within b n u m temps (Entered k q ∷ frames) s le = only_within b (k == n)
 pub acts_as : {r : Run Value} → IsAction r → IsAction (as_rvalue r)
 acts_as h = acts_on h (λ v. acts_done)
 
+spent_by : (k k' more : ℕ) (s s' : State) → Advances k k' s s'
+    → Advances k (k' + more) s (record s' { work = s'.work + more })
+spent_by k k' more s s' e = record {
+  work = omega (arith, e.work);
+  turns = e.turns;
+  later = record {
+    output = e.later.output;
+    accesses = e.later.accesses;
+    taken = e.later.taken;
+    work = omega (arith, e.later.work);
+    turns = e.later.turns;
+    keys = e.later.keys;
+    objects = e.later.objects;
+  };
+}
+
+-- the code counts as much more as the source would
+more_is_same : (k k' : ℕ) (s s' : State) → Advances k k' s s' → 3 * (k' - k) ≡ 3 * (s'.work - s.work)
+more_is_same k k' s s' e = omega (arith, e.work, e.later.work)
+
+heavier_by : {A : Type 0} (s : State) (k : ℕ) (o o' : Outcome A) → ActsBy k s o o'
+    → ActsBy k s (fourfold s.work o) (fourfold k o')
+heavier_by s k (Gives a s') o' h =
+    let more = 3 * (s'.work - s.work) in (
+      h.0 + more,
+      ap (fourfold k) h.1
+          ∙ ap (λ n. Gives a (record s' { work = h.0 + n })) (more_is_same k h.0 s s' h.2),
+      spent_by k h.0 more s s' h.2,
+    )
+heavier_by s k (Ended e s') o' h =
+    let more = 3 * (s'.work - s.work) in (
+      h.0 + more,
+      ap (fourfold k) h.1
+          ∙ ap (λ n. Ended e (record s' { work = h.0 + n })) (more_is_same k h.0 s s' h.2),
+      spent_by k h.0 more s s' h.2,
+    )
+heavier_by s k (Paused s') o' h = absurd h
+
+-- a run that counts more is an action too
+pub acts_heavier : {A : Type 0} {r : Run A} → IsAction r → IsAction (heavier r)
+acts_heavier {r = r} h = record { acts = λ s k. heavier_by s k (r s) (r (at_work k s)) (h.acts s k) }
+
 pub acts_pass_or_stop : (b : Bool) (e : Ending) → IsAction (pass_or_stop b e)
 acts_pass_or_stop true e = acts_skip
 acts_pass_or_stop false e = acts_stop
@@ -116,8 +159,8 @@ module _ (g : Setting) (t : Tac) where
   called_within : (b : ℕ) (c : Option CodeFunction) (f : ℕ) (vs : List Rvalue) (line : ℕ) (frames : List Frame)
       (s : State) → s.turns + 1 ≤ b → Within b (called_at g c f vs line frames s)
   called_within b None f vs line frames s le = omega arith
-  called_within b (Some c) f vs line frames s le = run_within b (set_up g (header_of_code c) vs line) _ _
-      (acts_set_up g (header_of_code c) vs line) le (λ a s' le'. le')
+  called_within b (Some c) f vs line frames s le = run_within b (heavier (set_up g (header_of_code c) vs line)) _ _
+      (acts_heavier (acts_set_up g (header_of_code c) vs line)) le (λ a s' le'. le')
 
   through_within : (b : ℕ) (s : State) (vs : List Rvalue) (line : ℕ) (frames : List Frame) (o o' : Outcome ℕ)
       → ActsBy 0 s o o' → s.turns + 1 ≤ b → Within b (came o (λ f s'. called g t f vs line frames s'))
@@ -138,15 +181,15 @@ module _ (g : Setting) (t : Tac) where
       (λ v s' le. le)
   act_within (Take kind line d a m) u temps frames s =
       moved_within _ kind (temps a) s.objects _
-      (run_within _ _ _ s (acts_take_value kind line (temps a)) (omega arith) (λ v s' le. le))
+      (run_within _ _ _ s (acts_heavier (acts_take_value kind line (temps a))) (omega arith) (λ v s' le. le))
   act_within (Read kind mode line key d a m) u temps frames s =
       keyed_within _ _ key s (temps a).value _ (admitted_within _ mode (size_of_kind kind) (temps a) s.objects _
       (run_within _ _ _ s (acts_read_rvalue kind (is_through mode) (temps a) line) (omega arith) (λ v s' le. le)))
   act_within (Write kind mode line key d a b m) u temps frames s =
       keyed_within _ _ key s (temps a).value _
       (admitted_within _ mode (size_of_kind kind) (temps a) s.objects _ (moved_within _ kind (temps b) s.objects _
-      (run_within _ _ _ s (acts_write_rvalue kind (is_through mode) (temps a).value line (temps b)) (omega arith)
-      (λ v s' le. le))))
+      (run_within _ _ _ s (acts_heavier (acts_write_rvalue kind (is_through mode) (temps a).value line (temps b)))
+      (omega arith) (λ v s' le. le))))
   act_within (Update w k f mode line at key d a right m) u temps frames s =
       keyed_within _ _ key s (temps a).value _ (admitted_within _ mode (scalar_size k) (temps a) s.objects _
       (run_within _ _ _ s (acts_as
@@ -157,31 +200,36 @@ module _ (g : Setting) (t : Tac) where
       (run_within _ _ _ s (acts_check test size (temps a).value line) (omega arith) (λ v s' le. le)))
   act_within (Zero x m) u temps frames s =
       only_within _ (is_home (get_or s.frame x NoObject) s.objects) _
-      (run_within _ (zero_variable x) _ s (acts_zero_variable x) (omega arith) (λ v s' le. le))
+      (run_within _ (heavier (zero_variable x)) _ s (acts_heavier (acts_zero_variable x)) (omega arith)
+      (λ v s' le. le))
   act_within (StorePart kind line x offset a m) u temps frames s =
       only_within _ (is_live_at (size_of_kind kind) (part_pointer x offset (size_of_kind kind) s) s.objects) _
       (moved_within _ kind (temps a) s.objects _
-      (run_within _ _ _ s (acts_write_rvalue kind false (part_pointer x offset (size_of_kind kind) s) line (temps a))
+      (run_within _ _ _ s (acts_heavier
+      (acts_write_rvalue kind false (part_pointer x offset (size_of_kind kind) s) line (temps a)))
       (omega arith) (λ v s' le. le)))
   act_within (StoreText n x offset m) u temps frames s =
       only_within _ (is_live_at (offset + length (text_in t n)) (home_pointer x s) s.objects) _
-      (run_within _ _ _ s (acts_then (acts_tally _) (acts_store_bytes (home_pointer x s) offset (text_in t n)))
-      (omega arith) (λ v s' le. le))
+      (run_within _ _ _ s (acts_heavier
+      (acts_then (acts_tally _) (acts_store_bytes (home_pointer x s) offset (text_in t n)))) (omega arith)
+      (λ v s' le. le))
   act_within (Library r line d n m) u temps frames s =
-      run_within _ _ _ s (acts_as (acts_routine g r (values_of (gathered temps d n)) line)) (omega arith)
-      (λ v s' le. le)
+      run_within _ _ _ s (acts_heavier (acts_as (acts_routine g r (values_of (gathered temps d n)) line)))
+      (omega arith) (λ v s' le. le)
   act_within (Print x line d n m) u temps frames s =
-      run_within _ _ _ s (acts_as (acts_print (text_in t x) (values_of (gathered temps d n)) line)) (omega arith)
-      (λ v s' le. le)
+      run_within _ _ _ s (acts_heavier (acts_as (acts_print (text_in t x) (values_of (gathered temps d n)) line)))
+      (omega arith) (λ v s' le. le)
   act_within (Call f line d n m) u temps frames s = called_within (s.turns + 1) (function_in t f) f _ line _ s
       (omega arith)
   act_within (CallThrough type_number line d n m) u temps frames s =
       through_within (s.turns + 1) s _ line _ (callee g.functions type_number (temps d).value line s) _
       ((acts_callee g.functions type_number (temps d).value line).acts s 0) (omega arith)
   act_within (EnterBlock b line m) u temps frames s =
-      run_within _ _ _ s (acts_enter_block g (objects_in (function_in t u) b) line) (omega arith) (λ v s' le. le)
+      run_within _ _ _ s (acts_heavier (acts_enter_block g (objects_in (function_in t u) b) line)) (omega arith)
+      (λ v s' le. le)
   act_within (LeaveBlock b m) u temps frames s = left_within (s.turns + 1) b u m temps frames s (omega arith)
-  act_within (Return a) u temps frames s = given_within (s.turns + 1) frames (temps a) s (omega arith)
+  act_within (Return a) u temps frames s = given_within (s.turns + 1) frames (temps a)
+      (spent (handed_bytes (temps a)) s) (omega arith)
   act_within i u temps frames s = omega arith
 
   act_at_within : (oi : Option Instruction) (u : ℕ) (temps : Temps) (frames : List Frame) (s : State)
@@ -190,7 +238,8 @@ module _ (g : Setting) (t : Tac) where
   act_at_within (Some i) u temps frames s = act_within i u temps frames (spent (cost i) s)
 
   step_turns : (x : Stage) → (seen (step g t x)).turns ≤ (seen x).turns + 1
-  step_turns (Begins s) = called_within (s.turns + 1) (function_in t t.main) t.main [] _ [] s (omega arith)
+  step_turns (Begins s) = called_within (s.turns + 1) (function_in t t.main) t.main [] _ [] (spent first_call s)
+      (omega arith)
   step_turns (Stands u n temps frames s) = act_at_within (at_node t u n) u temps frames s
   step_turns (Over e s) = omega arith
   step_turns Stuck = omega arith

@@ -19,7 +19,7 @@ use Rattle.source_meaning.specs.State.{State, Rvalue, NoObject, Run, ◌>>◌, t
 use Rattle.source_meaning.specs.Actions.{integer, is_zero, int_of, converted, offset_value, difference_value, operate}
 use Rattle.source_meaning.specs.Actions.{updated, plain_value, set_plain, update_plain, update, home_pointer}
 use Rattle.source_meaning.specs.Structures.{rvalue, as_rvalue, values_of, take_value, read_rvalue, write_rvalue}
-use Rattle.source_meaning.specs.Structures.{member_of, zero_of}
+use Rattle.source_meaning.specs.Structures.{member_of, make_zero}
 use Rattle.source_meaning.specs.Library.{routine}
 use Rattle.source_meaning.specs.Printing.{print_formatted}
 use Rattle.source_meaning.specs.Initializers.{zero_variable, store_bytes}
@@ -49,7 +49,7 @@ use Rattle.tac_ir.specs.Stage.{Temps, no_temps, with_temp, gathered, Frame, Wait
 use Rattle.tac_ir.specs.Stage.{Stuck, came, seen}
 use Rattle.tac_ir.specs.Keys.{gives}
 use Rattle.tac_ir.specs.Accesses.{only_if, can_check, is_live_at, admitted, moved_from, is_home, is_through}
-use Rattle.tac_ir.specs.Costs.{cost, spent}
+use Rattle.tac_ir.specs.Costs.{cost, first_call, handed_bytes, spent, heavier}
 
 -- tables
 
@@ -134,7 +134,7 @@ abbrev pub called_at : Setting → Option CodeFunction → (function : ℕ) → 
     → Stage
 called_at g None f vs line frames s = Over (BadCall line) s
 called_at g (Some c) f vs line frames s =
-    came (set_up g (header_of_code c) vs line (begun s)) (λ _ s. Stands f c.entry no_temps frames s)
+    came (heavier (set_up g (header_of_code c) vs line) (begun s)) (λ _ s. Stands f c.entry no_temps frames s)
 
 abbrev pub called : Setting → Tac → (function : ℕ) → List Rvalue → (line : ℕ) → List Frame → State → Stage
 called g t f vs line frames s = called_at g (function_in t f) f vs line frames s
@@ -170,7 +170,7 @@ act g t (UpdatePlain w k f line d x right m) u temps frames s =
 act g t (HomePointer d x m) u temps frames s = Stands u m (with_temp temps d (rvalue (home_pointer x s))) frames s
 act g t (StaticPointer d n m) u temps frames s = Stands u m (with_temp temps d (rvalue (pointer_to n s.objects)))
     frames s
-act g t (ZeroOf kind d m) u temps frames s = Stands u m (with_temp temps d (zero_of kind)) frames s
+act g t (ZeroOf kind d m) u temps frames s = came (heavier (make_zero kind) s) (given_in u m temps d frames)
 act g t (Convert kind d a m) u temps frames s = Stands u m (with_temp temps d (rvalue (converted kind (temps a).value)))
     frames s
 act g t (Unary op ty d a m) u temps frames s =
@@ -186,14 +186,16 @@ act g t (Narrow offset size d a m) u temps frames s =
 act g t (Member offset size d a m) u temps frames s = Stands u m (with_temp temps d (member_of offset size (temps a)))
     frames s
 act g t (Take kind line d a m) u temps frames s =
-    moved_from kind (temps a) s.objects (came (take_value kind line (temps a) s) (given_in u m temps d frames))
+    moved_from kind (temps a) s.objects
+    (came (heavier (take_value kind line (temps a)) s) (given_in u m temps d frames))
 act g t (Read kind mode line key d a m) u temps frames s =
     keyed (keys_of (function_in t u)) key s (temps a).value (admitted mode (size_of_kind kind) (temps a) s.objects
     (came (read_rvalue kind (is_through mode) (temps a) line s) (given_in u m temps d frames)))
 act g t (Write kind mode line key d a b m) u temps frames s =
     keyed (keys_of (function_in t u)) key s (temps a).value (admitted mode (size_of_kind kind) (temps a) s.objects
     (moved_from kind (temps b) s.objects
-    (came (write_rvalue kind (is_through mode) (temps a).value line (temps b) s) (given_in u m temps d frames))))
+    (came (heavier (write_rvalue kind (is_through mode) (temps a).value line (temps b)) s)
+    (given_in u m temps d frames))))
 act g t (Update w k f mode line at key d a right m) u temps frames s =
     keyed (keys_of (function_in t u)) key s (temps a).value (admitted mode (scalar_size k) (temps a) s.objects
     (came (as_rvalue (update k (is_through mode) (temps a).value line (updated w k (right_value right temps) at) f) s)
@@ -203,23 +205,23 @@ act g t (Judge test size line key a m) u temps frames s =
     (came (check test size (temps a).value line s) (λ _ s. Stands u m temps frames s)))
 act g t (Zero x m) u temps frames s =
     only_if (is_home (get_or s.frame x NoObject) s.objects)
-    (came (zero_variable x s) (λ _ s. Stands u m temps frames s))
+    (came (heavier (zero_variable x) s) (λ _ s. Stands u m temps frames s))
 act g t (StorePart kind line x offset a m) u temps frames s =
     only_if (is_live_at (size_of_kind kind) (part_pointer x offset (size_of_kind kind) s) s.objects)
     (moved_from kind (temps a) s.objects
-    (came (write_rvalue kind false (part_pointer x offset (size_of_kind kind) s) line (temps a) s)
+    (came (heavier (write_rvalue kind false (part_pointer x offset (size_of_kind kind) s) line (temps a)) s)
     (λ _ s. Stands u m temps frames s)))
 act g t (StoreText n x offset m) u temps frames s =
     only_if (is_live_at (offset + length (text_in t n)) (home_pointer x s) s.objects)
-    (came ((tally (length (text_in t n)) >> store_bytes (home_pointer x s) offset (text_in t n)) s)
+    (came (heavier (tally (length (text_in t n)) >> store_bytes (home_pointer x s) offset (text_in t n)) s)
     (λ _ s. Stands u m temps frames s))
 act g t (Branch a x y) u temps frames s = Stands u (cond (is_zero (temps a).value) y x) temps frames s
 act g t (Case a w x y) u temps frames s = Stands u (cond ((temps a).value.word == w) x y) temps frames s
 act g t (Turn counted m) u temps frames s = Stands u m temps frames (begun s)
 act g t (Library r line d n m) u temps frames s =
-    came (as_rvalue (routine g r (values_of (gathered temps d n)) line) s) (given_in u m temps d frames)
+    came (heavier (as_rvalue (routine g r (values_of (gathered temps d n)) line)) s) (given_in u m temps d frames)
 act g t (Print x line d n m) u temps frames s =
-    came (as_rvalue (print_formatted (text_in t x) (values_of (gathered temps d n)) line) s)
+    came (heavier (as_rvalue (print_formatted (text_in t x) (values_of (gathered temps d n)) line)) s)
     (given_in u m temps d frames)
 act g t (Call f line d n m) u temps frames s =
     called g t f (gathered temps d n) line
@@ -229,9 +231,10 @@ act g t (CallThrough type_number line d n m) u temps frames s =
     called g t f (gathered temps (d + 1) n) line
     (Waits (record { function = u; node = m; place = d; caller = caller s; temps = temps }) ∷ frames) s')
 act g t (EnterBlock b line m) u temps frames s =
-    came (enter_block g (objects_in (function_in t u) b) line s) (λ q s. Stands u m temps (Entered b q ∷ frames) s)
+    came (heavier (enter_block g (objects_in (function_in t u) b) line) s)
+    (λ q s. Stands u m temps (Entered b q ∷ frames) s)
 act g t (LeaveBlock b m) u temps frames s = left_for b u m temps frames s
-act g t (Return a) u temps frames s = given_to frames (temps a) s
+act g t (Return a) u temps frames s = given_to frames (temps a) (spent (handed_bytes (temps a)) s)
 
 abbrev pub act_at : Setting → Tac → Option Instruction → (function : ℕ) → Temps → List Frame → State → Stage
 act_at g t None u temps frames s = Stuck
@@ -245,9 +248,9 @@ line_in (Some c) = c.line
 abbrev pub at_node : Tac → (function node : ℕ) → Option Instruction
 at_node t u n = slice_get (code_of (function_in t u)) n
 
--- the first step calls `main`, at the line of its name
+-- the first step calls `main`, at the line of its name, which costs too
 abbrev pub step : Setting → Tac → Stage → Stage
-step g t (Begins s) = called g t t.main [] (line_in (function_in t t.main)) [] s
+step g t (Begins s) = called g t t.main [] (line_in (function_in t t.main)) [] (spent first_call s)
 step g t (Stands u n temps frames s) = act_at g t (at_node t u n) u temps frames s
 step g t (Over e s) = Over e s
 step g t Stuck = Stuck

@@ -32,13 +32,15 @@ use Rattle.tac_ir.specs.declared.instruction.Mode.TheVariants.{Named, Unchecked,
 use Rattle.tac_ir.specs.declared.instruction.Test.{Test}
 use Rattle.tac_ir.specs.declared.instruction.Test.TheVariants.{Spatial, Temporal}
 use Rattle.tac_ir.specs.declared.instruction.Instruction.{Instruction}
-use Rattle.tac_ir.specs.declared.instruction.Instruction.TheVariants.{SetPlain, UpdatePlain, Binary, Take, Read, Write}
-use Rattle.tac_ir.specs.declared.instruction.Instruction.TheVariants.{Update, Judge, Zero, StorePart, StoreText, Turn}
+use Rattle.tac_ir.specs.declared.instruction.Instruction.TheVariants.{SetPlain, UpdatePlain, ZeroOf, Binary, Take, Read}
+use Rattle.tac_ir.specs.declared.instruction.Instruction.TheVariants.{Write, Update, Judge, Zero, StorePart, StoreText}
+use Rattle.tac_ir.specs.declared.instruction.Instruction.TheVariants.{Turn}
 use Rattle.tac_ir.specs.declared.instruction.Instruction.TheVariants.{Library, Print, Call, CallThrough, EnterBlock}
 use Rattle.tac_ir.specs.declared.instruction.Instruction.TheVariants.{LeaveBlock, Return, Reserved}
 use Rattle.tac_ir.specs.declared.key.Key.{Key}
 use Rattle.tac_ir.specs.declared.function.Tac.{Tac}
 use Rattle.tac_ir.specs.Stage.{Temps, gathered, Frame, Waits, Entered, Stage, Begins, Stands, Over, Stuck, came}
+use Rattle.tac_ir.specs.Costs.{fourfold, heavier}
 use Rattle.tac_ir.specs.Keys.{gives}
 use Rattle.tac_ir.specs.Accesses.{can_check, only_if, admitted, moved_from, is_through}
 use Rattle.tac_ir.specs.Meaning.{function_in, objects_in, text_in, keyed_by, keyed, right_value, part_pointer, check}
@@ -86,6 +88,14 @@ on_by y s (Paused z) f h g = tt
 keeps_on : {A B : Type 0} {r : Run A} {f : A → Run B} (y : ℕ) → Keeps y r → ((a : A) → Keeps y (f a))
     → Keeps y (r >>= f)
 keeps_on {r = r} {f = f} y h g = record { by = λ s. on_by y s (r s) f (h.by s) g }
+
+fourfold_by : {A : Type 0} (y from : ℕ) (s : State) (o : Outcome A) → PlainBy y s o → PlainBy y s (fourfold from o)
+fourfold_by y from s (Gives a z) h = h
+fourfold_by y from s (Ended e z) h = tt
+fourfold_by y from s (Paused z) h = tt
+
+keeps_heavier : {A : Type 0} {r : Run A} (y : ℕ) → Keeps y r → Keeps y (heavier r)
+keeps_heavier {r = r} y h = record { by = λ s. fourfold_by y s.work s (r s) (h.by s) }
 
 -- blocks
 
@@ -212,14 +222,15 @@ act_keeps g t (SetPlain x a m) u temps frames s y e = came_keeps s (set_plain x 
 act_keeps g t (UpdatePlain w k f line d x right m) u temps frames s y e =
     came_keeps s _ (given_in u m temps d frames)
     (keeps_stays y (stays_update x y e w k (right_value right temps) line f)) (λ _ z. stands_keeps)
+act_keeps g t (ZeroOf kind d m) u temps frames s y e = record { by = refl }
 act_keeps g t (Binary op ty line d a b m) u temps frames s y e =
     came_keeps s _ (given_in u m temps d frames) (keeps_local y (local_as_rvalue
     (local_operate op ty (temps a).value (temps b).value line)))
     (λ _ z. stands_keeps)
 act_keeps g t (Take kind line d a m) u temps frames s y e =
     moved_keeps kind (temps a) s.objects s _
-    (came_keeps s _ (given_in u m temps d frames) (keeps_local y (local_take_value kind line (temps a)))
-    (λ _ z. stands_keeps))
+    (came_keeps s _ (given_in u m temps d frames)
+    (keeps_heavier y (keeps_local y (local_take_value kind line (temps a)))) (λ _ z. stands_keeps))
 act_keeps g t (Read kind mode line key d a m) u temps frames s y e =
     keyed_keeps _ key s _ s _
     (admitted_keeps mode _ (temps a) s.objects s _
@@ -229,7 +240,8 @@ act_keeps g t (Read kind mode line key d a m) u temps frames s y e =
 act_keeps g t (Write kind mode line key d a b m) u temps frames s y e =
     keyed_keeps _ key s _ s _ (admitted_keeps mode _ (temps a) s.objects s _ (moved_keeps kind (temps b) s.objects s _
     (came_keeps s _ (given_in u m temps d frames)
-    (keeps_local y (local_write_rvalue kind (is_through mode) (temps a).value line (temps b))) (λ _ z. stands_keeps))))
+    (keeps_heavier y (keeps_local y (local_write_rvalue kind (is_through mode) (temps a).value line (temps b))))
+    (λ _ z. stands_keeps))))
 act_keeps g t (Update w k f mode line at key d a right m) u temps frames s y e =
     keyed_keeps _ key s _ s _ (admitted_keeps mode _ (temps a) s.objects s _
     (came_keeps s _ (given_in u m temps d frames)
@@ -242,26 +254,30 @@ act_keeps g t (Judge of size line key a m) u temps frames s y e =
     (came_keeps s _ (λ _ z. Stands u m temps frames z) (local_check of size (temps a).value line y)
     (λ _ z. stands_keeps)))
 act_keeps g t (Zero x m) u temps frames s y e = only_keeps s _ _
-    (came_keeps s _ (λ _ z. Stands u m temps frames z) (keeps_local y (local_zero_variable x)) (λ _ z. stands_keeps))
+    (came_keeps s _ (λ _ z. Stands u m temps frames z) (keeps_heavier y (keeps_local y (local_zero_variable x)))
+    (λ _ z. stands_keeps))
 act_keeps g t (StorePart kind line x offset a m) u temps frames s y e =
     only_keeps s _ _ (moved_keeps kind (temps a) s.objects s _
     (came_keeps s _ (λ _ z. Stands u m temps frames z)
-    (keeps_local y (local_write_rvalue kind false (part_pointer x offset (size_of_kind kind) s) line (temps a)))
+    (keeps_heavier y
+    (keeps_local y (local_write_rvalue kind false (part_pointer x offset (size_of_kind kind) s) line (temps a))))
     (λ _ z. stands_keeps)))
 act_keeps g t (StoreText n x offset m) u temps frames s y e =
     only_keeps s _ _ (came_keeps s _ (λ _ z. Stands u m temps frames z)
-    (keeps_local y (local_then (local_tally (length (text_in t n)))
-    (local_store_bytes (home_pointer x s) offset (text_in t n)))) (λ _ z. stands_keeps))
+    (keeps_heavier y (keeps_local y (local_then (local_tally (length (text_in t n)))
+    (local_store_bytes (home_pointer x s) offset (text_in t n))))) (λ _ z. stands_keeps))
 act_keeps g t (Library r line d n m) u temps frames s y e = came_keeps s _ (given_in u m temps d frames)
-    (keeps_local y (local_as_rvalue (local_routine g r (values_of (gathered temps d n)) line))) (λ _ z. stands_keeps)
+    (keeps_heavier y (keeps_local y (local_as_rvalue (local_routine g r (values_of (gathered temps d n)) line))))
+    (λ _ z. stands_keeps)
 act_keeps g t (Print x line d n m) u temps frames s y e = came_keeps s _ (given_in u m temps d frames)
-    (keeps_local y (local_as_rvalue (local_print (text_in t x) (values_of (gathered temps d n)) line)))
+    (keeps_heavier y
+    (keeps_local y (local_as_rvalue (local_print (text_in t x) (values_of (gathered temps d n)) line))))
     (λ _ z. stands_keeps)
 act_keeps g t (Call f line d n m) u temps frames s y e = cc
 act_keeps g t (CallThrough type_number line d n m) u temps frames s y e = cc
 act_keeps g t (EnterBlock b line m) u temps frames s y e =
     came_keeps s _ (λ q z. Stands u m temps (Entered b q ∷ frames) z)
-    (enter_keeps y g (objects_in (function_in t u) b) line) (λ _ z. stands_keeps)
+    (keeps_heavier y (enter_keeps y g (objects_in (function_in t u) b) line)) (λ _ z. stands_keeps)
 act_keeps g t (Turn counted m) u temps frames s y e = record { by = refl }
 act_keeps g t (LeaveBlock b m) u temps frames s y e = left_keeps y b u m temps frames s
 act_keeps g t (Return a) u temps frames s y e = cc

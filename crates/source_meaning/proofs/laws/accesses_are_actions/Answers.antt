@@ -3,6 +3,7 @@ use Rattle.source_meaning.proofs.ActionsAct.{acts_take_key, acts_located, acts_r
 use Rattle.source_meaning.proofs.ActionsAct.{acts_move_bytes, acts_read_lvalue, acts_write_lvalue, acts_read_rvalue}
 use Rattle.source_meaning.proofs.ActionsAct.{acts_write_rvalue, acts_take_value, acts_updated, acts_update}
 use Rattle.source_meaning.proofs.ActionsAct.{acts_set_plain, acts_update_plain, acts_zero_variable, acts_store_bytes}
+use Rattle.source_meaning.proofs.ActionsAct.{local_make_zero}
 use Rattle.source_meaning.proofs.laws.accesses_are_actions.Goals as goal
 use Rattle.source_meaning.specs.Actions.{updated}
 
@@ -17,6 +18,7 @@ returns c = record {
   read_rvalue = acts_read_rvalue;
   write_rvalue = acts_write_rvalue;
   taken = acts_take_value;
+  made = λ kind. (local_make_zero kind).action;
   updated = acts_updated;
   update = λ u k j p line right at f. acts_update k j p line u right at f;
   operate = acts_operate;

@@ -5,7 +5,7 @@ use Rattle.source_meaning.proofs.Living.{lives_read_rvalue, lives_write_rvalue, 
 use Rattle.source_meaning.proofs.Living.{lives_update, lives_operate, lives_make_object, lives_put_bytes}
 use Rattle.source_meaning.proofs.Living.{lives_take_key, lives_set_plain, lives_update_plain, lives_zero_variable}
 use Rattle.source_meaning.proofs.Living.{lives_store_bytes, lives_routine, lives_print, lives_callee, lives_set_up}
-use Rattle.source_meaning.proofs.Living.{lives_enter_block}
+use Rattle.source_meaning.proofs.Living.{lives_enter_block, lives_make_zero}
 use Rattle.source_meaning.proofs.laws.objects_die_where_they_are_freed.Goals as goal
 
 pub returns : goal.returns
@@ -21,6 +21,7 @@ returns c = record {
   read_rvalue = lives_read_rvalue;
   write_rvalue = lives_write_rvalue;
   taken = lives_take_value;
+  made = lives_make_zero;
   updated = lives_updated;
   update = λ u k j p line right at f. lives_update k j p line (updated u k right at) f (lives_updated u k right at);
   operate = lives_operate;

@@ -5,6 +5,7 @@ use Rattle.source_meaning.proofs.ActionsAct.{local_load, local_store, local_read
 use Rattle.source_meaning.proofs.ActionsAct.{local_read_rvalue, local_write_rvalue, local_take_value, local_updated}
 use Rattle.source_meaning.proofs.ActionsAct.{local_update, local_operate, local_make_object, local_put_bytes}
 use Rattle.source_meaning.proofs.ActionsAct.{local_take_key, local_zero_variable, local_store_bytes, local_callee}
+use Rattle.source_meaning.proofs.ActionsAct.{local_make_zero}
 use Rattle.source_meaning.proofs.LibraryActs.{local_routine, local_print}
 use Rattle.source_meaning.proofs.laws.variables_change_where_they_are_set.Goals as goal
 
@@ -21,6 +22,7 @@ returns c = record {
   read_rvalue = λ kind j q line. local_keeps (local_read_rvalue kind j q line);
   write_rvalue = λ kind j p line v. local_keeps (local_write_rvalue kind j p line v);
   taken = λ kind line v. local_keeps (local_take_value kind line v);
+  made = λ kind. local_keeps (local_make_zero kind);
   updated = λ u k right line old. local_keeps (local_updated u k right line old);
   update = λ u k j p line right at f. local_keeps
       (local_update k j p line (updated u k right at) f (local_updated u k right at));

@@ -143,7 +143,7 @@ module _ (t : Tac) (n : ℕ) (env : Env) (sc : Context) (sure : Calling sc env)
   content_runs x kind p whole offset (value_content e) n0 n1 temps k s tr ok nm good base has hp lt =
       goes_sure _ ((sure_beside (stable_base sure p whole) (evaluate_sure sure e nm.0)).by _ good base)
       (goes_less (left_by (kind_of e) true) (converted_left (kind_of e) (is_converted e))
-      (expression_runs t n env sc sure calls stays u frames vars e 0 n0 tr.0 temps k s tr.1
+      (expression_runs t n env sc sure calls stays u frames literals vars e 0 n0 tr.0 temps k s tr.1
       (both (is_valid sc.scope e) _ ok).0 good lt))
       (λ v s1 t1 k1 p1 le1 is1 lv1 w1.
       let ek = kind_of e in

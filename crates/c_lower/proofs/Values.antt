@@ -52,7 +52,7 @@ use Rattle.source_meaning.specs.Staying.{KeptBy, Stays}
 use Rattle.source_meaning.specs.Good.{Context, function_count, IsGood, Leaves, After, ValueIs, LvalueIs, ArgumentsAre}
 use Rattle.source_meaning.specs.Good.{basis_of, signature_in, taking, Calling}
 use Rattle.source_meaning.proofs.Naming.{ValueNames, IsNoStructure}
-use Rattle.source_meaning.proofs.ValidNames.{both, three, four, five, six, none_like, none_conversion, none_routine}
+use Rattle.source_meaning.proofs.ValidNames.{both, three, four, five, six, none_like, none_routine}
 use Rattle.source_meaning.proofs.ValidNames.{writable, names, value_names, lvalue_names, row_names}
 use Rattle.source_meaning.proofs.ValidProgramNames.{agree_same}
 use Rattle.source_meaning.proofs.SureTree.{evaluate_sure, place_sure, values_sure, argument_sure}
@@ -128,15 +128,15 @@ module _ {g : Setting} {t : Tac} {limit u : ℕ} {frames : List Frame} where
   flag_goes : (q : Bool) (d n one none n1 : ℕ) (before temps : Temps) (k : ℕ) (s : State)
       → at_node t u n ≡ Some (tac.Branch d one none) → at_node t u none ≡ Some (tac.Constant d 0 n1)
       → at_node t u one ≡ Some (tac.Constant d 1 n1) → is_zero (temps d).value ≡ q → KeepsBelow d before temps
-      → Goes g t limit 6 4 u frames (λ v. n1) (ValueIn d before) (Stands u n temps frames (at_work k s)) k s
+      → Goes g t limit 8 6 u frames (λ v. n1) (ValueIn d before) (Stands u n temps frames (at_work k s)) k s
       (Gives (rvalue (integer (one_if (not q)))) s)
   flag_goes true d n one none n1 before temps k s h hz ho e below =
-      goes_step 5 h refl (ap (λ q. Stands u (cond q none one) temps frames (at_work (k + 1) s)) e)
-      (goes_step 4 hz refl refl
+      goes_step 7 h refl (ap (λ q. Stands u (cond q none one) temps frames (at_work (k + 1) s)) e)
+      (goes_step 6 hz refl refl
       (goes_done (omega arith) refl refl (put_value d (rvalue (integer 0)) _ before temps s refl below)))
   flag_goes false d n one none n1 before temps k s h hz ho e below =
-      goes_step 5 h refl (ap (λ q. Stands u (cond q none one) temps frames (at_work (k + 1) s)) e)
-      (goes_step 4 ho refl refl
+      goes_step 7 h refl (ap (λ q. Stands u (cond q none one) temps frames (at_work (k + 1) s)) e)
+      (goes_step 6 ho refl refl
       (goes_done (omega arith) refl refl (put_value d (rvalue (integer 1)) _ before temps s refl below)))
 
   -- six units are enough for any expression that is no conversion
@@ -468,7 +468,7 @@ module _ (t : Tac) (n : ℕ) (env : Env) (sc : Context) (sure : Calling sc env)
         (goes_done (omega arith) refl refl (put_value d (rvalue (integer 0)) _ temps t1 _ refl p1.below)))
         (goes_then (two b d tr.2 tr.1 t1 (k1 + 1) s1 tr.7 v.1 lv1.good (omega (arith, le1, lt)))
         (λ y s2 t2 k2 p2 le2 is2.
-        goes_spare 6 (omega arith)
+        goes_spare 8 (omega arith)
         (flag_goes (is_zero y.value) d tr.1 tr.4 tr.3 n1 temps t2 k2 s2 tr.8 tr.9 tr.10
         (ap (λ (v : Rvalue). is_zero v.value) p2.value) (λ i l. p2.below i l ∙ p1.below i l)))))))
     node_runs (logical_or a b) kind line d n0 n1 temps k s tr ok good lt =
@@ -478,7 +478,7 @@ module _ (t : Tac) (n : ℕ) (env : Env) (sc : Context) (sure : Calling sc env)
         goes_branch 10 x _ _ tr.6 p1.value
         (goes_then (two b d tr.2 tr.1 t1 (k1 + 1) s1 tr.7 v.1 lv1.good (omega (arith, le1, lt)))
         (λ y s2 t2 k2 p2 le2 is2.
-        goes_spare 6 (omega arith)
+        goes_spare 8 (omega arith)
         (flag_goes (is_zero y.value) d tr.1 tr.4 tr.3 n1 temps t2 k2 s2 tr.8 tr.9 tr.10
         (ap (λ (v : Rvalue). is_zero v.value) p2.value) (λ i l. p2.below i l ∙ p1.below i l))))
         (goes_step 9 tr.10 refl refl
@@ -706,7 +706,7 @@ module _ (t : Tac) (n : ℕ) (env : Env) (sc : Context) (sure : Calling sc env)
         (λ v s2 k2 e is2. goes_done (omega arith) refl refl (put_value d v v temps t1 s2 refl p1.below)))))))))
     node_runs (convert a) kind line d n0 n1 temps k s tr ok good lt =
         let v = three (is_valid sc.scope a) (is_conversion (kind_of a) kind) _ ok in
-        let rest = plainly_left kind true (none_conversion (kind_of a) kind v.1) in
+        let rest = plainly_left kind true (named (convert a) kind ok).1 in
         goes_then (goes_less 4 (not_converted a (false_by (is_converted a) v.2))
         (expression_runs a d n0 tr.0 temps k s tr.1 v.0 good lt)) (λ v s1 t1 k1 p1 le1 is1.
         goes_step 3 tr.2 refl refl

@@ -155,7 +155,7 @@ module _ (o : OperatorCode) (views : Views) (g : Setting) (t : Tac) (address : (
       let same : room_if true (function_in p x.function) ≡ room_if true (function_in p w.function) =
       ap (λ z. room_if true (function_in p z)) h.0.function in
       omega (arith, room_behind true p x xs, th.no_room, runtime_rooms ws xs h.1)
-  runtime_rooms (Entered b ∷ ws) (x ∷ xs) h = absurd h
+  runtime_rooms (Entered n b ∷ ws) (x ∷ xs) h = absurd h
 
   -- ---- a call
 

@@ -1,6 +1,6 @@
 -- Functions and their expansions, and the result of a step that stays in its function.
 use Rattle.std.proofs.Common.{Bool, suc, ◌≡◌, ℕ, ◌+◌, ◌*◌, ◌≤◌, refl, sym, ap, ◌∙◌, subst, arith}
-use Rattle.std.proofs.Common.{true, false, ◌&&◌, List, Option, Some, None, length}
+use Rattle.std.proofs.Common.{true, false, List, Option, Some, None, length}
 use Rattle.std.specs.Prelude.{slice_get, if◌then◌else◌}
 use Rattle.behaviours.specs.Steps.{run}
 use Rattle.addr_map.specs.Places.{MapSizes}
@@ -12,7 +12,6 @@ use Rattle.tac_ir.specs.Temporaries.{temporaries}
 use Rattle.tac_ir.specs.Stage.{Temps, Frame, Stage, Stands, Over}
 use Rattle.sb_base.specs.declared.ending.Ending.{Ending}
 use Rattle.sb_base.specs.Endings.{code_of, report_of}
-use Rattle.tac_ir.specs.Meaning.{function_in as code_in}
 use Rattle.flat_meaning.specs.declared.instruction.FlatInstruction.{FlatInstruction}
 use Rattle.flat_meaning.specs.declared.function.FlatFunction.{FlatFunction}
 use Rattle.flat_meaning.specs.declared.function.FlatProgram.{FlatProgram}
@@ -27,8 +26,8 @@ use Rattle.metadata_plan.specs.Blocks.{prologue}
 use Rattle.metadata_plan.specs.Expanded.{Leads, IsPut, ExpandsAt, IsExpanded}
 use Rattle.std.proofs.lemmas.Option.{same_Some}
 use Rattle.tac_ir.specs.Edges.{LeadsTo}
-use Rattle.metadata_plan.specs.Part.{are_integers, have_no_objects, is_integer_instruction, SafeWithin, IsSafeFrom}
-use Rattle.metadata_plan.specs.Part.{IsIntegerFunction, takes, IsIntegerCode}
+use Rattle.metadata_plan.specs.Part.{are_integers, is_integer_instruction, SafeWithin, IsSafeFrom}
+use Rattle.metadata_plan.specs.Part.{IsIntegerFunction, IsIntegerCode}
 use Rattle.metadata_plan.specs.Matching.{factor, Holds, HaveNoObjects, IsAlike, IsAt, MatchesBy}
 use Rattle.metadata_plan.proofs.Numbers.{most_at, scaled}
 use Rattle.metadata_plan.proofs.Flat.{weight_small, Comes, then_comes, leads_comes}

@@ -305,7 +305,7 @@ module _ (o : OperatorCode) (views : Views) (g : Setting) (t : Tac) (address : (
         by [] (x ∷ []) wait e = ended x wait
         by [] (x ∷ y ∷ rest) wait e = absurd wait
         by (Waits w ∷ others) (x ∷ rest) wait e = back w others x rest wait.0 wait.1
-        by (Entered b ∷ others) (x ∷ rest) wait e = absurd wait
+        by (Entered n b ∷ others) (x ∷ rest) wait e = absurd wait
 
   -- ---- the start
 

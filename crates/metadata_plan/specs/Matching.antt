@@ -80,7 +80,7 @@ AllWait g t address p ws [] = ⊥
 AllWait g t address p [] (x ∷ []) = EntryWaits p x
 AllWait g t address p [] (x ∷ y ∷ xs) = ⊥
 AllWait g t address p (Waits w ∷ ws) (x ∷ xs) = WaitsAs g t address p w x xs × AllWait g t address p ws xs
-AllWait g t address p (Entered b ∷ ws) (x ∷ xs) = ⊥
+AllWait g t address p (Entered n b ∷ ws) (x ∷ xs) = ⊥
 
 pub record Wait (setting : Setting) (code : Tac) (address : (function node : ℕ)
     → ℕ) (program : FlatProgram) (ws : List Frame)

@@ -1,13 +1,9 @@
 -- In whatever function it stands, the code of an operator computes it, each instruction at its weight.
-use Rattle.std.proofs.Common.{◌≡◌, ◌≢◌, ℕ, zero, suc, ◌+◌, ◌*◌, ◌^◌, ◌<◌, ◌≤◌, Bool, true, false, ◌==◌, not, List, []}
-use Rattle.std.proofs.Common.{◌∷◌, ◌++◌, length, Option, Some, None, refl, sym, ap, ◌∙◌, subst, arith, if◌then◌else◌}
+use Rattle.std.proofs.Common.{◌≡◌, ℕ, suc, ◌+◌, ◌*◌, ◌<◌, ◌≤◌, Bool, true, false, ◌==◌, not, List}
+use Rattle.std.proofs.Common.{◌∷◌, length, Option, Some, None, refl, ap, ◌∙◌, subst, arith, if◌then◌else◌}
 use Rattle.std.proofs.Common.{mul-le-mul_right, mul_comm}
 use Rattle.std.proofs.Math.Nat.{suc-mul}
-use Rattle.std.proofs.lemmas.Bool.{cond-true, cond-false, cases_Bool}
-use Rattle.std.proofs.lemmas.Option.{same_Some, none-some}
-use Rattle.behaviours.specs.Steps.{run}
 use Rattle.addr_map.specs.Places.{MapSizes}
-use Rattle.sb_base.specs.declared.ending.Ending.{Ending}
 use Rattle.sb_base.specs.declared.ending.Ending.TheVariants as ending
 use Rattle.sb_base.specs.Endings.{code_of, report_of}
 use Rattle.rv_isa.specs.declared.instruction.BranchOp.TheVariants.{Bne}
@@ -17,31 +13,30 @@ use Rattle.rv_isa.specs.declared.instruction.RegOp32.TheVariants.{Addw, Subw, Mu
 use Rattle.rv_isa.specs.Results.{branch_taken, reg_result}
 use Rattle.words.specs.TwosComplement.{low_bits}
 use Rattle.obj_memory.specs.declared.int_type.IntType.{IntType}
-use Rattle.obj_memory.specs.declared.operator.UnaryOperator.{UnaryOperator}
 use Rattle.obj_memory.specs.declared.operator.BinaryOperator.{BinaryOperator}
 use Rattle.obj_memory.specs.declared.operator.BinaryOperator.TheVariants.{Add, Subtract, Multiply, Divide, Remainder}
 use Rattle.obj_memory.specs.declared.operator.BinaryOperator.TheVariants.{ShiftLeft, ShiftRight, BitAnd, BitXor}
 use Rattle.obj_memory.specs.declared.operator.BinaryOperator.TheVariants.{BitOr, Less, Greater, LessOrEqual}
 use Rattle.obj_memory.specs.declared.operator.BinaryOperator.TheVariants.{GreaterOrEqual, Equal, NotEqual}
 use Rattle.obj_memory.specs.Integers.{fit, is_signed}
-use Rattle.obj_memory.specs.Operators.{quotient, remainder, unary_value, binary_value}
-use Rattle.flat_meaning.specs.declared.instruction.RightOperand.TheVariants.{Register, Number}
+use Rattle.obj_memory.specs.Operators.{quotient, remainder, binary_value}
+use Rattle.flat_meaning.specs.declared.instruction.RightOperand.TheVariants.{Register}
 use Rattle.flat_meaning.specs.declared.instruction.FlatInstruction.{FlatInstruction}
-use Rattle.flat_meaning.specs.declared.instruction.FlatInstruction.TheVariants.{Operate, Branch, End}
+use Rattle.flat_meaning.specs.declared.instruction.FlatInstruction.TheVariants.{Operate, End}
 use Rattle.flat_meaning.specs.declared.function.FlatProgram.{FlatProgram}
 use Rattle.flat_meaning.specs.State.{State, Stands, Over}
 use Rattle.flat_meaning.specs.Calls.{function_in}
 use Rattle.flat_meaning.specs.Words.{IsOfWords}
-use Rattle.flat_meaning.specs.Meaning.{Context, Local, Goes, Ends, body_of, context, step, weight_of}
+use Rattle.flat_meaning.specs.Meaning.{Context, Goes, Ends, body_of, context, weight_of}
 use Rattle.flat_routines.specs.Local.{counted, act, local_run, local_step}
-use Rattle.flat_routines.specs.Routine.{HasAt, Outcome, Continues, Halts}
+use Rattle.flat_routines.specs.Routine.{HasAt, Continues, Halts}
 use Rattle.flat_routines.specs.Effects.{worked, effects}
 use Rattle.flat_routines.proofs.Steps.{run_zero, run_suc}
 use Rattle.flat_routines.proofs.Straight.{run_straight}
 use Rattle.flat_routines.proofs.Lifted.{lifted}
-use Rattle.metadata_plan.specs.Operators.{OperatorCode, Position, Computes, EndsBy, IsHere, AreOperators, binary_most}
+use Rattle.metadata_plan.specs.Operators.{Position, Computes, EndsBy, AreOperators, binary_most}
 use Rattle.flat_operators.specs.Operators.{conversion_code, converted, divided_code, unary_code, binary_code}
-use Rattle.flat_operators.specs.Operators.{constant_code, less_op, turned, equal_code}
+use Rattle.flat_operators.specs.Operators.{constant_code}
 use Rattle.flat_operators.proofs.Values.{int_sum, int_difference, int_product, quotient_by, remainder_by, less_by}
 use Rattle.flat_operators.proofs.Values.{sum_by, difference_by, product_by, and_by, or_by, xor_by}
 use Rattle.flat_operators.proofs.Operators.{Gives, conversion_gives, operator_gives, alone_gives, wrapping_gives}

@@ -384,7 +384,8 @@ module _ {g : Setting} {t : Tac} where
         {s : State}
         → at_node t u n ≡ Some (Turn counted m) → nat_lt s.turns limit ≡ q
         → GoesLeaving g t limit c b u frames to P (Stands u m temps frames (at_work (k + 1) (begun s)))
-        (k + 1) (begun s) (r (begun s)) → GoesLeaving g t limit (1 + c) b u frames to P (Stands u n temps frames (at_work k s)) k s
+        (k + 1) (begun s) (r (begun s))
+        → GoesLeaving g t limit (1 + c) b u frames to P (Stands u n temps frames (at_work k s)) k s
         (on (choose q (λ s. Gives (tt {0}) (begun s)) (λ s. Paused s) s) (λ _. r))
     turn_by c true r {temps = temps} {k = k} {s = s} has e h =
         from_by (r (begun s)) 1 (ap (λ j. act_at g t j u temps frames (at_work k s)) has) (omega arith) (omega arith) h
@@ -393,6 +394,7 @@ module _ {g : Setting} {t : Tac} where
     pub goes_turn : (c : ℕ) (r : Run A) {b : A → ℕ} {n m : ℕ} {counted : Option ℕ} {temps : Temps} {k : ℕ} {s : State}
         → at_node t u n ≡ Some (Turn counted m)
         → GoesLeaving g t limit c b u frames to P (Stands u m temps frames (at_work (k + 1) (begun s)))
-        (k + 1) (begun s) (r (begun s)) → GoesLeaving g t limit (1 + c) b u frames to P (Stands u n temps frames (at_work k s)) k s
+        (k + 1) (begun s) (r (begun s))
+        → GoesLeaving g t limit (1 + c) b u frames to P (Stands u n temps frames (at_work k s)) k s
         (on (begin_turn limit s) (λ _. r))
     goes_turn c r {s = s} has h = turn_by c (nat_lt s.turns limit) r has refl h

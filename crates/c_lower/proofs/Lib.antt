@@ -1,6 +1,7 @@
 pub mod Comes
 pub mod KeyValues
 pub mod KeyStays
+pub mod Credits
 pub mod Accesses
 pub mod Temporaries
 pub mod Values

@@ -309,8 +309,8 @@ module _ (p : Program) (budgets : BudgetSizes) (mapped : AreMapped (setting_of p
       ∙ ap (λ (h : Header). h.parameters ++ h.variables) low.header in
       let inside : Inside base g.sizes env = inside_good p budgets mapped (valid_names p valid) limit n fn in
       called_from g t limit q frames 0 0 8 8 4 4 _
-      (came (heavier (set_up g (header_of fn) vs line) (at_work k s)) F) k k s s _ 0 (ap (λ h. came (heavier (set_up g h vs line) (at_work k s)) F) low.header) (omega arith) (omega arith)
-      (omega arith)
+      (came (heavier (set_up g (header_of fn) vs line) (at_work k s)) F) k k s s _ 0
+      (ap (λ h. came (heavier (set_up g h vs line) (at_work k s)) F) low.header) (omega arith) (omega arith) (omega arith)
       (set_up_goes g t limit q frames inner s.objects k s (set_up g (header_of fn) vs line s)
       (set_up g (header_of fn) vs line (at_work k s)) F R ((acts_set_up g (header_of fn) vs line).acts s k)
       ((counts_set_up g (header_of fn) vs line).counts s)

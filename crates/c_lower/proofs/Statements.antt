@@ -62,8 +62,8 @@ use Rattle.c_lower.proofs.Comes.{GoesLeaving, Goes, goes_from, goes_counted, goe
 use Rattle.c_lower.proofs.Comes.{goes_step, goes_done, goes_at, goes_less, goes_after, goes_then, goes_sure}
 use Rattle.c_lower.proofs.Comes.{goes_heavier}
 use Rattle.c_lower.proofs.Comes.{goes_last_heavier}
-use Rattle.c_lower.proofs.Accesses.{left_by, three_left, converted_left, taken_left, store_cost, direct_is_live}
-use Rattle.c_lower.proofs.Accesses.{value_moves}
+use Rattle.c_lower.proofs.Credits.{left_by, three_left, converted_left, taken_left, store_cost}
+use Rattle.c_lower.proofs.Accesses.{direct_is_live, value_moves}
 use Rattle.c_lower.proofs.Temporaries.{placed, put_same, ValueIn}
 use Rattle.c_lower.proofs.Values.{CallsRun, text_at, false_by, expression_runs, argument_at}
 use Rattle.c_lower.proofs.Flow.{Completes, Anyhow, home_kept, sized_opened, completes_less}

@@ -17,12 +17,8 @@ use Rattle.c_tree.specs.declared.program.Variable.{Variable}
 use Rattle.c_tree.specs.declared.expression.Kind.{Kind}
 use Rattle.c_tree.specs.declared.expression.Kind.TheVariants.{Void, Scalar as OfScalar, Structure, Array}
 use Rattle.c_tree.specs.declared.expression.Fixity.TheVariants.{Prefix}
-use Rattle.c_tree.specs.declared.format.Directive.{Directive}
-use Rattle.c_tree.specs.declared.format.Directive.TheVariants as directive
-use Rattle.c_tree.specs.declared.format.Piece.{Piece}
-use Rattle.c_tree.specs.Format.{pieces, directives}
+use Rattle.c_tree.specs.Format.{pieces}
 use Rattle.c_tree.specs.Kinds.{size_of_kind, is_kind, is_value, is_array, is_size, has_member, pointer}
-use Rattle.c_tree.specs.Kinds.{fits_directive, fit_directives}
 use Rattle.c_tree.specs.Tree.{Expression, expression, Expressions, no_expressions, expressions, Lvalue, lvalue, Node}
 use Rattle.c_tree.specs.Tree.{constant, function, plain, read, decay, address, parenthesized, deref_function}
 use Rattle.c_tree.specs.Tree.{address_function, cast, convert, unary, binary, offset_by, difference, logical_and}
@@ -32,7 +28,7 @@ use Rattle.c_tree.specs.Tree.{index, member, arrow, member_of_value, parenthesiz
 use Rattle.c_tree.specs.Tree.{lvalue_kind, lvalue_line}
 use Rattle.c_tree.specs.Walk.{assigns}
 use Rattle.c_tree.specs.Valid.{is_lvalue, is_converted, is_convert, is_conversion, is_valid, is_node, are_valid}
-use Rattle.c_tree.specs.Valid.{is_valid_lvalue, is_valid_lvalue_node, is_plain, is_operand, are_printed}
+use Rattle.c_tree.specs.Valid.{is_valid_lvalue, is_valid_lvalue_node, is_plain, is_operand}
 use Rattle.source_meaning.specs.State.{State, Rvalue, Outcome, Gives, Ended, Paused, Run, on, done, stop, choose}
 use Rattle.source_meaning.specs.State.{Setting, Env}
 use Rattle.source_meaning.specs.Actions.{integer, is_zero, scalar_of, integer_type, converted, offset_value}
@@ -78,8 +74,9 @@ use Rattle.c_lower.proofs.Comes.{goes_steps, goes_step, goes_done, goes_over, go
 use Rattle.c_lower.proofs.Comes.{goes_sure, goes_last, goes_last_heavier, goes_branch}
 use Rattle.c_lower.proofs.KeyValues.{Right, key_opens, place_right}
 use Rattle.c_lower.proofs.KeyStays.{right_after}
-use Rattle.c_lower.proofs.Accesses.{left_by, three_left, four_left, most_left, converted_left, plainly_left}
-use Rattle.c_lower.proofs.Accesses.{taken_left, taken_pays, place_left, seven_left, read_cost, write_cost, update_cost}
+use Rattle.c_lower.proofs.Credits.{left_by, three_left, most_left, converted_left, plainly_left, place_left}
+use Rattle.c_lower.proofs.Credits.{seven_left, read_cost, write_cost, update_cost, taken_left, taken_pays, left}
+use Rattle.c_lower.proofs.Credits.{not_converted, args_left, formatted_left}
 use Rattle.c_lower.proofs.Accesses.{through_is, access_opens, value_moves, reach_later, reach_scalar}
 use Rattle.c_lower.proofs.Accesses.{updates_scalar, plain_is_no_structure, plain_contents, reach_contents}
 use Rattle.c_lower.proofs.Temporaries.{placed, KeepsBelow, ValueIn, ValuesIn, put_value}
@@ -229,46 +226,6 @@ module _ {g : Setting} {t : Tac} {limit u : ℕ} {frames : List Frame} where
       (λ w s' k' e' is.
       let paid = taken_pays m line v s w s' is in
       goes_done (omega (arith, paid)) refl refl (put_value d w w before temps s' refl below)))
-
-abbrev pub left : Expression → ℕ
-left e = left_by (kind_of e) (is_converted e)
-
-not_converted : (e : Expression) → is_converted e ≡ false → 4 ≤ left e
-not_converted e h = let same = ap (left_by (kind_of e)) h in omega (arith, same, four_left (kind_of e))
-
--- what the arguments of a call leave
-abbrev args_left : Expressions → ℕ
-args_left no_expressions = 0
-args_left (expressions e es) = taken_left (kind_of e) + args_left es
-
--- those of a format are no structures
-fits_plain : (d : Directive) (k : Kind) → fits_directive d k ≡ true → taken_left k ≡ 3
-fits_plain d Void e = refl
-fits_plain d (OfScalar k) e = refl
-fits_plain d (Array n) e = refl
-fits_plain directive.Int (Structure n) e = cc
-fits_plain directive.UnsignedInt (Structure n) e = cc
-fits_plain directive.Hexadecimal (Structure n) e = cc
-fits_plain directive.Character (Structure n) e = cc
-fits_plain directive.Long (Structure n) e = cc
-fits_plain directive.UnsignedLong (Structure n) e = cc
-fits_plain directive.String (Structure n) e = cc
-
-printed_left : (ds : List Directive) (es : Expressions) → fit_directives ds (kinds_of es) ≡ true
-    → args_left es ≡ 3 * count es
-printed_left [] no_expressions h = refl
-printed_left [] (expressions e es) h = cc
-printed_left (d ∷ ds) no_expressions h = cc
-printed_left (d ∷ ds) (expressions e es) h =
-    let q = both (fits_directive d (kind_of e)) (fit_directives ds (kinds_of es)) h in
-    let one = fits_plain d (kind_of e) q.0 in
-    let others = printed_left ds es q.1 in
-    omega arith
-
-formatted_left : (ps : Option (List Piece)) (es : Expressions) → are_printed ps (kinds_of es) ≡ true
-    → args_left es ≡ 3 * count es
-formatted_left None es h = cc
-formatted_left (Some ps) es h = printed_left (directives ps) es h
 
 pointer_contents : (fc : ℕ) (a : Expression) → is_kind (kind_of a) pointer ≡ true → (x : Rvalue) (objects : Objects)
     → ValueIs fc (kind_of a) x objects → x ≡ rvalue x.value

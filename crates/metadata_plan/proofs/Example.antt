@@ -388,7 +388,7 @@ ended turns work = record {
   work = work;
 }
 
-tac_run : tac_meaning program default_sizes [] 40 ≡ ended 5 81
+tac_run : tac_meaning program default_sizes [] 40 ≡ ended 5 80
 unfolding int_wrap binary_value fit region_size region_start
 tac_run = refl
 

@@ -11,6 +11,7 @@ mod StructureCopy
 mod StructureInitializers
 mod StructureJudged
 mod StructureMovesAtAnOddWord
+mod StructureOfZerosCounts
 mod StructureOverlap
 mod StructureParameterIsACopy
 mod StructureReadJudged

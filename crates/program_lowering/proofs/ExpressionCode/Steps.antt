@@ -488,9 +488,9 @@ no_format a node n h = record { emits = emits_none 0; is = λ c f. no_format_in 
 
 -- the key of an access is that of the code in which it stands
 
-key_stands : {a b : Emitter} {node : Node} {key : Option ℕ} {c : Placed}
+key_stands : {a b : Emitter} (node : Node) {key : Option ℕ} {c : Placed}
     → KeyAdded a b (key_in a.literals.items node) key → Fills b c → KeyIs c.keys key (key_in c.literals node)
-key_stands {node = node} {key = key} {c = c} ka f =
+key_stands node {key = key} {c = c} ka f =
     subst (λ ls. KeyIs c.keys key (key_in ls node)) (sym (fills_before ka.emits f).literals) (ka.is c f)
 
 -- what an expression does is added
@@ -514,7 +514,7 @@ added_as {a = a} {c = c} {x = x} {kind = kind} {line = line} {d = d} {k = k} {m 
           (λ w. omega (arith, weight w));
       stands = λ p f n o.
           let g = fills_before more f in
-          last_stands p kind line d key text m k n node (key_stands ka (fills_before fa.emits g)) (fa.is p g)
+          last_stands p kind line d key text m k n node (key_stands node ka (fills_before fa.emits g)) (fa.is p g)
           (subst (λ j. StandsAs p j k m) (sym e) (f.code k i real (added_has h))) o;
     }
 
@@ -532,7 +532,7 @@ none_last {kind = kind} {line = line} {d = d} {m = m} {text = text} {node = node
     record {
       emits = emits_then most (finish_weight (expression kind line node)) ka.emits fa.emits (omega arith) (omega arith)
           (λ w. omega arith);
-      stands = λ p f n o. last_stands p kind line d key text m m n node (key_stands ka (fills_before fa.emits f)) (fa.is p f)
+      stands = λ p f n o. last_stands p kind line d key text m m n node (key_stands node ka (fills_before fa.emits f)) (fa.is p f)
           (subst (λ j. StandsAs p j m m) (sym s ∙ l) refl) o;
     }
 

@@ -39,9 +39,14 @@ weight_by : (vs : List Variable) (numbers : List ℕ) (h : Bool) (w : Weights)
     → h ≡ has_objects (block_objects vs numbers) → (q : Bool) → h ≡ q → weight_where q w ≡ objects_weight vs numbers w
 weight_by vs numbers h w e q t = ap (λ o. weight_where o w) (sym t ∙ e)
 
-pub entry_there : {a b : Emitter} {block line n next : ℕ} → Added a b n (tac.EnterBlock block line next)
+entry_there : {a b : Emitter} {block line n next : ℕ} → Added a b n (tac.EnterBlock block line next)
     → EntryCode a b (Some block) line n next
 entry_there i = record { emits = added_emits 0 i (omega arith); stands = λ p f. added_holds i tt f }
+
+pub entry_of : {a b : Emitter} {block line n next : ℕ} {o : Option ℕ} → o ≡ Some block
+    → Added a b n (tac.EnterBlock block line next) → EntryCode a b o line n next
+entry_of {a = a} {b = b} {line = line} {n = n} {next = next} e i =
+    subst (λ q. EntryCode a b q line n next) (sym e) (entry_there i)
 
 pub entry_none : {a : Emitter} {line next : ℕ} → EntryCode a a None line next next
 entry_none = record { emits = emits_none 0; stands = λ p f. refl }
@@ -90,7 +95,7 @@ leave_none {vs = vs} {numbers = numbers} {h = h} q t = record {
 
 pub ruleset tables = (block_added)
 
-pub ruleset entering = (entry_there, entry_none)
+pub ruleset entering = (entry_none)
 
 pub ruleset ways = (ways_out)
 

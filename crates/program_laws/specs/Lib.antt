@@ -8,4 +8,3 @@ pub mod Literals
 pub mod Statics
 pub mod TreeSizes
 pub mod ProgramSizes
-pub mod Limits

@@ -1,3 +1,4 @@
 pub mod Defined
 pub mod Leaving
 pub mod Regular
+pub mod Variables

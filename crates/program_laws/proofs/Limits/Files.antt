@@ -35,7 +35,7 @@ use Rattle.c_unit_typing.specs.Units.{all_defined, around_body, body, body_of, d
 use Rattle.c_unit_typing.specs.Units.{ended, entered, external, externals, file_before, file_in, file_with, is_main}
 use Rattle.c_unit_typing.specs.Units.{left, parameter_in, parameters_in, scope_or_none, with_body}
 use Rattle.c_unit_typing.proofs.Within.{constant_within}
-use Rattle.program_laws.specs.Limits.Variables.{variable_count, variables_among}
+use Rattle.typing_laws.specs.Scopes.Variables.{variable_count, variables_among}
 use Rattle.program_laws.proofs.Limits.Counted.{AreWithin, external_within, specifiers_within}
 use Rattle.program_laws.proofs.Limits.Kept.{IfKept, Keeping, declaration_keeps, items_keep, state_keeps}
 use Rattle.program_laws.proofs.Limits.Shapes.{HasFew, IfFew, shape_few}

@@ -21,10 +21,11 @@ use Rattle.c_typing_state.specs.State.{State, Typing, done, ◌>>>◌}
 use Rattle.c_expression_typing.specs.Constructs.{has_words, valued}
 use Rattle.c_expression_typing.specs.Typed.{parameter_types, shape, typed}
 use Rattle.typing_laws.proofs.Declarators.Parameters.{within}
-use Rattle.program_laws.specs.Limits.Variables.{variables_among}
-use Rattle.program_laws.proofs.Limits.Chained.{IfAdds}
+use Rattle.typing_laws.specs.Scopes.Variables.{variables_among}
+use Rattle.typing_laws.proofs.Scopes.Initializers.{IfBehind}
+use Rattle.typing_laws.proofs.Walks.Recursion.{parameter_count, parameters_walk}
 use Rattle.program_laws.proofs.Limits.Counted.{AreWithin, declarator_within, first_within}
-use Rattle.program_laws.proofs.Limits.Recursion.{parameter_count, parameters_add}
+use Rattle.program_laws.proofs.Limits.Walked.{Adds, adds_walk}
 
 -- a scope of at most so many variables, if there is one
 abbrev pub HasFew : (most : ℕ) → Option ParameterScope → Type 0
@@ -59,7 +60,7 @@ choice_few m true scope o low h = low
 choice_few m false scope o low h = h
 
 function_few : (m n : ℕ) → n ≤ m → (sh : Shape) → HasFew m sh.parameters → (u : State)
-    (a : Answer (State × List (List TypeWord))) → IfAdds n (within u) a
+    (a : Answer (State × List (List TypeWord))) → IfBehind (Adds n) (within u) a
     → IfFew m (a >>= λ r. (scope_left u.environment.variables >>> λ scope. done (with_function r.1 scope sh)) r.0)
 function_few m n low sh h u (Ok r) g =
     let few = g.variables in
@@ -88,7 +89,7 @@ shape_few m b (t.function d l ps r) cs h s =
     (λ sh u few.
     function_few m (parameter_count ps) (count_within m ps _ (declarator_within m d _ h)) sh few u
     (parameter_types (b && is_plain_name d) ps (within u))
-    (parameters_add (b && is_plain_name d) ps (within u)).by)
+    (parameters_walk adds_walk (b && is_plain_name d) ps (within u)).by)
 
 -- the law
 

@@ -136,7 +136,7 @@ left_places f formed n p is type line ps h defined (Ok r) k =
     record {
       outside = refl;
       each = placed_behind into r.0.state h.each all
-          (adds_on into inner r.0.state (literals_walk.stands into inner (type_stands type into)) k.keeps)
+          (adds_on into inner r.0.state (literals_walk.stands 0 into inner (type_stands type into)) k.keeps)
           (function_continues f.state.environment.entities r.0.state.environment.entities all n defined);
     }
 left_places f formed n p is type line ps h defined (Err e) k = tt

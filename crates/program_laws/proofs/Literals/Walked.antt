@@ -30,10 +30,10 @@ adds_on s t u h g = record {
   function = g.function ∙ h.function;
 }
 
-pub literals_walk : StateWalk AddsLiterals
+pub literals_walk : StateWalk (λ n. AddsLiterals)
 literals_walk = record {
-  on = adds_on;
-  stands = λ s t h. adds_none s t h.literals h.function;
+  on = λ m n k low. adds_on;
+  stands = λ n s t h. adds_none s t h.literals h.function;
   literal = λ bytes some s. record {
     rest = _;
     is = refl;
@@ -43,7 +43,7 @@ literals_walk = record {
   declares = λ k name s fresh. adds_none s (record s { environment = added k name s.environment }) refl refl;
   begins = λ t s. adds_none s (record s { environment = marked t s.environment }) refl refl;
   completes = λ is_union n es s. adds_none s (with_structure is_union n es s) refl refl;
-  scope = λ s t u h left same_literals same_function. record {
+  scope = λ n s t u h left same_literals same_function. record {
     rest = h.rest;
     is = same_literals ∙ h.is;
     each = h.each;

@@ -238,8 +238,15 @@ pub marked_keeps : (t : Tag) (s : State) → KeepsTags s (record s { environment
 marked_keeps (tag.Structure n) s = begins_keep n s
 marked_keeps (tag.Union n) s = begins_keep n s
 marked_keeps (tag.Enumeration n) s =
-    stands_keep s (record s { environment = marked (tag.Enumeration n) s.environment })
-    (record { structures = refl; tags = refl; outer = refl; literals = refl; function = refl })
+    stands_keep 0 s (record s { environment = marked (tag.Enumeration n) s.environment })
+    (record {
+      structures = refl;
+      tags = refl;
+      outer = refl;
+      literals = refl;
+      function = refl;
+      variables = omega arith;
+    })
 
 -- what it stands for at file scope
 

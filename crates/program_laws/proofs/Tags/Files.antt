@@ -84,10 +84,18 @@ module _ (f : File) (is_formed : IsFormed f.state) (n : ℕ) (p : ParameterScope
       (a >>= λ r. Ok (left line type (parameters_in (entered n type p f).state p.names) r, tt {0}))
   left_keeps (Ok r) h =
       let all = keeps_on (inside n p f) (entered n type p f).state r.0.state
-      (stands_keep (inside n p f) (entered n type p f).state (type_stands type (inside n p f))) h.keeps in
+      (stands_keep 0 (inside n p f) (entered n type p f).state (type_stands type (inside n p f))) h.keeps in
       inner_keeps f.state (inside n p f) r.0.state
       (left line type (parameters_in (entered n type p f).state p.names) r).state inside_is all
-      (record { structures = refl; outer = refl; outer_tags = refl; file = _; current = refl })
+      (record {
+        structures = refl;
+        outer = refl;
+        outer_tags = refl;
+        file = _;
+        current = refl;
+        file_names = _;
+        current_names = refl;
+      })
   left_keeps (Err e) h = tt
 
 body_keeps : (line : ℕ) (o : Option ParameterScope) (b : t.Block) → is_regular_block b ≡ true → (m : Option Meaning)

@@ -144,8 +144,8 @@ changes_keep s t c = record {
   };
 }
 
-pub stands_keep : (s t : State) → Stands s t → KeepsTags s t
-stands_keep s t h =
+pub stands_keep : (n : ℕ) (s t : State) → Stands n s t → KeepsTags s t
+stands_keep n s t h =
     changes_keep s t (record {
       tags = ap (λ z. file_tags z.bodies) h.structures;
       count = ap (λ z. length z.extents) h.structures;

@@ -90,7 +90,7 @@ abbrev pub IfDoes : {A : Type 0} → (before behind : Names Bool) → State → 
 IfDoes before behind s (Ok r) = Does before behind s r.0
 IfDoes before behind s (Err f) = Unit {0}
 
-pub kept_does : {A : Type 0} (tags : Names Bool) (s : State) (a : Answer (State × A)) → Walking tags_walk s a
+pub kept_does : {A : Type 0} (tags : Names Bool) (s : State) (a : Answer (State × A)) → Walking tags_walk 0 s a
     → IfDoes tags tags s a
 kept_does tags s (Ok r) h = does_by tags s r.0 h.by
 kept_does tags s (Err f) h = tt

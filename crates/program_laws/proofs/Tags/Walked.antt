@@ -21,9 +21,9 @@ use Rattle.typing_laws.proofs.Walks.Statements.{Both, BothFiles, both_walk}
 within_inside : (s : State) → Inside s (within s)
 within_inside s = record { structures = refl; outer = refl; outer_tags = refl }
 
-pub tags_walk : StateWalk KeepsTags
+pub tags_walk : StateWalk (λ n. KeepsTags)
 tags_walk = record {
-  on = keeps_on;
+  on = λ m n k low. keeps_on;
   stands = stands_keep;
   literal = λ bytes some s.
       changes_keep s (with_literal bytes s)
@@ -31,7 +31,7 @@ tags_walk = record {
   declares = λ k name s fresh. added_keeps s k name fresh;
   begins = marked_keeps;
   completes = structure_completes;
-  scope = λ s t u h left same_literals same_function. inner_keeps s (within s) t u (within_inside s) h left;
+  scope = λ n s t u h left same_literals same_function. inner_keeps s (within s) t u (within_inside s) h left;
 }
 
 -- so do the items of blocks

@@ -13,7 +13,7 @@ ghost use Rattle.c_tree.specs.Programs.{Program};
 ghost use Rattle.c_declarator_typing.specs.Declarators.{Shape};
 ghost use Rattle.c_typing_state.specs.State.{State};
 ghost use Rattle.c_unit_typing.specs.Typed.{a_program, are_constant, typed_unit};
-ghost use Rattle.program_laws.specs.Limits.Variables.{variables_among};
+ghost use Rattle.typing_laws.specs.Scopes.Variables.{variables_among};
 
 /// No function of a typed program that is within the limits has more parameters than the limit says (C99 5.2.4.1,
 /// 6.9.1).

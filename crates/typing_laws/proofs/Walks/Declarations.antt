@@ -1,5 +1,5 @@
 -- Declarations keep what each step of typing keeps (C99 6.7).
-use Rattle.std.proofs.Common.{ℕ, Bool, true, false, List, [], ◌∷◌, ◌++◌, Option, Some, None, if◌then◌else◌}
+use Rattle.std.proofs.Common.{ℕ, Bool, true, false, List, [], ◌∷◌, ◌++◌, Option, Some, None, if◌then◌else◌, arith}
 use Rattle.std.specs.Prelude.{Ok, is_none, is_some, not, option_map}
 use Rattle.c_syntax.specs.declared.position.Position.{Position}
 use Rattle.c_syntax.specs.Statements.{Declaration, InitDeclarator, InitDeclarators}
@@ -32,37 +32,37 @@ use Rattle.c_unit_typing.specs.Lines.{initializer_line}
 use Rattle.typing_laws.proofs.Declarations.Completed.{size_binds}
 use Rattle.typing_laws.proofs.Walks.States.{FileWalking, StateWalk, Walking, done_walks, file_done, file_then}
 use Rattle.typing_laws.proofs.Walks.States.{in_file_walks, judged_walks, refused_walks, same, step_walks}
-use Rattle.typing_laws.proofs.Walks.States.{then_walks}
+use Rattle.typing_laws.proofs.Walks.States.{then_adds, then_walks}
 use Rattle.typing_laws.proofs.Walks.Recursion.{shape_walks, specification_walks}
 use Rattle.typing_laws.proofs.Walks.Steps.{binds_stand, declaring_walks}
 use Rattle.typing_laws.proofs.Walks.Initializers.{initialized_walks}
 use Rattle.typing_laws.proofs.Common.{unless_large}
 
-module _ {holds : State → State → Type 0} (walk : StateWalk holds) where
+module _ {holds : State → State → Type 0} (walk : StateWalk (λ n. holds)) where
   -- an array that gets its size
 
   large_by : (s : State) (d : Designated) (name : Name) (array : TypeWord) (element : List TypeWord) (line : ℕ)
-      (large : Bool) → Walking walk s (unless_large s d name array element line large)
+      (large : Bool) → Walking walk 0 s (unless_large s d name array element line large)
   large_by s d name array element line true = refused_walks
   large_by s d name array element line false =
-      step_walks (walk.stands s _ (binds_stand (size_binds s name d (array ∷ element))))
+      step_walks (walk.stands _ s _ (binds_stand (size_binds s name d (array ∷ element))))
 
   sized_by : (s : State) (d : Designated) (name : Name) (array : TypeWord) (element : List TypeWord) (line : ℕ)
       (b : Bool)
-      → Walking walk s (if not b then violates Redeclared line
+      → Walking walk 0 s (if not b then violates Redeclared line
       else unless_large s d name array element line (is_large array))
   sized_by s d name array element line false = refused_walks
   sized_by s d name array element line true = large_by s d name array element line (is_large array)
 
   completed_walks : (s : State) (d : Designated) (name : Name × ℕ) (type : List TypeWord) (n : ℕ)
-      → Walking walk s (completed d name type n s)
+      → Walking walk 0 s (completed d name type n s)
   completed_walks s d name (word.OpenArray ∷ element) n =
       sized_by s d name.0 (array_of n (extent_of (extents s) element)) element name.1
       (is_same_object d name.0 (array_of n (extent_of (extents s) element) ∷ element) s.environment)
   completed_walks s d name _ n = done_walks
 
   initialized_if_walks : (d : Designated) (name : Name × ℕ) (type : List TypeWord) (x : Option Initializer) (s : State)
-      → Walking walk s (initialized_if d name type x s)
+      → Walking walk 0 s (initialized_if d name type x s)
   initialized_if_walks d name type None s = done_walks
   initialized_if_walks d name type (Some x) s =
       then_walks (initialized_walks walk x (begun type) s) (λ i.
@@ -90,19 +90,21 @@ module _ {holds : State → State → Type 0} (walk : StateWalk holds) where
   -- declarators
 
   pub found_walks : (d : declarators.Declaration) (name : Name × ℕ) (s : State)
-      → Walking walk s ((declaring name d >>> λ name. judged (λ s. Ok (declared name.0 s.environment.names.current))) s)
+      → Walking walk 1 s
+      ((declaring name d >>> λ name. judged (λ s. Ok (declared name.0 s.environment.names.current))) s)
   found_walks d name s =
-      then_walks (declaring_walks name d s) (λ r. judged_walks r.0 (Ok (declared r.1.0 r.0.environment.names.current)))
+      then_adds {n = 0} (omega arith) (declaring_walks name d s) (λ r.
+      judged_walks r.0 (Ok (declared r.1.0 r.0.environment.names.current)))
 
   placed_by : (b : Bool) (d : declarators.Declaration) (name : Name × ℕ) (line : ℕ) (s : State)
-      → Walking walk s (if b
+      → Walking walk 1 s (if b
       then (declaring name d >>> λ name. judged (λ s. Ok (declared name.0 s.environment.names.current))) s
       else violates MisplacedStorage line)
   placed_by true d name line s = found_walks d name s
   placed_by false d name line s = refused_walks
 
   declared_as_walks : (in_head : Bool) (spec : Specification) (sh : Shape) (initializer : Option ℕ) (name : Name × ℕ)
-      (s : State) → Walking walk s (declared_as in_head spec sh initializer name s)
+      (s : State) → Walking walk 1 s (declared_as in_head spec sh initializer name s)
   declared_as_walks in_head spec sh initializer name s =
       placed_by (has_place in_head spec (built_in s spec sh).type)
       (declaration_of spec (built_in s spec sh) name initializer) name spec.line s
@@ -128,12 +130,12 @@ module _ {holds : State → State → Type 0} (walk : StateWalk holds) where
 
   pub declarators_walk : (in_head : Bool) (spec : Specification) (ds : Option InitDeclarators) (f : File)
       → FileWalking walk f (with_declarators in_head spec ds f)
-  declarators_walk in_head spec None f = in_file_walks (judged_walks f.state (alone_in in_head spec f.state))
+  declarators_walk in_head spec None f = in_file_walks {n = 0} (judged_walks f.state (alone_in in_head spec f.state))
   declarators_walk in_head spec (Some ds) f =
       file_then (declarator_walks in_head spec ds.first f) (λ vs. others_walk in_head spec ds.others vs.1 vs.0)
 
   pub stored_walks : (is_alone : Bool) (specs : Specifiers) (s : State)
-      → Walking walk s ((specification is_alone specs >>> λ spec. judged (stored_once spec)) s)
+      → Walking walk 0 s ((specification is_alone specs >>> λ spec. judged (stored_once spec)) s)
   stored_walks is_alone specs s =
       then_walks (specification_walks walk is_alone specs s) (λ spec. judged_walks spec.0 (stored_once spec.1 spec.0))
 

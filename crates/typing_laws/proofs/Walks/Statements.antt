@@ -12,7 +12,7 @@ use Rattle.typing_laws.proofs.Scopes.Initializers.{IfBehind, ValueWalk}
 use Rattle.typing_laws.proofs.Scopes.Statements.{IfFileBehind, Walk}
 use Rattle.typing_laws.proofs.Walks.Declarations.{declaration_walks}
 use Rattle.typing_laws.proofs.Walks.Recursion.{typed_walks}
-use Rattle.typing_laws.proofs.Walks.States.{IfFileWalks, StateWalk, same}
+use Rattle.typing_laws.proofs.Walks.States.{IfFileWalks, StateWalk, same, states_on}
 use Rattle.typing_laws.proofs.Walks.Steps.{valued_walks}
 
 -- both of two relations of states
@@ -36,13 +36,13 @@ file_both files holds f (Ok r) h g = record { behind = h; keeps = g }
 file_both files holds f (Err e) h g = tt
 
 module _ {states holds : State → State → Type 0} {files : File → File → Type 0} (base : Walk states files)
-    (walk : StateWalk holds) where
+    (walk : StateWalk (λ n. holds)) where
   both_values : ValueWalk (Both states holds)
   both_values = record {
     same = λ s formed. record { behind = base.values.same s formed; keeps = same walk s };
     on = λ s t u h g. record {
       behind = base.values.on s t u h.behind g.behind;
-      keeps = walk.on s t u h.keeps g.keeps;
+      keeps = states_on walk s t u h.keeps g.keeps;
     };
     formed = λ s t h. base.values.formed s t h.behind;
     value = λ is e c s formed.
@@ -56,14 +56,22 @@ module _ {states holds : State → State → Type 0} {files : File → File → 
     file_same = λ f formed. record { behind = base.file_same f formed; keeps = same walk f.state };
     file_on = λ f g h a b. record {
       behind = base.file_on f g h a.behind b.behind;
-      keeps = walk.on f.state g.state h.state a.keeps b.keeps;
+      keeps = states_on walk f.state g.state h.state a.keeps b.keeps;
     };
     file_formed = λ f g h. base.file_formed f g h.behind;
     in_file = λ f t h. record { behind = base.in_file f t h.behind; keeps = h.keeps };
     scope = λ f g formed h. record {
       behind = base.scope f g formed h.behind;
-      keeps = walk.scope f.state g.state (scope_closed g).state h.keeps
-          (record { structures = refl; outer = refl; outer_tags = refl; file = _; current = refl }) refl refl;
+      keeps = walk.scope 0 f.state g.state (scope_closed g).state h.keeps
+          (record {
+            structures = refl;
+            outer = refl;
+            outer_tags = refl;
+            file = _;
+            current = refl;
+            file_names = _;
+            current_names = refl;
+          }) refl refl;
     };
     declared = λ in_head d c f formed.
         file_both files holds f (declaration in_head d f) (base.declared in_head d c f formed)

@@ -3,6 +3,7 @@ pub mod Acting
 pub mod Local
 pub mod ActionsAct
 pub mod LibraryActs
+pub mod Lines
 pub mod Related
 pub mod RelatedFlow
 pub mod Stays

@@ -8,6 +8,7 @@ pub mod Memory
 pub mod Strings
 pub mod Printing
 pub mod Library
+pub mod Lines
 pub mod Expressions
 pub mod Initializers
 pub mod Blocks

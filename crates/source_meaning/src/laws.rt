@@ -2,6 +2,7 @@
 //! them.
 
 pub mod constants;
+pub mod lines;
 
 ghost use Rattle.std.specs.Prelude.{◌≡◌, ◌≢◌, ◌<◌, ℕ, IfSome, List, Bool, true, false, length, map, Some};
 ghost use Rattle.behaviours.specs.Behaviour.{IsSource};

@@ -6,4 +6,6 @@ pub mod Meaning
 pub mod Edges
 pub mod Temporaries
 pub mod Changes
+pub mod Later
+pub mod SameTables
 pub mod PlainVariables

@@ -10,13 +10,15 @@ ghost use Rattle.tac_ir.specs.declared.instruction.Instruction.TheVariants.{Judg
 ghost use Rattle.tac_ir.specs.declared.instruction.Test.{Test};
 ghost use Rattle.tac_ir.specs.declared.key.Key.{Key};
 ghost use Rattle.tac_ir.specs.Changes.{ends_lives, KeepsLivesAt};
-ghost use Rattle.tac_ir.specs.Edges.{GoesAlong};
+ghost use Rattle.tac_ir.specs.Edges.{is_local, GoesAlong, StaysIn};
 ghost use Rattle.tac_ir.specs.Keys.{gives};
+ghost use Rattle.tac_ir.specs.Later.{ComesLater};
 ghost use Rattle.tac_ir.specs.declared.function.Tac.{Tac};
 ghost use Rattle.tac_ir.specs.Stage.{Temps, Frame, Stage, Stuck, seen};
 ghost use Rattle.tac_ir.specs.Meaning.{act, function_in, keys_of, setting_of_code, step, first_stage, tac_meaning};
 
 pub mod plain_variables;
+pub mod same_tables;
 
 /// A step begins at most one turn, and what has ended, or is stuck, stays so.
 pub fn steps_begin_at_most_one_turn()
@@ -30,12 +32,18 @@ pub fn code_that_follows_is_never_stuck()
         → run (step (setting_of_code t budgets) t) k (first_stage t budgets input) ≡ Stuck → ⊥ }
 {}
 
-/// A step from a node goes along an edge of the function's graph to another node of it, or calls a function and waits
-/// at
-/// a successor, or returns to where the last caller waits, or ends the run.
+/// A step from a node goes along an edge of the function's graph to another node of it, over which the same callers
+/// wait, or calls a function and waits at a successor, or returns to where the last caller waits, or ends the run.
 pub fn steps_go_along_edges()
     ensures { (g : Setting) (t : Tac) (i : Instruction) (u : ℕ) (temps : Temps) (frames : List Frame) (s : State)
         → GoesAlong i u frames (act g t i u temps frames s) }
+{}
+
+/// An instruction that neither calls nor returns stays in its function: it goes along an edge of the function's graph,
+/// over which the same callers wait, or ends the run.
+pub fn local_instructions_stay_in_their_function()
+    ensures { (g : Setting) (t : Tac) (i : Instruction) (u : ℕ) (temps : Temps) (frames : List Frame) (s : State)
+        → is_local i ≡ true → StaysIn i u frames (act g t i u temps frames s) }
 {}
 
 /// A check that has a key, and is not stuck, is of what its key gives: the address and the tag.
@@ -49,4 +57,11 @@ pub fn checks_are_of_their_keys()
 pub fn objects_die_at_named_instructions()
     ensures { (g : Setting) (t : Tac) (i : Instruction) (u : ℕ) (temps : Temps) (frames : List Frame) (s : State)
         → ends_lives i ≡ false → KeepsLivesAt s (act g t i u temps frames s) }
+{}
+
+/// An instruction leads to a later state of the run, a call and a return too: objects stay where they are and keep
+/// their sizes, the dead stay dead, and what is shown, the work, the turns and the keys do not shrink.
+pub fn instructions_lead_to_later_states()
+    ensures { (g : Setting) (t : Tac) (i : Instruction) (u : ℕ) (temps : Temps) (frames : List Frame) (s : State)
+        → ComesLater s (act g t i u temps frames s) }
 {}

@@ -1,8 +1,8 @@
 -- Code with checks does what code without them does.
-use Rattle.std.proofs.Common.{◌≡◌, ℕ, ◌+◌, ◌-◌, ◌*◌, ◌≤◌, List, [], ◌∷◌, Option, Some, None, Bool, true, false, refl}
+use Rattle.std.proofs.Common.{◌≡◌, ℕ, ◌+◌, ◌-◌, ◌*◌, ◌≤◌, List, Option, Some, None, Bool, true, false, refl}
 use Rattle.std.proofs.Common.{sym}
 use Rattle.std.proofs.Common.{ap, ◌∙◌, subst, arith}
-use Rattle.std.specs.Prelude.{slice_get, map, ◌&&◌, length, ◌++◌}
+use Rattle.std.specs.Prelude.{slice_get, ◌&&◌}
 use Rattle.behaviours.specs.Behaviour.{Behaviour, Meets, Follows, IsSource}
 use Rattle.behaviours.specs.Steps.{run}
 use Rattle.behaviours.proofs.Following.{follows_trans}
@@ -17,19 +17,12 @@ use Rattle.obj_memory.specs.Access.{scalar_size}
 use Rattle.c_tree.specs.declared.expression.Kind.{Kind}
 use Rattle.c_tree.specs.declared.expression.Kind.TheVariants.{Void, Scalar as OfScalar, Structure, Array}
 use Rattle.c_tree.specs.declared.expression.Fixity.{Fixity}
-use Rattle.c_tree.specs.Blocks.{block_objects}
-use Rattle.source_meaning.specs.Places.{statics_first}
-use Rattle.source_meaning.specs.State.{State, Rvalue, Outcome, Gives, Ended, Paused, Run, on, ◌>>=◌, ◌>>◌, done, tally}
-use Rattle.source_meaning.specs.State.{Header, Setting}
+use Rattle.source_meaning.specs.State.{State, Rvalue, Ended, Run, on, ◌>>=◌, ◌>>◌, done}
+use Rattle.source_meaning.specs.State.{Setting}
 use Rattle.source_meaning.specs.Actions.{given, located, read_scalar, write_scalar, move_bytes, updated, update}
-use Rattle.source_meaning.specs.Actions.{home_pointer}
-use Rattle.source_meaning.specs.Structures.{give, as_rvalue, values_of, put_contents, copy_value, write_rvalue}
+use Rattle.source_meaning.specs.Structures.{give, as_rvalue, put_contents, copy_value, write_rvalue}
 use Rattle.source_meaning.specs.Structures.{read_part, read_rvalue}
-use Rattle.source_meaning.specs.Printing.{print_formatted}
-use Rattle.source_meaning.specs.Initializers.{store_bytes}
-use Rattle.source_meaning.specs.Expressions.{callee}
-use Rattle.source_meaning.specs.Blocks.{pass_or_stop, enter_block}
-use Rattle.source_meaning.specs.Calls.{set_up}
+use Rattle.source_meaning.specs.Blocks.{pass_or_stop}
 use Rattle.source_meaning.specs.Meaning.{fresh}
 use Rattle.source_meaning.specs.Judging.{is_within, is_live_tag, test_life}
 use Rattle.source_meaning.specs.Acting.{at_work}
@@ -37,20 +30,20 @@ use Rattle.source_meaning.proofs.JudgingTests.{two_tests}
 use Rattle.tac_ir.specs.declared.instruction.Mode.TheVariants.{Named, Unchecked, Judged}
 use Rattle.tac_ir.specs.declared.instruction.Test.TheVariants.{Spatial, Temporal}
 use Rattle.tac_ir.specs.declared.instruction.Instruction.{Instruction}
-use Rattle.tac_ir.specs.declared.instruction.Instruction.TheVariants.{StoreText, Read, Write, Update, Judge, Print}
-use Rattle.tac_ir.specs.declared.instruction.Instruction.TheVariants.{Call, CallThrough, EnterBlock}
+use Rattle.tac_ir.specs.declared.instruction.Instruction.TheVariants.{Read, Write, Update, Judge}
 use Rattle.tac_ir.specs.declared.key.Key.{Key}
 use Rattle.tac_ir.specs.declared.function.CodeFunction.{CodeFunction}
 use Rattle.tac_ir.specs.declared.function.Tac.{Tac}
-use Rattle.tac_ir.specs.Stage.{Temps, no_temps, gathered, Frame, Entered, Stage, Begins, Stands, Over, Stuck, came}
+use Rattle.tac_ir.specs.Stage.{Temps, Frame, Stage, Begins, Stands, Over, Stuck, came}
 use Rattle.tac_ir.specs.Stage.{seen}
 use Rattle.tac_ir.specs.Keys.{gives}
-use Rattle.tac_ir.specs.Accesses.{only_if, is_live_at, is_there, is_place, admitted, moved_from}
-use Rattle.tac_ir.specs.Costs.{entries_of, stores_of, updates_of, cost, first_call, spent, fourfold, heavier}
-use Rattle.tac_ir.specs.Meaning.{code_of, keys_of, objects_in, function_in, if_there, keyed_by, keyed, right_value}
-use Rattle.tac_ir.specs.Meaning.{header_of_code, setting_of_code, begun, called_at, called, given_in, act, act_at}
-use Rattle.tac_ir.specs.Meaning.{check, line_in, at_node, step, objects_before, placed_data, first_stage, tac_meaning}
+use Rattle.tac_ir.specs.Accesses.{only_if, is_there, is_place, admitted, moved_from}
+use Rattle.tac_ir.specs.Costs.{entries_of, stores_of, updates_of, cost, spent, fourfold, heavier}
+use Rattle.tac_ir.specs.Meaning.{code_of, keys_of, function_in, keyed_by, keyed, right_value}
+use Rattle.tac_ir.specs.Meaning.{setting_of_code, given_in, act, act_at}
+use Rattle.tac_ir.specs.Meaning.{check, at_node, step, objects_before, first_stage, tac_meaning}
 use Rattle.tac_ir.proofs.KeyWork.{gives_work}
+use Rattle.tac_ir.proofs.SameTables.{act_same, begins_same, meaning_same}
 use Rattle.tac_ir.proofs.Turns.{follower_never_stuck}
 use Rattle.check_insert.specs.Inserted.{Has, StandsFor, InsertedAt, Inserted}
 
@@ -69,12 +62,6 @@ same_matches (Begins s) y fine e = e
 same_matches (Stands u n temps frames s) y fine e = e
 same_matches (Over x s) y fine e = (s.work, e, omega arith)
 same_matches Stuck y fine e = absurd (fine refl)
-
-came_same : {A : Type 0} (o : Outcome A) (F F' : A → State → Stage) → ((a : A) (s : State) → F a s ≡ F' a s)
-    → came o F ≡ came o F'
-came_same (Gives a s) F F' h = h a s
-came_same (Ended e s) F F' h = refl
-came_same (Paused s) F F' h = refl
 
 -- tests that are passed
 
@@ -105,10 +92,6 @@ key_passes : (keys : List Key) (key : Option ℕ) (k0 : ℕ) (s : State) (v : Va
     → IsFine (keyed keys key (at_work k0 s) v x) → (k : ℕ) (y : Stage) → keyed keys key (at_work k s) v y ≡ y
 key_passes keys None k0 s v x fine k y = refl
 key_passes keys (Some n) k0 s v x fine k y = key_passes_by (slice_get keys n) k0 s v x fine k y
-
-keyed_same : {keys keys' : List Key} (key : Option ℕ) (s : State) (v : Value) (x : Stage) → keys' ≡ keys
-    → keyed keys' key s v x ≡ keyed keys key s v x
-keyed_same key s v x e = ap (λ l. keyed l key s v x) e
 
 place_none : (c : Option ObjectState) → is_place c ≡ true → c ≡ None
 place_none None e = refl
@@ -179,71 +162,6 @@ dead_by size v line z e e' =
     ∙ ap (λ b. on (pass_or_stop b (ending.Temporal line) z) (λ _. located false size v line)) e'
 
 module _ (g : Setting) (t t' : Tac) (ins : Inserted t t') where
-  -- tables
-
-  keys_by : (c c' : Option CodeFunction) → InsertedAt c c' → keys_of c' ≡ keys_of c
-  keys_by None None h = refl
-  keys_by None (Some c') h = absurd h
-  keys_by (Some c) None h = absurd h
-  keys_by (Some c) (Some c') h = h.keys
-
-  keys_same : (u : ℕ) → keys_of (function_in t' u) ≡ keys_of (function_in t u)
-  keys_same u = keys_by (function_in t u) (function_in t' u) (ins.functions u)
-
-  objects_by : (c c' : Option CodeFunction) → InsertedAt c c' → (b : ℕ) → objects_in c' b ≡ objects_in c b
-  objects_by None None h b = refl
-  objects_by None (Some c') h b = absurd h
-  objects_by (Some c) None h b = absurd h
-  objects_by (Some c) (Some c') h b =
-      ap (λ (x : Header). block_objects (x.parameters ++ x.variables) (if_there (slice_get c'.blocks b))) h.header
-      ∙ ap (λ bs. block_objects (c.parameters ++ c.variables) (if_there (slice_get bs b))) h.blocks
-
-  called_by : (c c' : Option CodeFunction) → InsertedAt c c'
-      → (f : ℕ) (vs : List Rvalue) (line : ℕ) (frames : List Frame) (s : State)
-      → called_at g c' f vs line frames s ≡ called_at g c f vs line frames s
-  called_by None None h f vs line frames s = refl
-  called_by None (Some c') h f vs line frames s = absurd h
-  called_by (Some c) None h f vs line frames s = absurd h
-  called_by (Some c) (Some c') h f vs line frames s =
-      ap (λ x. came (heavier (set_up g x vs line) (begun s)) (λ _ z. Stands f c'.entry no_temps frames z)) h.header
-      ∙ ap (λ e. came (heavier (set_up g (header_of_code c) vs line) (begun s))
-      (λ _ z. Stands f e no_temps frames z)) h.entry
-
-  called_same : (f : ℕ) (vs : List Rvalue) (line : ℕ) (frames : List Frame) (s : State)
-      → called g t' f vs line frames s ≡ called g t f vs line frames s
-  called_same f vs line frames s = called_by (function_in t f) (function_in t' f) (ins.functions f) f vs line frames s
-
-  line_by : (c c' : Option CodeFunction) → InsertedAt c c' → line_in c' ≡ line_in c
-  line_by None None h = refl
-  line_by None (Some c') h = absurd h
-  line_by (Some c) None h = absurd h
-  line_by (Some c) (Some c') h = ap (λ (x : Header). x.line) h.header
-
-  -- an instruction does the same in both
-  act_same : (i : Instruction) (u : ℕ) (temps : Temps) (frames : List Frame) (s : State)
-      → act g t' i u temps frames s ≡ act g t i u temps frames s
-  act_same (Read kind mode line key d a m) u temps frames s = keyed_same key s (temps a).value _ (keys_same u)
-  act_same (Write kind mode line key d a b m) u temps frames s = keyed_same key s (temps a).value _ (keys_same u)
-  act_same (Update w k f mode line at key d a right m) u temps frames s = keyed_same key s (temps a).value _
-      (keys_same u)
-  act_same (Judge test size line key a m) u temps frames s = keyed_same key s (temps a).value _ (keys_same u)
-  act_same (Print x line d n m) u temps frames s = ap
-      (λ texts. came (heavier (as_rvalue
-      (print_formatted (if_there (slice_get texts x)) (values_of (gathered temps d n)) line)) s)
-      (given_in u m temps d frames)) ins.texts
-  act_same (StoreText n x offset m) u temps frames s =
-      ap (λ texts. only_if (is_live_at (offset + length (if_there (slice_get texts n))) (home_pointer x s) s.objects)
-      (came (heavier (tally (length (if_there (slice_get texts n)))
-      >> store_bytes (home_pointer x s) offset (if_there (slice_get texts n))) s)
-      (λ _ z. Stands u m temps frames z))) ins.texts
-  act_same (Call f line d n m) u temps frames s = called_same f _ line _ s
-  act_same (CallThrough type_number line d n m) u temps frames s = came_same
-      (callee g.functions type_number (temps d).value line s) _ _ (λ f z. called_same f _ line _ z)
-  act_same (EnterBlock b line m) u temps frames s = ap
-      (λ vs. came (heavier (enter_block g vs line) s) (λ q z. Stands u m temps (Entered b q ∷ frames) z))
-      (objects_by (function_in t u) (function_in t' u) (ins.functions u) b)
-  act_same i u temps frames s = refl
-
   stands_at : (c c' : Option CodeFunction) → InsertedAt c c' → (n : ℕ) (i : Instruction) → Has (code_of c) n i
       → StandsFor (code_of c') n i
   stands_at None None h n i e = absurd cc
@@ -258,7 +176,7 @@ module _ (g : Setting) (t t' : Tac) (ins : Inserted t t') where
   stays i u n temps frames s has fine = (
     1,
     same_matches _ _ fine
-        (ap (λ j. act_at g t' j u temps frames s) has ∙ act_same i u temps frames (spent (cost i) s)),
+        (ap (λ j. act_at g t' j u temps frames s) has ∙ act_same ins.tables g i u temps frames (spent (cost i) s)),
   )
 
   -- an access that gets its checks: x is the step without them, and w what the access costs after them
@@ -307,7 +225,7 @@ module _ (g : Setting) (t t' : Tac) (ins : Inserted t t') where
         ≡ came (pass_or_stop b (ending.Spatial line) (at_work (s.work + 1) s)) (λ _ z. Stands u n1 temps frames z)
     first_step b e =
         ap (λ j. act_at g t' j u temps frames s) has1
-        ∙ act_same (Judge Spatial size line key a n1) u temps frames (at_work (s.work + 1) s)
+        ∙ act_same ins.tables g (Judge Spatial size line key a n1) u temps frames (at_work (s.work + 1) s)
         ∙ key_open (s.work + 1) _
         ∙ ap (λ b. came (pass_or_stop b (ending.Spatial line) (at_work (s.work + 1) s))
         (λ _ z. Stands u n1 temps frames z)) e
@@ -317,7 +235,7 @@ module _ (g : Setting) (t t' : Tac) (ins : Inserted t t') where
         ≡ came (pass_or_stop b (ending.Temporal line) (at_work (s.work + 1 + 1) s)) (λ _ z. Stands u n2 temps frames z)
     second_step e0 b e =
         ap (λ j. act_at g t' j u temps frames (at_work (s.work + 1) s)) has2
-        ∙ act_same (Judge Temporal size line key a n2) u temps frames (at_work (s.work + 1 + 1) s)
+        ∙ act_same ins.tables g (Judge Temporal size line key a n2) u temps frames (at_work (s.work + 1 + 1) s)
         ∙ key_open (s.work + 1 + 1) _
         ∙ ap (λ q. only_if q (came (check Temporal size v line (at_work (s.work + 1 + 1) s))
         (λ _ z. Stands u n2 temps frames z))) e0
@@ -329,7 +247,7 @@ module _ (g : Setting) (t t' : Tac) (ins : Inserted t t') where
     third_step e e' =
         ap (λ j. act_at g t' j u temps frames (at_work (s.work + 1 + 1) s)) has3
         ∙ ap (λ w. act g t' access u temps frames (at_work (s.work + 1 + 1 + w) s)) costs
-        ∙ act_same access u temps frames (at_work (s.work + 1 + 1 + w) s) ∙ acts (s.work + 1 + 1 + w)
+        ∙ act_same ins.tables g access u temps frames (at_work (s.work + 1 + 1 + w) s) ∙ acts (s.work + 1 + 1 + w)
         ∙ key_open (s.work + 1 + 1 + w) _
         ∙ ap (λ b. only_if (b && (is_within v.tag v.word size && is_live_tag v.tag s.objects))
         (W (came (r (at_work (s.work + 1 + 1 + w) s)) F))) is_none
@@ -414,13 +332,6 @@ module _ (g : Setting) (t t' : Tac) (ins : Inserted t t') where
       (Write (Array size) Unchecked line key d a b m) u n temps frames s h fine
   instruction_by i u n temps frames s h fine = stays i u n temps frames s h fine
 
-  begins_same : (s : State) → step g t' (Begins s) ≡ step g t (Begins s)
-  begins_same s =
-      let z = spent first_call s in
-      ap (λ m. called g t' m [] (line_in (function_in t' m)) [] z) ins.main
-      ∙ ap (λ l. called g t' t.main [] l [] z)
-      (line_by (function_in t t.main) (function_in t' t.main) (ins.functions t.main)) ∙ called_same t.main [] _ [] z
-
   node_by : (oi : Option Instruction) (u n : ℕ) (temps : Temps) (frames : List Frame) (s : State) → at_node t u n ≡ oi
       → IsFine (act_at g t oi u temps frames s)
       → (j : ℕ) × Matches (act_at g t oi u temps frames s) (run (step g t') j (Stands u n temps frames s))
@@ -429,7 +340,7 @@ module _ (g : Setting) (t t' : Tac) (ins : Inserted t t') where
       (stands_at (function_in t u) (function_in t' u) (ins.functions u) n i e) fine
 
   one : (x y : Stage) → Matches x y → IsFine (step g t x) → (j : ℕ) × Matches (step g t x) (run (step g t') j y)
-  one (Begins s) y m fine = (1, same_matches _ _ fine (ap (step g t') m ∙ begins_same s))
+  one (Begins s) y m fine = (1, same_matches _ _ fine (ap (step g t') m ∙ begins_same ins.tables g s))
   one (Stands u n temps frames s) y m fine =
       let h = node_by (at_node t u n) u n temps frames s refl fine in
       (h.0, subst (λ z. Matches (step g t (Stands u n temps frames s)) (run (step g t') h.0 z)) (sym m) h.1)
@@ -462,40 +373,14 @@ module _ (g : Setting) (t t' : Tac) (ins : Inserted t t') where
   follows_from s fine = follows_by_steps 1 (step g t) seen (step g t') seen IsFine Matches
       (record { one = one; meets = meets }) (Begins s) (Begins s) refl fine
 
-setting_same : (t t' : Tac) → Inserted t t' → (budgets : BudgetSizes)
-    → setting_of_code t' budgets ≡ setting_of_code t budgets
-setting_same t t' ins budgets =
-    ap (λ hs. record {
-      functions = hs;
-      results = t'.results;
-      sizes = record
-          { budgets = budgets; global_bytes = t'.global_bytes };
-    }) ins.headers
-    ∙ ap (λ rs. record {
-      functions = map header_of_code t.functions;
-      results = rs;
-      sizes = record
-          { budgets = budgets; global_bytes = t'.global_bytes };
-    }) ins.results
-    ∙ ap (λ n. record {
-      functions = map header_of_code t.functions;
-      results = t.results;
-      sizes = record
-          { budgets = budgets; global_bytes = n };
-    }) ins.bytes
-
 -- checks change nothing of what is shown, and cost no more than was counted for them
 pub insert_follows : (t t' : Tac) → Inserted t t' → (budgets : BudgetSizes) (input : List ℕ)
     → ((k : ℕ) → run (step (setting_of_code t budgets) t) k (first_stage t budgets input) ≡ Stuck → ⊥)
     → Follows 1 (tac_meaning t budgets input) (tac_meaning t' budgets input)
 insert_follows t t' ins budgets input fine =
     let g = setting_of_code t budgets in
-    subst (λ (z : Setting). Follows 1 (tac_meaning t budgets input)
-    (λ n. seen (run (step z t') n (Begins (fresh z (objects_before t' z) input)))))
-    (sym (setting_same t t' ins budgets))
-    (subst (λ ds. Follows 1 (tac_meaning t budgets input)
-    (λ n. seen (run (step g t') n (Begins (fresh g (placed_data (statics_first g) ds 0) input))))) (sym ins.statics)
-    (follows_from g t t' ins (fresh g (objects_before t g) input) fine))
+    subst (λ b. Follows 1 (tac_meaning t budgets input) b) (sym (meaning_same ins.tables budgets input))
+    (follows_from g t t' ins (fresh g (objects_before t g) input) fine)
 
 -- code that follows a source, with its checks
 module _ (t t' : Tac) (ins : Inserted t t') (budgets : BudgetSizes) (input : List ℕ) (c : ℕ) (a : Behaviour)

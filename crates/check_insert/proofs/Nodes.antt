@@ -7,7 +7,8 @@ use Rattle.c_tree.specs.declared.expression.Kind.TheVariants.{Void, Scalar as Of
 use Rattle.tac_ir.specs.declared.instruction.Mode.TheVariants.{Named, Unchecked, Judged}
 use Rattle.tac_ir.specs.declared.instruction.Test.TheVariants.{Spatial, Temporal}
 use Rattle.tac_ir.specs.declared.instruction.Instruction.{Instruction}
-use Rattle.tac_ir.specs.declared.instruction.Instruction.TheVariants.{Reserved, Skip, Constant, FunctionPointer, GetPlain}
+use Rattle.tac_ir.specs.declared.instruction.Instruction.TheVariants.{Reserved, Skip, Constant, FunctionPointer}
+use Rattle.tac_ir.specs.declared.instruction.Instruction.TheVariants.{GetPlain}
 use Rattle.tac_ir.specs.declared.instruction.Instruction.TheVariants.{SetPlain, UpdatePlain, HomePointer}
 use Rattle.tac_ir.specs.declared.instruction.Instruction.TheVariants.{StaticPointer, ZeroOf, Convert, Unary, Binary}
 use Rattle.tac_ir.specs.declared.instruction.Instruction.TheVariants.{Offset, Difference, Narrow, Member, Take, Read}
@@ -18,6 +19,7 @@ use Rattle.tac_ir.specs.declared.function.CodeFunction.{CodeFunction}
 use Rattle.tac_ir.specs.declared.function.StaticData.{StaticData}
 use Rattle.tac_ir.specs.declared.function.Tac.{Tac}
 use Rattle.tac_ir.specs.Meaning.{header_of_code}
+use Rattle.tac_ir.specs.SameTables.{SameAt}
 use Rattle.tac_ir.specs.Temporaries.{temporaries}
 use Rattle.check_insert.specs.declared.access.Access.{Access}
 use Rattle.check_insert.specs.Counting.{is_check, checks_needed, sum_over, sum_of_functions}
@@ -396,11 +398,6 @@ count_in code = sum_and is_check (fronts (length code) code) _ ∙ count_all (le
 
 function_in : (c : CodeFunction) → FunctionIn c (checked_function c)
 function_in c = record {
-  header = refl;
-  entry = refl;
-  keys = refl;
-  blocks = refl;
-  loops = refl;
   size =
       let next = length c.code in
       omega (
@@ -441,6 +438,11 @@ functions_in [] u = tt
 functions_in (c ∷ cs) zero = function_in c
 functions_in (c ∷ cs) (suc u) = functions_in cs u
 
+same_functions : (cs : List CodeFunction) (u : ℕ) → SameAt (slice_get cs u) (slice_get (map checked_function cs) u)
+same_functions [] u = tt
+same_functions (c ∷ cs) zero = record { header = refl; entry = refl; keys = refl; blocks = refl; loops = refl }
+same_functions (c ∷ cs) (suc u) = same_functions cs u
+
 counts : (cs : List CodeFunction)
     → sum_of_functions is_check (map checked_function cs)
     ≡ sum_of_functions is_check cs + sum_of_functions checks_needed cs
@@ -449,12 +451,15 @@ counts (c ∷ cs) = omega (arith, count_in c.code, counts cs)
 
 pub inserted : (t : Tac) → Inserted t (checked_program t)
 inserted t = record {
-  headers = headers t.functions;
-  results = refl;
-  main = refl;
-  statics = refl;
-  bytes = refl;
-  texts = refl;
+  tables = record {
+    headers = headers t.functions;
+    results = refl;
+    main = refl;
+    statics = refl;
+    bytes = refl;
+    texts = refl;
+    functions = same_functions t.functions;
+  };
   functions = functions_in t.functions;
   count = counts t.functions;
 }

@@ -1,5 +1,5 @@
 -- When one program has the checks of another put in. Nodes keep their numbers; what is new stands at new ones.
-use Rattle.std.specs.Prelude.{◌≡◌, ◌≤◌, ℕ, ◌+◌, List, length, map, Option, Some, None, slice_get}
+use Rattle.std.specs.Prelude.{◌≡◌, ◌≤◌, ℕ, ◌+◌, List, length, Option, Some, None, slice_get}
 use Rattle.obj_memory.specs.Access.{scalar_size}
 use Rattle.c_tree.specs.declared.expression.Kind.{Kind}
 use Rattle.c_tree.specs.declared.expression.Kind.TheVariants.{Void, Scalar as OfScalar, Structure, Array}
@@ -11,7 +11,7 @@ use Rattle.tac_ir.specs.declared.instruction.Instruction.{Instruction}
 use Rattle.tac_ir.specs.declared.instruction.Instruction.TheVariants.{Read, Write, Update, Judge}
 use Rattle.tac_ir.specs.declared.function.CodeFunction.{CodeFunction}
 use Rattle.tac_ir.specs.declared.function.Tac.{Tac}
-use Rattle.tac_ir.specs.Meaning.{header_of_code}
+use Rattle.tac_ir.specs.SameTables.{SameTables}
 use Rattle.tac_ir.specs.Temporaries.{temporaries}
 use Rattle.check_insert.specs.Counting.{checks, checks_needed, checks_to_insert, sum_over}
 
@@ -60,13 +60,8 @@ pub record NeedsNoMore (code : List Instruction) (instruction : Instruction) : T
   pub has : Has code node other
   pub most : temporaries instruction ≤ temporaries other
 
--- what a call lays out, the keys, the blocks and the counted loops stay; for each check there is a node more
+-- for each check there is a node more, and no instruction needs more temporaries than there were
 pub record FunctionIn (before after : CodeFunction) : Type 0 where
-  pub header : header_of_code after ≡ header_of_code before
-  pub entry : after.entry ≡ before.entry
-  pub keys : after.keys ≡ before.keys
-  pub blocks : after.blocks ≡ before.blocks
-  pub loops : after.loops ≡ before.loops
   pub size : length after.code ≡ length before.code + sum_over checks_needed before.code
   pub code : (n : ℕ) (i : Instruction) → Has before.code n i → StandsFor after.code n i
   pub homes : (n : ℕ) (i : Instruction) → Has after.code n i → NeedsNoMore before.code i
@@ -77,12 +72,8 @@ InsertedAt None (Some c') = ⊥
 InsertedAt (Some c) None = ⊥
 InsertedAt (Some c) (Some c') = FunctionIn c c'
 
+-- the tables stay: what calls lay out, keys, blocks, counted loops, static objects and texts
 pub record Inserted (before after : Tac) : Type 0 where
-  pub headers : map header_of_code after.functions ≡ map header_of_code before.functions
-  pub results : after.results ≡ before.results
-  pub main : after.main ≡ before.main
-  pub statics : after.statics ≡ before.statics
-  pub bytes : after.global_bytes ≡ before.global_bytes
-  pub texts : after.texts ≡ before.texts
+  pub tables : SameTables before after
   pub functions : (u : ℕ) → InsertedAt (slice_get before.functions u) (slice_get after.functions u)
   pub count : checks after ≡ checks before + checks_to_insert before

@@ -1,3 +1,4 @@
 pub mod Inserted
 pub mod Counting
 pub mod Building
+pub mod SameButChecks

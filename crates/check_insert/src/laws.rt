@@ -8,6 +8,7 @@ ghost use Rattle.tac_ir.specs.declared.function.Tac.{Tac};
 ghost use Rattle.tac_ir.specs.Stage.{Stuck};
 ghost use Rattle.tac_ir.specs.Meaning.{setting_of_code, step, first_stage, tac_meaning};
 ghost use Rattle.check_insert.specs.Inserted.{Inserted};
+ghost use Rattle.check_insert.specs.SameButChecks.{SameButChecks};
 
 /// Code with checks shows what the code without them shows, at no more work than was counted for them, where that code
 /// is never stuck.
@@ -26,4 +27,10 @@ pub fn checked_code_is_never_stuck()
     ensures never { (t : Tac) (r : Tac) → Inserted t r → (budgets : BudgetSizes) (input : List ℕ) (c : ℕ)
         (a : Behaviour) → IsSource a → Follows c a (tac_meaning t budgets input) → (k : ℕ)
         → run (step (setting_of_code r budgets) r) k (first_stage r budgets input) ≡ Stuck → ⊥ }
+{}
+
+/// Code with its checks put in is the code without them but for its checks: its tables are the same, what is no access
+/// that gets checks stays at its node, and no instruction needs more temporaries.
+pub fn checked_code_is_the_same_but_for_checks()
+    ensures { (t : Tac) (r : Tac) → Inserted t r → SameButChecks t r }
 {}

@@ -1,6 +1,7 @@
 -- What is built of lowered code is built of the program.
-use Rattle.std.proofs.Common.{◌≡◌, ℕ, ◌<◌, List, [], length, true, Some, refl, sym, ap, ◌∙◌, subst}
-use Rattle.std.specs.Prelude.{Result, Ok, Err, IfOk, IfErr}
+use Rattle.std.proofs.Common.{◌≡◌, ℕ, ◌+◌, ◌-◌, ◌^◌, ◌<◌, List, [], length, true, Some, refl, sym, ap, ◌∙◌, subst}
+use Rattle.std.proofs.Common.{arith}
+use Rattle.std.specs.Prelude.{min, Result, Ok, Err, IfOk, IfErr}
 use Rattle.std.proofs.lemmas.Option.{none-some}
 use Rattle.std.proofs.lemmas.List.{length-map}
 use Rattle.sb_base.specs.Budgets.{BudgetSizes}
@@ -10,6 +11,9 @@ use Rattle.source_meaning.specs.Calls.{header_of}
 use Rattle.tac_ir.specs.declared.function.Tac.{Tac}
 use Rattle.tac_ir.specs.Meaning.{header_of_code}
 use Rattle.c_lower.specs.Programs.{IsLowered}
+use Rattle.program_lowering.specs.ProgramCode.Weights.{IsWeighed}
+use Rattle.program_lowering.specs.ProgramCode.Checks.{checks_of, AwaitsChecks}
+use Rattle.check_insert.specs.Counting.{checks, checks_to_insert}
 use Rattle.check_insert.specs.Inserted.{Inserted}
 use Rattle.compiled_programs.specs.Programs.{is_integer_program}
 use Rattle.static_data.specs.Data.{first_fault, program_pointers}
@@ -47,27 +51,28 @@ pub sizes_are : (p : Program) (budgets : BudgetSizes) (m : MapSizes) → is_inte
 sizes_are p budgets m ints e =
     e ∙ ap {B = MapSizes} (λ n. record { budgets = budgets; global_bytes = n }) (sym (no_bytes p ints))
 
-checked_of : (p : Program) (t r : Tac) → IsLowered p t → Inserted t r → IsChecked p r
-checked_of p t r low ins = record { lowered = t; is_lowered = low; inserted = ins }
+checked_of : (p : Program) (t r : Tac) → IsLowered p t → IsWeighed p t → Inserted t r → IsChecked p r
+checked_of p t r low weighed ins = record { lowered = t; is_lowered = low; is_weighed = weighed; inserted = ins }
 
-pub built_for : (p : Program) (t : Tac) (m n : MapSizes) (b : Built) → IsLowered p t → m ≡ n
+pub built_for : (p : Program) (t : Tac) (m n : MapSizes) (b : Built) → IsLowered p t → IsWeighed p t → m ≡ n
     → IsBuilt (Inserted t) m b → IsBuilt (IsChecked p) n b
-built_for p t m n b low same h =
+built_for p t m n b low weighed same h =
     subst (λ k. IsBuilt (IsChecked p) k b) same
-    (record { checked = h.checked; is = checked_of p t h.checked low h.is; image = h.image; checks_are = h.checks_are })
+    (record { checked = h.checked; is = checked_of p t h.checked low weighed h.is; image = h.image })
 
-refused_one : (p : Program) (t : Tac) (m n : MapSizes) (e : CompileError) → IsLowered p t → m ≡ n
+refused_one : (p : Program) (t : Tac) (m n : MapSizes) (e : CompileError) → IsLowered p t → IsWeighed p t → m ≡ n
     → IsRefused (Inserted t) m e → IsRefused (IsChecked p) n e
-refused_one p t m n e low same h =
+refused_one p t m n e low weighed same h =
     subst (λ k. IsRefused (IsChecked p) k e) same
-    (record { checked = h.checked; is = checked_of p t h.checked low h.is; refuses = h.refuses })
+    (record { checked = h.checked; is = checked_of p t h.checked low weighed h.is; refuses = h.refuses })
 
-pub refused_for : (p : Program) (t : Tac) (m n : MapSizes) (e : CompileError) → IsLowered p t → m ≡ n
+pub refused_for : (p : Program) (t : Tac) (m n : MapSizes) (e : CompileError) → IsLowered p t → IsWeighed p t → m ≡ n
     → UnlessMemory e (IsRefused (Inserted t) m e) → UnlessMemory e (IsRefused (IsChecked p) n e)
-refused_for p t m n NumbersTooLarge low same h = refused_one p t m n NumbersTooLarge low same h
-refused_for p t m n (TooLarge bytes) low same h = refused_one p t m n (TooLarge bytes) low same h
-refused_for p t m n (FunctionTooLong number) low same h = refused_one p t m n (FunctionTooLong number) low same h
-refused_for p t m n Memory low same h = tt
+refused_for p t m n NumbersTooLarge low weighed same h = refused_one p t m n NumbersTooLarge low weighed same h
+refused_for p t m n (TooLarge bytes) low weighed same h = refused_one p t m n (TooLarge bytes) low weighed same h
+refused_for p t m n (FunctionTooLong number) low weighed same h =
+    refused_one p t m n (FunctionTooLong number) low weighed same h
+refused_for p t m n Memory low weighed same h = tt
 
 -- the flat code of what is built
 pub flat_of : (p : Program) (m : MapSizes) (b : Built) (h : IsBuilt (IsChecked p) m b)
@@ -81,16 +86,17 @@ flat_of p m b h = record {
 
 -- what is asked of code with its checks put in
 pub expandable : (p : Program) (budgets : BudgetSizes) (t : Tac) (m : MapSizes) → m ≡ sizes_of p budgets → IsLowered p t
+    → IsWeighed p t
     → ((r : Tac) → Inserted t r → AreAllSmall m r → ArePlannable (flat_code m r))
     → ((code : FlatProgram) → IsFlat p (sizes_of p budgets) code → IsEncodable code) → (r : Tac) → Inserted t r
     → IsExpandable m r
-expandable p budgets t m same low plannable encodable r ins = record {
+expandable p budgets t m same low weighed plannable encodable r ins = record {
   plannable = plannable r ins;
   encodable = λ small.
       subst (λ k. IsEncodable (flat_code k r)) (sym same)
       (encodable (flat_code (sizes_of p budgets) r) (record {
         checked = r;
-        is_checked = checked_of p t r low ins;
+        is_checked = checked_of p t r low weighed ins;
         small = subst (λ k. AreAllSmall k r) same small;
         expanded = refl;
       }));
@@ -98,16 +104,26 @@ expandable p budgets t m same low plannable encodable r ins = record {
 
 -- ---- what `built_of` answers
 
-pub built_result : (p : Program) (t : Tac) (m n : MapSizes) (r : Result Built CompileError) → IsLowered p t → m ≡ n
+pub built_result : (p : Program) (t : Tac) (m n : MapSizes) (r : Result Built CompileError) → IsLowered p t
+    → IsWeighed p t → m ≡ n
     → IfOk r (λ b. IsBuilt (Inserted t) m b) → IfOk r (λ b. IsBuilt (IsChecked p) n b)
-built_result p t m n (Ok b) low same h = built_for p t m n b low same h
-built_result p t m n (Err e) low same h = tt
+built_result p t m n (Ok b) low weighed same h = built_for p t m n b low weighed same h
+built_result p t m n (Err e) low weighed same h = tt
 
-pub refused_result : (p : Program) (t : Tac) (m n : MapSizes) (r : Result Built CompileError) → IsLowered p t → m ≡ n
+pub refused_result : (p : Program) (t : Tac) (m n : MapSizes) (r : Result Built CompileError) → IsLowered p t
+    → IsWeighed p t → m ≡ n
     → IfErr r (λ e. UnlessMemory e (IsRefused (Inserted t) m e))
     → IfErr r (λ e. UnlessMemory e (IsRefused (IsChecked p) n e))
-refused_result p t m n (Ok b) low same h = tt
-refused_result p t m n (Err e) low same h = refused_for p t m n e low same h
+refused_result p t m n (Ok b) low weighed same h = tt
+refused_result p t m n (Err e) low weighed same h = refused_for p t m n e low weighed same h
+
+pub checks_result : (p : Program) (t : Tac) (r : Result Built CompileError) → AwaitsChecks p t
+    → IfOk r (λ b. b.checks ≡ min (2 ^ 64 - 1) (checks t + checks_to_insert t))
+    → IfOk r (λ b. b.checks ≡ min (2 ^ 64 - 1) (checks_of p))
+checks_result p t (Ok b) awaits h =
+    let all : checks t + checks_to_insert t ≡ checks_of p = omega (arith, awaits.none, awaits.to_come) in
+    h ∙ ap (min (2 ^ 64 - 1)) all
+checks_result p t (Err e) awaits h = tt
 
 pub does_result : (p : Program) (budgets : BudgetSizes) (r : Result Built CompileError)
     → ((code : FlatProgram) → IsFlat p (sizes_of p budgets) code → (plans : List FunctionPlan) → AreAccepted code plans

@@ -1,9 +1,8 @@
 -- What is built of a program, and when nothing is.
-use Rattle.std.specs.Prelude.{◌≡◌, ℕ, ◌-◌, ◌^◌, ◌<◌, min, List, [], length, Result, Ok, Err}
+use Rattle.std.specs.Prelude.{◌≡◌, ℕ, ◌<◌, List, [], length, Result, Ok, Err}
 use Rattle.addr_map.specs.Places.{MapSizes}
 use Rattle.c_tree.specs.Programs.{Program}
 use Rattle.tac_ir.specs.declared.function.Tac.{Tac}
-use Rattle.check_insert.specs.Counting.{checks}
 use Rattle.metadata_plan.specs.Laid.{program_of}
 use Rattle.metadata_plan.specs.OperatorLists.Operators.{operators}
 use Rattle.metadata_expansion.specs.Homes.{homes}
@@ -86,7 +85,6 @@ pub record IsBuilt (Is : Tac → Type 0) (map : MapSizes) (built : Built) : Type
   pub checked : Tac
   pub is : Is checked
   pub image : IsImageOf map checked built.image.items
-  pub checks_are : built.checks ≡ min (2 ^ 64 - 1) (checks checked)
 
 -- or why nothing is
 pub record IsRefused (Is : Tac → Type 0) (map : MapSizes) (error : CompileError) : Type 0 where

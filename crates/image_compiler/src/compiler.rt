@@ -1,11 +1,13 @@
 //! From a typed program to its image.
 
-ghost use Rattle.std.specs.Prelude.{◌≡◌, ◌≤◌, ◌-◌, ◌^◌, true, length, min, Ok, Err, IfOk, IfErr};
+ghost use Rattle.std.specs.Prelude.{◌≡◌, ◌+◌, ◌≤◌, ◌-◌, ◌^◌, true, length, min, Ok, Err, IfOk, IfErr};
 ghost use Rattle.c_tree.specs.View.{program_of};
 ghost use Rattle.c_tree.specs.ValidProgram.{is_valid_program};
 ghost use Rattle.tac_ir.specs.declared.function.Tac.{Tac};
 ghost use Rattle.c_lower.specs.Programs.{IsLowered};
 ghost use Rattle.program_lowering.specs.ProgramCode.Weights.{IsWeighed};
+ghost use Rattle.program_lowering.specs.ProgramCode.Checks.{checks_of, AwaitsChecks};
+ghost use Rattle.check_insert.specs.Counting.{checks, checks_to_insert};
 ghost use Rattle.check_insert.specs.Inserted.{Inserted};
 ghost use Rattle.compiled_programs.specs.Programs.{is_integer_program};
 ghost use Rattle.image_laws.specs.Images.Images.{HaveFewParameters, sizes_of, IsChecked, DoesWhatIsMeant};
@@ -53,6 +55,8 @@ fn built_of(alloc: Global, map: &AddrMap, lowered: Tac) -> Result<Built, Compile
     requires count { length lowered.functions ≤ 4096 }
     requires expandable { (r : Tac) → Inserted lowered r → IsExpandable map.now r }
     ensures built { IfOk result (λ built. IsBuilt (Inserted lowered) map.now built) }
+    ensures checks { IfOk result
+        (λ built. built.checks ≡ min (2 ^ 64 - 1) (checks lowered + checks_to_insert lowered)) }
     ensures refused { IfErr result (λ e. UnlessMemory e (IsRefused (Inserted lowered) map.now e)) }
 {
     let checked = insert(alloc, lowered)?;
@@ -67,6 +71,7 @@ fn lowered_code(alloc: Global, program: &Program) -> Result<Tac, AllocError>
     requires few { length (program_of program.now).functions ≤ 4096 }
     ensures code { IfOk result (λ code. IsLowered (program_of program.now) code) }
     ensures weighed { IfOk result (λ code. IsWeighed (program_of program.now) code) }
+    ensures checks { IfOk result (λ code. AwaitsChecks (program_of program.now) code) }
 {
     match lower(alloc, program) {
         Ok(code) => Ok(code),
@@ -88,8 +93,8 @@ fn map_of(budgets: &Budgets) -> AddrMap
 
 /// What is built of a valid program of integers, which has at most 4096 functions of at most 127 parameters each, with
 /// some budgets; or why nothing is. The image does what the program means, with at most 1008 instructions for each unit
-/// of its work. Want of memory is the one answer that may come without a cause; the code is too large only of a text
-/// with more than 8192 nodes.
+/// of its work; its checks are those of the text, of more than 2^64 - 1 so many. Want of memory is the one answer that
+/// may come without a cause; the code is too large only of a text with more than 8192 nodes.
 pub fn compile(alloc: Global, budgets: &Budgets, program: &Program) -> Result<Built, CompileError>
     requires valid { is_valid_program (program_of program.now) ≡ true }
     requires integers { is_integer_program (program_of program.now) ≡ true }
@@ -97,6 +102,7 @@ pub fn compile(alloc: Global, budgets: &Budgets, program: &Program) -> Result<Bu
     requires parameters { HaveFewParameters (program_of program.now) }
     ensures built { IfOk result (λ built. IsBuilt (IsChecked (program_of program.now))
         (sizes_of (program_of program.now) budgets.now) built) }
+    ensures checks { IfOk result (λ built. built.checks ≡ min (2 ^ 64 - 1) (checks_of (program_of program.now))) }
     ensures does { IfOk result (λ built. DoesWhatIsMeant (program_of program.now) budgets.now built.image.items) }
     ensures refused { IfErr result (λ e. UnlessMemory e (IsRefused (IsChecked (program_of program.now))
         (sizes_of (program_of program.now) budgets.now) e)) }

@@ -1,3 +1,4 @@
 pub mod Bodies
 pub mod Ready
 pub mod InTurn
+pub mod Checks

@@ -1,3 +1,4 @@
 pub mod Weights
+pub mod Checks
 pub mod Code
 pub mod Whole

@@ -1,5 +1,5 @@
 -- The program of an accepted source, or why the source is refused.
-use Rattle.std.specs.Prelude.{◌≡◌, ◌⊎◌, ℕ, nat_lt, true, false, List, length, Option, Some}
+use Rattle.std.specs.Prelude.{◌≡◌, ◌⊎◌, ℕ, ◌-◌, ◌^◌, min, nat_lt, true, false, List, length, Option, Some}
 use Rattle.std.specs.Prelude.{None, Result, Ok, Err, if◌then◌else◌}
 use Rattle.c_lexer.specs.declared.lexer.LexFault.{LexFault}
 use Rattle.c_lexer.specs.Spelled.{TokenList}
@@ -13,6 +13,7 @@ use Rattle.c_parser.specs.Parsed.{IsTreeOf, IsRefusedAt}
 use Rattle.sb_base.specs.Budgets.{BudgetSizes}
 use Rattle.c_tree.specs.Programs.{Program}
 use Rattle.c_unit_typing.specs.Typed.{a_program, typed_unit}
+use Rattle.program_lowering.specs.ProgramCode.Checks.{checks_of}
 use Rattle.image_laws.specs.Images.Images.{sizes_of, IsChecked, DoesWhatIsMeant}
 use Rattle.image_compiler.specs.declared.compiler.Built.{Built}
 use Rattle.image_compiler.specs.declared.error.CompileError.{CompileError}
@@ -111,12 +112,14 @@ pub record IsTooLarge (source : List ℕ) (budgets : BudgetSizes) (refusal : Sou
 abbrev pub Refuses : List ℕ → BudgetSizes → SourceRefusal → Type 0
 Refuses source budgets refusal = Judges source (Err refusal) ⊎ IsTooLarge source budgets refusal
 
--- the source is accepted, and what was built does what it means: the image, which has so many checks
+-- the source is accepted, and what was built does what it means: the image, which has the checks of its text, of more
+-- than 2^64 - 1 so many
 pub record IsBuiltFrom (source : List ℕ) (budgets : BudgetSizes) (built : Built) : Type 0 where
   pub program : Program
   pub accepts : Judges source (Ok program)
   pub means : DoesWhatIsMeant program budgets built.image.items
   pub is_built : IsBuilt (IsChecked program) (sizes_of program budgets) built
+  pub checks_are : built.checks ≡ min (2 ^ 64 - 1) (checks_of program)
 
 -- this holds, unless the refusal is want of memory
 abbrev pub UnlessMemory : SourceRefusal → Type 0 → Type 0

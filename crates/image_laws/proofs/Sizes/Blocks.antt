@@ -179,68 +179,69 @@ module _ (p : FlatProgram) (room : ℕ) where
         by true e = call_words f line d n lt e
         by false e = let h = abort_end line lt in omega (arith, h)
 
-    pub block_words : (i : Instruction) → word_in i < 2 ^ 64 → line_in i < 2 ^ 32
-        → body_words p room 1 (block operators m t c i) + 2 * length (successors i) ≤ weight_of i (words 60)
-    block_words tac.Reserved w l = let h = unreached in omega (arith, h)
-    block_words (tac.Constant d v next) w l =
+    pub block_words : (ts : List (List ℕ)) (i : Instruction) → word_in i < 2 ^ 64 → line_in i < 2 ^ 32
+        → body_words p room 1 (block operators m t c i) + 2 * length (successors i) ≤ weight_of ts i (words 60)
+    block_words ts tac.Reserved w l = let h = unreached in omega (arith, h)
+    block_words ts (tac.Constant d v next) w l =
         let h = constant_code_words p room 1 (temporary_register c d) v w in omega (arith, h)
-    block_words (tac.GetPlain d x next) w l = omega arith
-    block_words (tac.SetPlain x a next) w l = omega arith
-    block_words (tac.UpdatePlain u k f line d x right next) w l =
+    block_words ts (tac.GetPlain d x next) w l = omega arith
+    block_words ts (tac.SetPlain x a next) w l = omega arith
+    block_words ts (tac.UpdatePlain u k f line d x right next) w l =
         let h = update_words c u k f line d x right l in omega (arith, h)
-    block_words (tac.ZeroOf kind d next) w l = let h = few_constant 0 (omega arith) in omega (arith, h)
-    block_words (tac.Convert kind d a next) w l =
+    block_words ts (tac.ZeroOf kind d next) w l = let h = few_constant 0 (omega arith) in omega (arith, h)
+    block_words ts (tac.Convert kind d a next) w l =
         let h = converted_words kind (temporary_register c d) (temporary_register c a) (first_free c) in omega
         (arith, h)
-    block_words (tac.Unary q ty d a next) w l =
+    block_words ts (tac.Unary q ty d a next) w l =
         let h = unary_words p room 1 q ty (temporary_register c d) (temporary_register c a) (first_free c) in omega
         (arith, h)
-    block_words (tac.Binary q ty line d a b next) w l =
+    block_words ts (tac.Binary q ty line d a b next) w l =
         let h = binary_words p room 1 q ty line (temporary_register c d) (temporary_register c a)
         (temporary_register c b)
         (first_free c) l in
         omega (arith, h)
-    block_words (tac.Branch a x y) w l = omega arith
-    block_words (tac.Case a v x y) w l =
+    block_words ts (tac.Branch a x y) w l = omega arith
+    block_words ts (tac.Case a v x y) w l =
         let h = constant_code_words p room 1 (first_free c) v w in
         let test = flat.Branch Beq (temporary_register c a) (right.Register (first_free c)) 1 in
         let q = words_append p room 1 (operators.constant (first_free c) v (first_free c + 1)) (test ∷ []) in
         omega (arith, h, q)
-    block_words (tac.Turn counted next) w l = omega arith
-    block_words (tac.Library r line d n next) w l =
+    block_words ts (tac.Turn counted next) w l = omega arith
+    block_words ts (tac.Library r line d n next) w l =
         let h = library_words r line (temporary_register c d) (first_free c) l in omega (arith, h)
-    block_words (tac.Call f line d n next) w l = let h = called_words f line d n l in omega (arith, h)
-    block_words (tac.Return a) w l = omega arith
-    block_words (tac.FunctionPointer d f next) w l = let h = unreached in omega (arith, h)
-    block_words (tac.HomePointer d x next) w l = let h = unreached in omega (arith, h)
-    block_words (tac.StaticPointer d n next) w l = let h = unreached in omega (arith, h)
-    block_words (tac.Offset form size d a b next) w l = let h = unreached in omega (arith, h)
-    block_words (tac.Difference size d a b next) w l = let h = unreached in omega (arith, h)
-    block_words (tac.Narrow offset size d a next) w l = let h = unreached in omega (arith, h)
-    block_words (tac.Member offset size d a next) w l = let h = unreached in omega (arith, h)
-    block_words (tac.Take kind line d a next) w l = let h = unreached in omega (arith, h)
-    block_words (tac.Read kind mode line key d a next) w l = let h = unreached in omega (arith, h)
-    block_words (tac.Write kind mode line key d a b next) w l = let h = unreached in omega (arith, h)
-    block_words (tac.Update u k f mode line at key d a right next) w l = let h = unreached in omega (arith, h)
-    block_words (tac.Judge test size line key a next) w l = let h = unreached in omega (arith, h)
-    block_words (tac.Zero x next) w l = let h = unreached in omega (arith, h)
-    block_words (tac.StorePart kind line x offset a next) w l = let h = unreached in omega (arith, h)
-    block_words (tac.StoreText n x offset next) w l = let h = unreached in omega (arith, h)
-    block_words (tac.Print x line d n next) w l = let h = unreached in omega (arith, h)
-    block_words (tac.CallThrough type line d n next) w l = let h = unreached in omega (arith, h)
-    block_words (tac.EnterBlock b line next) w l = let h = unreached in omega (arith, h)
-    block_words (tac.LeaveBlock b next) w l = let h = unreached in omega (arith, h)
-    block_words (tac.Skip next) w l = let h = unreached in omega (arith, h)
+    block_words ts (tac.Call f line d n next) w l = let h = called_words f line d n l in omega (arith, h)
+    block_words ts (tac.Return a) w l = omega arith
+    block_words ts (tac.FunctionPointer d f next) w l = let h = unreached in omega (arith, h)
+    block_words ts (tac.HomePointer d x next) w l = let h = unreached in omega (arith, h)
+    block_words ts (tac.StaticPointer d n next) w l = let h = unreached in omega (arith, h)
+    block_words ts (tac.Offset form size d a b next) w l = let h = unreached in omega (arith, h)
+    block_words ts (tac.Difference size d a b next) w l = let h = unreached in omega (arith, h)
+    block_words ts (tac.Narrow offset size d a next) w l = let h = unreached in omega (arith, h)
+    block_words ts (tac.Member offset size d a next) w l = let h = unreached in omega (arith, h)
+    block_words ts (tac.Take kind line d a next) w l = let h = unreached in omega (arith, h)
+    block_words ts (tac.Read kind mode line key d a next) w l = let h = unreached in omega (arith, h)
+    block_words ts (tac.Write kind mode line key d a b next) w l = let h = unreached in omega (arith, h)
+    block_words ts (tac.Update u k f mode line at key d a right next) w l = let h = unreached in omega (arith, h)
+    block_words ts (tac.Judge test size line key a next) w l = let h = unreached in omega (arith, h)
+    block_words ts (tac.Zero x next) w l = let h = unreached in omega (arith, h)
+    block_words ts (tac.StorePart kind line x offset a next) w l = let h = unreached in omega (arith, h)
+    block_words ts (tac.StoreText n x offset next) w l = let h = unreached in omega (arith, h)
+    block_words ts (tac.Print x line d n next) w l = let h = unreached in omega (arith, h)
+    block_words ts (tac.CallThrough type line d n next) w l = let h = unreached in omega (arith, h)
+    block_words ts (tac.EnterBlock b line next) w l = let h = unreached in omega (arith, h)
+    block_words ts (tac.LeaveBlock b next) w l = let h = unreached in omega (arith, h)
+    block_words ts (tac.Skip next) w l = let h = unreached in omega (arith, h)
 
-    pub code_words : (is : List Instruction) (n : ℕ) → greatest_word is < 2 ^ 64 → greatest_line is < 2 ^ 32
-        → body_words p room 1 (laid_from operators m t c n is) ≤ code_weight is (words 60)
-    code_words [] n w l = omega arith
-    code_words (i ∷ is) n w l =
+    pub code_words : (ts : List (List ℕ)) (is : List Instruction) (n : ℕ) → greatest_word is < 2 ^ 64
+        → greatest_line is < 2 ^ 32
+        → body_words p room 1 (laid_from operators m t c n is) ≤ code_weight ts is (words 60)
+    code_words ts [] n w l = omega arith
+    code_words ts (i ∷ is) n w l =
         let later = laid_from operators m t c (suc n) is in
         let own = block operators m t c i in
         let behind = jumps c (place_of operators m t c) n (place_of operators m t c n + length own) (successors i) in
-        let h = block_words i (omega (arith, w)) (omega (arith, l)) in
-        let r = code_words is (suc n) (omega (arith, w)) (omega (arith, l)) in
+        let h = block_words ts i (omega (arith, w)) (omega (arith, l)) in
+        let r = code_words ts is (suc n) (omega (arith, w)) (omega (arith, l)) in
         let j = jumps_words c (place_of operators m t c) n (place_of operators m t c n + length own) (successors i) in
         let a = words_append p room 1 later (own ++ behind) in
         let b = words_append p room 1 own behind in

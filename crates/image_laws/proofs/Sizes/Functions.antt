@@ -126,12 +126,12 @@ module _ (m : MapSizes) (t : Tac) (few : m.budgets.calls ≤ 16777216) (count : 
     gives = λ f n e. results_at f n (code.function_in t f) refl e;
   }
 
-  function_words : (c : CodeFunction) → AreSmall m t c
+  function_words : (ts : List (List ℕ)) (c : CodeFunction) → AreSmall m t c
       → most_words p (function_of operators m t c (homes c))
-      ≤ frame_words c.parameters c.variables + codes_weight (c ∷ []) (words 60)
-  function_words c s =
+      ≤ frame_words c.parameters c.variables + codes_weight ts (c ∷ []) (words 60)
+  function_words ts c s =
       let begin = begin_words p c.room m t c in
-      let rest = code_words p c.room m t calls c c.code 0 s.words s.lines in
+      let rest = code_words p c.room m t calls c ts c.code 0 s.words s.lines in
       let a = words_append p c.room 1 (begin_code operators m t c) (laid_from operators m t c 0 c.code) in
       omega (arith, begin, rest, a, words_most c.parameters)
 
@@ -145,14 +145,14 @@ module _ (m : MapSizes) (t : Tac) (few : m.budgets.calls ≤ 16777216) (count : 
   frames [] = 0
   frames (c ∷ cs) = frame_words c.parameters c.variables + frames cs
 
-  total_words : (cs : List CodeFunction)
+  total_words : (ts : List (List ℕ)) (cs : List CodeFunction)
       → ((u : ℕ) (c : CodeFunction) → slice_get cs u ≡ Some c → AreSmall m t c)
-      → total (functions_of operators m t homes cs ++ (entry_of m t ∷ [])) ≤ frames cs + codes_weight cs (words 60)
+      → total (functions_of operators m t homes cs ++ (entry_of m t ∷ [])) ≤ frames cs + codes_weight ts cs (words 60)
   unfolding total frames
-  total_words [] h = omega arith
-  total_words (c ∷ cs) h =
-      let own = function_words c (h 0 c refl) in
-      let rest = total_words cs (λ u d at. h (suc u) d at) in
+  total_words ts [] h = omega arith
+  total_words ts (c ∷ cs) h =
+      let own = function_words ts c (h 0 c refl) in
+      let rest = total_words ts cs (λ u d at. h (suc u) d at) in
       omega (arith, own, rest)
 
   below : List FlatFunction → ℕ → ℕ
@@ -175,9 +175,10 @@ module _ (m : MapSizes) (t : Tac) (few : m.budgets.calls ≤ 16777216) (count : 
   below_is zero = refl
   below_is (suc k) = let h = below_is k in omega (arith, h)
 
-  pub program_words : most_below p (length p.functions) ≤ frames t.functions + codes_weight t.functions (words 60)
-  program_words =
+  pub program_words : (ts : List (List ℕ))
+      → most_below p (length p.functions) ≤ frames t.functions + codes_weight ts t.functions (words 60)
+  program_words ts =
       let a = below_is (length p.functions) in
       let b = below_all p.functions in
-      let h = total_words t.functions small.functions in
+      let h = total_words ts t.functions small.functions in
       omega (arith, a, b, h)

@@ -1,10 +1,13 @@
 -- The compiled code of a program of integers has no more bytes than its nodes allow.
 use Rattle.std.proofs.Common.{◌≡◌, ℕ, suc, ◌+◌, ◌*◌, ◌≤◌, true, false, List, [], ◌∷◌, length, map}
 use Rattle.std.proofs.Common.{refl, sym, ap, ◌∙◌, arith}
+use Rattle.std.specs.Prelude.{get_or}
 use Rattle.std.specs.List.{list_all}
 use Rattle.std.proofs.lemmas.Bool.{and_parts}
 use Rattle.std.proofs.lemmas.List.{length-map}
 use Rattle.addr_map.specs.Places.{MapSizes}
+use Rattle.c_tree.specs.declared.expression.Kind.{Kind}
+use Rattle.c_tree.specs.declared.expression.Kind.TheVariants.{Void}
 use Rattle.c_tree.specs.Blocks.{all_of}
 use Rattle.c_tree.specs.Programs.{Function, Program}
 use Rattle.c_tree.specs.ValidProgram as valid
@@ -13,7 +16,8 @@ use Rattle.tac_ir.specs.declared.function.CodeFunction.{CodeFunction}
 use Rattle.tac_ir.specs.declared.function.Tac.{Tac}
 use Rattle.tac_ir.specs.Meaning.{header_of_code}
 use Rattle.c_lower.specs.Programs.{IsLowered}
-use Rattle.program_lowering.specs.ProgramCode.Weights.{function_weight, functions_weight, IsWeighed}
+use Rattle.program_lowering.specs.ProgramCode.Weights.{function_weight, functions_weight, program_weight}
+use Rattle.program_lowering.specs.ProgramCode.Weights.{IsWeighed}
 use Rattle.check_insert.specs.Inserted.{Inserted}
 use Rattle.compiled_programs.specs.Programs.{is_integer_program, is_integer_function, is_integer_variable}
 use Rattle.compiled_programs.specs.Programs.{are_integer_statements}
@@ -44,29 +48,35 @@ body_valid : (p : Program) (n : ℕ) (f : Function) → valid.is_function p n f 
     → valid.are_statements (valid.function_scope p f) outside f.body ≡ true
 body_valid p n f v = (and_parts _ _ (and_parts _ _ v).0).1
 
-function_light : (p : Program) (n k : ℕ) (f : Function) → valid.is_function p n f ≡ true → is_integer_function f ≡ true
-    → frame_words f.parameters f.variables + function_weight f (words k) ≤ 256 * function_nodes f
-function_light p n k f v i =
+function_light : (p : Program) (n k : ℕ) (result : Kind) (f : Function) → valid.is_function p n f ≡ true
+    → is_integer_function f ≡ true
+    → frame_words f.parameters f.variables + function_weight result f (words k) ≤ 256 * function_nodes f
+function_light p n k result f v i =
     let both = and_parts (list_all is_integer_variable (all_of f)) (are_integer_statements f.body) i in
     let h = each_light k (all_of f) (no_block k (all_of f) both.0) (valid.function_scope p f) outside f.body
     (body_valid p n f v) both.1 in
     omega (arith, h)
 
-functions_light : (p : Program) (n k : ℕ) (fs : List Function) → valid.are_functions p n fs ≡ true
+functions_light : (p : Program) (n k : ℕ) (results : List Kind) (fs : List Function)
+    → valid.are_functions p n fs ≡ true
     → list_all is_integer_function fs ≡ true
-    → text_frames fs + functions_weight fs (words k) ≤ 256 * functions_nodes fs
+    → text_frames fs + functions_weight results fs (words k) ≤ 256 * functions_nodes fs
 unfolding text_frames
-functions_light p n k [] v i = omega arith
-functions_light p n k (f ∷ fs) v i =
+functions_light p n k results [] v i = omega arith
+functions_light p n k results (f ∷ fs) v i =
     let parts = and_parts (valid.is_function p n f) (valid.are_functions p (suc n) fs) v in
     let both = and_parts (is_integer_function f) (list_all is_integer_function fs) i in
-    omega (arith, function_light p n k f parts.0 both.0, functions_light p (suc n) k fs parts.1 both.1)
+    omega (
+      arith,
+      function_light p n k (get_or results f.type_number Void) f parts.0 both.0,
+      functions_light p (suc n) k results fs parts.1 both.1,
+    )
 
 program_light : (p : Program) (k : ℕ) → valid.is_valid_program p ≡ true → is_integer_program p ≡ true
-    → text_frames p.functions + functions_weight p.functions (words k) ≤ 256 * functions_nodes p.functions
+    → text_frames p.functions + program_weight p (words k) ≤ 256 * functions_nodes p.functions
 unfolding valid.is_valid_program is_integer_program
 program_light p k v i =
-    functions_light p 0 k p.functions (and_parts _ (valid.are_functions p 0 p.functions) (and_parts _ _ v).0).1
+    functions_light p 0 k _ p.functions (and_parts _ (valid.are_functions p 0 p.functions) (and_parts _ _ v).0).1
     (and_parts _ (list_all is_integer_function p.functions) i).1
 
 -- ---- the code has its frames
@@ -99,9 +109,9 @@ bytes_of_nodes p t r m v i low weighed ins integers few functions small plans by
     let most = 256 * functions_nodes p.functions in
     let all = program_light p (suc most) v i in
     let limit = weighed.by (words (suc most)) in
-    let same = weighs_the_same most 60 t r ins (omega (arith, all, limit)) in
+    let same = weighs_the_same t.texts most 60 t r ins (omega (arith, all, limit)) in
     let own = program_light p 60 v i in
     let text = weighed.by (words 60) in
-    let total = program_words m r few count integers small in
+    let total = program_words m r few count integers small t.texts in
     let frame = same_frames m r few count integers small r.functions p.functions headers in
     omega (arith, bytes, same, own, text, total, frame)

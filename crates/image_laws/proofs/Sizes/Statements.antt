@@ -18,7 +18,7 @@ use Rattle.c_tree.specs.ValidProgram as valid
 use Rattle.program_lowering.specs.StatementParts.Objects.{is_object, any_object}
 use Rattle.program_lowering.specs.StatementParts.Weights.{declared_weight, first_weight, condition_weight, part_weight}
 use Rattle.program_lowering.specs.StatementParts.Weights.{weight_where}
-use Rattle.program_lowering.specs.StatementParts.Weights.{objects_weight}
+use Rattle.program_lowering.specs.StatementParts.Weights.{block_weight}
 use Rattle.program_lowering.proofs.StatementParts.Opened.{any_is}
 use Rattle.program_lowering.specs.StatementCode.Weights.{labels_weight, statement_weight, each_weight, items_weight}
 use Rattle.compiled_programs.specs.Programs.{is_integer_expression, is_integer_expression_if, is_integer_initializer}
@@ -48,8 +48,9 @@ no_objects vs [] h = refl
 no_objects vs (n ∷ ns) h = ap (λ b. b || any_object vs ns) (integer_at vs n h) ∙ no_objects vs ns h
 
 pub no_block : (k : ℕ) (vs : List Variable) → list_all is_integer_variable vs ≡ true → (numbers : List ℕ)
-    → objects_weight vs numbers (words k) ≡ 0
-no_block k vs h numbers = ap (λ b. weight_where b (words k)) (sym (any_is vs numbers) ∙ no_objects vs numbers h)
+    → block_weight vs numbers (words k) ≡ 0
+no_block k vs h numbers =
+    ap (λ b. weight_where b k + weight_where b (4 * k)) (sym (any_is vs numbers) ∙ no_objects vs numbers h)
 
 labels_light : (k : ℕ) (ls : List CaseLabel) → labels_weight ls (words k) ≤ 256 * length ls
 labels_light k [] = omega arith
@@ -89,7 +90,7 @@ module _ (k : ℕ) where
   part_light scope None v i = omega arith
   part_light scope (Some e) v i = let h = evaluated_light k scope e v i in omega (arith, h)
 
-module _ (k : ℕ) (vs : List Variable) (none : (numbers : List ℕ) → objects_weight vs numbers (words k) ≡ 0) where
+module _ (k : ℕ) (vs : List Variable) (none : (numbers : List ℕ) → block_weight vs numbers (words k) ≡ 0) where
   mutual
     statement_light : (scope : Scope) (inside : valid.Inside) (s : Statement)
         → valid.is_statement scope inside s ≡ true → is_integer_statement s ≡ true

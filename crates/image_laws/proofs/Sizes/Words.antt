@@ -8,21 +8,40 @@ use Rattle.program_lowering.specs.ExpressionCode.Weights.{Weights}
 -- division reports a zero divisor; a node that is reserved for a turn and not filled reports too.
 abbrev pub words : (other : ℕ) → Weights
 words other = record {
+  skip = other;
   constant = 43;
+  function_pointer = other;
   get_plain = 9;
   set_plain = 9;
-  update_plain = 182;
-  zero_of = 7;
-  convert = 20;
+  update_plain = λ k. 182;
+  home_pointer = other;
+  static_pointer = other;
+  zero_of = λ kind. 7;
+  convert = λ kind. 20;
   unary = 35;
   binary = 134;
+  offset = other;
+  difference = other;
+  narrow = other;
+  member = other;
+  take = λ kind. other;
+  read = λ kind mode. other;
+  write = λ kind mode. other;
+  update = λ k mode. other;
+  check = other;
+  zero = other;
+  store_part = λ kind. other;
+  store_text = λ bytes. other;
   branch = 12;
   case = 54;
   turn = 60;
-  library = 76;
+  library = λ r. 76;
+  print = λ format. other;
   call = λ n. 219 + 13 * n;
+  call_through = λ n. other;
+  enter_block = other;
+  leave_block = other;
   return = 8;
-  other = other;
 }
 
 -- and for a function beside its instructions: its return address is kept, its first instruction is jumped to, and a

@@ -24,7 +24,7 @@ use crate::laws::code_sizes::programs_have_few_bytes;
 use crate::laws::lowering::lowered_integers_are_integer_code;
 
 /// The compiled code of a valid program of integers has at most 1024 bytes for each node of its text, whatever accepted
-/// plan it has: what its text lowers to weighs no more than it allows, the checks are put in, its numbers fit, it
+/// plan it has: what it lowers to weighs just what its text does, the checks are put in, its numbers fit, it
 /// has at most 4096 functions, and its budget `calls` is at most 16 MiB.
 pub fn code_has_few_bytes_for_each_node()
     ensures { (p : Program) (t : Tac) (r : Tac) (map : MapSizes) (plans : List FunctionPlan)

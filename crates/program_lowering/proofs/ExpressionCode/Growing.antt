@@ -44,10 +44,10 @@ from_more P [] y h p (suc n) x e = cc
 from_more P (z ∷ xs) y h p zero x e = h 0 x e
 from_more P (z ∷ xs) y h p (suc n) x e = from_more P xs y (λ m w. h (suc m) w) p n x e
 
-weight_more : (is : List Instruction) (i : Instruction) (w : Weights)
-    → code_weight (is ++ i ∷ []) w ≡ code_weight is w + weight_of i w
-weight_more [] i w = omega arith
-weight_more (j ∷ is) i w = omega (arith, weight_more is i w)
+weight_more : (texts : List (List ℕ)) (is : List Instruction) (i : Instruction) (w : Weights)
+    → code_weight texts (is ++ i ∷ []) w ≡ code_weight texts is w + weight_of texts i w
+weight_more texts [] i w = omega arith
+weight_more texts (j ∷ is) i w = omega (arith, weight_more texts is i w)
 
 -- emitters
 
@@ -84,28 +84,36 @@ keeps_on k l = record {
   literals = l.literals ∙ k.literals;
 }
 
-pub emits_none : {a : Emitter} {k : Weights → ℕ} (m : ℕ) → Emits a a m k
-emits_none m = record { kept = keeps_all; fits = λ limit le f. f; grown = λ w. omega arith }
+pub emits_none : {a : Emitter} {k : Weights → ℕ} (m : ℕ) → ((w : Weights) → k w ≡ 0) → Emits a a m k
+emits_none m none = record {
+  kept = keeps_all;
+  fits = λ limit le f. f;
+  grown = λ w texts s. omega (arith, none w);
+}
 
 pub emits_then : {a b c : Emitter} {m n : ℕ} {k j : Weights → ℕ} (most : ℕ) (weight : Weights → ℕ) → Emits a b m k
-    → Emits b c n j → m ≤ most → n ≤ most → ((w : Weights) → k w + j w ≤ weight w) → Emits a c most weight
+    → Emits b c n j → m ≤ most → n ≤ most → ((w : Weights) → k w + j w ≡ weight w) → Emits a c most weight
 emits_then most weight e f lm ln lk = record {
   kept = keeps_on e.kept f.kept;
   fits = λ limit le h. f.fits limit (omega (arith, le, ln)) (e.fits limit (omega (arith, le, lm)) h);
-  grown = λ w. omega (arith, e.grown w, f.grown w, lk w);
+  grown = λ w texts s.
+      omega (arith, e.grown w texts (λ n x h. s n x (f.kept.texts n x h)), f.grown w texts s, lk w);
 }
 
 pub emits_within : {a b : Emitter} {m : ℕ} {k : Weights → ℕ} (most : ℕ) (weight : Weights → ℕ) → Emits a b m k
-    → m ≤ most → ((w : Weights) → k w ≤ weight w) → Emits a b most weight
+    → m ≤ most → ((w : Weights) → k w ≡ weight w) → Emits a b most weight
 emits_within most weight e lm lk = record {
   kept = e.kept;
   fits = λ limit le h. e.fits limit (omega (arith, le, lm)) h;
-  grown = λ w. omega (arith, e.grown w, lk w);
+  grown = λ w texts s. omega (arith, e.grown w texts s, lk w);
 }
 
-pub added_emits : {a b : Emitter} {n : ℕ} {i : Instruction} (m : ℕ) → Added a b n i → temporaries i ≤ m
-    → Emits a b m (weight_of i)
-added_emits {a} {b} {n} {i} m h le = record {
+-- an instruction of such a weight in whatever texts come later
+pub added_by : {a b : Emitter} {n : ℕ} {i : Instruction} (m : ℕ) (weight : Weights → ℕ) → Added a b n i
+    → temporaries i ≤ m
+    → ((w : Weights) (texts : List (List ℕ)) → Stays b.texts.items texts → weight_of texts i w ≡ weight w)
+    → Emits a b m weight
+added_by {a} {b} {n} {i} m weight h le of = record {
   kept = record {
     code = one_more a.code.items b.code.items i h.code;
     keys = stays_by a.keys.items b.keys.items h.keys;
@@ -118,8 +126,14 @@ added_emits {a} {b} {n} {i} m h le = record {
     by = λ k x g. from_more (λ y. temporaries y ≤ limit) a.code.items i f.by (omega (arith, le, most)) k x
         (subst (λ l. HasAt l k x) h.code g);
   };
-  grown = λ w. omega (arith, ap (λ is. code_weight is w) h.code, weight_more a.code.items i w);
+  grown = λ w texts s.
+      omega (arith, ap (λ is. code_weight texts is w) h.code, weight_more texts a.code.items i w, of w texts s);
 }
+
+-- one without a text
+pub added_emits : {a b : Emitter} {n : ℕ} {i : Instruction} (m : ℕ) → Added a b n i → temporaries i ≤ m
+    → ((texts : List (List ℕ)) (w : Weights) → weight_of texts i w ≡ weight_of [] i w) → Emits a b m (weight_of [] i)
+added_emits {i = i} m h le same = added_by m (weight_of [] i) h le (λ w texts s. same texts w)
 
 pub added_has : {a b : Emitter} {n : ℕ} {i : Instruction} → Added a b n i → Has b n i
 added_has {a} {b} {n} {i} h = has_last a.code.items b.code.items i n h.code h.place
@@ -145,11 +159,11 @@ same_emits a b code keys blocks loops texts literals = record {
     literals = literals;
   };
   fits = λ limit le f. record { by = λ n i h. f.by n i (subst (λ l. HasAt l n i) code h) };
-  grown = λ w. omega (arith, ap (λ is. code_weight is w) code);
+  grown = λ w ts s. omega (arith, ap (λ is. code_weight ts is w) code);
 }
 
 pub no_key : (a : Emitter) → KeyAdded a a None None
-no_key a = record { emits = emits_none 0; is = λ c f. tt }
+no_key a = record { emits = emits_none 0 (λ w. refl); is = λ c f. tt }
 
 pub some_key : (a b : Emitter) (key : Key) (n : ℕ) → b.code.items ≡ a.code.items → b.keys.items ≡ a.keys.items
     ++ key ∷ []
@@ -169,7 +183,7 @@ text_added a b text n code keys blocks loops texts literals at = record {
   emits = same_emits a b code (stays_by a.keys.items b.keys.items keys) (stays_by a.blocks.items b.blocks.items blocks)
       (stays_by a.loops.items b.loops.items loops)
       (one_more a.texts.items b.texts.items text texts) literals;
-  is = λ c f. f.texts n text (has_last a.texts.items b.texts.items text n texts at);
+  is = λ ts s. s n text (has_last a.texts.items b.texts.items text n texts at);
 }
 
 -- contents taken, and the ways of `&&` and `||`
@@ -177,25 +191,28 @@ text_added a b text n code keys blocks loops texts literals at = record {
 pub take_structure : {a b : Emitter} {size line d n next : ℕ}
     → Added a b n (tac.Take (Structure size) line d d next)
     → TakingCode a b (Structure size) line d n next
-take_structure {d = d} h = record { emits = added_emits (d + 1) h (omega arith); stands = λ c f. added_holds h tt f }
+take_structure {d = d} h = record {
+  emits = added_emits (d + 1) h (omega arith) (λ ts w. refl);
+  stands = λ c f. added_holds h tt f;
+}
 
 pub take_void : {a : Emitter} {line d next : ℕ} → TakingCode a a Void line d next next
-take_void {d = d} = record { emits = emits_none (d + 1); stands = λ c f. refl }
+take_void {d = d} = record { emits = emits_none (d + 1) (λ w. refl); stands = λ c f. refl }
 
 pub take_scalar : {a : Emitter} {k : _} {line d next : ℕ} → TakingCode a a (OfScalar k) line d next next
-take_scalar {d = d} = record { emits = emits_none (d + 1); stands = λ c f. refl }
+take_scalar {d = d} = record { emits = emits_none (d + 1) (λ w. refl); stands = λ c f. refl }
 
 pub take_array : {a : Emitter} {size line d next : ℕ} → TakingCode a a (Array size) line d next next
-take_array {d = d} = record { emits = emits_none (d + 1); stands = λ c f. refl }
+take_array {d = d} = record { emits = emits_none (d + 1) (λ w. refl); stands = λ c f. refl }
 
 pub three_ways : {a b c e : Emitter} {d zero one test next : ℕ} → Added a b zero (tac.Constant d 0 next)
     → Added b c one (tac.Constant d 1 next)
     → Added c e test (tac.Branch d one zero)
     → Outcomes a e d zero one test next
 three_ways {d = d} hz ho ht =
-    let ez = added_emits (d + 1) hz (omega arith) in
-    let eo = added_emits (d + 1) ho (omega arith) in
-    let et = added_emits (d + 1) ht (omega arith) in
+    let ez = added_emits (d + 1) hz (omega arith) (λ ts w. refl) in
+    let eo = added_emits (d + 1) ho (omega arith) (λ ts w. refl) in
+    let et = added_emits (d + 1) ht (omega arith) (λ ts w. refl) in
     let two = emits_then (d + 1) (λ w. 2 * w.constant) ez eo (omega arith) (omega arith) (λ w. omega arith) in
     record {
       emits = emits_then (d + 1) (λ w. w.branch + 2 * w.constant) two et (omega arith) (omega arith) (λ w. omega arith);

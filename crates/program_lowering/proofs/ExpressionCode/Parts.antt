@@ -23,7 +23,7 @@ use Rattle.program_lowering.proofs.ExpressionCode.Steps.{used_most, weight_most,
 use Rattle.program_lowering.proofs.ExpressionCode.Steps.{some_used}
 
 pub none_code : {a : Emitter} {d n : ℕ} → OperandsCode a a none d n n
-none_code {d = d} = record { emits = emits_none (d + 0); stands = λ p f. refl }
+none_code {d = d} = record { emits = emits_none (d + 0) (λ w. refl); stands = λ p f. refl }
 
 pub one_code : {a b : Emitter} {x : Expression} {d n m : ℕ} → ExpressionCode a b x d n m
     → OperandsCode a b (one x) d n m
@@ -75,7 +75,7 @@ pub both_code : {a b c e g : Emitter} {x y : Expression} {d n k kb wz wo test m 
     → ExpressionCode e g x d n k → OperandsCode a g (both x y) d n m
 both_code {x = x} {y = y} {d = d} {k = k} {kb = kb} {wz = wz} {wo = wo} {test = test} w hy h hx =
     let most = d + max 1 (max (used x) (used y)) in
-    let branch = added_emits (d + 1) h (omega arith) in
+    let branch = added_emits (d + 1) h (omega arith) (λ ts w. refl) in
     let first = emits_then most (λ v. v.branch + 2 * v.constant + expression_weight y v) w.emits hy.emits (omega arith)
     (omega arith) (λ v. omega arith) in
     let second = emits_then most (λ v. 2 * v.branch + 2 * v.constant + expression_weight y v) first branch (omega arith)
@@ -106,7 +106,7 @@ pub either_code : {a b c e g : Emitter} {x y : Expression} {d n k kb wz wo test 
     → ExpressionCode e g x d n k → OperandsCode a g (either x y) d n m
 either_code {x = x} {y = y} {d = d} {k = k} {kb = kb} {wz = wz} {wo = wo} {test = test} w hy h hx =
     let most = d + max 1 (max (used x) (used y)) in
-    let branch = added_emits (d + 1) h (omega arith) in
+    let branch = added_emits (d + 1) h (omega arith) (λ ts w. refl) in
     let first = emits_then most (λ v. v.branch + 2 * v.constant + expression_weight y v) w.emits hy.emits (omega arith)
     (omega arith) (λ v. omega arith) in
     let second = emits_then most (λ v. 2 * v.branch + 2 * v.constant + expression_weight y v) first branch (omega arith)
@@ -137,7 +137,7 @@ pub choice_code : {a b c e g : Emitter} {x y z : Expression} {d n k kb ke m : �
     → OperandsCode a g (choice x y z) d n m
 choice_code {x = x} {y = y} {z = z} {d = d} {k = k} {kb = kb} {ke = ke} hz hy h hx =
     let most = d + max 1 (max (used x) (max (used y) (used z))) in
-    let branch = added_emits (d + 1) h (omega arith) in
+    let branch = added_emits (d + 1) h (omega arith) (λ ts w. refl) in
     let first = emits_then most (λ w. expression_weight y w + expression_weight z w) hz.emits hy.emits (omega arith)
     (omega arith) (λ w. omega arith) in
     let second = emits_then most (λ w. w.branch + (expression_weight y w + expression_weight z w)) first branch
@@ -171,7 +171,7 @@ lvalue_finished q {d = d} {n = n} h o = record {
 -- arguments, the last of which comes first
 
 pub no_arguments : {a : Emitter} {d n : ℕ} → ArgumentsCode a a no_expressions d n n
-no_arguments {d = d} = record { emits = emits_none (d + 0); stands = λ p f. refl }
+no_arguments {d = d} = record { emits = emits_none (d + 0) (λ w. refl); stands = λ p f. refl }
 
 pub more_arguments : {a b c e : Emitter} {x : Expression} {es : Expressions} {d n k j m : ℕ}
     → ArgumentsCode a b es (d + 1) j m → TakingCode b c (kind_of x) (line_of x) d k j → ExpressionCode c e x d n k

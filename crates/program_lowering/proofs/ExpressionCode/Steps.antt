@@ -18,17 +18,18 @@ use Rattle.c_lower.specs.Placed.{Placed, Holds}
 use Rattle.c_lower.specs.Values.{KeyIs, LowersNode, LowersPlace, count}
 use Rattle.program_lowering.specs.declared.expressions.emitter.Emitter.{Emitter}
 use Rattle.program_lowering.specs.ExpressionCode.Sizes.{nodes, lvalue_nodes, arguments_nodes, nodes_made}
-use Rattle.program_lowering.specs.ExpressionCode.Weights.{Weights, weight_of, weight_if, no_weight, takings_weight}
+use Rattle.program_lowering.specs.ExpressionCode.Weights.{Weights, weight_if, no_weight, takings_weight}
 use Rattle.program_lowering.specs.ExpressionCode.Weights.{weight_made}
 use Rattle.program_lowering.specs.ExpressionCode.Weights.{expression_weight, lvalue_weight, arguments_weight}
-use Rattle.program_lowering.specs.ExpressionCode.Emitted.{Added, Fills, IsReal, arguments_used}
+use Rattle.program_lowering.specs.ExpressionCode.Emitted.{Added, Stays, Fills, IsReal, arguments_used}
 use Rattle.program_lowering.specs.ExpressionCode.Last.{key_in, last_in, last_at, KeyAdded, TextAdded, FormatAdded}
 use Rattle.program_lowering.specs.ExpressionCode.Last.{TextIs}
 use Rattle.program_lowering.specs.ExpressionCode.Shapes.{operands_in, operands_at, operands_of, lvalue_operands}
 use Rattle.program_lowering.specs.ExpressionCode.Shapes.{LowersOperands, operands_used, operands_nodes, operands_weight}
-use Rattle.program_lowering.specs.ExpressionCode.Shapes.{finish_weight, lvalue_finish_weight, Finishes, LvalueFinishes}
-use Rattle.program_lowering.proofs.ExpressionCode.Growing.{emits_none, emits_then, emits_within, added_emits, added_has}
-use Rattle.program_lowering.proofs.ExpressionCode.Growing.{fills_before}
+use Rattle.program_lowering.specs.ExpressionCode.Shapes.{text_in, finish_weight, lvalue_finish_weight, Finishes}
+use Rattle.program_lowering.specs.ExpressionCode.Shapes.{LvalueFinishes}
+use Rattle.program_lowering.proofs.ExpressionCode.Growing.{emits_none, emits_then, added_by, added_has}
+use Rattle.program_lowering.proofs.ExpressionCode.Growing.{fills_before, stays_all}
 
 -- the instruction at a node, or that node is the next one
 abbrev StandsAs : Placed → Option Instruction → (node next : ℕ) → Type 0
@@ -44,7 +45,8 @@ RealIn None = Unit {0}
 RealIn (Some i) = IsReal i
 
 last_stands : (c : Placed) (kind : Kind) (line d : ℕ) (key : Option ℕ) (text m k n : ℕ) (node : Node)
-    → KeyIs c.keys key (key_in c.literals node) → TextIs c node text → StandsAs c (last_in node kind line d key text m) k m
+    → KeyIs c.keys key (key_in c.literals node) → TextIs c.texts node text
+    → StandsAs c (last_in node kind line d key text m) k m
     → LowersOperands c (operands_in node) d n k → LowersNode c node kind line d n m
 last_stands c kind line d key text m k n (constant w) q t h o =
     subst (λ j. StandsAs c (last_in (constant w) kind line d key text m) j m) (sym o) h
@@ -285,39 +287,41 @@ operands_few kind (call_through type a es) = omega (arith, nodes_sum es)
 operands_few kind (library routine es) = omega (arith, nodes_sum es)
 operands_few kind (printf format es) = omega (arith, nodes_sum es)
 
--- what it weighs, whatever its temporary, its key, its format and the next node are
+-- what it weighs, whatever its temporary, its key, the number of its format and the next node are
 
-last_same : (kind : Kind) (line d : ℕ) (key : Option ℕ) (text m : ℕ) (w : Weights) (node : Node)
-    → weight_if (last_in node kind line d key text m) w ≡ weight_if (last_in node kind line 0 None 0 0) w
-last_same kind line d key text m w (constant n) = refl
-last_same kind line d key text m w (function f) = refl
-last_same kind line d key text m w (plain x) = refl
-last_same kind line d key text m w (read p) = refl
-last_same kind line d key text m w (decay p) = refl
-last_same kind line d key text m w (address p) = refl
-last_same kind line d key text m w (parenthesized a) = refl
-last_same kind line d key text m w (deref_function a) = refl
-last_same kind line d key text m w (address_function a) = refl
-last_same kind line d key text m w (cast a) = refl
-last_same kind line d key text m w (convert a) = refl
-last_same kind line d key text m w (unary op a) = refl
-last_same kind line d key text m w (binary op a b) = refl
-last_same kind line d key text m w (offset_by form size a b) = refl
-last_same kind line d key text m w (difference size a b) = refl
-last_same kind line d key text m w (logical_and a b) = refl
-last_same kind line d key text m w (logical_or a b) = refl
-last_same kind line d key text m w (comma a b) = refl
-last_same kind line d key text m w (conditional a b e) = refl
-last_same kind line d key text m w (assign p a) = refl
-last_same kind line d key text m w (assign_plain x a) = refl
-last_same kind line d key text m w (compound u p a) = refl
-last_same kind line d key text m w (change_plain u x a) = refl
-last_same kind line d key text m w (step u fixity p) = refl
-last_same kind line d key text m w (step_plain u fixity x) = refl
-last_same kind line d key text m w (call f es) = refl
-last_same kind line d key text m w (call_through type a es) = refl
-last_same kind line d key text m w (library routine es) = refl
-last_same kind line d key text m w (printf format es) = refl
+last_same : (ts : List (List ℕ)) (kind : Kind) (line d : ℕ) (key : Option ℕ) (text m : ℕ) (w : Weights) (node : Node)
+    → TextIs ts node text
+    → weight_if ts (last_in node kind line d key text m) w
+    ≡ weight_if (text_in node) (last_in node kind line 0 None 0 0) w
+last_same ts kind line d key text m w (constant n) h = refl
+last_same ts kind line d key text m w (function f) h = refl
+last_same ts kind line d key text m w (plain x) h = refl
+last_same ts kind line d key text m w (read p) h = refl
+last_same ts kind line d key text m w (decay p) h = refl
+last_same ts kind line d key text m w (address p) h = refl
+last_same ts kind line d key text m w (parenthesized a) h = refl
+last_same ts kind line d key text m w (deref_function a) h = refl
+last_same ts kind line d key text m w (address_function a) h = refl
+last_same ts kind line d key text m w (cast a) h = refl
+last_same ts kind line d key text m w (convert a) h = refl
+last_same ts kind line d key text m w (unary op a) h = refl
+last_same ts kind line d key text m w (binary op a b) h = refl
+last_same ts kind line d key text m w (offset_by form size a b) h = refl
+last_same ts kind line d key text m w (difference size a b) h = refl
+last_same ts kind line d key text m w (logical_and a b) h = refl
+last_same ts kind line d key text m w (logical_or a b) h = refl
+last_same ts kind line d key text m w (comma a b) h = refl
+last_same ts kind line d key text m w (conditional a b e) h = refl
+last_same ts kind line d key text m w (assign p a) h = refl
+last_same ts kind line d key text m w (assign_plain x a) h = refl
+last_same ts kind line d key text m w (compound u p a) h = refl
+last_same ts kind line d key text m w (change_plain u x a) h = refl
+last_same ts kind line d key text m w (step u fixity p) h = refl
+last_same ts kind line d key text m w (step_plain u fixity x) h = refl
+last_same ts kind line d key text m w (call f es) h = refl
+last_same ts kind line d key text m w (call_through type a es) h = refl
+last_same ts kind line d key text m w (library routine es) h = refl
+last_same ts kind line d key text m w (printf format es) h = ap w.print h
 
 weights_sum : (w : Weights) (es : Expressions)
     → arguments_weight es w ≡ takings_weight es w + sum_of (walk_each (weight_made w) es)
@@ -325,8 +329,8 @@ weights_sum w no_expressions = refl
 weights_sum w (expressions e es) = omega (arith, weights_sum w es)
 
 operands_weigh : (kind : Kind) (line : ℕ) (w : Weights) (node : Node)
-    → weight_if (last_in node kind line 0 None 0 0) w + operands_weight (operands_in node) w
-    ≤ weight_made w (visited kind node) (walk_operands (weight_made w) node)
+    → weight_if (text_in node) (last_in node kind line 0 None 0 0) w + operands_weight (operands_in node) w
+    ≡ weight_made w (visited kind node) (walk_operands (weight_made w) node)
 operands_weigh kind line w (constant n) = omega arith
 operands_weigh kind line w (function f) = omega arith
 operands_weigh kind line w (plain x) = omega arith
@@ -417,20 +421,20 @@ places_few kind (arrow a offset size) = omega arith
 places_few kind (member_of_value a offset size) = omega arith
 places_few kind (parenthesized_lvalue p) = omega arith
 
-place_same : (d m : ℕ) (w : Weights) (node : LvalueNode) → weight_if (last_at node d m) w
-    ≡ weight_if (last_at node 0 0) w
-place_same d m w (automatic x) = refl
-place_same d m w (static n) = refl
-place_same d m w (deref a) = refl
-place_same d m w (index form size a b) = refl
-place_same d m w (member p offset size) = refl
-place_same d m w (arrow a offset size) = refl
-place_same d m w (member_of_value a offset size) = refl
-place_same d m w (parenthesized_lvalue p) = refl
+place_same : (ts : List (List ℕ)) (d m : ℕ) (w : Weights) (node : LvalueNode)
+    → weight_if ts (last_at node d m) w ≡ weight_if [] (last_at node 0 0) w
+place_same ts d m w (automatic x) = refl
+place_same ts d m w (static n) = refl
+place_same ts d m w (deref a) = refl
+place_same ts d m w (index form size a b) = refl
+place_same ts d m w (member p offset size) = refl
+place_same ts d m w (arrow a offset size) = refl
+place_same ts d m w (member_of_value a offset size) = refl
+place_same ts d m w (parenthesized_lvalue p) = refl
 
 places_weigh : (kind : Kind) (w : Weights) (node : LvalueNode)
-    → weight_if (last_at node 0 0) w + operands_weight (operands_at node) w
-    ≤ weight_made w (visited_lvalue kind node) (walk_lvalue_operands (weight_made w) node)
+    → weight_if [] (last_at node 0 0) w + operands_weight (operands_at node) w
+    ≡ weight_made w (visited_lvalue kind node) (walk_lvalue_operands (weight_made w) node)
 places_weigh kind w (automatic x) = omega arith
 places_weigh kind w (static n) = omega arith
 places_weigh kind w (deref a) = omega arith
@@ -452,52 +456,52 @@ abbrev pub HasNone : Node → Type 0
 HasNone (printf format es) = ⊥
 HasNone node = Unit {0}
 
-no_format_in : (c : Placed) (node : Node) (n : ℕ) → HasNone node → TextIs c node n
-no_format_in c (constant w) n h = tt
-no_format_in c (function f) n h = tt
-no_format_in c (plain x) n h = tt
-no_format_in c (read p) n h = tt
-no_format_in c (decay p) n h = tt
-no_format_in c (address p) n h = tt
-no_format_in c (parenthesized a) n h = tt
-no_format_in c (deref_function a) n h = tt
-no_format_in c (address_function a) n h = tt
-no_format_in c (cast a) n h = tt
-no_format_in c (convert a) n h = tt
-no_format_in c (unary op a) n h = tt
-no_format_in c (binary op a b) n h = tt
-no_format_in c (offset_by form size a b) n h = tt
-no_format_in c (difference size a b) n h = tt
-no_format_in c (logical_and a b) n h = tt
-no_format_in c (logical_or a b) n h = tt
-no_format_in c (comma a b) n h = tt
-no_format_in c (conditional a b e) n h = tt
-no_format_in c (assign p a) n h = tt
-no_format_in c (assign_plain x a) n h = tt
-no_format_in c (compound u p a) n h = tt
-no_format_in c (change_plain u x a) n h = tt
-no_format_in c (step u fixity p) n h = tt
-no_format_in c (step_plain u fixity x) n h = tt
-no_format_in c (call f es) n h = tt
-no_format_in c (call_through type a es) n h = tt
-no_format_in c (library routine es) n h = tt
-no_format_in c (printf format es) n h = absurd h
+no_format_in : (ts : List (List ℕ)) (node : Node) (n : ℕ) → HasNone node → TextIs ts node n
+no_format_in ts (constant w) n h = tt
+no_format_in ts (function f) n h = tt
+no_format_in ts (plain x) n h = tt
+no_format_in ts (read p) n h = tt
+no_format_in ts (decay p) n h = tt
+no_format_in ts (address p) n h = tt
+no_format_in ts (parenthesized a) n h = tt
+no_format_in ts (deref_function a) n h = tt
+no_format_in ts (address_function a) n h = tt
+no_format_in ts (cast a) n h = tt
+no_format_in ts (convert a) n h = tt
+no_format_in ts (unary op a) n h = tt
+no_format_in ts (binary op a b) n h = tt
+no_format_in ts (offset_by form size a b) n h = tt
+no_format_in ts (difference size a b) n h = tt
+no_format_in ts (logical_and a b) n h = tt
+no_format_in ts (logical_or a b) n h = tt
+no_format_in ts (comma a b) n h = tt
+no_format_in ts (conditional a b e) n h = tt
+no_format_in ts (assign p a) n h = tt
+no_format_in ts (assign_plain x a) n h = tt
+no_format_in ts (compound u p a) n h = tt
+no_format_in ts (change_plain u x a) n h = tt
+no_format_in ts (step u fixity p) n h = tt
+no_format_in ts (step_plain u fixity x) n h = tt
+no_format_in ts (call f es) n h = tt
+no_format_in ts (call_through type a es) n h = tt
+no_format_in ts (library routine es) n h = tt
+no_format_in ts (printf format es) n h = absurd h
 
 pub no_format : (a : Emitter) (node : Node) (n : ℕ) → HasNone node → FormatAdded a a node n
-no_format a node n h = record { emits = emits_none 0; is = λ c f. no_format_in c node n h }
+no_format a node n h = record { emits = emits_none 0 (λ w. refl); is = λ ts s. no_format_in ts node n h }
 
 -- the key of an access is that of the code in which it stands
 
-key_stands : {a b : Emitter} {node : Node} {key : Option ℕ} {c : Placed}
+key_stands : {a b : Emitter} (node : Node) {key : Option ℕ} {c : Placed}
     → KeyAdded a b (key_in a.literals.items node) key → Fills b c → KeyIs c.keys key (key_in c.literals node)
-key_stands {node = node} {key = key} {c = c} ka f =
+key_stands node {key = key} {c = c} ka f =
     subst (λ ls. KeyIs c.keys key (key_in ls node)) (sym (fills_before ka.emits f).literals) (ka.is c f)
 
 -- what an expression does is added
 
 added_as : {a b c x : Emitter} {kind : Kind} {line d k m text : ℕ} {node : Node} {key : Option ℕ} {i : Instruction}
-    → KeyAdded a b (key_in a.literals.items node) key → FormatAdded b c node text → last_in node kind line d key text m ≡ Some i
-    → Added c x k i → Finishes a x (expression kind line node) d k m
+    → KeyAdded a b (key_in a.literals.items node) key → FormatAdded b c node text
+    → last_in node kind line d key text m ≡ Some i → Added c x k i → Finishes a x (expression kind line node) d k m
 added_as {a = a} {c = c} {x = x} {kind = kind} {line = line} {d = d} {k = k} {m = m} {text = text} {node = node} {key =
     key} {i = i}
     ka fa e h =
@@ -506,15 +510,16 @@ added_as {a = a} {c = c} {x = x} {kind = kind} {line = line} {d = d} {k = k} {m 
     let real : IsReal i = subst RealIn e (last_real kind line d key text m node) in
     let most = d + used (expression kind line node) in
     let first = emits_then most no_weight ka.emits fa.emits (omega arith) (omega arith) (λ w. omega arith) in
-    let more = added_emits most h few in
-    let weight : (w : Weights) → weight_of i w ≡ finish_weight (expression kind line node) w =
-    λ w. ap (λ o. weight_if o w) (sym e) ∙ last_same kind line d key text m w node in
+    let more = added_by most (finish_weight (expression kind line node)) h few
+    (λ w ts s. ap (λ o. weight_if ts o w) (sym e)
+    ∙ last_same ts kind line d key text m w node (fa.is ts (subst (λ us. Stays us ts) h.texts s))) in
     record {
       emits = emits_then most (finish_weight (expression kind line node)) first more (omega arith) (omega arith)
-          (λ w. omega (arith, weight w));
+          (λ w. omega arith);
       stands = λ p f n o.
           let g = fills_before more f in
-          last_stands p kind line d key text m k n node (key_stands ka (fills_before fa.emits g)) (fa.is p g)
+          last_stands p kind line d key text m k n node (key_stands node ka (fills_before fa.emits g))
+          (fa.is p.texts g.texts)
           (subst (λ j. StandsAs p j k m) (sym e) (f.code k i real (added_has h))) o;
     }
 
@@ -527,12 +532,17 @@ some_last ka fa l s h = added_as ka fa (sym l ∙ s) h
 pub none_last : {a b c : Emitter} {kind : Kind} {line d m text : ℕ} {node : Node} {key : Option ℕ}
     {l : Option Instruction} → KeyAdded a b (key_in a.literals.items node) key → FormatAdded b c node text
     → l ≡ last_in node kind line d key text m → l ≡ None → Finishes a c (expression kind line node) d m m
-none_last {kind = kind} {line = line} {d = d} {m = m} {text = text} {node = node} {key = key} ka fa l s =
+none_last {c = c} {kind = kind} {line = line} {d = d} {m = m} {text = text} {node = node} {key = key} ka fa l s =
     let most = d + used (expression kind line node) in
+    let none : (w : Weights) → 0 ≡ finish_weight (expression kind line node) w =
+    λ w. ap (λ o. weight_if c.texts.items o w) (sym s ∙ l)
+    ∙ last_same c.texts.items kind line d key text m w node (fa.is c.texts.items (stays_all c.texts.items)) in
     record {
       emits = emits_then most (finish_weight (expression kind line node)) ka.emits fa.emits (omega arith) (omega arith)
-          (λ w. omega arith);
-      stands = λ p f n o. last_stands p kind line d key text m m n node (key_stands ka (fills_before fa.emits f)) (fa.is p f)
+          none;
+      stands = λ p f n o.
+          last_stands p kind line d key text m m n node (key_stands node ka (fills_before fa.emits f))
+          (fa.is p.texts f.texts)
           (subst (λ j. StandsAs p j m m) (sym s ∙ l) refl) o;
     }
 
@@ -544,11 +554,9 @@ some_place {a = a} {b = b} {kind = kind} {line = line} {d = d} {k = k} {m = m} {
     let most = d + used_by_lvalue (lvalue kind line node) in
     let few : temporaries i ≤ most = subst (λ o. FewIn o most) e (place_few kind d m node) in
     let real : IsReal i = subst RealIn e (place_real d m node) in
-    let weight : (w : Weights) → weight_of i w ≡ lvalue_finish_weight (lvalue kind line node) w =
-    λ w. ap (λ o. weight_if o w) (sym e) ∙ place_same d m w node in
     record {
-      emits = emits_within most (lvalue_finish_weight (lvalue kind line node)) (added_emits most h few) (omega arith)
-          (λ w. omega (arith, weight w));
+      emits = added_by most (lvalue_finish_weight (lvalue kind line node)) h few
+          (λ w ts s. ap (λ o. weight_if ts o w) (sym e) ∙ place_same ts d m w node);
       stands = λ p f n o. last_places p d m k n node
           (subst (λ j. StandsAs p j k m) (sym e) (f.code k i real (added_has h))) o;
     }
@@ -556,7 +564,8 @@ some_place {a = a} {b = b} {kind = kind} {line = line} {d = d} {k = k} {m = m} {
 pub none_place : {a : Emitter} {kind : Kind} {line d m : ℕ} {node : LvalueNode} {l : Option Instruction}
     → l ≡ last_at node d m → l ≡ None → LvalueFinishes a a (lvalue kind line node) d m m
 none_place {kind = kind} {line = line} {d = d} {m = m} {node = node} l s = record {
-  emits = emits_none (d + used_by_lvalue (lvalue kind line node));
+  emits = emits_none (d + used_by_lvalue (lvalue kind line node))
+      (λ w. sym (place_same [] d m w node) ∙ sym (ap (λ o. weight_if [] o w) (sym s ∙ l)));
   stands = λ p f n o. last_places p d m m n node (subst (λ j. StandsAs p j m m) (sym s ∙ l) refl) o;
 }
 
@@ -570,11 +579,11 @@ pub used_by_most : (p : Lvalue) → operands_used (lvalue_operands p) ≤ used_b
 used_by_most (lvalue kind line node) = places_most kind node
 
 pub weight_most : (e : Expression) (w : Weights)
-    → finish_weight e w + operands_weight (operands_of e) w ≤ expression_weight e w
+    → finish_weight e w + operands_weight (operands_of e) w ≡ expression_weight e w
 weight_most (expression kind line node) w = operands_weigh kind line w node
 
 pub weight_by_most : (p : Lvalue) (w : Weights)
-    → lvalue_finish_weight p w + operands_weight (lvalue_operands p) w ≤ lvalue_weight p w
+    → lvalue_finish_weight p w + operands_weight (lvalue_operands p) w ≡ lvalue_weight p w
 weight_by_most (lvalue kind line node) w = places_weigh kind w node
 
 pub nodes_by_most : (p : Lvalue) → 1 + operands_nodes (lvalue_operands p) ≤ lvalue_nodes p

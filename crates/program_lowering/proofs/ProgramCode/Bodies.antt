@@ -35,20 +35,20 @@ pub body_code : {vs : List Variable} {ss : Statements} {result : Kind} {texts : 
     → a.literals.items ≡ literals → Added a b returns (tac.Return 0)
     → Added b c end (tac.ZeroOf result 0 returns) → exits_of x ≡ function_exits end returns
     → StatementsCode vs c d ss entry x → BodyCode vs ss result texts literals d entry
-body_code {vs = vs} {ss = ss} {texts = texts} {a = a} {returns = returns} {end = end} {entry = entry} {x = x} none same
-    told r z q h =
+body_code {vs = vs} {ss = ss} {result = result} {texts = texts} {a = a} {returns = returns} {end = end}
+    {entry = entry} {x = x} none same told r z q h =
     let most = each_height ss in
     let one = each_needs_one ss in
-    let er = added_emits most r (omega (arith, one)) in
-    let ez = added_emits most z (omega (arith, one)) in
-    let two = emits_then most (λ w. w.return + w.zero_of) er ez (omega arith) (omega arith) (λ w. omega arith) in
-    let whole = emits_then most (body_weight vs ss) two h.emits (omega arith) (omega arith) (λ w. omega arith) in
+    let er = added_emits most r (omega (arith, one)) (λ ts w. refl) in
+    let ez = added_emits most z (omega (arith, one)) (λ ts w. refl) in
+    let two = emits_then most (λ w. w.return + w.zero_of result) er ez (omega arith) (omega arith) (λ w. omega arith) in
+    let whole = emits_then most (body_weight vs result ss) two h.emits (omega arith) (omega arith) (λ w. omega arith) in
     record {
       texts_stay = λ n t k. whole.kept.texts n t (subst (λ l. HasAt l n t) (sym same) k);
       literals_same = whole.kept.literals ∙ told;
       homes = whole.fits most (omega arith)
           (record { by = λ n i k. absurd (none_has a.code.items n i none k) });
-      weight = λ w. omega (arith, whole.grown w, ap (λ is. code_weight is w) none);
+      weight = λ w ts s. omega (arith, whole.grown w ts s, ap (λ is. code_weight ts is w) none);
       stands = λ p v f.
           let fz = fills_before h.emits f in (
             end,
@@ -67,7 +67,8 @@ pub function_code : {texts : List
     → parameters ≡ f.parameters
     → variables ≡ f.variables → entered ≡ body_variables f → BodyCode vs ss result texts literals b.code b.entry
     → Completes f.line f.type_number f.room parameters variables entered b l → FunctionCode f result texts literals l
-function_code {texts = texts} {literals = literals} {result = result} {b = b} {l = l} {vs = vs} {ss = ss} f all same ep ev ee of w =
+function_code {texts = texts} {literals = literals} {result = result} {b = b} {l = l} {vs = vs} {ss = ss} f all same
+    ep ev ee of w =
     let h = subst (λ us. BodyCode us f.body result texts literals b.code b.entry) all
     (subst (λ us. BodyCode vs us result texts literals b.code b.entry) same of) in
     record {
@@ -86,7 +87,7 @@ function_code {texts = texts} {literals = literals} {result = result} {b = b} {l
             header = headers f l.function w.line_is w.type_is (w.parameters_are ∙ ep) (w.variables_are ∙ ev)
                 (w.entered_are ∙ ee) w.room_is;
             homes = λ n i k. h.homes.by n i (subst (λ is. HasAt is n i) w.code_is k);
-            weight = λ v. omega (arith, h.weight v, ap (λ is. code_weight is v) w.code_is);
+            weight = λ v. omega (arith, h.weight v ts fills.texts, ap (λ is. code_weight ts is v) w.code_is);
             body = subst (λ n. LowersBody (placed_in ts literals f l.function) result n f.body) (sym w.entry_is)
                 (h.stands (placed_in ts literals f l.function) refl fills);
           };

@@ -1,6 +1,6 @@
 -- Functions in turn, and the program of them.
-use Rattle.std.proofs.Common.{◌≡◌, ℕ, zero, suc, ◌+◌, ◌≤◌, ◌<◌, Bool, List, [], ◌∷◌, ◌++◌, length, map, drop, refl, sym, ap}
-use Rattle.std.proofs.Common.{◌∙◌, subst, arith, append_assoc, append-nil, le_trans}
+use Rattle.std.proofs.Common.{◌≡◌, ℕ, zero, suc, ◌+◌, ◌≤◌, ◌<◌, Bool, List, [], ◌∷◌, ◌++◌, length, map, drop, refl}
+use Rattle.std.proofs.Common.{sym, ap, ◌∙◌, subst, arith, append_assoc, append-nil, le_trans}
 use Rattle.std.proofs.lemmas.List.{drop_all}
 use Rattle.std.specs.Prelude.{get_or, slice_get, max}
 use Rattle.c_tree.specs.declared.expression.Kind.{Kind}
@@ -45,9 +45,10 @@ done_none literals results fs l e same = record {
   by = λ ts s rest h. subst (λ xs. AreFunctions ts literals results (map function_of fs) (xs ++ rest)) (sym e) h;
 }
 
-pub done_more : {literals : List Bool} {results : List Kind} {l m : Lowering} (fs : List CodeOfFunction) (i : ℕ) (x : CodeOfFunction)
-    → i < length fs
-    → x ≡ get_or fs i x → Done literals results fs i l → Holding l m results (function_of x) → Done literals results fs (i + 1) m
+pub done_more : {literals : List Bool} {results : List Kind} {l m : Lowering} (fs : List CodeOfFunction) (i : ℕ)
+    (x : CodeOfFunction) → i < length fs
+    → x ≡ get_or fs i x → Done literals results fs i l → Holding l m results (function_of x)
+    → Done literals results fs (i + 1) m
 done_more {literals = literals} {results = results} {l = l} {m = m} fs i x lt is d h = record {
   literals_same = h.literals_same ∙ d.literals_same;
   by = λ ts s rest k.
@@ -62,7 +63,8 @@ done_more {literals = literals} {results = results} {l = l} {m = m} fs i x lt is
       subst (AreFunctions ts literals results (map function_of fs)) joined before;
 }
 
-pub done_all : {literals : List Bool} {results : List Kind} {l : Lowering} (fs : List CodeOfFunction) (i : ℕ) → i ≡ length fs
+pub done_all : {literals : List Bool} {results : List Kind} {l : Lowering} (fs : List CodeOfFunction) (i : ℕ)
+    → i ≡ length fs
     → Done literals results fs i l
     → AreFunctions l.texts.items literals results (map function_of fs) l.functions.items
 done_all {literals = literals} {results = results} {l = l} fs i e d =
@@ -88,20 +90,21 @@ held {w = w} et h ef eb el = record {
 
 -- the program
 
-headers_same : (ts : List (List ℕ)) (literals : List Bool) (results : List Kind) (fs : List Function) (cs : List CodeFunction)
-    → AreFunctions ts literals results fs cs → map header_of_code cs ≡ map header_of fs
+headers_same : (ts : List (List ℕ)) (literals : List Bool) (results : List Kind) (fs : List Function)
+    (cs : List CodeFunction) → AreFunctions ts literals results fs cs → map header_of_code cs ≡ map header_of fs
 headers_same ts literals results [] [] h = refl
 headers_same ts literals results [] (c ∷ cs) h = absurd h
 headers_same ts literals results (f ∷ fs) [] h = absurd h
 headers_same ts literals results (f ∷ fs) (c ∷ cs) h =
-    ap (λ x. x ∷ map header_of_code cs) h.0.header ∙ ap (λ xs. header_of f ∷ xs) (headers_same ts literals results fs cs h.1)
+    ap (λ x. x ∷ map header_of_code cs) h.0.header
+    ∙ ap (λ xs. header_of f ∷ xs) (headers_same ts literals results fs cs h.1)
 
 room_enough : (statics : List StaticObject) (n : ℕ) (f : Function)
     → each_height f.body ≤ max 1 (function_height statics n f)
 room_enough statics n f = omega (arith, height_of_each f.body)
 
-one_lowered : (ts : List (List ℕ)) (literals : List Bool) (result : Kind) (statics : List StaticObject) (n : ℕ) (f : Function)
-    (c : CodeFunction)
+one_lowered : (ts : List (List ℕ)) (literals : List Bool) (result : Kind) (statics : List StaticObject) (n : ℕ)
+    (f : Function) (c : CodeFunction)
     → IsFunction ts literals result f c → LowersFunction ts literals result (function_height statics n f) f c
 one_lowered ts literals result statics n f c h = record {
   header = h.header;
@@ -109,17 +112,19 @@ one_lowered ts literals result statics n f c h = record {
   body = h.body;
 }
 
-functions_lowered : (ts : List (List ℕ)) (literals : List Bool) (results : List Kind) (statics : List StaticObject) (n : ℕ)
-    (fs : List Function)
+functions_lowered : (ts : List (List ℕ)) (literals : List Bool) (results : List Kind) (statics : List StaticObject)
+    (n : ℕ) (fs : List Function)
     (cs : List CodeFunction) → AreFunctions ts literals results fs cs → (k : ℕ)
-    → LowersAt ts literals (result_in results (function_at fs k)) (height_in statics n (function_at fs k)) (function_at fs k)
+    → LowersAt ts literals (result_in results (function_at fs k)) (height_in statics n (function_at fs k))
+    (function_at fs k)
     (slice_get cs k)
 functions_lowered ts literals results statics n [] [] h k = tt
 functions_lowered ts literals results statics n [] (c ∷ cs) h k = absurd h
 functions_lowered ts literals results statics n (f ∷ fs) [] h k = absurd h
 functions_lowered ts literals results statics n (f ∷ fs) (c ∷ cs) h zero =
     one_lowered ts literals (get_or results f.type_number Void) statics n f c h.0
-functions_lowered ts literals results statics n (f ∷ fs) (c ∷ cs) h (suc k) = functions_lowered ts literals results statics n fs cs h.1 k
+functions_lowered ts literals results statics n (f ∷ fs) (c ∷ cs) h (suc k) =
+    functions_lowered ts literals results statics n fs cs h.1 k
 
 pub lowered_from : (p : Program) (t : Tac) → AreInitial p t.statics
     → AreFunctions t.texts (literals_of p.statics) t.results p.functions t.functions
@@ -134,30 +139,40 @@ lowered_from p t s h results main bytes = record {
   functions = λ f. functions_lowered t.texts (literals_of p.statics) t.results p.statics f p.functions t.functions h f;
 }
 
-pub weighed : (ts : List (List ℕ)) (literals : List Bool) (results : List Kind) (fs : List Function) (cs : List CodeFunction) (w : Weights)
-    → AreFunctions ts literals results fs cs → codes_weight cs w ≤ functions_weight fs w
+pub weighed : (ts : List (List ℕ)) (literals : List Bool) (results : List Kind) (fs : List Function)
+    (cs : List CodeFunction) (w : Weights)
+    → AreFunctions ts literals results fs cs → codes_weight ts cs w ≡ functions_weight results fs w
 weighed ts literals results [] [] w h = omega arith
 weighed ts literals results [] (c ∷ cs) w h = absurd h
 weighed ts literals results (f ∷ fs) [] w h = absurd h
 weighed ts literals results (f ∷ fs) (c ∷ cs) w h = omega (arith, h.0.weight w, weighed ts literals results fs cs w h.1)
 
+-- the functions as the program has them
+whole_in : {statics : List StaticData} {results : List Kind} {l : Lowering} {main bytes : ℕ} {t : Tac} (p : Program)
+    → Assembles main bytes statics results l t
+    → AreFunctions l.texts.items (literals_of p.statics) results p.functions l.functions.items
+    → AreFunctions t.texts (literals_of p.statics) t.results p.functions t.functions
+whole_in {l = l} {t = t} p a h =
+    let ls = literals_of p.statics in
+    let kinds = subst (λ ks. AreFunctions l.texts.items ls ks p.functions l.functions.items) (sym a.results_are) h in
+    let texts = subst (λ ts. AreFunctions ts ls t.results p.functions l.functions.items) (sym a.texts_are) kinds in
+    subst (AreFunctions t.texts ls t.results p.functions) (sym a.functions_are) texts
+
 pub program_from : {statics : List StaticData} {results : List Kind} {l : Lowering} {main bytes : ℕ} {t : Tac}
     (p : Program)
     → Assembles main bytes statics results l t → main ≡ p.main → bytes ≡ statics_end p.statics 0 → AreInitial p statics
-    → results ≡ results_of p.function_types → AreFunctions l.texts.items (literals_of p.statics) results p.functions l.functions.items
-    → IsLowered p t
-program_from {l = l} {t = t} p a em eb s er h =
-    let kinds = subst (λ ks. AreFunctions l.texts.items (literals_of p.statics) ks p.functions l.functions.items) (sym a.results_are) h in
-    let texts = subst (λ ts. AreFunctions ts (literals_of p.statics) t.results p.functions l.functions.items) (sym a.texts_are) kinds in
-    let whole = subst (AreFunctions t.texts (literals_of p.statics) t.results p.functions) (sym a.functions_are) texts in
-    lowered_from p t (subst (AreInitial p) (sym a.statics_are) s) whole (a.results_are ∙ er) (a.main_is ∙ em)
-    (a.bytes_are ∙ eb)
+    → results ≡ results_of p.function_types
+    → AreFunctions l.texts.items (literals_of p.statics) results p.functions l.functions.items → IsLowered p t
+program_from {t = t} p a em eb s er h =
+    lowered_from p t (subst (AreInitial p) (sym a.statics_are) s) (whole_in p a h) (a.results_are ∙ er)
+    (a.main_is ∙ em) (a.bytes_are ∙ eb)
 
 pub weighed_from : {statics : List StaticData} {results : List Kind} {l : Lowering} {main bytes : ℕ} {t : Tac}
     (p : Program)
-    → Assembles main bytes statics results l t → AreFunctions l.texts.items (literals_of p.statics) results p.functions l.functions.items
-    → IsWeighed p t
-weighed_from {results = results} {l = l} p a h = record {
-  by = λ w. subst (λ cs. codes_weight cs w ≤ functions_weight p.functions w) (sym a.functions_are)
-      (weighed l.texts.items (literals_of p.statics) results p.functions l.functions.items w h);
+    → Assembles main bytes statics results l t → results ≡ results_of p.function_types
+    → AreFunctions l.texts.items (literals_of p.statics) results p.functions l.functions.items → IsWeighed p t
+weighed_from {t = t} p a er h = record {
+  by = λ w.
+      weighed t.texts (literals_of p.statics) t.results p.functions t.functions w (whole_in p a h)
+      ∙ ap (λ ks. functions_weight ks p.functions w) (a.results_are ∙ er);
 }

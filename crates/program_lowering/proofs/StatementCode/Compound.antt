@@ -1,5 +1,5 @@
 -- Blocks and branches from their parts.
-use Rattle.std.proofs.Common.{◌≡◌, ℕ, ◌+◌, ◌-◌, ◌*◌, ◌≤◌, List, length, map, drop, Some, refl, ap, subst, arith}
+use Rattle.std.proofs.Common.{◌≡◌, ℕ, ◌+◌, ◌-◌, ◌≤◌, List, length, map, drop, Some, refl, ap, subst, arith}
 use Rattle.std.specs.Prelude.{get_or, max}
 use Rattle.c_tree.specs.declared.program.Variable.{Variable}
 use Rattle.c_tree.specs.declared.statement.Statement.{Statement as CodeStatement}
@@ -15,7 +15,7 @@ use Rattle.program_lowering.proofs.ExpressionCode.Growing.{emits_none, emits_the
 use Rattle.program_lowering.specs.declared.parts.exits.Exits.{Exits}
 use Rattle.program_lowering.specs.declared.parts.exits.BlockExits.{BlockExits}
 use Rattle.program_lowering.specs.StatementParts.Leaving.{exits_of, before}
-use Rattle.program_lowering.specs.StatementParts.Weights.{objects_weight}
+use Rattle.program_lowering.specs.StatementParts.Weights.{left_weight, block_weight}
 use Rattle.program_lowering.specs.StatementParts.Code.{ConditionCode, EntryCode, LeavingCode}
 use Rattle.program_lowering.proofs.StatementParts.InitializerParts.{drop_before}
 use Rattle.program_lowering.specs.StatementCode.Code.{StatementCode, StatementsCode}
@@ -26,7 +26,7 @@ use Rattle.program_lowering.proofs.StatementCode.Heights.{needs_one}
 -- statements in order
 
 pub no_statements_code : {vs : List Variable} {a : Emitter} {x : Exits} → StatementsCode vs a a no_statements x.next x
-no_statements_code = record { emits = emits_none 1; stands = λ c v f. refl }
+no_statements_code = record { emits = emits_none 1 (λ w. refl); stands = λ c v f. refl }
 
 more_statements : {vs : List Variable} {a b c : Emitter} {n k : ℕ} {x y : Exits} (s : Statement) (ss : Statements)
     → exits_of y ≡ before (exits_of x) k → StatementsCode vs a b ss k x → StatementCode vs b c s n y
@@ -55,11 +55,11 @@ pub block_code : {vs : List Variable} {a b c d : Emitter} {numbers : List ℕ} {
     → StatementsCode vs b c ss k y.exits → EntryCode c d y.block line n k → StatementCode vs a d (block line ss) n x
 block_code {vs = vs} {numbers = numbers} {line = line} {k = k} {n = n} {y = y} {x = x} {ss = ss} same l h y' =
     let top = each_height ss in
-    let inner = emits_then (max 0 top) (λ w. 4 * objects_weight vs numbers w + each_weight vs ss w) l.emits h.emits
+    let inner = emits_then (max 0 top) (λ w. left_weight vs numbers w + each_weight vs ss w) l.emits h.emits
     (omega arith) (omega arith) (λ w. omega arith) in
     record {
       emits = emits_then top (statement_weight vs (block line ss)) inner y'.emits (omega arith) (omega arith)
-          (λ w. omega (arith, ap (λ ns. objects_weight vs ns w) same, l.weighs w));
+          (λ w. omega (arith, ap (λ ns. block_weight vs ns w) same, l.weighs w));
       stands = λ p v f.
           let fh = fills_before y'.emits f in
           let fl = fills_before h.emits fh in (

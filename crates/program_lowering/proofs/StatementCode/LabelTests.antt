@@ -25,18 +25,19 @@ use Rattle.program_lowering.specs.StatementCode.Switches.{default_start}
 use Rattle.program_lowering.proofs.StatementCode.Elements.{of_item, drop_number, get_any}
 
 pub no_labels_code : {a : Emitter} {item n : ℕ} → LabelsCode a a [] item n n
-no_labels_code = record { emits = emits_none 1; stands = λ c f other e. refl }
+no_labels_code = record { emits = emits_none 1 (λ w. refl); stands = λ c f other e. refl }
 
 pub case_code : {a b : Emitter} {w item n m : ℕ} → Added a b n (tac.Case 0 w item m)
     → LabelsCode a b (Case w ∷ []) item n m
 case_code {w = n} {m = m} h = record {
-  emits = emits_within 1 (labels_weight (Case n ∷ [])) (added_emits 1 h (omega arith)) (omega arith) (λ w. omega arith);
+  emits = emits_within 1 (labels_weight (Case n ∷ [])) (added_emits 1 h (omega arith) (λ ts w. refl)) (omega arith)
+      (λ w. omega arith);
   stands = λ c f other e.
       (m, added_holds h tt f, refl);
 }
 
 pub default_code : {a : Emitter} {item n : ℕ} → LabelsCode a a (Default ∷ []) item n n
-default_code = record { emits = emits_none 1; stands = λ c f other e. (e refl, refl) }
+default_code = record { emits = emits_none 1 (λ w. refl); stands = λ c f other e. (e refl, refl) }
 
 -- one label before others
 
@@ -70,7 +71,7 @@ next_label {a = a} {c = c} {item = item} {n = n} {m = m} ls i l ge le is hs h =
 -- items
 
 pub no_tests_code : {a : Emitter} {n : ℕ} → TestsCode a a no_items [] n n
-no_tests_code = record { emits = emits_none 1; stands = λ c f d. refl }
+no_tests_code = record { emits = emits_none 1 (λ w. refl); stands = λ c f d. refl }
 
 more_tests : {a b c : Emitter} {n k m start : ℕ} (x : CodeItem) (is : SwitchItems) (starts : List ℕ)
     → TestsCode a b is starts k m → LabelsCode b c x.labels start n k

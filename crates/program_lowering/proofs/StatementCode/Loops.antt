@@ -13,17 +13,16 @@ use Rattle.c_lower.specs.Counted.{CountedParts, counted_parts}
 use Rattle.c_lower.specs.Statements.{in_loop, LowersStatement, HasNumber, has_objects_of, CountedIs}
 use Rattle.program_lowering.specs.declared.expressions.emitter.Emitter.{Emitter}
 use Rattle.program_lowering.specs.ExpressionCode.Weights.{Weights, weight_of}
-use Rattle.program_lowering.specs.ExpressionCode.Emitted.{Has, Emits}
+use Rattle.program_lowering.specs.ExpressionCode.Emitted.{Has, Stays, Emits}
 use Rattle.program_lowering.proofs.ExpressionCode.Growing.{fills_before, keeps_on}
 use Rattle.program_lowering.specs.declared.parts.exits.Exits.{Exits}
-use Rattle.program_lowering.specs.declared.parts.exits.BlockExits.{BlockExits}
 use Rattle.program_lowering.specs.declared.parts.loops.ForHead.{ForHead}
 use Rattle.program_lowering.specs.StatementParts.Leaving.{exits_of}
 use Rattle.program_lowering.specs.StatementParts.Code.{most}
-use Rattle.program_lowering.specs.StatementParts.Weights.{objects_weight}
+use Rattle.program_lowering.specs.StatementParts.Weights.{block_weight}
 use Rattle.program_lowering.specs.StatementParts.Loops.{Waits, Filled, HeadCode, ForHeadCode, ForTailCode}
 use Rattle.program_lowering.proofs.StatementParts.LoopParts.{filled_fills, filled_keeps, filled_fits, filled_weight}
-use Rattle.program_lowering.proofs.StatementParts.LoopParts.{filled_holds}
+use Rattle.program_lowering.proofs.StatementParts.LoopParts.{filled_texts, filled_holds}
 use Rattle.program_lowering.specs.StatementCode.Code.{StatementCode}
 use Rattle.program_lowering.specs.StatementCode.Sizes.{statement_height}
 use Rattle.program_lowering.specs.StatementCode.Weights.{statement_weight}
@@ -38,14 +37,23 @@ waits_on w h = record { by = h.emits.kept.code _ _ w.by }
 filled_emits : {a b c d : Emitter} {m n turn : ℕ} {k j : Weights → ℕ} {i : Instruction} (most : ℕ)
     (weight : Weights → ℕ) → Emits a b m k
     → length a.code.items ≤ turn → Emits b c n j → Filled c d turn i → Has c turn tac.Reserved → temporaries i ≤ most
-    → ((w : Weights) → weight_of i w ≡ w.turn) → m ≤ most → n ≤ most → ((w : Weights) → k w + j w ≤ weight w)
+    → ((ts : List (List ℕ)) (w : Weights) → weight_of ts i w ≡ w.turn) → m ≤ most → n ≤ most
+    → ((w : Weights) → k w + j w ≡ weight w)
     → Emits a d most weight
 filled_emits most weight e fresh g f still li turning lm ln lk = record {
   kept = filled_keeps f (keeps_on e.kept g.kept) fresh;
   fits = λ limit le h.
       filled_fits limit f still (omega (arith, li, le))
       (g.fits limit (omega (arith, ln, le)) (e.fits limit (omega (arith, lm, le)) h));
-  grown = λ w. omega (arith, filled_weight f still w (turning w), e.grown w, g.grown w, lk w);
+  grown = λ w ts s.
+      let sg = filled_texts ts f s in
+      omega (
+        arith,
+        filled_weight f still ts w (turning ts w),
+        e.grown w ts (λ n x h. sg n x (g.kept.texts n x h)),
+        g.grown w ts sg,
+        lk w,
+      );
 }
 
 pub while_code : {vs : List Variable} {a b c d : Emitter} {e : Expression} {s : Statement} {turn start n : ℕ} {x y :
@@ -57,7 +65,7 @@ while_code {vs = vs} {e = e} {s = s} {turn = turn} {n = n} h q g f =
     record {
       emits = filled_emits (max (height e) (statement_height s))
           (statement_weight vs (while_do e s)) h.emits h.fresh g.emits f
-          still (omega arith) (λ w. refl) (omega (arith, needs_one s)) (omega arith) (λ w. omega arith);
+          still (omega arith) (λ ts w. refl) (omega (arith, needs_one s)) (omega arith) (λ w. omega arith);
       stands = λ p v k.
           let fg = filled_fills f still k in (
             turn,
@@ -76,7 +84,7 @@ do_code {vs = vs} {e = e} {s = s} {turn = turn} {start = start} {n = n} h q g f 
     record {
       emits = filled_emits (max (height e) (statement_height s))
           (statement_weight vs (do_while s e)) h.emits h.fresh g.emits f
-          still (omega arith) (λ w. refl) (omega (arith, needs_one s)) (omega arith) (λ w. omega arith);
+          still (omega arith) (λ ts w. refl) (omega (arith, needs_one s)) (omega arith) (λ w. omega arith);
       stands = λ p v k.
           let fg = filled_fills f still k in (
             n,
@@ -94,23 +102,23 @@ pub for_code : {vs : List Variable} {a b c d : Emitter} {numbers : List ℕ} {li
     → exits_of y ≡ in_loop (exits_of h.inside.exits) h.step → StatementCode vs b c s body y
     → parts ≡ counted_parts first test step s → ForTailCode c d line first parts h body n
     → StatementCode vs a d (for line first test step s) n x
-for_code {vs = vs} {line = line} {first = first} {test = test} {step = step} {s = s} {h = h} {n = n} {body = body}
-    {x = x} same
-    k q g
-    ranged t = record {
+for_code {vs = vs} {c = c} {line = line} {first = first} {test = test} {step = step} {s = s} {h = h} {n = n}
+    {body = body} {x = x} same k q g ranged t = record {
       emits = record {
         kept = t.grows.keeps _ (keeps_on k.emits.kept g.emits.kept) k.fresh;
         fits = λ limit le f.
             t.grows.fits limit (omega (arith, le))
             (g.emits.fits limit (omega (arith, le)) (k.emits.fits limit (omega (arith, le)) f));
-        grown = λ w. omega (
-          arith,
-          t.grows.grown w,
-          g.emits.grown w,
-          k.emits.grown w,
-          ap (λ ns. objects_weight vs ns w) same,
-          k.weighs w,
-        );
+        grown = λ w ts later.
+            let sg : Stays c.texts.items ts = λ n x j. later n x (t.grows.texts_stay n x j) in
+            omega (
+              arith,
+              t.grows.grown w ts later,
+              g.emits.grown w ts sg,
+              k.emits.grown w ts (λ n x j. sg n x (g.emits.kept.texts n x j)),
+              ap (λ ns. block_weight vs ns w) same,
+              k.weighs w,
+            );
       };
       stands = λ p v f.
           let fg = t.grows.fills p f in

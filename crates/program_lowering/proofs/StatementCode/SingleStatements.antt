@@ -36,13 +36,13 @@ pub declared_code : {vs : List Variable} {a b : Emitter} {ds : List DeclaredVari
 declared_code h = record { emits = h.emits; stands = λ c v f. h.stands c f }
 
 pub empty_code : {vs : List Variable} {a : Emitter} {x : Exits} → StatementCode vs a a empty x.next x
-empty_code = record { emits = emits_none 1; stands = λ c v f. refl }
+empty_code = record { emits = emits_none 1 (λ w. refl); stands = λ c v f. refl }
 
 pub break_code : {vs : List Variable} {a : Emitter} {x : Exits} → StatementCode vs a a break x.breaks x
-break_code = record { emits = emits_none 1; stands = λ c v f. refl }
+break_code = record { emits = emits_none 1 (λ w. refl); stands = λ c v f. refl }
 
 pub continue_code : {vs : List Variable} {a : Emitter} {x : Exits} → StatementCode vs a a continue x.continues x
-continue_code = record { emits = emits_none 1; stands = λ c v f. refl }
+continue_code = record { emits = emits_none 1 (λ w. refl); stands = λ c v f. refl }
 
 -- a result, whose contents are taken behind its value
 pub result_code : {a b c : Emitter} {n k m : ℕ} (e : CodeExpression) → TakingCode a b e.kind e.line 0 k m
@@ -65,7 +65,7 @@ result_code {k = k} {m = m} e t h =
 
 pub returned_none : {vs : List Variable} {a b : Emitter} {n : ℕ} {x : Exits} → Added a b n (tac.Constant 0 0 x.returns)
     → StatementCode vs a b (return None) n x
-returned_none h = record { emits = added_emits 1 h (omega arith); stands = λ c v f. added_holds h tt f }
+returned_none h = record { emits = added_emits 1 h (omega arith) (λ ts w. refl); stands = λ c v f. added_holds h tt f }
 
 pub returned_some : {vs : List Variable} {a b : Emitter} {n : ℕ} {x : Exits} {e : Expression}
     → ResultCode a b e n x.returns → StatementCode vs a b (return (Some e)) n x

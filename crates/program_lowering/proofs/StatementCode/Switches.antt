@@ -1,5 +1,5 @@
 -- Switches from their parts.
-use Rattle.std.proofs.Common.{◌≡◌, ℕ, ◌+◌, ◌-◌, ◌*◌, ◌≤◌, Bool, true, false, List, [], ◌∷◌, length, map, drop, refl}
+use Rattle.std.proofs.Common.{◌≡◌, ℕ, ◌+◌, ◌-◌, ◌≤◌, Bool, true, false, List, [], ◌∷◌, length, map, drop, refl}
 use Rattle.std.proofs.Common.{sym, ap, ◌∙◌, subst, arith}
 use Rattle.std.specs.Prelude.{get_or, set, max, not, ◌&&◌, ◌||◌, if◌then◌else◌}
 use Rattle.c_tree.specs.declared.program.Variable.{Variable}
@@ -20,7 +20,7 @@ use Rattle.program_lowering.specs.declared.parts.exits.Exits.{Exits}
 use Rattle.program_lowering.specs.declared.parts.exits.BlockExits.{BlockExits}
 use Rattle.program_lowering.specs.StatementParts.Items.{item_of}
 use Rattle.program_lowering.specs.StatementParts.Leaving.{exits_of, before}
-use Rattle.program_lowering.specs.StatementParts.Weights.{objects_weight}
+use Rattle.program_lowering.specs.StatementParts.Weights.{left_weight, block_weight}
 use Rattle.program_lowering.specs.StatementParts.Code.{EntryCode, LeavingCode}
 use Rattle.program_lowering.proofs.StatementParts.InitializerParts.{drop_before, evaluated_emits}
 use Rattle.program_lowering.specs.StatementCode.Weights.{statement_weight, items_weight}
@@ -36,7 +36,7 @@ use Rattle.program_lowering.proofs.StatementCode.Heights.{items_need_one}
 
 pub no_items_code : {vs : List Variable} {a : Emitter} {x : Exits} (starts : List ℕ)
     → ItemsFrom vs a a no_items starts x.next x
-no_items_code starts = record { emits = emits_none 1; stands = λ c v f. refl }
+no_items_code starts = record { emits = emits_none 1 (λ w. refl); stands = λ c v f. refl }
 
 more_items : {vs : List Variable} {a b c : Emitter} {n k : ℕ} {x y : Exits} (i : CodeItem) (is : SwitchItems)
     (starts : List ℕ) → exits_of y ≡ before (exits_of x) k → ItemsFrom vs a b is starts k x
@@ -129,8 +129,9 @@ weight_of_both vs no_items w = refl
 weight_of_both vs (items labels s is) w = omega (arith, weight_of_both vs is w)
 
 pub switch_code : {vs : List Variable} {a b c d e' g : Emitter} {numbers starts made : List ℕ} {line t k n other : ℕ}
-    {y : BlockExits} {z x : Exits} {is : SwitchItems} {e : Expression} → numbers ≡ switch_variables is → has_one_default is ≡ true
-    → LeavingCode vs a b numbers x y → exits_of z ≡ in_switch (exits_of y.exits) → ItemsCode vs b c is made z
+    {y : BlockExits} {z x : Exits} {is : SwitchItems} {e : Expression} → numbers ≡ switch_variables is
+    → has_one_default is ≡ true → LeavingCode vs a b numbers x y → exits_of z ≡ in_switch (exits_of y.exits)
+    → ItemsCode vs b c is made z
     → starts ≡ made → other ≡ default_start is starts y.exits.next → TestsCode c d is starts t other
     → EntryCode d e' y.block line k t
     → ExpressionCode e' g e 0 n k → StatementCode vs a g (switch e line is) n x
@@ -139,18 +140,18 @@ switch_code {vs = vs} {b = b} {c = c} {numbers = numbers} {starts = starts} {lin
     {e = e} same once l q made_items taken goes r entry value =
     let h = subst (λ ns. ItemsCode vs b c is ns z) (sym taken) made_items in
     let top = max (height e) (items_height is) in
-    let inner = emits_then top (λ w. 4 * objects_weight vs numbers w + bodies_weight vs is w) l.emits h.from.emits
+    let inner = emits_then top (λ w. left_weight vs numbers w + bodies_weight vs is w) l.emits h.from.emits
     (omega arith) (omega arith) (λ w. omega arith) in
     let tested = emits_then top
-    (λ w. 4 * objects_weight vs numbers w + (bodies_weight vs is w + tests_weight is w)) inner r.emits (omega arith)
+    (λ w. left_weight vs numbers w + (bodies_weight vs is w + tests_weight is w)) inner r.emits (omega arith)
     (omega (arith, items_need_one is)) (λ w. omega arith) in
     let entered = emits_then top
-    (λ w. 5 * objects_weight vs numbers w + (bodies_weight vs is w + tests_weight is w)) tested entry.emits
+    (λ w. block_weight vs numbers w + (bodies_weight vs is w + tests_weight is w)) tested entry.emits
     (omega arith) (omega arith) (λ w. omega (arith, l.weighs w)) in
     let evaluated = evaluated_emits e top value (omega arith) in
     record {
       emits = emits_then top (statement_weight vs (switch e line is)) entered evaluated (omega arith) (omega arith)
-          (λ w. omega (arith, weight_of_both vs is w, ap (λ ns. objects_weight vs ns w) same));
+          (λ w. omega (arith, weight_of_both vs is w, ap (λ ns. block_weight vs ns w) same));
       stands = λ p v f.
           let fe = fills_before value.emits f in
           let fr = fills_before entry.emits fe in

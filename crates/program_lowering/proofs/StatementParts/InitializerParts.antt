@@ -17,9 +17,10 @@ use Rattle.c_lower.specs.Placed.{Holds}
 use Rattle.c_lower.proofs.Homes.{fits}
 use Rattle.program_lowering.specs.declared.expressions.emitter.Emitter.{Emitter}
 use Rattle.program_lowering.specs.ExpressionCode.Weights.{expression_weight}
-use Rattle.program_lowering.specs.ExpressionCode.Emitted.{Added, Emits, ExpressionCode}
+use Rattle.program_lowering.specs.ExpressionCode.Emitted.{Added, Stays, Emits, ExpressionCode}
 use Rattle.program_lowering.specs.ExpressionCode.Last.{TextAdded}
-use Rattle.program_lowering.proofs.ExpressionCode.Growing.{emits_none, emits_then, emits_within, added_emits}
+use Rattle.program_lowering.proofs.ExpressionCode.Growing.{emits_none, emits_then, emits_within, added_by}
+use Rattle.program_lowering.proofs.ExpressionCode.Growing.{added_emits}
 use Rattle.program_lowering.proofs.ExpressionCode.Growing.{added_holds}
 use Rattle.program_lowering.proofs.ExpressionCode.Growing.{fills_before}
 use Rattle.program_lowering.proofs.ExpressionCode.Views.{of_expression, drop_from}
@@ -53,11 +54,11 @@ pub value_code : {a b c : Emitter} {x o n k m : ℕ} (e : CodeExpression)
 value_code {x = x} {o = o} {k = k} {m = m} e h hx =
     let top = max 1 (height (expression_of e)) in
     let view = of_expression e in
-    let store = added_emits top h (omega arith) in
+    let store = added_emits top h (omega arith) (λ ts w. refl) in
     let value = evaluated_emits (expression_of e) top hx (omega arith) in
     record {
       emits = emits_then top (content_weight (value_content (expression_of e))) store value (omega arith) (omega arith)
-          (λ w. omega arith);
+          (λ w. omega (arith, ap (λ x. w.store_part (kind_of x)) view));
       stands = λ p f.
           let held = added_holds h tt (fills_before hx.emits f) in (
             k,
@@ -71,15 +72,16 @@ value_code {x = x} {o = o} {k = k} {m = m} e h hx =
 pub literal_code : {a b c : Emitter} {x o t n m : ℕ} {bytes : List ℕ} → TextAdded a b bytes t
     → Added b c n (tac.StoreText t x o m) → ContentCode a c x o (literal_content bytes) n m
 literal_code {t = t} {bytes = bytes} ht h =
-    let store = added_emits 1 h (omega arith) in
+    let weight = content_weight (literal_content bytes) in
+    let store = added_by 1 weight h (omega arith)
+    (λ w ts s. ap w.store_text (ht.is ts (subst (λ us. Stays us ts) h.texts s))) in
     record {
-      emits = emits_then 1 (content_weight (literal_content bytes)) ht.emits store (omega arith) (omega arith)
-          (λ w. omega arith);
-      stands = λ p f. (t, ht.is p (fills_before store f), added_holds h tt f);
+      emits = emits_then 1 weight ht.emits store (omega arith) (omega arith) (λ w. omega arith);
+      stands = λ p f. (t, ht.is p.texts (fills_before store f).texts, added_holds h tt f);
     }
 
 pub parts_none : {a : Emitter} {x n : ℕ} → PartsCode a a x [] n n
-parts_none = record { emits = emits_none 1; stands = λ p f. refl }
+parts_none = record { emits = emits_none 1 (λ w. refl); stands = λ p f. refl }
 
 parts_more : {a b c : Emitter} {x n k m : ℕ} (q : Part) (qs : List Part) → PartsCode a b x qs k m
     → ContentCode b c x q.offset q.content n k → PartsCode a c x (q ∷ qs) n m
@@ -113,13 +115,13 @@ part_height (y ∷ qs) (suc k) q lt e = omega (arith, part_height qs k q (omega 
 -- initializers
 
 pub initializer_none : {a : Emitter} {x n : ℕ} → InitializerCode a a x None n n
-initializer_none = record { emits = emits_none 1; stands = λ p f. refl }
+initializer_none = record { emits = emits_none 1 (λ w. refl); stands = λ p f. refl }
 
 pub initializer_plain : {a b c : Emitter} {x n k m : ℕ} {e : Expression} → Added a b k (tac.SetPlain x 0 m)
     → ExpressionCode b c e 0 n k → InitializerCode a c x (Some (of_plain e)) n m
 initializer_plain {k = k} {e = e} h hx =
     let top = most (value_content e ∷ []) in
-    let set = added_emits top h (omega arith) in
+    let set = added_emits top h (omega arith) (λ ts w. refl) in
     let value = evaluated_emits e top hx (omega arith) in
     record {
       emits = emits_then top (initializer_weight (Some (of_plain e))) set value (omega arith) (omega arith)
@@ -131,7 +133,7 @@ pub initializer_object : {a b c : Emitter} {x n k m : ℕ} {qs : List Part} → 
     → Added b c n (tac.Zero x k) → InitializerCode a c x (Some (of_object qs)) n m
 initializer_object {k = k} {qs = qs} hs h =
     let top = most (contents_in qs) in
-    let clear = added_emits top h (omega arith) in
+    let clear = added_emits top h (omega arith) (λ ts w. refl) in
     record {
       emits = emits_then top (initializer_weight (Some (of_object qs))) hs.emits clear (omega arith) (omega arith)
           (λ w. omega arith);
@@ -139,7 +141,7 @@ initializer_object {k = k} {qs = qs} hs h =
     }
 
 pub declared_none : {a : Emitter} {n : ℕ} → DeclaredCode a a [] n n
-declared_none = record { emits = emits_none 1; stands = λ p f. refl }
+declared_none = record { emits = emits_none 1 (λ w. refl); stands = λ p f. refl }
 
 declared_more : {a b c : Emitter} {n k m : ℕ} (d : DeclaredVariable) (ds : List DeclaredVariable)
     → DeclaredCode a b ds k m
@@ -177,7 +179,7 @@ declared_height (y ∷ ds) (suc k) d lt e =
 -- the parts of a `for`
 
 pub first_nothing : {a : Emitter} {n : ℕ} → FirstCode a a nothing n n
-first_nothing = record { emits = emits_none 1; stands = λ p f. refl }
+first_nothing = record { emits = emits_none 1 (λ w. refl); stands = λ p f. refl }
 
 pub first_value : {a b : Emitter} {n m : ℕ} {e : Expression} → ExpressionCode a b e 0 n m
     → FirstCode a b (first_expression e) n m
@@ -191,13 +193,13 @@ pub first_declared : {a b : Emitter} {n m : ℕ} {ds : List DeclaredVariable} �
 first_declared h = record { emits = h.emits; stands = h.stands }
 
 pub condition_none : {a : Emitter} {n m : ℕ} → ConditionCode a a None n n m
-condition_none = record { emits = emits_none 1; stands = λ p f. refl }
+condition_none = record { emits = emits_none 1 (λ w. refl); stands = λ p f. refl }
 
 pub condition_some : {a b c : Emitter} {n k t u : ℕ} {e : Expression} → Added a b k (tac.Branch 0 t u)
     → ExpressionCode b c e 0 n k → ConditionCode a c (Some e) n t u
 condition_some {k = k} {e = e} h hx =
     let top = most (value_content e ∷ []) in
-    let branch = added_emits top h (omega arith) in
+    let branch = added_emits top h (omega arith) (λ ts w. refl) in
     let value = evaluated_emits e top hx (omega arith) in
     record {
       emits = emits_then top (condition_weight (Some e)) branch value (omega arith) (omega arith) (λ w. omega arith);
@@ -205,7 +207,7 @@ condition_some {k = k} {e = e} h hx =
     }
 
 pub part_none : {a : Emitter} {n : ℕ} → PartCode a a None n n
-part_none = record { emits = emits_none 1; stands = λ p f. refl }
+part_none = record { emits = emits_none 1 (λ w. refl); stands = λ p f. refl }
 
 pub part_some : {a b : Emitter} {n m : ℕ} {e : Expression} → ExpressionCode a b e 0 n m → PartCode a b (Some e) n m
 part_some {e = e} h = record {

@@ -1,5 +1,5 @@
 -- Loops from their parts.
-use Rattle.std.proofs.Common.{◌≡◌, ◌≢◌, ℕ, zero, suc, ◌+◌, ◌*◌, ◌≤◌, ◌<◌, Bool, true, false, List, [], ◌∷◌, ◌++◌}
+use Rattle.std.proofs.Common.{◌≡◌, ◌≢◌, ℕ, zero, suc, ◌+◌, ◌≤◌, ◌<◌, Bool, true, false, List, [], ◌∷◌, ◌++◌}
 use Rattle.std.proofs.Common.{length, Option, Some, None, refl, sym, ap, ◌∙◌, subst, arith}
 use Rattle.std.proofs.lemmas.Bool.{eqb-true, eqb-false}
 use Rattle.std.proofs.lemmas.Option.{same_Some, slice_get_within}
@@ -24,7 +24,7 @@ use Rattle.program_lowering.specs.declared.parts.exits.Exits.{Exits}
 use Rattle.program_lowering.specs.declared.parts.exits.BlockExits.{BlockExits}
 use Rattle.program_lowering.specs.declared.parts.counted.Range.{Range}
 use Rattle.program_lowering.specs.declared.parts.loops.ForHead.{ForHead}
-use Rattle.program_lowering.specs.StatementParts.Weights.{first_weight, condition_weight, part_weight, objects_weight}
+use Rattle.program_lowering.specs.StatementParts.Weights.{first_weight, condition_weight, part_weight, left_weight}
 use Rattle.program_lowering.specs.StatementParts.Code.{most, ConditionCode, PartCode, FirstCode, EntryCode, LeavingCode}
 use Rattle.program_lowering.specs.StatementParts.Counting.{parts_with}
 use Rattle.program_lowering.specs.StatementParts.Loops.{Waits, Filled, HeadCode, ForHeadCode, LoopAdded, ForTailCode}
@@ -94,17 +94,23 @@ filled_fits {n = n} limit f h le g = record { by = λ m j k. fits_by limit f h l
 
 -- a turn weighs what was reserved for it
 
-set_weight : (is : List Instruction) (n : ℕ) (i : Instruction) (w : Weights) → HasAt is n tac.Reserved
-    → weight_of i w ≡ w.turn → code_weight (slice_set is n i) w ≡ code_weight is w
-set_weight [] n i w h e = refl
-set_weight (j ∷ is) zero i w h e =
-    let here : weight_of j w ≡ w.turn = ap (λ k. weight_of k w) (same_Some _ _ h) in omega (arith, here, e)
-set_weight (j ∷ is) (suc n) i w h e = omega (arith, set_weight is n i w h e)
+set_weight : (ts : List (List ℕ)) (is : List Instruction) (n : ℕ) (i : Instruction) (w : Weights)
+    → HasAt is n tac.Reserved → weight_of ts i w ≡ w.turn → code_weight ts (slice_set is n i) w ≡ code_weight ts is w
+set_weight ts [] n i w h e = refl
+set_weight ts (j ∷ is) zero i w h e =
+    let here : weight_of ts j w ≡ w.turn = ap (λ k. weight_of ts k w) (same_Some _ _ h) in omega (arith, here, e)
+set_weight ts (j ∷ is) (suc n) i w h e = omega (arith, set_weight ts is n i w h e)
 
 pub filled_weight : {a b : Emitter} {n : ℕ} {i : Instruction} → Filled a b n i → Has a n tac.Reserved
-    → (w : Weights) → weight_of i w ≡ w.turn → code_weight b.code.items w ≡ code_weight a.code.items w
-filled_weight {a = a} {n = n} {i = i} f h w e =
-    ap (λ is. code_weight is w) f.code ∙ set_weight a.code.items n i w h e
+    → (ts : List (List ℕ)) (w : Weights) → weight_of ts i w ≡ w.turn
+    → code_weight ts b.code.items w ≡ code_weight ts a.code.items w
+filled_weight {a = a} {n = n} {i = i} f h ts w e =
+    ap (λ is. code_weight ts is w) f.code ∙ set_weight ts a.code.items n i w h e
+
+-- and the texts stay
+pub filled_texts : {a b : Emitter} {n : ℕ} {i : Instruction} (ts : List (List ℕ)) → Filled a b n i
+    → Stays b.texts.items ts → Stays a.texts.items ts
+filled_texts ts f s = subst (λ us. Stays us ts) f.texts s
 
 pub filled_holds : {a b : Emitter} {n : ℕ} {i : Instruction} {c : Placed} → Filled a b n i → Has a n tac.Reserved
     → IsReal i
@@ -133,8 +139,8 @@ pub head_code : {a b c e : Emitter} {x : Expression} {turn k start fails : ℕ} 
     → Added b c k (tac.Branch 0 turn fails) → ExpressionCode c e x 0 start k → HeadCode a e x turn start fails
 head_code {a = a} {e = e} {x = x} {turn = turn} {k = k} h t v =
     let top = max 1 (height x) in
-    let first = added_emits top h (omega arith) in
-    let second = added_emits top t (omega arith) in
+    let first = added_emits top h (omega arith) (λ ts w. refl) in
+    let second = added_emits top t (omega arith) (λ ts w. refl) in
     let value = evaluated_emits x top v (omega arith) in
     let both = emits_then top (λ w. w.branch + w.turn) first second (omega arith) (omega arith) (λ w. omega arith) in
     record {
@@ -151,15 +157,15 @@ pub for_head_code : {vs : List Variable} {a b c d e : Emitter} {numbers : List �
     → ForHeadCode vs a e numbers test step (record { inside = y; turn = turn; condition = h; step = s }) x
 for_head_code {vs = vs} {a = a} {b = b} {numbers = numbers} {test = test} {step = step} {turn = turn} l r t p =
     let top = max (most (if_any test)) (most (if_any step)) in
-    let reserved = added_emits top r (omega arith) in
-    let one = emits_then top (λ w. 4 * objects_weight vs numbers w + w.turn) l.emits reserved (omega arith)
+    let reserved = added_emits top r (omega arith) (λ ts w. refl) in
+    let one = emits_then top (λ w. left_weight vs numbers w + w.turn) l.emits reserved (omega arith)
     (omega arith)
     (λ w. omega arith) in
-    let two = emits_then top (λ w. 4 * objects_weight vs numbers w + (w.turn + condition_weight test w)) one t.emits
+    let two = emits_then top (λ w. left_weight vs numbers w + (w.turn + condition_weight test w)) one t.emits
     (omega arith) (omega arith) (λ w. omega arith) in
     record {
       emits = emits_then top
-          (λ w. 4 * objects_weight vs numbers w + (w.turn + (condition_weight test w + part_weight step w)))
+          (λ w. left_weight vs numbers w + (w.turn + (condition_weight test w + part_weight step w)))
           two p.emits (omega arith) (omega arith) (λ w. omega arith);
       fresh = omega (arith, r.place, longer l.emits.kept);
       waits = record { by = p.emits.kept.code turn tac.Reserved (t.emits.kept.code turn tac.Reserved (added_has r)) };
@@ -173,7 +179,7 @@ for_head_code {vs = vs} {a = a} {b = b} {numbers = numbers} {test = test} {step 
 -- counted loops
 
 pub no_loop : {a : Emitter} {n : ℕ} {h : ForHead} → LoopAdded a a None n h None
-no_loop = record { emits = emits_none 0; is = λ p f. tt }
+no_loop = record { emits = emits_none 0 (λ w. refl); is = λ p f. tt }
 
 pub some_loop : (a b : Emitter) (r : Range) (n setting : ℕ) (h : ForHead) → b.code.items ≡ a.code.items
     → b.keys.items ≡ a.keys.items → b.blocks.items ≡ a.blocks.items
@@ -199,7 +205,7 @@ pub for_tail_code : {a b c d e : Emitter} {line setting body n : ℕ} {first : F
     → FirstCode a b first setting h.condition → LoopAdded b c parts setting h counted
     → Filled c d h.turn (tac.Turn counted body) → EntryCode d e h.inside.block line n setting
     → ForTailCode a e line first parts h body n
-for_tail_code {a = a} {setting = setting} {first = first} {h = h} {counted = counted} waits s l f y =
+for_tail_code {a = a} {d = d} {setting = setting} {first = first} {h = h} {counted = counted} waits s l f y =
     let top = most (first_contents first) in
     let grown = emits_then top (first_weight first) s.emits l.emits (omega arith) (omega arith) (λ w. omega arith) in
     let still = grown.kept.code h.turn tac.Reserved waits.by in
@@ -209,7 +215,16 @@ for_tail_code {a = a} {setting = setting} {first = first} {h = h} {counted = cou
         keeps = λ o k le. keeps_on (filled_keeps f (keeps_on k grown.kept) le) y.emits.kept;
         fits = λ limit le g. y.emits.fits limit (omega arith)
             (filled_fits limit f still (omega arith) (grown.fits limit le g));
-        grown = λ w. omega (arith, y.emits.grown w, filled_weight f still w refl, grown.grown w);
+        texts_stay = λ n x g.
+            y.emits.kept.texts n x (subst (λ us. HasAt us n x) (sym f.texts) (grown.kept.texts n x g));
+        grown = λ w ts t.
+            let sy : Stays d.texts.items ts = λ n x g. t n x (y.emits.kept.texts n x g) in
+            omega (
+              arith,
+              y.emits.grown w ts t,
+              filled_weight f still ts w refl,
+              grown.grown w ts (filled_texts ts f sy),
+            );
       };
       setting = setting;
       counted = counted;

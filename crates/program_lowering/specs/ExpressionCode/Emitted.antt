@@ -54,11 +54,12 @@ pub record Fills (emitter : Emitter) (placed : Placed) : Type 0 where
 pub record Fits (limit : ℕ) (emitter : Emitter) : Type 0 where
   pub by : (n : ℕ) (i : Instruction) → Has emitter n i → temporaries i ≤ limit
 
--- what is added needs so many temporaries at most, and has so much weight at most
+-- what is added needs so many temporaries at most, and has just so much weight, whatever texts come later
 pub record Emits (before after : Emitter) (most : ℕ) (weight : Weights → ℕ) : Type 0 where
   pub kept : Keeps before after
   pub fits : (limit : ℕ) → most ≤ limit → Fits limit before → Fits limit after
-  pub grown : (w : Weights) → code_weight after.code.items w ≤ code_weight before.code.items w + weight w
+  pub grown : (w : Weights) (texts : List (List ℕ)) → Stays after.texts.items texts
+      → code_weight texts after.code.items w ≡ code_weight texts before.code.items w + weight w
 
 -- how many temporaries arguments need from the first on
 abbrev pub arguments_used : Expressions → ℕ

@@ -19,7 +19,7 @@ use Rattle.c_lower.specs.Placed.{Placed, HasAt}
 use Rattle.c_lower.specs.Values.{KeyIs, LowersTaking, mode_for, count}
 use Rattle.program_lowering.specs.declared.expressions.emitter.Emitter.{Emitter}
 use Rattle.program_lowering.specs.ExpressionCode.Weights.{no_weight, taking_weight}
-use Rattle.program_lowering.specs.ExpressionCode.Emitted.{Fills, Emits}
+use Rattle.program_lowering.specs.ExpressionCode.Emitted.{Stays, Fills, Emits}
 
 -- the key of its access
 abbrev pub key_in : (literals : List Bool) → Node → Option Key
@@ -84,19 +84,19 @@ pub record KeyAdded (before after : Emitter) (key : Option Key) (number : Option
   pub emits : Emits before after 0 no_weight
   pub is : (c : Placed) → Fills after c → KeyIs c.keys number key
 
--- the number of a format or a literal among the texts
+-- the number of a format or a literal among the texts, whatever texts come later
 pub record TextAdded (before after : Emitter) (text : List ℕ) (number : ℕ) : Type 0 where
   pub emits : Emits before after 0 no_weight
-  pub is : (c : Placed) → Fills after c → HasAt c.texts number text
+  pub is : (texts : List (List ℕ)) → Stays after.texts.items texts → HasAt texts number text
 
-abbrev pub TextIs : Placed → Node → (number : ℕ) → Type 0
-TextIs c (printf format es) n = HasAt c.texts n format
-TextIs c node n = Unit {0}
+abbrev pub TextIs : (texts : List (List ℕ)) → Node → (number : ℕ) → Type 0
+TextIs texts (printf format es) n = HasAt texts n format
+TextIs texts node n = Unit {0}
 
 -- of an expression that has a format
 pub record FormatAdded (before after : Emitter) (node : Node) (number : ℕ) : Type 0 where
   pub emits : Emits before after 0 no_weight
-  pub is : (c : Placed) → Fills after c → TextIs c node number
+  pub is : (texts : List (List ℕ)) → Stays after.texts.items texts → TextIs texts node number
 
 -- the contents of a structure are taken
 pub record TakingCode (before after : Emitter) (kind : Kind) (line d n0 n1 : ℕ) : Type 0 where

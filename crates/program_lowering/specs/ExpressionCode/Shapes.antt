@@ -1,5 +1,5 @@
 -- What operands an expression has, and where their code stands before what the expression itself does.
-use Rattle.std.specs.Prelude.{◌≡◌, ℕ, ◌+◌, ◌*◌, max, None}
+use Rattle.std.specs.Prelude.{◌≡◌, ℕ, ◌+◌, ◌*◌, max, List, [], ◌∷◌, None}
 use Rattle.c_tree.specs.Tree.{Expression, expression, Expressions, Lvalue, lvalue, Node, constant, function, plain}
 use Rattle.c_tree.specs.Tree.{read}
 use Rattle.c_tree.specs.Tree.{decay, address, parenthesized, deref_function, address_function, cast, convert, unary}
@@ -130,7 +130,7 @@ operands_nodes (either a b) = nodes a + nodes b
 operands_nodes (sequence a b) = nodes a + nodes b
 operands_nodes (choice a b e) = nodes a + (nodes b + nodes e)
 
--- and what they weigh at most, with the branches between them
+-- and what they weigh, with the branches between them
 abbrev pub operands_weight : Operands → Weights → ℕ
 operands_weight none w = 0
 operands_weight (one a) w = expression_weight a w
@@ -145,12 +145,17 @@ operands_weight (sequence a b) w = expression_weight a w + expression_weight b w
 operands_weight (choice a b e) w =
     w.branch + (expression_weight a w + (expression_weight b w + expression_weight e w))
 
+-- the text of an expression that has one
+abbrev pub text_in : Node → List (List ℕ)
+text_in (printf format es) = format ∷ []
+text_in node = []
+
 -- what an expression or an lvalue itself weighs, once its operands are there
 abbrev pub finish_weight : Expression → Weights → ℕ
-finish_weight (expression kind line node) w = weight_if (last_in node kind line 0 None 0 0) w
+finish_weight (expression kind line node) w = weight_if (text_in node) (last_in node kind line 0 None 0 0) w
 
 abbrev pub lvalue_finish_weight : Lvalue → Weights → ℕ
-lvalue_finish_weight (lvalue kind line node) w = weight_if (last_at node 0 0) w
+lvalue_finish_weight (lvalue kind line node) w = weight_if [] (last_at node 0 0) w
 
 pub record OperandsCode (before after : Emitter) (os : Operands) (d n0 n1 : ℕ) : Type 0 where
   pub emits : Emits before after (d + operands_used os) (operands_weight os)

@@ -1,75 +1,119 @@
 -- What code weighs, where each kind of instruction has a weight of its own: with 1 for each kind, how many instructions
 -- there are.
-use Rattle.std.specs.Prelude.{ℕ, ◌+◌, ◌*◌, List, [], ◌∷◌, Option, Some, None}
+use Rattle.std.specs.Prelude.{ℕ, ◌+◌, ◌*◌, List, [], ◌∷◌, Option, Some, None, slice_get}
+use Rattle.obj_memory.specs.declared.value.Scalar.{Scalar}
 use Rattle.c_tree.specs.declared.expression.Kind.{Kind}
 use Rattle.c_tree.specs.declared.expression.Kind.TheVariants.{Void, Scalar as OfScalar, Structure, Array}
+use Rattle.c_tree.specs.declared.expression.Routine.{Routine}
 use Rattle.c_tree.specs.Tree.{Expression, Expressions, no_expressions, expressions, Lvalue, Node, constant, function}
 use Rattle.c_tree.specs.Tree.{plain, read, decay, address, parenthesized, deref_function, address_function, cast}
 use Rattle.c_tree.specs.Tree.{convert}
 use Rattle.c_tree.specs.Tree.{unary, binary, offset_by, difference, logical_and, logical_or, comma, conditional, assign}
 use Rattle.c_tree.specs.Tree.{assign_plain, compound, change_plain, step, step_plain, call, call_through, library}
 use Rattle.c_tree.specs.Tree.{printf, LvalueNode, automatic, static, deref, index, member, arrow, member_of_value}
-use Rattle.c_tree.specs.Tree.{parenthesized_lvalue, kind_of}
+use Rattle.c_tree.specs.Tree.{parenthesized_lvalue, kind_of, lvalue_kind}
 use Rattle.c_tree.specs.Walk.{Visited, visited, visited_lvalue, walk, walk_lvalue, sum_of}
+use Rattle.source_meaning.specs.Actions.{scalar_of}
+use Rattle.source_meaning.specs.Expressions.{is_judged}
+use Rattle.tac_ir.specs.declared.instruction.Mode.{Mode}
 use Rattle.tac_ir.specs.declared.instruction.Instruction.{Instruction}
 use Rattle.tac_ir.specs.declared.instruction.Instruction.TheVariants as tac
-use Rattle.c_lower.specs.Values.{count}
+use Rattle.c_lower.specs.Values.{count, mode_for}
 
--- the weight of each kind of instruction; that of a call by the number of its arguments
+-- The weight of each kind of instruction: that of an access by what it reads, writes or updates, and how it finds its
+-- place; that of a call by the number of its arguments; that of what names a text by the text, where there is one.
 pub record Weights : Type 0 where
+  pub skip : ℕ
   pub constant : ℕ
+  pub function_pointer : ℕ
   pub get_plain : ℕ
   pub set_plain : ℕ
-  pub update_plain : ℕ
-  pub zero_of : ℕ
-  pub convert : ℕ
+  pub update_plain : Scalar → ℕ
+  pub home_pointer : ℕ
+  pub static_pointer : ℕ
+  pub zero_of : Kind → ℕ
+  pub convert : Kind → ℕ
   pub unary : ℕ
   pub binary : ℕ
+  pub offset : ℕ
+  pub difference : ℕ
+  pub narrow : ℕ
+  pub member : ℕ
+  pub take : Kind → ℕ
+  pub read : Kind → Mode → ℕ
+  pub write : Kind → Mode → ℕ
+  pub update : Scalar → Mode → ℕ
+  pub check : ℕ
+  pub zero : ℕ
+  pub store_part : Kind → ℕ
+  pub store_text : (bytes : Option (List ℕ)) → ℕ
   pub branch : ℕ
   pub case : ℕ
   pub turn : ℕ
-  pub library : ℕ
-  pub call : ℕ → ℕ
+  pub library : Routine → ℕ
+  pub print : (format : Option (List ℕ)) → ℕ
+  pub call : (arguments : ℕ) → ℕ
+  pub call_through : (arguments : ℕ) → ℕ
+  pub enter_block : ℕ
+  pub leave_block : ℕ
   pub return : ℕ
-  pub other : ℕ
 
--- a node that waits will be that of a turn
-abbrev pub weight_of : Instruction → Weights → ℕ
-weight_of tac.Reserved w = w.turn
-weight_of (tac.Constant d n next) w = w.constant
-weight_of (tac.GetPlain d x next) w = w.get_plain
-weight_of (tac.SetPlain x a next) w = w.set_plain
-weight_of (tac.UpdatePlain u k f line d x right next) w = w.update_plain
-weight_of (tac.ZeroOf kind d next) w = w.zero_of
-weight_of (tac.Convert kind d a next) w = w.convert
-weight_of (tac.Unary op t d a next) w = w.unary
-weight_of (tac.Binary op t line d a b next) w = w.binary
-weight_of (tac.Branch a x y) w = w.branch
-weight_of (tac.Case a n x y) w = w.case
-weight_of (tac.Turn counted next) w = w.turn
-weight_of (tac.Library r line d n next) w = w.library
-weight_of (tac.Call f line d n next) w = w.call n
-weight_of (tac.Return a) w = w.return
-weight_of i w = w.other
+-- in a program with these texts; a node that waits will be that of a turn
+abbrev pub weight_of : (texts : List (List ℕ)) → Instruction → Weights → ℕ
+weight_of texts tac.Reserved w = w.turn
+weight_of texts (tac.Skip next) w = w.skip
+weight_of texts (tac.Constant d n next) w = w.constant
+weight_of texts (tac.FunctionPointer d f next) w = w.function_pointer
+weight_of texts (tac.GetPlain d x next) w = w.get_plain
+weight_of texts (tac.SetPlain x a next) w = w.set_plain
+weight_of texts (tac.UpdatePlain u k f line d x right next) w = w.update_plain k
+weight_of texts (tac.HomePointer d x next) w = w.home_pointer
+weight_of texts (tac.StaticPointer d n next) w = w.static_pointer
+weight_of texts (tac.ZeroOf kind d next) w = w.zero_of kind
+weight_of texts (tac.Convert kind d a next) w = w.convert kind
+weight_of texts (tac.Unary op t d a next) w = w.unary
+weight_of texts (tac.Binary op t line d a b next) w = w.binary
+weight_of texts (tac.Offset form size d a b next) w = w.offset
+weight_of texts (tac.Difference size d a b next) w = w.difference
+weight_of texts (tac.Narrow offset size d a next) w = w.narrow
+weight_of texts (tac.Member offset size d a next) w = w.member
+weight_of texts (tac.Take kind line d a next) w = w.take kind
+weight_of texts (tac.Read kind mode line key d a next) w = w.read kind mode
+weight_of texts (tac.Write kind mode line key d a b next) w = w.write kind mode
+weight_of texts (tac.Update u k f mode line at key d a right next) w = w.update k mode
+weight_of texts (tac.Judge test size line key a next) w = w.check
+weight_of texts (tac.Zero x next) w = w.zero
+weight_of texts (tac.StorePart kind line x offset a next) w = w.store_part kind
+weight_of texts (tac.StoreText n x offset next) w = w.store_text (slice_get texts n)
+weight_of texts (tac.Branch a x y) w = w.branch
+weight_of texts (tac.Case a n x y) w = w.case
+weight_of texts (tac.Turn counted next) w = w.turn
+weight_of texts (tac.Library r line d n next) w = w.library r
+weight_of texts (tac.Print t line d n next) w = w.print (slice_get texts t)
+weight_of texts (tac.Call f line d n next) w = w.call n
+weight_of texts (tac.CallThrough type line d n next) w = w.call_through n
+weight_of texts (tac.EnterBlock block line next) w = w.enter_block
+weight_of texts (tac.LeaveBlock block next) w = w.leave_block
+weight_of texts (tac.Return a) w = w.return
 
-abbrev pub code_weight : List Instruction → Weights → ℕ
-code_weight [] w = 0
-code_weight (i ∷ is) w = weight_of i w + code_weight is w
+abbrev pub code_weight : (texts : List (List ℕ)) → List Instruction → Weights → ℕ
+code_weight texts [] w = 0
+code_weight texts (i ∷ is) w = weight_of texts i w + code_weight texts is w
 
-abbrev pub weight_if : Option Instruction → Weights → ℕ
-weight_if None w = 0
-weight_if (Some i) w = weight_of i w
+abbrev pub weight_if : (texts : List (List ℕ)) → Option Instruction → Weights → ℕ
+weight_if texts None w = 0
+weight_if texts (Some i) w = weight_of texts i w
 
 abbrev pub no_weight : Weights → ℕ
 no_weight w = 0
 
--- what the instructions of expressions weigh together at most
+-- what the instructions of expressions weigh together
 
 -- the contents of a structure are taken by an instruction
 abbrev pub taking_weight : Kind → Weights → ℕ
 taking_weight Void w = 0
 taking_weight (OfScalar k) w = 0
-taking_weight (Structure size) w = w.other
+taking_weight (Structure size) w = w.take (Structure size)
 taking_weight (Array size) w = 0
 
 abbrev pub takings_weight : Expressions → Weights → ℕ
@@ -78,49 +122,49 @@ takings_weight (expressions e es) w = taking_weight (kind_of e) w + takings_weig
 
 -- `&&` and `||` have both values and two branches, `?:` has one branch, and each other expression at most one
 -- instruction of its own
-abbrev pub own_weight : Node → Weights → ℕ
-own_weight (constant n) w = w.constant
-own_weight (function f) w = w.other
-own_weight (plain x) w = w.get_plain
-own_weight (read p) w = w.other
-own_weight (decay p) w = 0
-own_weight (address p) w = 0
-own_weight (parenthesized a) w = 0
-own_weight (deref_function a) w = 0
-own_weight (address_function a) w = 0
-own_weight (cast a) w = w.convert
-own_weight (convert a) w = w.convert
-own_weight (unary op a) w = w.unary
-own_weight (binary op a b) w = w.binary
-own_weight (offset_by form size a b) w = w.other
-own_weight (difference size a b) w = w.other
-own_weight (logical_and a b) w = 2 * w.branch + 2 * w.constant
-own_weight (logical_or a b) w = 2 * w.branch + 2 * w.constant
-own_weight (comma a b) w = 0
-own_weight (conditional a b e) w = w.branch
-own_weight (assign p a) w = w.other
-own_weight (assign_plain x a) w = w.set_plain
-own_weight (compound u p a) w = w.other
-own_weight (change_plain u x a) w = w.update_plain
-own_weight (step u fixity p) w = w.other
-own_weight (step_plain u fixity x) w = w.update_plain
-own_weight (call f es) w = w.call (count es) + takings_weight es w
-own_weight (call_through type a es) w = w.other + takings_weight es w
-own_weight (library routine es) w = w.library + takings_weight es w
-own_weight (printf format es) w = w.other + takings_weight es w
+abbrev pub own_weight : Kind → Node → Weights → ℕ
+own_weight kind (constant n) w = w.constant
+own_weight kind (function f) w = w.function_pointer
+own_weight kind (plain x) w = w.get_plain
+own_weight kind (read p) w = w.read (lvalue_kind p) (mode_for (is_judged p))
+own_weight kind (decay p) w = 0
+own_weight kind (address p) w = 0
+own_weight kind (parenthesized a) w = 0
+own_weight kind (deref_function a) w = 0
+own_weight kind (address_function a) w = 0
+own_weight kind (cast a) w = w.convert kind
+own_weight kind (convert a) w = w.convert kind
+own_weight kind (unary op a) w = w.unary
+own_weight kind (binary op a b) w = w.binary
+own_weight kind (offset_by form size a b) w = w.offset
+own_weight kind (difference size a b) w = w.difference
+own_weight kind (logical_and a b) w = 2 * w.branch + 2 * w.constant
+own_weight kind (logical_or a b) w = 2 * w.branch + 2 * w.constant
+own_weight kind (comma a b) w = 0
+own_weight kind (conditional a b e) w = w.branch
+own_weight kind (assign p a) w = w.write (lvalue_kind p) (mode_for (is_judged p))
+own_weight kind (assign_plain x a) w = w.set_plain
+own_weight kind (compound u p a) w = w.update (scalar_of (lvalue_kind p)) (mode_for (is_judged p))
+own_weight kind (change_plain u x a) w = w.update_plain (scalar_of kind)
+own_weight kind (step u fixity p) w = w.update (scalar_of (lvalue_kind p)) (mode_for (is_judged p))
+own_weight kind (step_plain u fixity x) w = w.update_plain (scalar_of kind)
+own_weight kind (call f es) w = w.call (count es) + takings_weight es w
+own_weight kind (call_through type a es) w = w.call_through (count es) + takings_weight es w
+own_weight kind (library routine es) w = w.library routine + takings_weight es w
+own_weight kind (printf format es) w = w.print (Some format) + takings_weight es w
 
 abbrev pub place_weight : LvalueNode → Weights → ℕ
-place_weight (automatic x) w = w.other
-place_weight (static n) w = w.other
+place_weight (automatic x) w = w.home_pointer
+place_weight (static n) w = w.static_pointer
 place_weight (deref a) w = 0
-place_weight (index form size a b) w = w.other
-place_weight (member p offset size) w = w.other
-place_weight (arrow a offset size) w = w.other
-place_weight (member_of_value a offset size) w = w.other
+place_weight (index form size a b) w = w.offset
+place_weight (member p offset size) w = w.member
+place_weight (arrow a offset size) w = w.narrow
+place_weight (member_of_value a offset size) w = w.member
 place_weight (parenthesized_lvalue p) w = 0
 
 abbrev pub weight_made : Weights → Visited → List ℕ → ℕ
-weight_made w (visited kind node) ns = own_weight node w + sum_of ns
+weight_made w (visited kind node) ns = own_weight kind node w + sum_of ns
 weight_made w (visited_lvalue kind node) ns = place_weight node w + sum_of ns
 
 abbrev pub expression_weight : Expression → Weights → ℕ

@@ -26,7 +26,8 @@ pub record BodyCode (vs : List Variable) (ss : Statements) (result : Kind) (text
   pub texts_stay : Stays texts emitter.texts.items
   pub literals_same : emitter.literals.items ≡ literals
   pub homes : Fits (each_height ss) emitter
-  pub weight : (w : Weights) → code_weight emitter.code.items w ≤ body_weight vs ss w
+  pub weight : (w : Weights) (later : List (List ℕ)) → Stays emitter.texts.items later
+      → code_weight later emitter.code.items w ≡ body_weight vs result ss w
   pub stands : (c : Placed) → c.variables ≡ vs → Fills emitter c → LowersBody c result entry ss
 
 -- a function has the parts of a body
@@ -52,7 +53,7 @@ pub record IsFunction (texts : List (List ℕ)) (literals : List Bool) (result :
     (c : CodeFunction) : Type 0 where
   pub header : header_of_code c ≡ header_of function
   pub homes : (n : ℕ) (i : Instruction) → slice_get c.code n ≡ Some i → temporaries i ≤ each_height function.body
-  pub weight : (w : Weights) → code_weight c.code w ≤ function_weight function w
+  pub weight : (w : Weights) → code_weight texts c.code w ≡ function_weight result function w
   pub body : LowersBody (placed_in texts literals function c) result c.entry function.body
 
 -- whatever texts come later

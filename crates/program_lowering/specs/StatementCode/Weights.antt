@@ -1,5 +1,5 @@
--- What the instructions of statements weigh at most, in a function with these variables.
-use Rattle.std.specs.Prelude.{ℕ, ◌+◌, ◌*◌, List, [], ◌∷◌, Some, None}
+-- What the instructions of statements weigh, in a function with these variables.
+use Rattle.std.specs.Prelude.{ℕ, ◌+◌, List, [], ◌∷◌, Some, None}
 use Rattle.c_tree.specs.declared.program.Variable.{Variable}
 use Rattle.c_tree.specs.declared.statement.CaseLabel.{CaseLabel}
 use Rattle.c_tree.specs.declared.statement.CaseLabel.TheVariants.{Case, Default}
@@ -10,7 +10,7 @@ use Rattle.c_tree.specs.Statements.{while_do, do_while, for, switch, break, cont
 use Rattle.c_tree.specs.Statements.{statements, SwitchItems, no_items, items}
 use Rattle.program_lowering.specs.ExpressionCode.Weights.{Weights, expression_weight, taking_weight}
 use Rattle.program_lowering.specs.StatementParts.Weights.{declared_weight, first_weight, condition_weight, part_weight}
-use Rattle.program_lowering.specs.StatementParts.Weights.{objects_weight}
+use Rattle.program_lowering.specs.StatementParts.Weights.{block_weight}
 
 -- each label but `default` is tested
 abbrev pub label_weight : CaseLabel → Weights → ℕ
@@ -31,18 +31,18 @@ abbrev mutual
   statement_weight vs (expression_statement e) w = expression_weight e w
   statement_weight vs empty w = 0
   statement_weight vs (declaration ds) w = declared_weight ds w
-  statement_weight vs (block line body) w = 5 * objects_weight vs (block_variables body) w + each_weight vs body w
+  statement_weight vs (block line body) w = block_weight vs (block_variables body) w + each_weight vs body w
   statement_weight vs (if_then e s) w = expression_weight e w + w.branch + statement_weight vs s w
   statement_weight vs (if_else e s other) w =
       expression_weight e w + w.branch + (statement_weight vs s w + statement_weight vs other w)
   statement_weight vs (while_do e s) w = expression_weight e w + (w.branch + w.turn) + statement_weight vs s w
   statement_weight vs (do_while s e) w = expression_weight e w + (w.branch + w.turn) + statement_weight vs s w
   statement_weight vs (for line first condition step s) w =
-      5 * objects_weight vs (first_variables first) w
+      block_weight vs (first_variables first) w
       + (w.turn + (first_weight first w + (condition_weight condition w + part_weight step w)))
       + statement_weight vs s w
   statement_weight vs (switch e line is) w =
-      expression_weight e w + 5 * objects_weight vs (switch_variables is) w + items_weight vs is w
+      expression_weight e w + block_weight vs (switch_variables is) w + items_weight vs is w
   statement_weight vs break w = 0
   statement_weight vs continue w = 0
   statement_weight vs (return None) w = w.constant

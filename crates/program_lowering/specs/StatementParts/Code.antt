@@ -16,8 +16,8 @@ use Rattle.program_lowering.specs.declared.parts.exits.Exits.{Exits}
 use Rattle.program_lowering.specs.declared.parts.exits.BlockExits.{BlockExits}
 use Rattle.program_lowering.specs.StatementParts.Leaving.{exits_of}
 use Rattle.program_lowering.specs.StatementParts.Weights.{content_weight, parts_weight, initializer_weight}
-use Rattle.program_lowering.specs.StatementParts.Weights.{declared_weight, block_weight}
-use Rattle.program_lowering.specs.StatementParts.Weights.{first_weight, condition_weight, part_weight, objects_weight}
+use Rattle.program_lowering.specs.StatementParts.Weights.{declared_weight, entry_weight, entered_weight}
+use Rattle.program_lowering.specs.StatementParts.Weights.{first_weight, condition_weight, part_weight, left_weight}
 
 -- how many temporaries what is evaluated needs, at least one
 abbrev pub most : List Content → ℕ
@@ -64,19 +64,19 @@ pub record BlockAdded (before after : Emitter) (numbers : List ℕ) (number : �
 
 -- a block is entered
 pub record EntryCode (before after : Emitter) (block : Option ℕ) (line n0 n1 : ℕ) : Type 0 where
-  pub emits : Emits before after 0 (block_weight block)
+  pub emits : Emits before after 0 (entry_weight block)
   pub stands : (c : Placed) → Fills after c → LowersEntry c block line n0 n1
 
 -- the ways out of a block with that number
 pub record WaysOut (before after : Emitter) (block : ℕ) (outer inner : Exits) : Type 0 where
-  pub emits : Emits before after 0 (λ w. 4 * w.other)
+  pub emits : Emits before after 0 (λ w. 4 * w.leave_block)
   pub stands : (c : Placed) → Fills after c → LowersLeaving c (Some block) (exits_of inner) (exits_of outer)
 
 -- a block of a function with these variables gets its number, and is left
 pub record LeavingCode (vs : List Variable) (before after : Emitter) (numbers : List ℕ) (outer : Exits)
     (inner : BlockExits) : Type 0 where
-  pub emits : Emits before after 0 (λ w. 4 * objects_weight vs numbers w)
+  pub emits : Emits before after 0 (left_weight vs numbers)
   pub numbered : (c : Placed) → c.variables ≡ vs → Fills after c
       → HasNumber c (has_objects_of c numbers) numbers inner.block
   pub stands : (c : Placed) → Fills after c → LowersLeaving c inner.block (exits_of inner.exits) (exits_of outer)
-  pub weighs : (w : Weights) → block_weight inner.block w ≡ objects_weight vs numbers w
+  pub weighs : (w : Weights) → entry_weight inner.block w ≡ entered_weight vs numbers w

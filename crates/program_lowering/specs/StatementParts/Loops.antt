@@ -1,5 +1,5 @@
 -- Loops whose turns are filled once their bodies stand.
-use Rattle.std.specs.Prelude.{◌≡◌, ◌≤◌, ℕ, ◌+◌, ◌*◌, max, List, length, Option, Some, slice_set}
+use Rattle.std.specs.Prelude.{◌≡◌, ◌≤◌, ℕ, ◌+◌, max, List, length, Option, Some, slice_set}
 use Rattle.c_tree.specs.declared.program.Variable.{Variable}
 use Rattle.c_tree.specs.Tree.{Expression}
 use Rattle.c_tree.specs.Statements.{First}
@@ -13,12 +13,12 @@ use Rattle.c_lower.specs.Statements.{LowersCondition, LowersPart, LowersFirst, H
 use Rattle.c_lower.specs.Statements.{CountedIs, has_objects_of}
 use Rattle.program_lowering.specs.declared.expressions.emitter.Emitter.{Emitter}
 use Rattle.program_lowering.specs.ExpressionCode.Weights.{Weights, code_weight, no_weight, expression_weight}
-use Rattle.program_lowering.specs.ExpressionCode.Emitted.{Has, Keeps, Fills, Fits, Emits}
+use Rattle.program_lowering.specs.ExpressionCode.Emitted.{Has, Stays, Keeps, Fills, Fits, Emits}
 use Rattle.program_lowering.specs.declared.parts.exits.Exits.{Exits}
 use Rattle.program_lowering.specs.declared.parts.loops.ForHead.{ForHead}
 use Rattle.program_lowering.specs.StatementParts.Leaving.{exits_of}
-use Rattle.program_lowering.specs.StatementParts.Weights.{first_weight, condition_weight, part_weight, objects_weight}
-use Rattle.program_lowering.specs.StatementParts.Weights.{block_weight}
+use Rattle.program_lowering.specs.StatementParts.Weights.{first_weight, condition_weight, part_weight, left_weight}
+use Rattle.program_lowering.specs.StatementParts.Weights.{entry_weight, entered_weight}
 use Rattle.program_lowering.specs.StatementParts.Code.{most}
 
 -- a reserved node is filled
@@ -46,12 +46,12 @@ pub record ForHeadCode (vs : List Variable) (before after : Emitter) (numbers : 
     (head : ForHead)
     (exits : Exits) : Type 0 where
   pub emits : Emits before after (max (most (if_any test)) (most (if_any step)))
-      (λ w. 4 * objects_weight vs numbers w + (w.turn + (condition_weight test w + part_weight step w)))
+      (λ w. left_weight vs numbers w + (w.turn + (condition_weight test w + part_weight step w)))
   pub fresh : length before.code.items ≤ head.turn
   pub waits : Waits after head.turn
   pub numbered : (c : Placed) → c.variables ≡ vs → Fills after c
       → HasNumber c (has_objects_of c numbers) numbers head.inside.block
-  pub weighs : (w : Weights) → block_weight head.inside.block w ≡ objects_weight vs numbers w
+  pub weighs : (w : Weights) → entry_weight head.inside.block w ≡ entered_weight vs numbers w
   pub leaves : (c : Placed) → Fills after c
       → LowersLeaving c head.inside.block (exits_of head.inside.exits) (exits_of exits)
   pub tests : (c : Placed) → Fills after c → LowersCondition c test head.condition head.turn head.inside.exits.next
@@ -64,18 +64,20 @@ pub record LoopAdded (before after : Emitter) (parts : Option CountedParts) (set
     pub emits : Emits before after 0 no_weight
     pub is : (c : Placed) → Fills after c → CountedIs c.loops number parts setting head.condition head.turn head.step
 
--- code that grew, but for a node that was filled
+-- code that grew, but for a node that was filled, by just so much weight
 pub record FillsIn (before after : Emitter) (node most : ℕ) (weight : Weights → ℕ) : Type 0 where
   pub fills : (c : Placed) → Fills after c → Fills before c
   pub keeps : (e : Emitter) → Keeps e before → length e.code.items ≤ node → Keeps e after
   pub fits : (limit : ℕ) → most ≤ limit → Fits limit before → Fits limit after
-  pub grown : (w : Weights) → code_weight after.code.items w ≤ code_weight before.code.items w + weight w
+  pub texts_stay : Stays before.texts.items after.texts.items
+  pub grown : (w : Weights) (texts : List (List ℕ)) → Stays after.texts.items texts
+      → code_weight texts after.code.items w ≡ code_weight texts before.code.items w + weight w
 
 -- the rest of a `for`, behind its body
 pub record ForTailCode (before after : Emitter) (line : ℕ) (first : First) (parts : Option CountedParts)
     (head : ForHead) (body n0 : ℕ) : Type 0 where
   pub grows : FillsIn before after head.turn (most (first_contents first))
-      (λ w. block_weight head.inside.block w + first_weight first w)
+      (λ w. entry_weight head.inside.block w + first_weight first w)
   pub setting : ℕ
   pub counted : Option ℕ
   pub enters : (c : Placed) → Fills after c → LowersEntry c head.inside.block line n0 setting

@@ -68,7 +68,10 @@ pub fn enter(
     ensures { IfOk result (λ n. EntryCode code.old code.new block line n next) }
 {
     match block {
-        Some(block) => code.add(Instruction::EnterBlock { block, line, next }),
+        Some(block) => {
+            let entry = code.add(Instruction::EnterBlock { block, line, next })?;
+            Ok(entry)
+        }
         None => Ok(next),
     }
 }

@@ -9,7 +9,8 @@ ghost use Rattle.c_lower.specs.Programs.{IsLowered, literals_of};
 ghost use Rattle.source_meaning.specs.Meaning.{statics_end};
 ghost use Rattle.static_data.specs.Data.{first_fault, program_pointers, OnNotConstant};
 ghost use Rattle.program_lowering.specs.ProgramCode.Whole.{is_ready, AreFunctions, Holding, results_of, Assembles};
-ghost use Rattle.program_lowering.specs.ProgramCode.Weights.{IsWeighed};
+ghost use Rattle.program_lowering.specs.ProgramCode.Weights.{IsWeighed, program_weight, instruction_count, each_one};
+ghost use Rattle.program_lowering.specs.ProgramCode.Checks.{AwaitsChecks};
 
 use crate::programs::function::lower_function;
 use c_const::contents::InitialFault;
@@ -132,7 +133,8 @@ fn assembled(
     }
 }
 
-/// Lowers a valid program that has at most 4096 functions, where its static objects take at most 4 MiB. An error comes
+/// Lowers a valid program that has at most 4096 functions, where its static objects take at most 4 MiB. The text of the
+/// program says which instructions its code has, how many they are, and how many checks are to come. An error comes
 /// where there is no memory for its code, or with the line of the first expression in an initializer of a static object
 /// that is not constant.
 pub fn lower(alloc: Global, program: &Program) -> Result<Tac, InitialFault>
@@ -141,6 +143,9 @@ pub fn lower(alloc: Global, program: &Program) -> Result<Tac, InitialFault>
     requires few { length (program_of program.now).functions ≤ 4096 }
     ensures code { IfOk result (λ t. IsLowered (program_of program.now) t) }
     ensures weighed { IfOk result (λ t. IsWeighed (program_of program.now) t) }
+    ensures count { IfOk result
+        (λ t. instruction_count t.functions ≡ program_weight (program_of program.now) each_one) }
+    ensures checks { IfOk result (λ t. AwaitsChecks (program_of program.now) t) }
     ensures fault { OnNotConstant result
         (λ line. first_fault (program_pointers (program_of program.now)) (program_of program.now).statics ≡ Some line) }
 {

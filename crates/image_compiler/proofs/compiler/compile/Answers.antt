@@ -4,7 +4,7 @@ use Rattle.addr_map.specs.Places.{MapSizes, AreMapped}
 use Rattle.c_tree.specs.View.{program_of}
 use Rattle.image_laws.specs.Images.Images.{sizes_of}
 use Rattle.image_compiler.proofs.Compiled.{sizes_are, expandable, built_result, refused_result, does_result}
-use Rattle.image_compiler.proofs.Compiled.{nodes_result}
+use Rattle.image_compiler.proofs.Compiled.{checks_result, nodes_result}
 use Rattle.image_compiler.proofs.compiler.compile.Goals as goal
 
 pub built_of-requires-clause-expandable : goal.built_of-requires-clause-expandable
@@ -16,6 +16,7 @@ built_of-requires-clause-expandable c =
     let same = sizes_are p budgets m c.requires.integers c.map_of-map.ensures in
     let mapped = subst AreMapped same c.sizes_are_in_range.ensures in
     expandable p budgets t m same c.in_ok-lowered.ensures.code
+    c.in_ok-lowered.ensures.weighed
     (λ r inserted small. c.expansions_are_plannable.ensures p t r m c.requires.valid c.requires.integers
     c.in_ok-lowered.ensures.code inserted small)
     (c.expansions_are_encodable.ensures p budgets c.requires.valid c.requires.integers c.requires.parameters mapped)
@@ -24,9 +25,14 @@ pub returns-clause-built : goal.returns-clause-built
 returns-clause-built c =
     let p = program_of c.args.program.now in
     built_result p c.in_ok-lowered.lowered c.map_of-map.result (sizes_of p c.args.budgets.now) c.built_of.result
-    c.in_ok-lowered.ensures.code
+    c.in_ok-lowered.ensures.code c.in_ok-lowered.ensures.weighed
     (sizes_are p c.args.budgets.now c.map_of-map.result c.requires.integers c.map_of-map.ensures)
     c.built_of.ensures.built
+
+pub returns-clause-checks : goal.returns-clause-checks
+returns-clause-checks c =
+    checks_result (program_of c.args.program.now) c.in_ok-lowered.lowered c.built_of.result
+    c.in_ok-lowered.ensures.checks c.built_of.ensures.checks
 
 pub returns-clause-does : goal.returns-clause-does
 returns-clause-does c =
@@ -38,13 +44,13 @@ returns-clause-does c =
     does_result p budgets c.built_of.result
     (c.images_do_what_is_meant.ensures p budgets c.requires.valid c.requires.integers c.requires.parameters range)
     (built_result p c.in_ok-lowered.lowered c.map_of-map.result (sizes_of p budgets) c.built_of.result
-    c.in_ok-lowered.ensures.code same c.built_of.ensures.built)
+    c.in_ok-lowered.ensures.code c.in_ok-lowered.ensures.weighed same c.built_of.ensures.built)
 
 pub returns-clause-refused : goal.returns-clause-refused
 returns-clause-refused c =
     let p = program_of c.args.program.now in
     refused_result p c.in_ok-lowered.lowered c.map_of-map.result (sizes_of p c.args.budgets.now) c.built_of.result
-    c.in_ok-lowered.ensures.code
+    c.in_ok-lowered.ensures.code c.in_ok-lowered.ensures.weighed
     (sizes_are p c.args.budgets.now c.map_of-map.result c.requires.integers c.map_of-map.ensures)
     c.built_of.ensures.refused
 

@@ -6,6 +6,7 @@ use Rattle.source_meaning.specs.Meaning.{statics_end}
 use Rattle.program_lowering.specs.ProgramCode.Whole.{AreFunctions, is_ready, results_of}
 use Rattle.program_lowering.proofs.ProgramCode.InTurn.{program_from, weighed_from}
 use Rattle.program_lowering.proofs.ProgramCode.Ready.{all_ready}
+use Rattle.program_lowering.proofs.ProgramCode.Checks.{counted_by, awaits}
 use Rattle.program_lowering.proofs.programs.program.lower.Goals as goal
 
 pub lower_functions-requires : goal.lower_functions-requires
@@ -29,8 +30,11 @@ returns c =
     let bytes = c.global_bytes-bytes.ensures
     ∙ ap (λ os. statics_end (map static_of os) 0) c.as_slice-objects.ensures in
     let results = c.in-Ok.ensures ∙ ap (λ ts. results_of (map function_type_of ts)) c.as_slice-types.ensures in
+    let weighs = weighed_from p c.assembled.ensures results all in
     record {
       code = program_from p c.assembled.ensures refl bytes c.in_ok-statics.ensures.data results all;
-      weighed = weighed_from p c.assembled.ensures all;
+      weighed = weighs;
+      count = counted_by p c.assembled.result weighs;
+      checks = awaits p c.assembled.result weighs;
       fault = tt;
     }

@@ -1,7 +1,6 @@
 -- How many instructions the code of a program has, and how many checks are to come.
-use Rattle.std.proofs.Common.{◌≡◌, ℕ, ◌+◌, ◌*◌, Bool, true, false, List, [], ◌∷◌, ◌++◌, length, map, Option, Some, None}
+use Rattle.std.proofs.Common.{◌≡◌, ℕ, ◌+◌, Bool, true, false, List, [], ◌∷◌, ◌++◌, length, map, Option, Some, None}
 use Rattle.std.proofs.Common.{refl, sym, ap, ◌∙◌, arith}
-use Rattle.std.specs.Prelude.{get_or}
 use Rattle.source_meaning.specs.Blocks.{has_objects}
 use Rattle.source_meaning.specs.Expressions.{is_judged}
 use Rattle.c_tree.specs.declared.expression.Kind.{Kind}
@@ -15,7 +14,7 @@ use Rattle.c_tree.specs.Tree.{address_function, cast, convert, unary, binary, of
 use Rattle.c_tree.specs.Tree.{logical_or, comma, conditional, assign, assign_plain, compound, change_plain, step}
 use Rattle.c_tree.specs.Tree.{step_plain, call, call_through, library, printf, LvalueNode, automatic, static, deref}
 use Rattle.c_tree.specs.Tree.{index, member, arrow, member_of_value, parenthesized_lvalue, kind_of, lvalue_kind}
-use Rattle.c_tree.specs.Walk.{Visited, visited, visited_lvalue, walk, walk_lvalue, walk_operands, walk_lvalue_operands}
+use Rattle.c_tree.specs.Walk.{visited, visited_lvalue, walk, walk_lvalue, walk_operands, walk_lvalue_operands}
 use Rattle.c_tree.specs.Walk.{walk_each, sum_of}
 use Rattle.c_tree.specs.Blocks.{all_of, block_objects, block_variables, switch_variables, first_variables}
 use Rattle.c_tree.specs.Blocks.{if_any, initializer_contents, declared_contents, first_contents, contents_of}
@@ -31,17 +30,17 @@ use Rattle.tac_ir.specs.declared.instruction.Instruction.TheVariants as tac
 use Rattle.tac_ir.specs.declared.function.CodeFunction.{CodeFunction}
 use Rattle.tac_ir.specs.declared.function.Tac.{Tac}
 use Rattle.c_lower.specs.Values.{mode_for}
-use Rattle.check_insert.specs.Counting.{checks, checks_to_insert, checks_for, checks_for_kind, checks_needed, is_check}
+use Rattle.check_insert.specs.Counting.{checks_for, checks_for_kind, checks_needed, is_check}
 use Rattle.check_insert.specs.Counting.{sum_over, sum_of_functions}
 use Rattle.program_lowering.specs.ExpressionCode.Weights.{Weights, weight_of, code_weight, taking_weight}
-use Rattle.program_lowering.specs.ExpressionCode.Weights.{takings_weight, weight_made, expression_weight}
+use Rattle.program_lowering.specs.ExpressionCode.Weights.{takings_weight, weight_made}
 use Rattle.program_lowering.specs.StatementParts.Weights.{content_weight, parts_weight, initializer_weight}
 use Rattle.program_lowering.specs.StatementParts.Weights.{declared_weight, first_weight, condition_weight, part_weight}
 use Rattle.program_lowering.specs.StatementParts.Weights.{weight_where, block_weight}
 use Rattle.program_lowering.specs.StatementCode.Weights.{labels_weight, statement_weight, each_weight, items_weight}
 use Rattle.program_lowering.specs.ProgramCode.Weights.{functions_weight, codes_weight, IsWeighed, program_weight}
 use Rattle.program_lowering.specs.ProgramCode.Weights.{instruction_count, each_one}
-use Rattle.program_lowering.specs.ProgramCode.Checks.{scalar_checks, access_checks, checks_made, expression_checks}
+use Rattle.program_lowering.specs.ProgramCode.Checks.{scalar_checks, access_checks, checks_made}
 use Rattle.program_lowering.specs.ProgramCode.Checks.{content_checks, contents_checks, functions_checks}
 use Rattle.program_lowering.specs.ProgramCode.Checks.{checks_of, AwaitsChecks}
 

@@ -1,5 +1,5 @@
 -- Blocks and branches from their parts.
-use Rattle.std.proofs.Common.{◌≡◌, ℕ, ◌+◌, ◌-◌, ◌*◌, ◌≤◌, List, length, map, drop, Some, refl, ap, subst, arith}
+use Rattle.std.proofs.Common.{◌≡◌, ℕ, ◌+◌, ◌-◌, ◌≤◌, List, length, map, drop, Some, refl, ap, subst, arith}
 use Rattle.std.specs.Prelude.{get_or, max}
 use Rattle.c_tree.specs.declared.program.Variable.{Variable}
 use Rattle.c_tree.specs.declared.statement.Statement.{Statement as CodeStatement}

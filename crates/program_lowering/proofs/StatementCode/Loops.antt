@@ -16,7 +16,6 @@ use Rattle.program_lowering.specs.ExpressionCode.Weights.{Weights, weight_of}
 use Rattle.program_lowering.specs.ExpressionCode.Emitted.{Has, Stays, Emits}
 use Rattle.program_lowering.proofs.ExpressionCode.Growing.{fills_before, keeps_on}
 use Rattle.program_lowering.specs.declared.parts.exits.Exits.{Exits}
-use Rattle.program_lowering.specs.declared.parts.exits.BlockExits.{BlockExits}
 use Rattle.program_lowering.specs.declared.parts.loops.ForHead.{ForHead}
 use Rattle.program_lowering.specs.StatementParts.Leaving.{exits_of}
 use Rattle.program_lowering.specs.StatementParts.Code.{most}

@@ -6,17 +6,14 @@ use Rattle.c_tree.specs.Blocks.{block_objects}
 use Rattle.source_meaning.specs.Blocks.{has_objects}
 use Rattle.tac_ir.specs.declared.instruction.Instruction.TheVariants as tac
 use Rattle.c_lower.specs.Placed.{Placed}
-use Rattle.c_lower.specs.Statements.{HasNumber, LowersLeaving, has_objects_of}
+use Rattle.c_lower.specs.Statements.{HasNumber, has_objects_of}
 use Rattle.program_lowering.specs.declared.expressions.emitter.Emitter.{Emitter}
-use Rattle.program_lowering.specs.ExpressionCode.Weights.{Weights}
 use Rattle.program_lowering.specs.ExpressionCode.Emitted.{Added}
 use Rattle.program_lowering.proofs.ExpressionCode.Growing.{emits_none, emits_then, added_emits, added_holds}
 use Rattle.program_lowering.proofs.ExpressionCode.Growing.{fills_before}
 use Rattle.program_lowering.proofs.ExpressionCode.Growing.{same_emits, stays_by, one_more, has_last}
 use Rattle.program_lowering.specs.declared.parts.exits.Exits.{Exits}
-use Rattle.program_lowering.specs.declared.parts.exits.BlockExits.{BlockExits}
 use Rattle.program_lowering.specs.StatementParts.Code.{BlockAdded, EntryCode, WaysOut, LeavingCode}
-use Rattle.program_lowering.specs.StatementParts.Leaving.{exits_of}
 use Rattle.program_lowering.specs.StatementParts.Weights.{weight_where, left_weight}
 
 pub block_added : (a b : Emitter) (numbers : List ℕ) (n : ℕ) → b.code.items ≡ a.code.items → b.keys.items ≡ a.keys.items

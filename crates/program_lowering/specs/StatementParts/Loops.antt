@@ -1,5 +1,5 @@
 -- Loops whose turns are filled once their bodies stand.
-use Rattle.std.specs.Prelude.{◌≡◌, ◌≤◌, ℕ, ◌+◌, ◌*◌, max, List, length, Option, Some, slice_set}
+use Rattle.std.specs.Prelude.{◌≡◌, ◌≤◌, ℕ, ◌+◌, max, List, length, Option, Some, slice_set}
 use Rattle.c_tree.specs.declared.program.Variable.{Variable}
 use Rattle.c_tree.specs.Tree.{Expression}
 use Rattle.c_tree.specs.Statements.{First}

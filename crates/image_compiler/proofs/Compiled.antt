@@ -43,7 +43,7 @@ lowered_count p t low =
 
 pub checked_count : (t r : Tac) → Inserted t r → length r.functions ≡ length t.functions
 checked_count t r ins =
-    sym (length-map r.functions header_of_code) ∙ ap length ins.headers ∙ length-map t.functions header_of_code
+    sym (length-map r.functions header_of_code) ∙ ap length ins.tables.headers ∙ length-map t.functions header_of_code
 
 -- the map of a program without static objects
 pub sizes_are : (p : Program) (budgets : BudgetSizes) (m : MapSizes) → is_integer_program p ≡ true

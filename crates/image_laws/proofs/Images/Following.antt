@@ -30,7 +30,7 @@ pub sizes_same : (p : Program) (r : Tac) → IsChecked p r → (budgets : Budget
     → (setting_of_code r budgets).sizes ≡ sizes_of p budgets
 sizes_same p r checked budgets =
     ap {B = MapSizes} (λ n. record { budgets = budgets; global_bytes = n })
-    (checked.inserted.bytes ∙ checked.is_lowered.bytes)
+    (checked.inserted.tables.bytes ∙ checked.is_lowered.bytes)
 
 -- what comes of code of integers that follows a source
 module _ (r : Tac) (budgets : BudgetSizes) (mapped : AreMapped (setting_of_code r budgets).sizes)

@@ -16,6 +16,8 @@ use Rattle.tac_ir.specs.declared.function.CodeFunction.{CodeFunction}
 use Rattle.tac_ir.specs.declared.function.Tac.{Tac}
 use Rattle.tac_ir.specs.Edges.{successors}
 use Rattle.tac_ir.specs.Meaning.{header_of_code, function_in, line_in}
+use Rattle.check_insert.specs.SameButChecks.{SameButChecks}
+use Rattle.check_insert.proofs.SameButChecks.{inserted_is_same}
 use Rattle.flat_meaning.specs.declared.instruction.FlatInstruction.{FlatInstruction}
 use Rattle.flat_meaning.specs.declared.instruction.FlatInstruction.TheVariants as flat
 use Rattle.flat_meaning.specs.declared.function.FlatFunction.{FlatFunction}
@@ -47,8 +49,11 @@ some_room p n k f = omega arith
 module _ (p : Program) (r : Tac) (valid : is_valid_program p ≡ true) (ints : is_integer_program p ≡ true)
     (few : HaveFewParameters p) (checked : IsChecked p r) (u : ℕ) (c : CodeFunction)
     (at : slice_get r.functions u ≡ Some c) where
+  same : SameButChecks checked.lowered r
+  same = inserted_is_same checked.lowered r checked.inserted
+
   abbrev source : (f : Function) × (function_at p.functions u ≡ Some f) × (header_of_code c ≡ header_of f)
-  source = function_is p checked.lowered r valid ints checked.is_lowered checked.inserted u c at
+  source = function_is p checked.lowered r valid ints checked.is_lowered same u c at
 
   abbrev f : Function
   f = source.0
@@ -56,17 +61,17 @@ module _ (p : Program) (r : Tac) (valid : is_valid_program p ≡ true) (ints : i
   pub has_room : 8 ≤ c.room
   has_room =
       let is =
-      (valid_function p checked.lowered r valid ints checked.is_lowered checked.inserted u f source.1).room_is in
-      let same = ap (λ (h : Header). h.room) source.2 in
+      (valid_function p checked.lowered r valid ints checked.is_lowered same u f source.1).room_is in
+      let rooms = ap (λ (h : Header). h.room) source.2 in
       let some = some_room p u (signature_at p f.type_number).result f in
-      omega (arith, same, is, some)
+      omega (arith, rooms, is, some)
 
   pub has_few : words_in c.parameters ≤ 1024
   has_few =
-      let same = ap (λ (h : Header). length h.parameters) source.2 in
+      let parameters = ap (λ (h : Header). length h.parameters) source.2 in
       let count = few.each u f source.1 in
       let words = words_most c.parameters in
-      omega (arith, same, count, words)
+      omega (arith, parameters, count, words)
 
 -- ---- the functions of an expansion
 

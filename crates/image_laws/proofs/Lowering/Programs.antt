@@ -1,4 +1,4 @@
--- What is lowered of a program of integers, and has its checks put in, is code of integers.
+-- What is lowered of a program of integers is code of integers, whatever checks are put in.
 use Rattle.std.proofs.Common.{◌≡◌, ◌⊎◌, inl, inr, ⊎_elim, ℕ, zero, suc, ◌+◌, ◌<◌, Bool, true, false, not, ◌&&◌}
 use Rattle.std.proofs.Common.{if◌then◌else◌}
 use Rattle.std.proofs.Common.{◌==◌, List, [], ◌∷◌, ◌++◌, map, length, drop, get_or, Option, Some, None, refl, sym, ap}
@@ -35,12 +35,13 @@ use Rattle.tac_ir.specs.declared.instruction.Instruction.TheVariants as tac
 use Rattle.tac_ir.specs.declared.function.CodeFunction.{CodeFunction}
 use Rattle.tac_ir.specs.declared.function.Tac.{Tac}
 use Rattle.tac_ir.specs.Edges.{LeadsTo}
+use Rattle.tac_ir.proofs.SameTables.{function_same}
 use Rattle.tac_ir.specs.declared.function.StaticData.{StaticData}
 use Rattle.tac_ir.specs.Meaning.{function_in, header_of_code, placed_data, setting_of_code}
 use Rattle.c_lower.specs.Placed.{Placed, Holds}
 use Rattle.c_lower.specs.Programs.{IsLowered, LowersAt, LowersFunction, literals_of, placed_in, function_exits}
 use Rattle.c_lower.specs.Programs.{result_in, height_in}
-use Rattle.check_insert.specs.Inserted.{Inserted, InsertedAt, FunctionIn, StandsFor, Has}
+use Rattle.check_insert.specs.SameButChecks.{HasNoChecks, SameButChecksIn, SameButChecksAt, SameButChecks}
 use Rattle.compiled_programs.specs.Programs as p
 use Rattle.metadata_plan.specs.Registers.{all_variables}
 use Rattle.metadata_plan.specs.Part.{SafeWithin, is_integer_instruction, are_integers, have_no_objects}
@@ -168,53 +169,22 @@ halves (v ∷ vs) ws e =
 
 -- ---- code with checks
 
--- an instruction of integers stands as it is
-pub stands : (t : Tac) (k : ℕ) (code : List Instruction) (n : ℕ) (i : Instruction)
-    → is_integer_instruction t k i ≡ true → StandsFor code n i → Has code n i
-stands t k code n (tac.Read kind mode line key d a m) e s = never e
-stands t k code n (tac.Write kind mode line key d a b m) e s = never e
-stands t k code n (tac.Update u s1 f mode line at key d a right m) e s = never e
-stands t k code n tac.Reserved e s = never e
-stands t k code n (tac.Constant d w m) e s = s
-stands t k code n (tac.FunctionPointer d f m) e s = never e
-stands t k code n (tac.GetPlain d x m) e s = s
-stands t k code n (tac.SetPlain x a m) e s = s
-stands t k code n (tac.UpdatePlain w q f line d x right m) e s = s
-stands t k code n (tac.HomePointer d x m) e s = never e
-stands t k code n (tac.StaticPointer d x m) e s = never e
-stands t k code n (tac.ZeroOf kind d m) e s = s
-stands t k code n (tac.Convert kind d a m) e s = s
-stands t k code n (tac.Unary op ty d a m) e s = s
-stands t k code n (tac.Binary op ty line d a b m) e s = s
-stands t k code n (tac.Offset form size d a b m) e s = never e
-stands t k code n (tac.Difference size d a b m) e s = never e
-stands t k code n (tac.Narrow offset size d a m) e s = never e
-stands t k code n (tac.Member offset size d a m) e s = never e
-stands t k code n (tac.Take kind line d a m) e s = never e
-stands t k code n (tac.Judge test size line key a m) e s = never e
-stands t k code n (tac.Zero x m) e s = never e
-stands t k code n (tac.StorePart kind line x offset a m) e s = never e
-stands t k code n (tac.StoreText x y offset m) e s = never e
-stands t k code n (tac.Branch a x y) e s = s
-stands t k code n (tac.Case a w x y) e s = s
-stands t k code n (tac.Turn counted m) e s = s
-stands t k code n (tac.Library r line d x m) e s = s
-stands t k code n (tac.Print x line d y m) e s = never e
-stands t k code n (tac.Call f line d x m) e s = s
-stands t k code n (tac.CallThrough type_number line d x m) e s = never e
-stands t k code n (tac.EnterBlock b line m) e s = never e
-stands t k code n (tac.LeaveBlock b m) e s = never e
-stands t k code n (tac.Skip m) e s = never e
-stands t k code n (tac.Return a) e s = s
+-- an instruction of integers is no check and gets none
+pub without_checks : (t : Tac) (k : ℕ) (i : Instruction) → is_integer_instruction t k i ≡ true → HasNoChecks i
+without_checks t k (tac.Read kind mode line key d a m) e = never e
+without_checks t k (tac.Write kind mode line key d a b m) e = never e
+without_checks t k (tac.Update u s1 f mode line at key d a right m) e = never e
+without_checks t k (tac.Judge test size line key a m) e = never e
+without_checks t k i e = record { needed = refl; own = refl }
 
-pub safe_inserted : (t : Tac) (variables : ℕ) (c c' : CodeFunction) → FunctionIn c c' → (k n : ℕ)
+pub safe_inserted : (t : Tac) (variables : ℕ) (c c' : CodeFunction) → SameButChecksIn c c' → (k n : ℕ)
     → SafeWithin (is_integer_instruction t variables) c.code k n
     → SafeWithin (is_integer_instruction t variables) c'.code k n
 unfolding SafeWithin
 safe_inserted t variables c c' f zero n s = tt
 safe_inserted t variables c c' f (suc k) n s = (
   s.0,
-  stands t variables c'.code n s.0 s.2 (f.code n s.0 s.1),
+  f.code n s.0 s.1 (without_checks t variables s.0 s.2),
   s.2,
   λ m l. safe_inserted t variables c c' f k m (s.3 m l),
 )
@@ -229,12 +199,12 @@ no_pointer_at (t ∷ ts) zero e = same_without_pointer t.result (both (p.gives_n
     e).0
 no_pointer_at (t ∷ ts) (suc n) e = no_pointer_at ts n (both (p.gives_no_pointer t) (list_all p.gives_no_pointer ts) e).1
 
-inserted_some : (o o' : Option CodeFunction) (c' : CodeFunction) → InsertedAt o o' → o' ≡ Some c'
-    → (c : CodeFunction) × (o ≡ Some c) × FunctionIn c c'
-inserted_some None None c' i e = absurd (none-some c' e)
-inserted_some None (Some x) c' i e = absurd i
-inserted_some (Some c) None c' i e = absurd i
-inserted_some (Some c) (Some x) c' i e = (c, refl, subst (FunctionIn c) (same_Some x c' e) i)
+before_some : (o o' : Option CodeFunction) (c' : CodeFunction) → SameButChecksAt o o' → o' ≡ Some c'
+    → (c : CodeFunction) × (o ≡ Some c) × SameButChecksIn c c'
+before_some None None c' i e = absurd (none-some c' e)
+before_some None (Some x) c' i e = absurd i
+before_some (Some c) None c' i e = absurd i
+before_some (Some c) (Some x) c' i e = (c, refl, subst (SameButChecksIn c) (same_Some x c' e) i)
 
 lowered_at : (texts : List (List ℕ)) (literals : List Bool) (result : Option Function → Kind) (height : Option Function → ℕ)
     (o : Option Function) (o' : Option CodeFunction) (f : Function) (c : CodeFunction)
@@ -251,7 +221,7 @@ at_return t variables c (suc k) n holds =
     stepped (is_integer_instruction t variables) c.code (tac.Return 0) k n holds refl (λ m l. absurd l)
 
 module _ (q : Program) (t r : Tac) (valid : is_valid_program q ≡ true) (ints : p.is_integer_program q ≡ true)
-    (low : IsLowered q t) (ins : Inserted t r) where
+    (low : IsLowered q t) (ins : SameButChecks t r) where
   functions_valid : (are_functions q 0 q.functions ≡ true) × (is_main q ≡ true)
   unfolding is_valid_program
   functions_valid =
@@ -267,7 +237,7 @@ module _ (q : Program) (t r : Tac) (valid : is_valid_program q ≡ true) (ints :
       (list_all p.is_integer_function q.functions) ints
 
   pub headers : map header_of_code r.functions ≡ map header_of q.functions
-  headers = ins.headers ∙ low.headers
+  headers = ins.tables.headers ∙ low.headers
 
   -- what validity says of a function by its number
   pub record IsValidFunction (n : ℕ) (f : Function) : Type 0 where
@@ -343,8 +313,11 @@ module _ (q : Program) (t r : Tac) (valid : is_valid_program q ≡ true) (ints :
         (none_closed f.variables h.1))
 
     -- the function before its checks are put in
-    pub lowered : (c : CodeFunction) × (slice_get t.functions u ≡ Some c) × FunctionIn c c'
-    lowered = inserted_some (slice_get t.functions u) (slice_get r.functions u) c' (ins.functions u) at
+    pub lowered : (c : CodeFunction) × (slice_get t.functions u ≡ Some c) × SameButChecksIn c c'
+    lowered = before_some (slice_get t.functions u) (slice_get r.functions u) c' (ins.functions u) at
+
+    pub entry_same : c'.entry ≡ lowered.0.entry
+    entry_same = (function_same ins.tables u lowered.0 c' lowered.1 at).entry
 
     pub lowers : LowersFunction t.texts (literals_of q.statics) (result_in t.results (Some f)) (height_in q.statics u (Some f)) f lowered.0
     lowers =
@@ -378,7 +351,7 @@ module _ (q : Program) (t r : Tac) (valid : is_valid_program q ≡ true) (ints :
     safe k =
         let n = length (all_of f) in
         subst (λ vs. SafeWithin (is_integer_instruction r (length vs)) c'.code k c'.entry) (sym variables_same)
-        (subst (λ m. SafeWithin (is_integer_instruction r n) c'.code k m) (sym lowered.2.entry)
+        (subst (λ m. SafeWithin (is_integer_instruction r n) c'.code k m) (sym entry_same)
         (safe_inserted r n lowered.0 c' lowered.2 k lowered.0.entry (safe_before k)))
 
   -- ---- the program
@@ -399,7 +372,7 @@ module _ (q : Program) (t r : Tac) (valid : is_valid_program q ≡ true) (ints :
   pub no_statics : has_no_statics r.statics ≡ true
   no_statics =
       let g = setting_of q default_sizes in
-      subst (λ ds. has_no_statics ds ≡ true) (sym ins.statics)
+      subst (λ ds. has_no_statics ds ≡ true) (sym ins.tables.statics)
       (no_data (statics_first g) t.statics
       (low.statics default_sizes ∙ none_initial g (none_in_text q.statics functions_integer.0)))
 
@@ -411,7 +384,7 @@ module _ (q : Program) (t r : Tac) (valid : is_valid_program q ≡ true) (ints :
       let none : length s.parameters ≡ 0 = eqb-true (length s.parameters) 0 (both _ (length s.parameters == 0) h.1).1 in
       let n = length-map q.functions (λ (f : Function). signature_at q f.type_number) in
       let main = takes_at q.main (subst (λ k. nat_lt q.main k ≡ true) (sym n) h.0) in
-      subst (λ u. takes (function_in r u) 0 ≡ true) (sym (ins.main ∙ low.main))
+      subst (λ u. takes (function_in r u) 0 ≡ true) (sym (ins.tables.main ∙ low.main))
       (subst (λ k. takes (function_in r q.main) k ≡ true) none main)
 
   pub integer_code : IsIntegerCode r

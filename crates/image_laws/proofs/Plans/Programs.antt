@@ -21,7 +21,7 @@ use Rattle.flat_meaning.specs.declared.function.FlatFunction.{FlatFunction}
 use Rattle.flat_meaning.specs.Calls.{function_in}
 use Rattle.flat_meaning.specs.Meaning.{parameters_of, results_of}
 use Rattle.c_lower.specs.Programs.{IsLowered}
-use Rattle.check_insert.specs.Inserted.{Inserted, FunctionIn}
+use Rattle.check_insert.specs.SameButChecks.{SameButChecksIn, SameButChecks}
 use Rattle.compiled_programs.specs.Programs.{is_integer_program}
 use Rattle.metadata_plan.specs.Registers.{words_in, all_variables, most_temporaries}
 use Rattle.metadata_plan.specs.Part.{takes, is_integer_instruction, SafeWithin, IsIntegerCode}
@@ -32,7 +32,9 @@ use Rattle.metadata_plan.specs.OperatorLists.Operators.{operators}
 use Rattle.metadata_expansion.specs.Homes.{argument_count, most_arguments, homes}
 use Rattle.metadata_expansion.specs.Numbers.{AreAllSmall}
 use Rattle.reg_plan.specs.Planned.{IsPlannable, ArePlannable}
-use Rattle.image_laws.proofs.Lowering.Programs.{stands, valid_function, function_is, lowered, lowers, safe_before}
+use Rattle.image_laws.proofs.Lowering.Programs.{without_checks, valid_function, function_is, lowered, entry_same}
+use Rattle.image_laws.proofs.Lowering.Programs.{lowers}
+use Rattle.image_laws.proofs.Lowering.Programs.{safe_before}
 use Rattle.image_laws.proofs.Lowering.Programs.{integer_code}
 use Rattle.c_lower.specs.Liveness.Liveness.{reads, writes, LiveWithin, IsLive}
 use Rattle.c_lower.proofs.Liveness.Statements.{none_is_live}
@@ -44,12 +46,12 @@ use Rattle.image_laws.proofs.Plans.Entry.{entry_plannable}
 -- ---- liveness where checks are put in
 
 -- on a path of integers the instructions stay
-live_before : (t : Tac) (variables : ℕ) (c c' : CodeFunction) → FunctionIn c c' → (k n z : ℕ)
+live_before : (t : Tac) (variables : ℕ) (c c' : CodeFunction) → SameButChecksIn c c' → (k n z : ℕ)
     → SafeWithin (is_integer_instruction t variables) c.code k n → LiveWithin c'.code k n z → LiveWithin c.code k n z
 unfolding SafeWithin LiveWithin
 live_before t variables c c' f zero n z s l = absurd l
 live_before t variables c c' f (suc k) n z s l =
-    let here = stands t variables c'.code n s.0 s.2 (f.code n s.0 s.1) in
+    let here = f.code n s.0 s.1 (without_checks t variables s.0 s.2) in
     let same : l.0 ≡ s.0 = same_Some l.0 s.0 (sym l.1 ∙ here) in (
       s.0,
       s.1,
@@ -105,7 +107,7 @@ function_below (c ∷ cs) zero lt = (c, refl)
 function_below (c ∷ cs) (suc k) lt = function_below cs k (omega arith)
 
 module _ (q : Program) (t r : Tac) (valid : is_valid_program q ≡ true) (ints : is_integer_program q ≡ true)
-    (low : IsLowered q t) (ins : Inserted t r) (m : MapSizes) (small : AreAllSmall m r) where
+    (low : IsLowered q t) (ins : SameButChecks t r) (m : MapSizes) (small : AreAllSmall m r) where
   part : IsIntegerCode r
   part = integer_code q t r valid ints low ins
 
@@ -136,10 +138,10 @@ module _ (q : Program) (t r : Tac) (valid : is_valid_program q ≡ true) (ints :
     none_live : (z : ℕ) → IsLive c.code c.entry z → ⊥
     none_live z live =
         let d = (lowered q t r valid ints low ins u c at).0 in
-        let inserted = (lowered q t r valid ints low ins u c at).2 in
-        let within = live_before r _ d c inserted live.steps d.entry z
+        let same = (lowered q t r valid ints low ins u c at).2 in
+        let within = live_before r _ d c same live.steps d.entry z
         (safe_before q t r valid ints low ins u c at live.steps)
-        (subst (λ n. LiveWithin c.code live.steps n z) inserted.entry live.within) in
+        (subst (λ n. LiveWithin c.code live.steps n z) (entry_same q t r valid ints low ins u c at) live.within) in
         none_is_live _ _ _ _ _ d z (lowers q t r valid ints low ins u c at)
         (record { steps = live.steps; within = within })
 
@@ -147,11 +149,11 @@ module _ (q : Program) (t r : Tac) (valid : is_valid_program q ≡ true) (ints :
     has_room =
         let name = function_is q t r valid ints low ins u c at in
         let d = (lowered q t r valid ints low ins u c at).0 in
-        let inserted = (lowered q t r valid ints low ins u c at).2 in
+        let same = (lowered q t r valid ints low ins u c at).2 in
         let height = function_height q.statics u name.0 in
         let temporaries_low : most_temporaries c.code ≤ max 1 height =
         most_bounded c.code (max 1 height) (λ n i e.
-        let h = inserted.homes n i e in
+        let h = same.homes n i e in
         let bound = (lowers q t r valid ints low ins u c at).homes h.node h.other h.has in
         omega (arith, h.most, bound)) in
         let arguments_few = most_arguments_low c.code in

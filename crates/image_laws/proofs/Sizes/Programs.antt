@@ -18,7 +18,7 @@ use Rattle.tac_ir.specs.Meaning.{header_of_code}
 use Rattle.c_lower.specs.Programs.{IsLowered}
 use Rattle.program_lowering.specs.ProgramCode.Weights.{function_weight, functions_weight, program_weight}
 use Rattle.program_lowering.specs.ProgramCode.Weights.{IsWeighed}
-use Rattle.check_insert.specs.Inserted.{Inserted}
+use Rattle.check_insert.specs.SameButChecks.{SameButChecks}
 use Rattle.compiled_programs.specs.Programs.{is_integer_program, is_integer_function, is_integer_variable}
 use Rattle.compiled_programs.specs.Programs.{are_integer_statements}
 use Rattle.metadata_plan.specs.Part.{IsIntegerCode}
@@ -97,13 +97,13 @@ same_frames m t few count integers small (c ∷ cs) (f ∷ fs) e =
 -- ---- the law
 
 pub bytes_of_nodes : (p : Program) (t r : Tac) (m : MapSizes) → valid.is_valid_program p ≡ true
-    → is_integer_program p ≡ true → IsLowered p t → IsWeighed p t → Inserted t r → IsIntegerCode r
+    → is_integer_program p ≡ true → IsLowered p t → IsWeighed p t → SameButChecks t r → IsIntegerCode r
     → m.budgets.calls ≤ 16777216 → length p.functions ≤ 4096 → AreAllSmall m r → (plans : List FunctionPlan)
     → code_bytes m (program_of operators m r homes) plans
     ≤ 4 * most_below (program_of operators m r homes) (length (program_of operators m r homes).functions)
     → code_bytes m (program_of operators m r homes) plans ≤ 1024 * program_nodes p
 bytes_of_nodes p t r m v i low weighed ins integers few functions small plans bytes =
-    let headers = ins.headers ∙ low.headers in
+    let headers = ins.tables.headers ∙ low.headers in
     let as_many = sym (length-map r.functions header_of_code) ∙ ap length headers ∙ length-map p.functions header_of in
     let count : length r.functions ≤ 4096 = omega (arith, as_many, functions) in
     let most = 256 * functions_nodes p.functions in

@@ -7,7 +7,7 @@ ghost use Rattle.c_tree.specs.ValidProgram.{is_valid_program};
 ghost use Rattle.tac_ir.specs.declared.function.Tac.{Tac};
 ghost use Rattle.c_lower.specs.Programs.{IsLowered};
 ghost use Rattle.program_lowering.specs.ProgramCode.Weights.{IsWeighed};
-ghost use Rattle.check_insert.specs.Inserted.{Inserted};
+ghost use Rattle.check_insert.specs.SameButChecks.{SameButChecks};
 ghost use Rattle.compiled_programs.specs.Programs.{is_integer_program};
 ghost use Rattle.metadata_plan.specs.Laid.{program_of};
 ghost use Rattle.metadata_plan.specs.OperatorLists.Operators.{operators};
@@ -24,11 +24,11 @@ use crate::laws::code_sizes::programs_have_few_bytes;
 use crate::laws::lowering::lowered_integers_are_integer_code;
 
 /// The compiled code of a valid program of integers has at most 1024 bytes for each node of its text, whatever accepted
-/// plan it has: what it lowers to weighs just what its text does, the checks are put in, its numbers fit, it
+/// plan it has: what it lowers to weighs just what its text does, it has any checks, its numbers fit, it
 /// has at most 4096 functions, and its budget `calls` is at most 16 MiB.
 pub fn code_has_few_bytes_for_each_node()
     ensures { (p : Program) (t : Tac) (r : Tac) (map : MapSizes) (plans : List FunctionPlan)
-        → is_valid_program p ≡ true → is_integer_program p ≡ true → IsLowered p t → IsWeighed p t → Inserted t r
+        → is_valid_program p ≡ true → is_integer_program p ≡ true → IsLowered p t → IsWeighed p t → SameButChecks t r
         → map.budgets.calls ≤ 16777216 → length p.functions ≤ 4096 → AreAllSmall map r
         → AreAccepted (program_of operators map r homes) plans
         → code_bytes map (program_of operators map r homes) plans ≤ 1024 * program_nodes p }
@@ -40,7 +40,7 @@ pub fn code_has_few_bytes_for_each_node()
 /// So code is too large only of a text of more than 8192 nodes.
 pub fn code_of_few_nodes_is_not_too_large()
     ensures { (p : Program) (t : Tac) (r : Tac) (map : MapSizes) (plans : List FunctionPlan) (bytes : ℕ)
-        → is_valid_program p ≡ true → is_integer_program p ≡ true → IsLowered p t → IsWeighed p t → Inserted t r
+        → is_valid_program p ≡ true → is_integer_program p ≡ true → IsLowered p t → IsWeighed p t → SameButChecks t r
         → map.budgets.calls ≤ 16777216 → length p.functions ≤ 4096 → AreAllSmall map r
         → AreAccepted (program_of operators map r homes) plans
         → IsCause map (program_of operators map r homes) plans (TooLarge bytes) → 8192 < program_nodes p }

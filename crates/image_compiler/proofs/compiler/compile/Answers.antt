@@ -2,6 +2,7 @@ use Rattle.std.proofs.Common.{subst}
 use Rattle.sb_base.specs.Budgets.{AreInRange}
 use Rattle.addr_map.specs.Places.{MapSizes, AreMapped}
 use Rattle.c_tree.specs.View.{program_of}
+use Rattle.check_insert.proofs.SameButChecks.{inserted_is_same}
 use Rattle.image_laws.specs.Images.Images.{sizes_of}
 use Rattle.image_compiler.proofs.Compiled.{sizes_are, expandable, built_result, refused_result, does_result}
 use Rattle.image_compiler.proofs.Compiled.{checks_result, nodes_result}
@@ -18,7 +19,7 @@ built_of-requires-clause-expandable c =
     expandable p budgets t m same c.in_ok-lowered.ensures.code
     c.in_ok-lowered.ensures.weighed
     (λ r inserted small. c.expansions_are_plannable.ensures p t r m c.requires.valid c.requires.integers
-    c.in_ok-lowered.ensures.code inserted small)
+    c.in_ok-lowered.ensures.code (inserted_is_same t r inserted) small)
     (c.expansions_are_encodable.ensures p budgets c.requires.valid c.requires.integers c.requires.parameters mapped)
 
 pub returns-clause-built : goal.returns-clause-built
@@ -61,6 +62,6 @@ returns-clause-nodes c =
     let m = c.map_of-map.result in
     nodes_result p t m c.built_of.result
     (λ r plans bytes inserted small ok cause. c.code_of_few_nodes_is_not_too_large.ensures p t r m plans bytes
-    c.requires.valid c.requires.integers c.in_ok-lowered.ensures.code c.in_ok-lowered.ensures.weighed inserted
-    c.sizes_are_in_range.ensures.budgets.calls.greatest c.requires.few small ok cause)
+    c.requires.valid c.requires.integers c.in_ok-lowered.ensures.code c.in_ok-lowered.ensures.weighed
+    (inserted_is_same t r inserted) c.sizes_are_in_range.ensures.budgets.calls.greatest c.requires.few small ok cause)
     c.built_of.ensures.refused

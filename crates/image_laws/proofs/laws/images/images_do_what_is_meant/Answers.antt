@@ -3,6 +3,7 @@ use Rattle.addr_map.specs.Places.{AreMapped}
 use Rattle.behaviours.specs.Behaviour.{Follows}
 use Rattle.source_meaning.specs.Meaning.{meaning}
 use Rattle.tac_ir.specs.Meaning.{tac_meaning}
+use Rattle.check_insert.proofs.SameButChecks.{inserted_is_same}
 use Rattle.metadata_plan.specs.Laid.{program_of}
 use Rattle.metadata_plan.specs.OperatorLists.Operators.{operators}
 use Rattle.metadata_expansion.specs.Homes.{homes}
@@ -25,7 +26,7 @@ returns c = λ p budgets valid ints few range code flat plans accepted file imag
     (meaning p budgets input) (source input)
     (c.lowered_code_follows_its_program.ensures p t flat.is_checked.is_lowered valid budgets mapped input) in
     let part = c.lowered_integers_are_integer_code.ensures p t r valid ints flat.is_checked.is_lowered
-    flat.is_checked.inserted in
+    (inserted_is_same t r flat.is_checked.inserted) in
     let accepted' = subst (λ k. AreAccepted k plans) flat.expanded accepted in
     let image' = subst (λ k. IsImage m k plans [] [] file) flat.expanded image in
     does_what_is_meant p budgets mapped valid ints few r flat.is_checked flat.small c.operators_compute.ensures part

@@ -58,13 +58,13 @@ HAND = [
 # statements of the worked rows
 
 def bytes_of(term):
-    """The bytes of `[]`, of `(codes "..")`, or of a list in parentheses."""
+    """The bytes of `[]`, of `(codes ".." ++ codes "..")`, or of a list in parentheses."""
     term = term.strip()
     if term == "[]":
         return b""
-    text = re.search(r'codes\s+"(.*)"', term, re.S)
-    if text:
-        return unquoted(text.group(1))
+    texts = re.findall(r'codes\s+"((?:[^"\\]|\\.)*)"', term)
+    if texts:
+        return b"".join(unquoted(text) for text in texts)
     term = term[1:-1] if term.startswith("(") else term
     return bytes(number(x) % 256 for x in term.split("∷")[:-1])
 

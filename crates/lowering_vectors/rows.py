@@ -164,7 +164,7 @@ def bytes_of(term):
         return b""
     texts = re.findall(r'codes\s+"((?:[^"\\]|\\.)*)"', term)
     if texts:
-        return unquoted("".join(texts))
+        return b"".join(unquoted(text) for text in texts)
     term = term[1:-1] if term.startswith("(") else term
     return bytes(number(x) % 256 for x in term.split("∷")[:-1])
 

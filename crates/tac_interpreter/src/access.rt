@@ -310,6 +310,7 @@ impl State {
     pub(crate) fn zero_of(&mut self, kind: Kind) -> Result<Temporary, Stop> {
         match kind {
             Kind::Structure(size) => {
+                self.tally(size);
                 let contents = Object::new(self.alloc, Storage::Automatic, 0, size)?;
                 self.with_contents(contents)
             }

@@ -121,27 +121,78 @@ fn checks_of(mode: Mode) -> u64
     }
 }
 
-// The entries of metadata that it reads or writes.
+// What a value that is read costs beside its access.
 fn entries_of(kind: Kind) -> u64
-    ensures { result ≤ 1 }
+    ensures { result ≤ 2 }
 {
     match kind {
-        Kind::Scalar(Scalar::Pointer) => 1,
-        _ => 0,
+        Kind::Scalar(Scalar::Pointer) => 2,
+        Kind::Void | Kind::Scalar(_) | Kind::Structure(_) | Kind::Array(_) => 0,
+    }
+}
+
+// And one that is written.
+fn stores_of(kind: Kind) -> u64
+    ensures { result ≤ 5 }
+{
+    match kind {
+        Kind::Scalar(Scalar::Pointer) => 3,
+        Kind::Structure(_) => 5,
+        Kind::Void | Kind::Scalar(_) | Kind::Array(_) => 0,
+    }
+}
+
+// The same of a part of an object.
+fn parts_of(kind: Kind) -> u64
+    ensures { result ≤ 5 }
+{
+    match kind {
+        Kind::Scalar(Scalar::Pointer) => 2,
+        Kind::Structure(_) => 5,
+        Kind::Void | Kind::Scalar(_) | Kind::Array(_) => 0,
+    }
+}
+
+// The same of an update.
+fn updates_of(scalar: Scalar) -> u64
+    ensures { result ≤ 6 }
+{
+    match scalar {
+        Scalar::Pointer => 6,
+        Scalar::Integer(_) => 1,
+    }
+}
+
+/// The units of work that the first call costs.
+pub(crate) const FIRST_CALL: u64 = 4;
+
+// The cost of what calls and enters.
+fn cost_of_call(instruction: &Instruction) -> u64 {
+    match *instruction {
+        Instruction::Library { .. } => 12,
+        Instruction::Print { count, .. } => (count as u64).saturating_mul(3).saturating_add(2),
+        Instruction::Call { .. } => 6,
+        Instruction::CallThrough { .. } => 8,
+        Instruction::Return { .. } => 3,
+        Instruction::EnterBlock { .. } => 7,
+        Instruction::LeaveBlock { .. } => 2,
+        _ => 1,
     }
 }
 
 /// The units of work that an instruction costs, beside those of the bytes that it moves.
 pub(crate) fn cost(instruction: &Instruction) -> u64 {
     match *instruction {
-        Instruction::Read { kind, mode, .. } | Instruction::Write { kind, mode, .. } => {
-            1 + entries_of(kind) + checks_of(mode)
-        }
-        Instruction::Update { scalar, mode, .. } => 1
-            + entries_of(Kind::Scalar(scalar))
-            + checks_of(mode),
-        Instruction::StorePart { kind, .. } => 1 + entries_of(kind),
-        Instruction::EnterBlock { .. } => 2,
-        _ => 1,
+        Instruction::UpdatePlain { .. }
+        | Instruction::Offset { .. }
+        | Instruction::Narrow { .. }
+        | Instruction::Member { .. } => 2,
+        Instruction::Read { kind, mode, .. } => 1 + entries_of(kind) + checks_of(mode),
+        Instruction::Write { kind, mode, .. } => 1 + stores_of(kind) + checks_of(mode),
+        Instruction::Update { scalar, mode, .. } => 1 + updates_of(scalar) + checks_of(mode),
+        Instruction::StorePart { kind, .. } => 1 + parts_of(kind),
+        Instruction::Take { .. } => 5,
+        Instruction::Zero { .. } => 3,
+        _ => cost_of_call(instruction),
     }
 }

@@ -1,7 +1,7 @@
 //! Runs of three-address code.
 
 use crate::call::Arguments;
-use crate::kind::{Finder, cost, finder_of, kind_of};
+use crate::kind::{FIRST_CALL, Finder, cost, finder_of, kind_of};
 use crate::state::{Access, Budgets, State, Stop};
 use std::alloc::{AllocError, Global};
 use tac_ir::Tac;
@@ -44,7 +44,7 @@ fn step(
     if let Some(mark) = done.get_mut(kind_of(instruction)) {
         *mark = true;
     }
-    state.tally(cost(instruction));
+    state.spend(cost(instruction));
     state.act(code, function, instruction)
 }
 
@@ -53,6 +53,7 @@ fn begin(state: &mut State, code: &Tac) -> Result<usize, Stop> {
         return Err(Stop::Stuck);
     };
     let arguments = Arguments { first: 0, count: 0 };
+    state.spend(FIRST_CALL);
     state.call(code, code.main, arguments, function.line, None)
 }
 

@@ -266,8 +266,13 @@ impl State {
     }
 
     /// So much work is done.
-    pub(crate) fn tally(&mut self, work: u64) {
+    pub(crate) fn spend(&mut self, work: u64) {
         self.work = self.work.saturating_add(work);
+    }
+
+    /// What an instruction counts beside its cost counts four times.
+    pub(crate) fn tally(&mut self, work: u64) {
+        self.spend(work.saturating_mul(4));
     }
 
     /// One turn more, where one is left.

@@ -5,7 +5,7 @@ use tac_ir::{Base, CodeFunction, CountedLoop, Instruction, Key, Mode, Scaled, Ta
 
 /// What an instruction does through a pointer.
 #[derive(Clone, Copy)]
-enum Through {
+enum JudgedAccess {
     /// No access that is judged.
     Nothing,
     /// An access whose pointer has no key.
@@ -14,22 +14,22 @@ enum Through {
     Keyed(usize),
 }
 
-fn through(mode: Mode, key: Option<usize>) -> Through {
+fn through(mode: Mode, key: Option<usize>) -> JudgedAccess {
     match mode {
-        Mode::Named => Through::Nothing,
+        Mode::Named => JudgedAccess::Nothing,
         Mode::Unchecked | Mode::Judged => match key {
-            Some(number) => Through::Keyed(number),
-            None => Through::Unknown,
+            Some(number) => JudgedAccess::Keyed(number),
+            None => JudgedAccess::Unknown,
         },
     }
 }
 
-fn access_of(instruction: &Instruction) -> Through {
+fn access_of(instruction: &Instruction) -> JudgedAccess {
     match instruction {
         Instruction::Read { mode, key, .. } => through(*mode, *key),
         Instruction::Write { mode, key, .. } => through(*mode, *key),
         Instruction::Update { mode, key, .. } => through(*mode, *key),
-        _ => Through::Nothing,
+        _ => JudgedAccess::Nothing,
     }
 }
 
@@ -63,11 +63,11 @@ fn put_key(rt: &HostRuntime, key: &Key) -> Result<()> {
     put_scaled(rt, key.scaled)
 }
 
-fn put_access(rt: &HostRuntime, keys: &[Key], access: Through) -> Result<()> {
+fn put_access(rt: &HostRuntime, keys: &[Key], access: JudgedAccess) -> Result<()> {
     match access {
-        Through::Nothing => {}
-        Through::Unknown => print!(rt; " -")?,
-        Through::Keyed(number) => {
+        JudgedAccess::Nothing => {}
+        JudgedAccess::Unknown => print!(rt; " -")?,
+        JudgedAccess::Keyed(number) => {
             if let Some(key) = keys.get(number) {
                 put_key(rt, key)?;
             }

@@ -1,2 +1,3 @@
 mod Moves
 mod LittleBytes
+pub mod Initializers

@@ -20,7 +20,7 @@ use Rattle.tac_ir.specs.Keys.{gives}
 use Rattle.tac_ir.specs.Accesses.{only_if, admitted, moved_from}
 use Rattle.tac_ir.specs.Edges.{LeadsTo, callers, is_local, StaysIn, GoesAlong}
 use Rattle.tac_ir.specs.Meaning.{function_in, keyed_by, keyed, called_at, given_to, left_for}
-use Rattle.tac_ir.specs.Meaning.{act}
+use Rattle.tac_ir.specs.Meaning.{fits, effect, act}
 
 -- instructions that stay
 
@@ -91,12 +91,16 @@ ruleset staying = (
   refl,
 )
 
+effect_stays : (g : Setting) (t : Tac) (i : Instruction) (u : ℕ) (temps : Temps) (frames : List Frame) (s : State)
+    → is_local i ≡ true → StaysIn i u frames (effect g t i u temps frames s)
+effect_stays g t (Call f line d n m) u temps frames s local = cc
+effect_stays g t (CallThrough type_number line d n m) u temps frames s local = cc
+effect_stays g t (Return a) u temps frames s local = cc
+effect_stays g t i u temps frames s local = search staying depth 9
+
 pub act_stays : (g : Setting) (t : Tac) (i : Instruction) (u : ℕ) (temps : Temps) (frames : List Frame) (s : State)
     → is_local i ≡ true → StaysIn i u frames (act g t i u temps frames s)
-act_stays g t (Call f line d n m) u temps frames s local = cc
-act_stays g t (CallThrough type_number line d n m) u temps frames s local = cc
-act_stays g t (Return a) u temps frames s local = cc
-act_stays g t i u temps frames s local = search staying depth 9
+act_stays g t i u temps frames s local = only_stays (fits g t i u temps s) _ (effect_stays g t i u temps frames s local)
 
 -- and calls and returns
 
@@ -127,19 +131,28 @@ module _ (i : Instruction) (u : ℕ) (frames : List Frame) where
   call_along g (Some c) f m d vs line q temps s h = came_along _ _
       (λ a z. waits_along f c.entry m d q temps no_temps z h)
 
+only_along : {i : Instruction} {u : ℕ} {frames : List Frame} (b : Bool) (x : Stage) → GoesAlong i u frames x
+    → GoesAlong i u frames (only_if b x)
+only_along true x h = h
+only_along false x h = record { by = tt }
+
 given_along : (i : Instruction) (u : ℕ) (frames : List Frame) (v : Rvalue) (s : State)
     → GoesAlong i u frames (given_to frames v s)
 given_along i u [] v s = record { by = tt }
 given_along i u (Waits w ∷ frames) v s = record { by = inr (inr (refl, refl, refl)) }
 given_along i u (Entered k b ∷ frames) v s = record { by = tt }
 
-pub act_along : (g : Setting) (t : Tac) (i : Instruction) (u : ℕ) (temps : Temps) (frames : List Frame) (s : State)
-    → GoesAlong i u frames (act g t i u temps frames s)
-act_along g t (Call f line d n m) u temps frames s = call_along (Call f line d n m) u frames g (function_in t f) f m d _
+effect_along : (g : Setting) (t : Tac) (i : Instruction) (u : ℕ) (temps : Temps) (frames : List Frame) (s : State)
+    → GoesAlong i u frames (effect g t i u temps frames s)
+effect_along g t (Call f line d n m) u temps frames s = call_along (Call f line d n m) u frames g (function_in t f) f m d _
     line _ temps s (inl refl)
-act_along g t (CallThrough type_number line d n m) u temps frames s = came_along (CallThrough type_number line d n m) u
+effect_along g t (CallThrough type_number line d n m) u temps frames s = came_along (CallThrough type_number line d n m) u
     frames _ _ (λ f z. call_along (CallThrough type_number line d n m) u frames g (function_in t f) f m d _ line _ temps
     z (inl refl))
-act_along g t (Return a) u temps frames s = given_along (Return a) u frames (temps a)
+effect_along g t (Return a) u temps frames s = given_along (Return a) u frames (temps a)
     (spent (handed_bytes (temps a)) s)
-act_along g t i u temps frames s = stays_along i u frames _ (act_stays g t i u temps frames s refl)
+effect_along g t i u temps frames s = stays_along i u frames _ (effect_stays g t i u temps frames s refl)
+
+pub act_along : (g : Setting) (t : Tac) (i : Instruction) (u : ℕ) (temps : Temps) (frames : List Frame) (s : State)
+    → GoesAlong i u frames (act g t i u temps frames s)
+act_along g t i u temps frames s = only_along (fits g t i u temps s) _ (effect_along g t i u temps frames s)

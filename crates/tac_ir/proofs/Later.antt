@@ -35,7 +35,7 @@ use Rattle.tac_ir.specs.Keys.{gives}
 use Rattle.tac_ir.specs.Accesses.{only_if, admitted, moved_from, is_through}
 use Rattle.tac_ir.specs.Later.{ComesLater}
 use Rattle.tac_ir.specs.Meaning.{function_in, objects_in, text_in, keyed_by, keyed, right_value, part_pointer}
-use Rattle.tac_ir.specs.Meaning.{header_of_code, begun, called_at, given_to, left_for, act}
+use Rattle.tac_ir.specs.Meaning.{header_of_code, begun, called_at, given_to, left_for, fits, effect, act}
 use Rattle.tac_ir.proofs.Turns.{acts_as, acts_check, acts_heavier}
 
 stuck_later : {s : State} → ComesLater s Stuck
@@ -150,43 +150,47 @@ ruleset later = (
   later_plain,
 )
 
-pub act_later : (g : Setting) (t : Tac) (i : Instruction) (u : ℕ) (temps : Temps) (frames : List Frame) (s : State)
-    → ComesLater s (act g t i u temps frames s)
-act_later g t (UpdatePlain w k f line d x right m) u temps frames s =
+effect_later : (g : Setting) (t : Tac) (i : Instruction) (u : ℕ) (temps : Temps) (frames : List Frame) (s : State)
+    → ComesLater s (effect g t i u temps frames s)
+effect_later g t (UpdatePlain w k f line d x right m) u temps frames s =
     let new = acts_updated w k (right_value right temps) line in
     search (later, came_later s (acts_as (acts_update_plain x (updated w k (right_value right temps) line) f new)))
     depth 9
-act_later g t (Binary op ty line d a b m) u temps frames s =
+effect_later g t (Binary op ty line d a b m) u temps frames s =
     search (later, came_later s (acts_as (acts_operate op ty (temps a).value (temps b).value line))) depth 9
-act_later g t (Take kind line d a m) u temps frames s =
+effect_later g t (Take kind line d a m) u temps frames s =
     search (later, came_later s (acts_heavier (acts_take_value kind line (temps a)))) depth 9
-act_later g t (Read kind mode line key d a m) u temps frames s =
+effect_later g t (Read kind mode line key d a m) u temps frames s =
     search (later, came_later s (acts_read_rvalue kind (is_through mode) (temps a) line)) depth 9
-act_later g t (Write kind mode line key d a b m) u temps frames s =
+effect_later g t (Write kind mode line key d a b m) u temps frames s =
     search (later, came_later s (acts_heavier (acts_write_rvalue kind (is_through mode) (temps a).value line (temps b)))) depth 9
-act_later g t (Update w k f mode line at key d a right m) u temps frames s =
+effect_later g t (Update w k f mode line at key d a right m) u temps frames s =
     let run = acts_update k (is_through mode) (temps a).value line w (right_value right temps) at f in
     search (later, came_later s (acts_as run)) depth 9
-act_later g t (Judge test size line key a m) u temps frames s =
+effect_later g t (Judge test size line key a m) u temps frames s =
     search (later, came_later s (acts_check test size (temps a).value line)) depth 9
-act_later g t (Zero x m) u temps frames s = search (later, came_later s (acts_heavier (acts_zero_variable x))) depth 9
-act_later g t (StorePart kind line x offset a m) u temps frames s =
+effect_later g t (Zero x m) u temps frames s = search (later, came_later s (acts_heavier (acts_zero_variable x))) depth 9
+effect_later g t (StorePart kind line x offset a m) u temps frames s =
     let run = acts_write_rvalue kind false (part_pointer x offset (size_of_kind kind) s) line (temps a) in
     search (later, came_later s (acts_heavier run)) depth 9
-act_later g t (StoreText n x offset m) u temps frames s =
+effect_later g t (StoreText n x offset m) u temps frames s =
     let run = acts_store_bytes (home_pointer x s) offset (text_in t n) in
     search (later, came_later s (acts_heavier (acts_then (acts_tally (length (text_in t n))) run))) depth 9
-act_later g t (Library r line d n m) u temps frames s =
+effect_later g t (Library r line d n m) u temps frames s =
     search (later, came_later s (acts_heavier (acts_as (acts_routine g r (values_of (gathered temps d n)) line)))) depth 9
-act_later g t (Print x line d n m) u temps frames s =
+effect_later g t (Print x line d n m) u temps frames s =
     search (later, came_later s (acts_heavier (acts_as (acts_print (text_in t x) (values_of (gathered temps d n)) line)))) depth 9
-act_later g t (CallThrough type_number line d n m) u temps frames s =
+effect_later g t (CallThrough type_number line d n m) u temps frames s =
     search (later, came_later s (acts_callee g.functions type_number (temps d).value line)) depth 9
-act_later g t (EnterBlock b line m) u temps frames s =
+effect_later g t (EnterBlock b line m) u temps frames s =
     search (later, came_later s (acts_heavier (acts_enter_block g (objects_in (function_in t u) b) line))) depth 9
-act_later g t (ZeroOf kind d m) u temps frames s =
+effect_later g t (ZeroOf kind d m) u temps frames s =
     search (later, came_later s (acts_heavier (local_make_zero kind).action)) depth 9
-act_later g t (Return a) u temps frames s =
+effect_later g t (Return a) u temps frames s =
     after_later (spent (handed_bytes (temps a)) s) _ (later_spent (handed_bytes (temps a)) s)
     (given_later (spent (handed_bytes (temps a)) s) frames (temps a))
-act_later g t i u temps frames s = search later depth 9
+effect_later g t i u temps frames s = search later depth 9
+
+pub act_later : (g : Setting) (t : Tac) (i : Instruction) (u : ℕ) (temps : Temps) (frames : List Frame) (s : State)
+    → ComesLater s (act g t i u temps frames s)
+act_later g t i u temps frames s = only_later (fits g t i u temps s) _ (effect_later g t i u temps frames s)

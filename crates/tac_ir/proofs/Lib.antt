@@ -6,3 +6,4 @@ pub mod Living
 pub mod Later
 pub mod SameTables
 pub mod PlainVariables
+pub mod Fits

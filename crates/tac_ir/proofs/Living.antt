@@ -40,7 +40,7 @@ use Rattle.tac_ir.specs.Keys.{gives}
 use Rattle.tac_ir.specs.Accesses.{can_check, only_if, admitted, moved_from, is_through}
 use Rattle.tac_ir.specs.Changes.{ends_lives, KeepsLivesAt}
 use Rattle.tac_ir.specs.Meaning.{function_in, objects_in, text_in, keyed_by, keyed, right_value, part_pointer, check}
-use Rattle.tac_ir.specs.Meaning.{header_of_code, begun, called_at, given_in, act}
+use Rattle.tac_ir.specs.Meaning.{header_of_code, begun, called_at, given_in, fits, effect, act}
 
 stuck_keeps : {s : State} → KeepsLivesAt s Stuck
 stuck_keeps = record { by = tt }
@@ -122,67 +122,71 @@ called_keeps g (Some c) f vs line frames s =
     (came_keeps (begun s) (heavier (set_up g (header_of_code c) vs line)) _
     (lives_heavier (lives_set_up g (header_of_code c) vs line)) (λ _ z. stands_keeps))
 
-pub act_lives : (g : Setting) (t : Tac) (i : Instruction) (u : ℕ) (temps : Temps) (frames : List Frame) (s : State)
-    → ends_lives i ≡ false → KeepsLivesAt s (act g t i u temps frames s)
-act_lives g t Reserved u temps frames s e = stuck_keeps
-act_lives g t (SetPlain x a m) u temps frames s e = came_keeps s (set_plain x (temps a).value)
+effect_lives : (g : Setting) (t : Tac) (i : Instruction) (u : ℕ) (temps : Temps) (frames : List Frame) (s : State)
+    → ends_lives i ≡ false → KeepsLivesAt s (effect g t i u temps frames s)
+effect_lives g t Reserved u temps frames s e = stuck_keeps
+effect_lives g t (SetPlain x a m) u temps frames s e = came_keeps s (set_plain x (temps a).value)
     (λ _ z. Stands u m temps frames z) (lives_set_plain x (temps a).value) (λ _ z. stands_keeps)
-act_lives g t (UpdatePlain w k f line d x right m) u temps frames s e =
+effect_lives g t (UpdatePlain w k f line d x right m) u temps frames s e =
     came_keeps s _ (given_in u m temps d frames)
     (lives_as (lives_update_plain x (updated w k (right_value right temps) line) f
     (lives_updated w k (right_value right temps) line))) (λ _ z. stands_keeps)
-act_lives g t (ZeroOf kind d m) u temps frames s e = record { by = λ o l. l }
-act_lives g t (Binary op ty line d a b m) u temps frames s e =
+effect_lives g t (ZeroOf kind d m) u temps frames s e = record { by = λ o l. l }
+effect_lives g t (Binary op ty line d a b m) u temps frames s e =
     came_keeps s _ (given_in u m temps d frames) (lives_as (lives_operate op ty (temps a).value (temps b).value line))
     (λ _ z. stands_keeps)
-act_lives g t (Take kind line d a m) u temps frames s e =
+effect_lives g t (Take kind line d a m) u temps frames s e =
     moved_keeps kind (temps a) s.objects s _
     (came_keeps s _ (given_in u m temps d frames) (lives_heavier (lives_take_value kind line (temps a)))
     (λ _ z. stands_keeps))
-act_lives g t (Read kind mode line key d a m) u temps frames s e =
+effect_lives g t (Read kind mode line key d a m) u temps frames s e =
     keyed_keeps _ key s _ s _
     (admitted_keeps mode _ (temps a) s.objects s _
     (came_keeps s _ (given_in u m temps d frames) (lives_read_rvalue kind (is_through mode) (temps a) line)
     (λ _ z. stands_keeps)))
-act_lives g t (Write kind mode line key d a b m) u temps frames s e =
+effect_lives g t (Write kind mode line key d a b m) u temps frames s e =
     keyed_keeps _ key s _ s _ (admitted_keeps mode _ (temps a) s.objects s _ (moved_keeps kind (temps b) s.objects s _
     (came_keeps s _ (given_in u m temps d frames)
     (lives_heavier (lives_write_rvalue kind (is_through mode) (temps a).value line (temps b))) (λ _ z. stands_keeps))))
-act_lives g t (Update w k f mode line at key d a right m) u temps frames s e =
+effect_lives g t (Update w k f mode line at key d a right m) u temps frames s e =
     keyed_keeps _ key s _ s _ (admitted_keeps mode _ (temps a) s.objects s _
     (came_keeps s _ (given_in u m temps d frames)
     (lives_as (lives_update k (is_through mode) (temps a).value line (updated w k (right_value right temps) at) f
     (lives_updated w k (right_value right temps) at))) (λ _ z. stands_keeps)))
-act_lives g t (Judge of size line key a m) u temps frames s e =
+effect_lives g t (Judge of size line key a m) u temps frames s e =
     keyed_keeps _ key s _ s _
     (only_keeps s (can_check of size (temps a).value) _
     (came_keeps s _ (λ _ z. Stands u m temps frames z) (lives_check of size (temps a).value line)
     (λ _ z. stands_keeps)))
-act_lives g t (Zero x m) u temps frames s e = only_keeps s _ _
+effect_lives g t (Zero x m) u temps frames s e = only_keeps s _ _
     (came_keeps s _ (λ _ z. Stands u m temps frames z) (lives_heavier (lives_zero_variable x)) (λ _ z. stands_keeps))
-act_lives g t (StorePart kind line x offset a m) u temps frames s e =
+effect_lives g t (StorePart kind line x offset a m) u temps frames s e =
     only_keeps s _ _ (moved_keeps kind (temps a) s.objects s _
     (came_keeps s _ (λ _ z. Stands u m temps frames z)
     (lives_heavier (lives_write_rvalue kind false (part_pointer x offset (size_of_kind kind) s) line (temps a)))
     (λ _ z. stands_keeps)))
-act_lives g t (StoreText n x offset m) u temps frames s e =
+effect_lives g t (StoreText n x offset m) u temps frames s e =
     only_keeps s _ _ (came_keeps s _ (λ _ z. Stands u m temps frames z)
     (lives_heavier (lives_then {r = tally (length (text_in t n))} (record { live = λ s n l. l })
     (lives_store_bytes (home_pointer x s) offset (text_in t n)))) (λ _ z. stands_keeps))
-act_lives g t (Library r line d n m) u temps frames s e = came_keeps s _ (given_in u m temps d frames)
+effect_lives g t (Library r line d n m) u temps frames s e = came_keeps s _ (given_in u m temps d frames)
     (lives_heavier (lives_as (lives_routine g r (values_of (gathered temps d n)) line e))) (λ _ z. stands_keeps)
-act_lives g t (Print x line d n m) u temps frames s e = came_keeps s _ (given_in u m temps d frames)
+effect_lives g t (Print x line d n m) u temps frames s e = came_keeps s _ (given_in u m temps d frames)
     (lives_heavier (lives_as (lives_print (text_in t x) (values_of (gathered temps d n)) line)))
     (λ _ z. stands_keeps)
-act_lives g t (Call f line d n m) u temps frames s e = called_keeps g (function_in t f) f _ line _ s
-act_lives g t (CallThrough type_number line d n m) u temps frames s e =
+effect_lives g t (Call f line d n m) u temps frames s e = called_keeps g (function_in t f) f _ line _ s
+effect_lives g t (CallThrough type_number line d n m) u temps frames s e =
     came_keeps s (callee g.functions type_number (temps d).value line) _
     (lives_callee g.functions type_number (temps d).value line)
     (λ f z. called_keeps g (function_in t f) f _ line _ z)
-act_lives g t (EnterBlock b line m) u temps frames s e =
+effect_lives g t (EnterBlock b line m) u temps frames s e =
     came_keeps s _ (λ q z. Stands u m temps (Entered b q ∷ frames) z)
     (lives_heavier (lives_enter_block g (objects_in (function_in t u) b) line)) (λ _ z. stands_keeps)
-act_lives g t (Turn counted m) u temps frames s e = record { by = λ o l. l }
-act_lives g t (LeaveBlock b m) u temps frames s e = cc
-act_lives g t (Return a) u temps frames s e = cc
-act_lives g t i u temps frames s e = stands_keeps
+effect_lives g t (Turn counted m) u temps frames s e = record { by = λ o l. l }
+effect_lives g t (LeaveBlock b m) u temps frames s e = cc
+effect_lives g t (Return a) u temps frames s e = cc
+effect_lives g t i u temps frames s e = stands_keeps
+
+pub act_lives : (g : Setting) (t : Tac) (i : Instruction) (u : ℕ) (temps : Temps) (frames : List Frame) (s : State)
+    → ends_lives i ≡ false → KeepsLivesAt s (act g t i u temps frames s)
+act_lives g t i u temps frames s e = only_keeps s (fits g t i u temps s) _ (effect_lives g t i u temps frames s e)

@@ -47,7 +47,7 @@ use Rattle.tac_ir.specs.Keys.{gives}
 use Rattle.tac_ir.specs.Accesses.{only_if, can_check, is_live_at, is_there, is_place, admitted, moved_from, is_home, is_through}
 use Rattle.tac_ir.specs.Costs.{cost, first_call, handed_bytes, spent, fourfold, heavier}
 use Rattle.tac_ir.specs.Meaning.{objects_in, function_in, text_in, keyed_by, keyed, right_value, part_pointer, check}
-use Rattle.tac_ir.specs.Meaning.{header_of_code, setting_of_code, given_to, left_for, called_at, called, act, act_at}
+use Rattle.tac_ir.specs.Meaning.{header_of_code, setting_of_code, given_to, left_for, called_at, called, fits, effect, act, act_at}
 use Rattle.tac_ir.specs.Meaning.{at_node, step, first_stage, tac_meaning}
 
 -- no more than so many turns are begun
@@ -169,68 +169,72 @@ module _ (g : Setting) (t : Tac) where
   through_within b s vs line frames (Ended e s') o' h le = let q = h.2.turns in omega arith
   through_within b s vs line frames (Paused s') o' h le = absurd h
 
-  act_within : (i : Instruction) (u : ℕ) (temps : Temps) (frames : List Frame) (s : State)
-      → Within (s.turns + 1) (act g t i u temps frames s)
-  act_within (SetPlain x a m) u temps frames s = omega arith
-  act_within (UpdatePlain w k f line d x right m) u temps frames s =
+  effect_within : (i : Instruction) (u : ℕ) (temps : Temps) (frames : List Frame) (s : State)
+      → Within (s.turns + 1) (effect g t i u temps frames s)
+  effect_within (SetPlain x a m) u temps frames s = omega arith
+  effect_within (UpdatePlain w k f line d x right m) u temps frames s =
       run_within _ _ _ s (acts_as
       (acts_update_plain x (updated w k (right_value right temps) line) f
       (acts_updated w k (right_value right temps) line))) (omega arith) (λ v s' le. le)
-  act_within (Binary op ty line d a b m) u temps frames s =
+  effect_within (Binary op ty line d a b m) u temps frames s =
       run_within _ _ _ s (acts_as (acts_operate op ty (temps a).value (temps b).value line)) (omega arith)
       (λ v s' le. le)
-  act_within (Take kind line d a m) u temps frames s =
+  effect_within (Take kind line d a m) u temps frames s =
       moved_within _ kind (temps a) s.objects _
       (run_within _ _ _ s (acts_heavier (acts_take_value kind line (temps a))) (omega arith) (λ v s' le. le))
-  act_within (Read kind mode line key d a m) u temps frames s =
+  effect_within (Read kind mode line key d a m) u temps frames s =
       keyed_within _ _ key s (temps a).value _ (admitted_within _ mode (size_of_kind kind) (temps a) s.objects _
       (run_within _ _ _ s (acts_read_rvalue kind (is_through mode) (temps a) line) (omega arith) (λ v s' le. le)))
-  act_within (Write kind mode line key d a b m) u temps frames s =
+  effect_within (Write kind mode line key d a b m) u temps frames s =
       keyed_within _ _ key s (temps a).value _
       (admitted_within _ mode (size_of_kind kind) (temps a) s.objects _ (moved_within _ kind (temps b) s.objects _
       (run_within _ _ _ s (acts_heavier (acts_write_rvalue kind (is_through mode) (temps a).value line (temps b)))
       (omega arith) (λ v s' le. le))))
-  act_within (Update w k f mode line at key d a right m) u temps frames s =
+  effect_within (Update w k f mode line at key d a right m) u temps frames s =
       keyed_within _ _ key s (temps a).value _ (admitted_within _ mode (scalar_size k) (temps a) s.objects _
       (run_within _ _ _ s (acts_as
       (acts_update k (is_through mode) (temps a).value line w (right_value right temps) at f)) (omega arith)
       (λ v s' le. le)))
-  act_within (Judge test size line key a m) u temps frames s =
+  effect_within (Judge test size line key a m) u temps frames s =
       keyed_within _ _ key s (temps a).value _ (only_within _ (can_check test size (temps a).value) _
       (run_within _ _ _ s (acts_check test size (temps a).value line) (omega arith) (λ v s' le. le)))
-  act_within (Zero x m) u temps frames s =
+  effect_within (Zero x m) u temps frames s =
       only_within _ (is_home (get_or s.frame x NoObject) s.objects) _
       (run_within _ (heavier (zero_variable x)) _ s (acts_heavier (acts_zero_variable x)) (omega arith)
       (λ v s' le. le))
-  act_within (StorePart kind line x offset a m) u temps frames s =
+  effect_within (StorePart kind line x offset a m) u temps frames s =
       only_within _ (is_live_at (size_of_kind kind) (part_pointer x offset (size_of_kind kind) s) s.objects) _
       (moved_within _ kind (temps a) s.objects _
       (run_within _ _ _ s (acts_heavier
       (acts_write_rvalue kind false (part_pointer x offset (size_of_kind kind) s) line (temps a)))
       (omega arith) (λ v s' le. le)))
-  act_within (StoreText n x offset m) u temps frames s =
+  effect_within (StoreText n x offset m) u temps frames s =
       only_within _ (is_live_at (offset + length (text_in t n)) (home_pointer x s) s.objects) _
       (run_within _ _ _ s (acts_heavier
       (acts_then (acts_tally _) (acts_store_bytes (home_pointer x s) offset (text_in t n)))) (omega arith)
       (λ v s' le. le))
-  act_within (Library r line d n m) u temps frames s =
+  effect_within (Library r line d n m) u temps frames s =
       run_within _ _ _ s (acts_heavier (acts_as (acts_routine g r (values_of (gathered temps d n)) line)))
       (omega arith) (λ v s' le. le)
-  act_within (Print x line d n m) u temps frames s =
+  effect_within (Print x line d n m) u temps frames s =
       run_within _ _ _ s (acts_heavier (acts_as (acts_print (text_in t x) (values_of (gathered temps d n)) line)))
       (omega arith) (λ v s' le. le)
-  act_within (Call f line d n m) u temps frames s = called_within (s.turns + 1) (function_in t f) f _ line _ s
+  effect_within (Call f line d n m) u temps frames s = called_within (s.turns + 1) (function_in t f) f _ line _ s
       (omega arith)
-  act_within (CallThrough type_number line d n m) u temps frames s =
+  effect_within (CallThrough type_number line d n m) u temps frames s =
       through_within (s.turns + 1) s _ line _ (callee g.functions type_number (temps d).value line s) _
       ((acts_callee g.functions type_number (temps d).value line).acts s 0) (omega arith)
-  act_within (EnterBlock b line m) u temps frames s =
+  effect_within (EnterBlock b line m) u temps frames s =
       run_within _ _ _ s (acts_heavier (acts_enter_block g (objects_in (function_in t u) b) line)) (omega arith)
       (λ v s' le. le)
-  act_within (LeaveBlock b m) u temps frames s = left_within (s.turns + 1) b u m temps frames s (omega arith)
-  act_within (Return a) u temps frames s = given_within (s.turns + 1) frames (temps a)
+  effect_within (LeaveBlock b m) u temps frames s = left_within (s.turns + 1) b u m temps frames s (omega arith)
+  effect_within (Return a) u temps frames s = given_within (s.turns + 1) frames (temps a)
       (spent (handed_bytes (temps a)) s) (omega arith)
-  act_within i u temps frames s = omega arith
+  effect_within i u temps frames s = omega arith
+
+  act_within : (i : Instruction) (u : ℕ) (temps : Temps) (frames : List Frame) (s : State)
+      → Within (s.turns + 1) (act g t i u temps frames s)
+  act_within i u temps frames s = only_within _ (fits g t i u temps s) _ (effect_within i u temps frames s)
 
   act_at_within : (oi : Option Instruction) (u : ℕ) (temps : Temps) (frames : List Frame) (s : State)
       → Within (s.turns + 1) (act_at g t oi u temps frames s)

@@ -1,6 +1,7 @@
 pub mod Stage
 pub mod Keys
 pub mod Accesses
+pub mod Fitting
 pub mod Costs
 pub mod Meaning
 pub mod Edges

@@ -1,6 +1,6 @@
 -- What three-address code means: steps from stage to stage. What an instruction does is a run of the source.
 use Rattle.std.specs.Prelude.{ℕ, ◌+◌, true, false, cond, ◌==◌, List, [], ◌∷◌, ◌++◌, map, Option, Some, None, slice_get}
-use Rattle.std.specs.Prelude.{get_or, length}
+use Rattle.std.specs.Prelude.{Bool, ◌&&◌, get_or, length, nat_lt}
 use Rattle.behaviours.specs.Behaviour.{Behaviour}
 use Rattle.behaviours.specs.Steps.{seen_after}
 use Rattle.sb_base.specs.declared.ending.Ending.TheVariants.{Exit, BadCall}
@@ -13,7 +13,8 @@ use Rattle.obj_memory.specs.Objects.{Objects, pointer_to}
 use Rattle.obj_memory.specs.Operators.{unary_value}
 use Rattle.obj_memory.specs.Judgement.{narrowed}
 use Rattle.c_tree.specs.declared.program.Variable.{Variable}
-use Rattle.c_tree.specs.Kinds.{size_of_kind}
+use Rattle.c_tree.specs.Format.{pieces}
+use Rattle.c_tree.specs.Kinds.{size_of_kind, routine_signature}
 use Rattle.c_tree.specs.Blocks.{block_objects}
 use Rattle.source_meaning.specs.State.{State, Rvalue, NoObject, Run, ◌>>◌, tally, Header, Setting}
 use Rattle.source_meaning.specs.Actions.{integer, is_zero, int_of, converted, offset_value, difference_value, operate}
@@ -25,7 +26,8 @@ use Rattle.source_meaning.specs.Printing.{print_formatted}
 use Rattle.source_meaning.specs.Initializers.{zero_variable, store_bytes}
 use Rattle.source_meaning.specs.Expressions.{function_pointer, callee}
 use Rattle.source_meaning.specs.Blocks.{enter_block, leave_block}
-use Rattle.source_meaning.specs.Calls.{caller, set_up, back_to}
+use Rattle.source_meaning.specs.Calls.{caller, set_up, back_to, result_of}
+use Rattle.source_meaning.specs.Good.{plain_type}
 use Rattle.source_meaning.specs.Places.{statics_first}
 use Rattle.source_meaning.specs.Judging.{test_bounds, test_life}
 use Rattle.source_meaning.specs.Meaning.{fresh}
@@ -43,12 +45,15 @@ use Rattle.tac_ir.specs.declared.instruction.Instruction.TheVariants.{Case, Turn
 use Rattle.tac_ir.specs.declared.instruction.Instruction.TheVariants.{EnterBlock, LeaveBlock, Return}
 use Rattle.tac_ir.specs.declared.key.Key.{Key}
 use Rattle.tac_ir.specs.declared.function.CodeFunction.{CodeFunction}
+use Rattle.tac_ir.specs.declared.function.CountedLoop.{CountedLoop}
 use Rattle.tac_ir.specs.declared.function.StaticData.{StaticData}
 use Rattle.tac_ir.specs.declared.function.Tac.{Tac}
 use Rattle.tac_ir.specs.Stage.{Temps, no_temps, with_temp, gathered, Frame, Waits, Entered, Stage, Begins, Stands, Over}
 use Rattle.tac_ir.specs.Stage.{Stuck, came, seen}
 use Rattle.tac_ir.specs.Keys.{gives}
 use Rattle.tac_ir.specs.Accesses.{only_if, can_check, is_live_at, admitted, moved_from, is_home, is_through}
+use Rattle.tac_ir.specs.Fitting.{is_word, is_passed, are_passed, is_written, is_in_place, is_held, is_update_of, is_type}
+use Rattle.tac_ir.specs.Fitting.{taken_by, fit_type, are_printed, is_of_key, is_counted, have_no_homes}
 use Rattle.tac_ir.specs.Costs.{cost, first_call, handed_bytes, spent, heavier}
 
 -- tables
@@ -68,6 +73,14 @@ variables_in (Some c) = c.parameters ++ c.variables
 abbrev pub blocks_in : Option CodeFunction → List (List ℕ)
 blocks_in None = []
 blocks_in (Some c) = c.blocks
+
+abbrev pub loops_of : Option CodeFunction → List CountedLoop
+loops_of None = []
+loops_of (Some c) = c.loops
+
+abbrev pub type_of : Option CodeFunction → ℕ
+type_of None = 0
+type_of (Some c) = c.type_number
 
 abbrev pub if_there : Option (List ℕ) → List ℕ
 if_there None = []
@@ -157,84 +170,127 @@ left_for n u m temps (Entered k b ∷ frames) s = only_if (k == n) (Stands u m t
 abbrev pub given_in : (function node : ℕ) → Temps → (to : ℕ) → List Frame → Rvalue → State → Stage
 given_in u m temps d frames v s = Stands u m (with_temp temps d v) frames s
 
--- what an instruction of a function does, once its cost is paid
-abbrev pub act : Setting → Tac → Instruction → (function : ℕ) → Temps → List Frame → State → Stage
-act g t Reserved u temps frames s = Stuck
-act g t (Skip m) u temps frames s = Stands u m temps frames s
-act g t (Constant d w m) u temps frames s = Stands u m (with_temp temps d (rvalue (integer w))) frames s
-act g t (FunctionPointer d f m) u temps frames s = Stands u m (with_temp temps d (rvalue (function_pointer f))) frames s
-act g t (GetPlain d x m) u temps frames s = Stands u m (with_temp temps d (rvalue (plain_value x s))) frames s
-act g t (SetPlain x a m) u temps frames s = came (set_plain x (temps a).value s) (λ _ s. Stands u m temps frames s)
-act g t (UpdatePlain w k f line d x right m) u temps frames s =
+-- what an instruction of a function does, where what it is given fits
+abbrev pub effect : Setting → Tac → Instruction → (function : ℕ) → Temps → List Frame → State → Stage
+effect g t Reserved u temps frames s = Stuck
+effect g t (Skip m) u temps frames s = Stands u m temps frames s
+effect g t (Constant d w m) u temps frames s = Stands u m (with_temp temps d (rvalue (integer w))) frames s
+effect g t (FunctionPointer d f m) u temps frames s = Stands u m (with_temp temps d (rvalue (function_pointer f))) frames s
+effect g t (GetPlain d x m) u temps frames s = Stands u m (with_temp temps d (rvalue (plain_value x s))) frames s
+effect g t (SetPlain x a m) u temps frames s = came (set_plain x (temps a).value s) (λ _ s. Stands u m temps frames s)
+effect g t (UpdatePlain w k f line d x right m) u temps frames s =
     came (as_rvalue (update_plain x (updated w k (right_value right temps) line) f) s) (given_in u m temps d frames)
-act g t (HomePointer d x m) u temps frames s = Stands u m (with_temp temps d (rvalue (home_pointer x s))) frames s
-act g t (StaticPointer d n m) u temps frames s = Stands u m (with_temp temps d (rvalue (pointer_to n s.objects)))
+effect g t (HomePointer d x m) u temps frames s = Stands u m (with_temp temps d (rvalue (home_pointer x s))) frames s
+effect g t (StaticPointer d n m) u temps frames s = Stands u m (with_temp temps d (rvalue (pointer_to n s.objects)))
     frames s
-act g t (ZeroOf kind d m) u temps frames s = came (heavier (make_zero kind) s) (given_in u m temps d frames)
-act g t (Convert kind d a m) u temps frames s = Stands u m (with_temp temps d (rvalue (converted kind (temps a).value)))
+effect g t (ZeroOf kind d m) u temps frames s = came (heavier (make_zero kind) s) (given_in u m temps d frames)
+effect g t (Convert kind d a m) u temps frames s = Stands u m (with_temp temps d (rvalue (converted kind (temps a).value)))
     frames s
-act g t (Unary op ty d a m) u temps frames s =
+effect g t (Unary op ty d a m) u temps frames s =
     Stands u m (with_temp temps d (rvalue (integer (unary_value op ty (temps a).value.word)))) frames s
-act g t (Binary op ty line d a b m) u temps frames s =
+effect g t (Binary op ty line d a b m) u temps frames s =
     came (as_rvalue (operate op ty (temps a).value (temps b).value line) s) (given_in u m temps d frames)
-act g t (Offset form size d a b m) u temps frames s =
+effect g t (Offset form size d a b m) u temps frames s =
     Stands u m (with_temp temps d (rvalue (offset_value form size (temps a).value (temps b).value))) frames s
-act g t (Difference size d a b m) u temps frames s =
+effect g t (Difference size d a b m) u temps frames s =
     Stands u m (with_temp temps d (rvalue (difference_value size (temps a).value (temps b).value))) frames s
-act g t (Narrow offset size d a m) u temps frames s =
+effect g t (Narrow offset size d a m) u temps frames s =
     Stands u m (with_temp temps d (rvalue (narrowed offset size (temps a).value))) frames s
-act g t (Member offset size d a m) u temps frames s = Stands u m (with_temp temps d (member_of offset size (temps a)))
+effect g t (Member offset size d a m) u temps frames s = Stands u m (with_temp temps d (member_of offset size (temps a)))
     frames s
-act g t (Take kind line d a m) u temps frames s =
+effect g t (Take kind line d a m) u temps frames s =
     moved_from kind (temps a) s.objects
     (came (heavier (take_value kind line (temps a)) s) (given_in u m temps d frames))
-act g t (Read kind mode line key d a m) u temps frames s =
+effect g t (Read kind mode line key d a m) u temps frames s =
     keyed (keys_of (function_in t u)) key s (temps a).value (admitted mode (size_of_kind kind) (temps a) s.objects
     (came (read_rvalue kind (is_through mode) (temps a) line s) (given_in u m temps d frames)))
-act g t (Write kind mode line key d a b m) u temps frames s =
+effect g t (Write kind mode line key d a b m) u temps frames s =
     keyed (keys_of (function_in t u)) key s (temps a).value (admitted mode (size_of_kind kind) (temps a) s.objects
     (moved_from kind (temps b) s.objects
     (came (heavier (write_rvalue kind (is_through mode) (temps a).value line (temps b)) s)
     (given_in u m temps d frames))))
-act g t (Update w k f mode line at key d a right m) u temps frames s =
+effect g t (Update w k f mode line at key d a right m) u temps frames s =
     keyed (keys_of (function_in t u)) key s (temps a).value (admitted mode (scalar_size k) (temps a) s.objects
     (came (as_rvalue (update k (is_through mode) (temps a).value line (updated w k (right_value right temps) at) f) s)
     (given_in u m temps d frames)))
-act g t (Judge test size line key a m) u temps frames s =
+effect g t (Judge test size line key a m) u temps frames s =
     keyed (keys_of (function_in t u)) key s (temps a).value (only_if (can_check test size (temps a).value)
     (came (check test size (temps a).value line s) (λ _ s. Stands u m temps frames s)))
-act g t (Zero x m) u temps frames s =
+effect g t (Zero x m) u temps frames s =
     only_if (is_home (get_or s.frame x NoObject) s.objects)
     (came (heavier (zero_variable x) s) (λ _ s. Stands u m temps frames s))
-act g t (StorePart kind line x offset a m) u temps frames s =
+effect g t (StorePart kind line x offset a m) u temps frames s =
     only_if (is_live_at (size_of_kind kind) (part_pointer x offset (size_of_kind kind) s) s.objects)
     (moved_from kind (temps a) s.objects
     (came (heavier (write_rvalue kind false (part_pointer x offset (size_of_kind kind) s) line (temps a)) s)
     (λ _ s. Stands u m temps frames s)))
-act g t (StoreText n x offset m) u temps frames s =
+effect g t (StoreText n x offset m) u temps frames s =
     only_if (is_live_at (offset + length (text_in t n)) (home_pointer x s) s.objects)
     (came (heavier (tally (length (text_in t n)) >> store_bytes (home_pointer x s) offset (text_in t n)) s)
     (λ _ s. Stands u m temps frames s))
-act g t (Branch a x y) u temps frames s = Stands u (cond (is_zero (temps a).value) y x) temps frames s
-act g t (Case a w x y) u temps frames s = Stands u (cond ((temps a).value.word == w) x y) temps frames s
-act g t (Turn counted m) u temps frames s = Stands u m temps frames (begun s)
-act g t (Library r line d n m) u temps frames s =
+effect g t (Branch a x y) u temps frames s = Stands u (cond (is_zero (temps a).value) y x) temps frames s
+effect g t (Case a w x y) u temps frames s = Stands u (cond ((temps a).value.word == w) x y) temps frames s
+effect g t (Turn counted m) u temps frames s = Stands u m temps frames (begun s)
+effect g t (Library r line d n m) u temps frames s =
     came (heavier (as_rvalue (routine g r (values_of (gathered temps d n)) line)) s) (given_in u m temps d frames)
-act g t (Print x line d n m) u temps frames s =
+effect g t (Print x line d n m) u temps frames s =
     came (heavier (as_rvalue (print_formatted (text_in t x) (values_of (gathered temps d n)) line)) s)
     (given_in u m temps d frames)
-act g t (Call f line d n m) u temps frames s =
+effect g t (Call f line d n m) u temps frames s =
     called g t f (gathered temps d n) line
     (Waits (record { function = u; node = m; place = d; caller = caller s; temps = temps }) ∷ frames) s
-act g t (CallThrough type_number line d n m) u temps frames s =
+effect g t (CallThrough type_number line d n m) u temps frames s =
     came (callee g.functions type_number (temps d).value line s) (λ f s'.
     called g t f (gathered temps (d + 1) n) line
     (Waits (record { function = u; node = m; place = d; caller = caller s; temps = temps }) ∷ frames) s')
-act g t (EnterBlock b line m) u temps frames s =
+effect g t (EnterBlock b line m) u temps frames s =
     came (heavier (enter_block g (objects_in (function_in t u) b) line) s)
     (λ q s. Stands u m temps (Entered b q ∷ frames) s)
-act g t (LeaveBlock b m) u temps frames s = left_for b u m temps frames s
-act g t (Return a) u temps frames s = given_to frames (temps a) (spent (handed_bytes (temps a)) s)
+effect g t (LeaveBlock b m) u temps frames s = left_for b u m temps frames s
+effect g t (Return a) u temps frames s = given_to frames (temps a) (spent (handed_bytes (temps a)) s)
+
+-- what a function takes; of one that is not there nothing is asked
+abbrev pub fit_call : Option CodeFunction → List Rvalue → Bool
+fit_call None vs = true
+fit_call (Some c) vs = are_passed (taken_by (header_of_code c)) vs
+
+-- whether the pointer of an access or a check is one that its key may be of
+abbrev pub fits_key : Tac → (function : ℕ) → Option ℕ → State → Value → Bool
+fits_key t u None s v = true
+fits_key t u (Some n) s v =
+    is_of_key (variables_in (function_in t u)) t.statics (slice_get (keys_of (function_in t u)) n) s v
+
+-- whether what an instruction of a function is given is what it can be asked of
+abbrev pub fits : Setting → Tac → Instruction → (function : ℕ) → Temps → State → Bool
+fits g t (Constant d w m) u temps s = is_word w
+fits g t (FunctionPointer d f m) u temps s = nat_lt f (length g.functions)
+fits g t (SetPlain x a m) u temps s = is_held (plain_type (variables_in (function_in t u)) x) (temps a)
+fits g t (UpdatePlain w k f line d x right m) u temps s =
+    is_type (plain_type (variables_in (function_in t u)) x) k && is_update_of w k
+fits g t (HomePointer d x m) u temps s = is_home (get_or s.frame x NoObject) s.objects
+fits g t (StaticPointer d n m) u temps s = nat_lt n (length t.statics)
+fits g t (Convert kind d a m) u temps s = is_in_place (temps a).contents d a
+fits g t (Member offset size d a m) u temps s = is_in_place (temps a).contents d a
+fits g t (Take kind line d a m) u temps s = is_in_place (temps a).contents d a
+fits g t (Read kind mode line key d a m) u temps s = is_in_place (temps a).contents d a && fits_key t u key s
+    (temps a).value
+fits g t (Write kind mode line key d a b m) u temps s = is_written kind (temps b) && fits_key t u key s (temps a).value
+fits g t (Update w k f mode line at key d a right m) u temps s = is_update_of w k && fits_key t u key s (temps a).value
+fits g t (Judge test size line key a m) u temps s = fits_key t u key s (temps a).value
+fits g t (StorePart kind line x offset a m) u temps s = is_written kind (temps a)
+fits g t (Turn (Some n) m) u temps s = is_counted (slice_get (loops_of (function_in t u)) n) s
+fits g t (Library r line d n m) u temps s = are_passed (routine_signature r).parameters (gathered temps d n)
+fits g t (Print x line d n m) u temps s = are_printed (pieces (text_in t x)) (gathered temps d n)
+fits g t (Call f line d n m) u temps s = fit_call (function_in t f) (gathered temps d n)
+fits g t (CallThrough type_number line d n m) u temps s = fit_type g.functions type_number (gathered temps (d + 1) n)
+fits g t (EnterBlock b line m) u temps s =
+    have_no_homes s.frame (if_there (slice_get (blocks_in (function_in t u)) b))
+fits g t (Return a) u temps s = is_passed (result_of g (type_of (function_in t u))) (temps a)
+fits g t i u temps s = true
+
+-- What an instruction of a function does, once its cost is paid. It is stuck unless what it is given fits.
+abbrev pub act : Setting → Tac → Instruction → (function : ℕ) → Temps → List Frame → State → Stage
+act g t i u temps frames s = only_if (fits g t i u temps s) (effect g t i u temps frames s)
 
 abbrev pub act_at : Setting → Tac → Option Instruction → (function : ℕ) → Temps → List Frame → State → Stage
 act_at g t None u temps frames s = Stuck

@@ -15,7 +15,7 @@ ghost use Rattle.tac_ir.specs.Keys.{gives};
 ghost use Rattle.tac_ir.specs.Later.{ComesLater};
 ghost use Rattle.tac_ir.specs.declared.function.Tac.{Tac};
 ghost use Rattle.tac_ir.specs.Stage.{Temps, Frame, Stage, Stuck, seen};
-ghost use Rattle.tac_ir.specs.Meaning.{act, function_in, keys_of, setting_of_code, step, first_stage, tac_meaning};
+ghost use Rattle.tac_ir.specs.Meaning.{fits, effect, act, function_in, keys_of, setting_of_code, step, first_stage, tac_meaning};
 
 pub mod plain_variables;
 pub mod same_tables;
@@ -57,6 +57,13 @@ pub fn checks_are_of_their_keys()
 pub fn objects_die_at_named_instructions()
     ensures { (g : Setting) (t : Tac) (i : Instruction) (u : ℕ) (temps : Temps) (frames : List Frame) (s : State)
         → ends_lives i ≡ false → KeepsLivesAt s (act g t i u temps frames s) }
+{}
+
+/// What an instruction that is not stuck is given fits, and it does its effect.
+pub fn instructions_fit()
+    ensures { (g : Setting) (t : Tac) (i : Instruction) (u : ℕ) (temps : Temps) (frames : List Frame) (s : State)
+        → (act g t i u temps frames s ≡ Stuck → ⊥)
+        → (fits g t i u temps s ≡ true) × (act g t i u temps frames s ≡ effect g t i u temps frames s) }
 {}
 
 /// An instruction leads to a later state of the run, a call and a return too: objects stay where they are and keep

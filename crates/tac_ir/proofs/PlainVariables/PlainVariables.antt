@@ -44,7 +44,7 @@ use Rattle.tac_ir.specs.Costs.{fourfold, heavier}
 use Rattle.tac_ir.specs.Keys.{gives}
 use Rattle.tac_ir.specs.Accesses.{can_check, only_if, admitted, moved_from, is_through}
 use Rattle.tac_ir.specs.Meaning.{function_in, objects_in, text_in, keyed_by, keyed, right_value, part_pointer, check}
-use Rattle.tac_ir.specs.Meaning.{given_in, left_for, act}
+use Rattle.tac_ir.specs.Meaning.{given_in, left_for, fits, effect, act}
 use Rattle.tac_ir.specs.PlainVariables.PlainChanges.{changes_plain, KeepsPlainAt}
 
 -- runs that give a value and keep a plain variable
@@ -213,72 +213,77 @@ stays_update x y other u k right at f =
     (λ new. stays_on (stays_set x y new other) (λ _. stays_done {a = given f old new}))))
     (λ v. stays_done {a = rvalue v})
 
-pub act_keeps : (g : Setting) (t : Tac) (i : Instruction) (u : ℕ) (temps : Temps) (frames : List Frame) (s : State)
+effect_keeps : (g : Setting) (t : Tac) (i : Instruction) (u : ℕ) (temps : Temps) (frames : List Frame) (s : State)
     (y : ℕ)
-    → changes_plain i y ≡ false → KeepsPlainAt y s (act g t i u temps frames s)
-act_keeps g t Reserved u temps frames s y e = stuck_keeps
-act_keeps g t (SetPlain x a m) u temps frames s y e = came_keeps s (set_plain x (temps a).value)
+    → changes_plain i y ≡ false → KeepsPlainAt y s (effect g t i u temps frames s)
+effect_keeps g t Reserved u temps frames s y e = stuck_keeps
+effect_keeps g t (SetPlain x a m) u temps frames s y e = came_keeps s (set_plain x (temps a).value)
     (λ _ z. Stands u m temps frames z) (keeps_stays y (stays_set x y (temps a).value e)) (λ _ z. stands_keeps)
-act_keeps g t (UpdatePlain w k f line d x right m) u temps frames s y e =
+effect_keeps g t (UpdatePlain w k f line d x right m) u temps frames s y e =
     came_keeps s _ (given_in u m temps d frames)
     (keeps_stays y (stays_update x y e w k (right_value right temps) line f)) (λ _ z. stands_keeps)
-act_keeps g t (ZeroOf kind d m) u temps frames s y e = record { by = refl }
-act_keeps g t (Binary op ty line d a b m) u temps frames s y e =
+effect_keeps g t (ZeroOf kind d m) u temps frames s y e = record { by = refl }
+effect_keeps g t (Binary op ty line d a b m) u temps frames s y e =
     came_keeps s _ (given_in u m temps d frames) (keeps_local y (local_as_rvalue
     (local_operate op ty (temps a).value (temps b).value line)))
     (λ _ z. stands_keeps)
-act_keeps g t (Take kind line d a m) u temps frames s y e =
+effect_keeps g t (Take kind line d a m) u temps frames s y e =
     moved_keeps kind (temps a) s.objects s _
     (came_keeps s _ (given_in u m temps d frames)
     (keeps_heavier y (keeps_local y (local_take_value kind line (temps a)))) (λ _ z. stands_keeps))
-act_keeps g t (Read kind mode line key d a m) u temps frames s y e =
+effect_keeps g t (Read kind mode line key d a m) u temps frames s y e =
     keyed_keeps _ key s _ s _
     (admitted_keeps mode _ (temps a) s.objects s _
     (came_keeps s _ (given_in u m temps d frames) (keeps_local y (local_read_rvalue kind (is_through mode) (temps a)
     line))
     (λ _ z. stands_keeps)))
-act_keeps g t (Write kind mode line key d a b m) u temps frames s y e =
+effect_keeps g t (Write kind mode line key d a b m) u temps frames s y e =
     keyed_keeps _ key s _ s _ (admitted_keeps mode _ (temps a) s.objects s _ (moved_keeps kind (temps b) s.objects s _
     (came_keeps s _ (given_in u m temps d frames)
     (keeps_heavier y (keeps_local y (local_write_rvalue kind (is_through mode) (temps a).value line (temps b))))
     (λ _ z. stands_keeps))))
-act_keeps g t (Update w k f mode line at key d a right m) u temps frames s y e =
+effect_keeps g t (Update w k f mode line at key d a right m) u temps frames s y e =
     keyed_keeps _ key s _ s _ (admitted_keeps mode _ (temps a) s.objects s _
     (came_keeps s _ (given_in u m temps d frames)
     (keeps_local y (local_as_rvalue (local_update k (is_through mode) (temps a).value line
     (updated w k (right_value right temps) at) f
     (local_updated w k (right_value right temps) at)))) (λ _ z. stands_keeps)))
-act_keeps g t (Judge of size line key a m) u temps frames s y e =
+effect_keeps g t (Judge of size line key a m) u temps frames s y e =
     keyed_keeps _ key s _ s _
     (only_keeps s (can_check of size (temps a).value) _
     (came_keeps s _ (λ _ z. Stands u m temps frames z) (local_check of size (temps a).value line y)
     (λ _ z. stands_keeps)))
-act_keeps g t (Zero x m) u temps frames s y e = only_keeps s _ _
+effect_keeps g t (Zero x m) u temps frames s y e = only_keeps s _ _
     (came_keeps s _ (λ _ z. Stands u m temps frames z) (keeps_heavier y (keeps_local y (local_zero_variable x)))
     (λ _ z. stands_keeps))
-act_keeps g t (StorePart kind line x offset a m) u temps frames s y e =
+effect_keeps g t (StorePart kind line x offset a m) u temps frames s y e =
     only_keeps s _ _ (moved_keeps kind (temps a) s.objects s _
     (came_keeps s _ (λ _ z. Stands u m temps frames z)
     (keeps_heavier y
     (keeps_local y (local_write_rvalue kind false (part_pointer x offset (size_of_kind kind) s) line (temps a))))
     (λ _ z. stands_keeps)))
-act_keeps g t (StoreText n x offset m) u temps frames s y e =
+effect_keeps g t (StoreText n x offset m) u temps frames s y e =
     only_keeps s _ _ (came_keeps s _ (λ _ z. Stands u m temps frames z)
     (keeps_heavier y (keeps_local y (local_then (local_tally (length (text_in t n)))
     (local_store_bytes (home_pointer x s) offset (text_in t n))))) (λ _ z. stands_keeps))
-act_keeps g t (Library r line d n m) u temps frames s y e = came_keeps s _ (given_in u m temps d frames)
+effect_keeps g t (Library r line d n m) u temps frames s y e = came_keeps s _ (given_in u m temps d frames)
     (keeps_heavier y (keeps_local y (local_as_rvalue (local_routine g r (values_of (gathered temps d n)) line))))
     (λ _ z. stands_keeps)
-act_keeps g t (Print x line d n m) u temps frames s y e = came_keeps s _ (given_in u m temps d frames)
+effect_keeps g t (Print x line d n m) u temps frames s y e = came_keeps s _ (given_in u m temps d frames)
     (keeps_heavier y
     (keeps_local y (local_as_rvalue (local_print (text_in t x) (values_of (gathered temps d n)) line))))
     (λ _ z. stands_keeps)
-act_keeps g t (Call f line d n m) u temps frames s y e = cc
-act_keeps g t (CallThrough type_number line d n m) u temps frames s y e = cc
-act_keeps g t (EnterBlock b line m) u temps frames s y e =
+effect_keeps g t (Call f line d n m) u temps frames s y e = cc
+effect_keeps g t (CallThrough type_number line d n m) u temps frames s y e = cc
+effect_keeps g t (EnterBlock b line m) u temps frames s y e =
     came_keeps s _ (λ q z. Stands u m temps (Entered b q ∷ frames) z)
     (keeps_heavier y (enter_keeps y g (objects_in (function_in t u) b) line)) (λ _ z. stands_keeps)
-act_keeps g t (Turn counted m) u temps frames s y e = record { by = refl }
-act_keeps g t (LeaveBlock b m) u temps frames s y e = left_keeps y b u m temps frames s
-act_keeps g t (Return a) u temps frames s y e = cc
-act_keeps g t i u temps frames s y e = stands_keeps
+effect_keeps g t (Turn counted m) u temps frames s y e = record { by = refl }
+effect_keeps g t (LeaveBlock b m) u temps frames s y e = left_keeps y b u m temps frames s
+effect_keeps g t (Return a) u temps frames s y e = cc
+effect_keeps g t i u temps frames s y e = stands_keeps
+
+pub act_keeps : (g : Setting) (t : Tac) (i : Instruction) (u : ℕ) (temps : Temps) (frames : List Frame) (s : State)
+    (y : ℕ) → changes_plain i y ≡ false → KeepsPlainAt y s (act g t i u temps frames s)
+act_keeps g t i u temps frames s y e =
+    only_keeps s (fits g t i u temps s) _ (effect_keeps g t i u temps frames s y e)

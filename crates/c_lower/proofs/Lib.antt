@@ -1,6 +1,8 @@
 pub mod Comes
 pub mod KeyValues
 pub mod KeyStays
+pub mod Counting
+pub mod NextInt
 pub mod Credits
 pub mod Accesses
 pub mod Temporaries

@@ -1,6 +1,7 @@
 pub mod Comes
 pub mod KeyValues
 pub mod KeyStays
+pub mod KeyNames
 pub mod Credits
 pub mod Accesses
 pub mod Temporaries
@@ -10,3 +11,4 @@ pub mod Statements
 pub mod Programs
 pub mod Homes
 pub mod Liveness
+mod Fitting

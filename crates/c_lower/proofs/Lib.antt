@@ -3,6 +3,7 @@ pub mod KeyValues
 pub mod KeyStays
 pub mod Counting
 pub mod NextInt
+pub mod KeyNames
 pub mod Credits
 pub mod Accesses
 pub mod Temporaries
@@ -12,3 +13,4 @@ pub mod Statements
 pub mod Programs
 pub mod Homes
 pub mod Liveness
+mod Fitting

@@ -2,7 +2,7 @@
 -- to below the bound.
 use Rattle.std.proofs.Common.{◌≡◌, ℕ, ◌+◌, ◌%◌, ◌^◌, [], ◌∷◌, Option, Some, None, Bool, true, false, refl}
 use Rattle.std.proofs.Common.{sym, ap, ◌∙◌, subst, arith}
-use Rattle.std.specs.Prelude.{not, ◌==◌, if◌then◌else◌}
+use Rattle.std.specs.Prelude.{not, ◌&&◌, ◌==◌, if◌then◌else◌}
 use Rattle.std.proofs.lemmas.Bool.{eqb-true, le-ltb}
 use Rattle.std.proofs.lemmas.List.{get_or-set_same}
 use Rattle.std.proofs.lemmas.Option.{same_Some}
@@ -23,7 +23,7 @@ use Rattle.c_tree.specs.Statements.{Initializer, of_plain, First, first_expressi
 use Rattle.c_tree.specs.Assigning.{statement_assigns}
 use Rattle.c_tree.specs.Valid.{Scope}
 use Rattle.c_const.specs.Integers.{constant_word}
-use Rattle.source_meaning.specs.State.{State, Gives, Run, on, ◌>>◌, done, skip, Env}
+use Rattle.source_meaning.specs.State.{State, Gives, Run, on, ◌>>◌, done, skip, Setting, Env}
 use Rattle.source_meaning.specs.Actions.{integer, is_zero, integer_type, scalar_of, plain_value, with_plain, set_plain}
 use Rattle.source_meaning.specs.Actions.{converted_to, given, value_or_divide, operate}
 use Rattle.source_meaning.specs.Structures.{give, as_rvalue}
@@ -40,8 +40,13 @@ use Rattle.source_meaning.proofs.Constants.Steps.{finds_quotient}
 use Rattle.source_meaning.proofs.Naming.{Names, NamesIfAny, PlainNames}
 use Rattle.source_meaning.proofs.SureTree.{evaluate_sure}
 use Rattle.source_meaning.proofs.ValidNames.{both}
-use Rattle.tac_ir.specs.Meaning.{begun}
-use Rattle.c_lower.specs.Counted.{CountedParts, Setting, set_to, int_constant, is_one, int_variable, bare_name}
+use Rattle.tac_ir.specs.declared.instruction.Instruction.TheVariants.{Turn}
+use Rattle.tac_ir.specs.declared.function.Tac.{Tac}
+use Rattle.tac_ir.specs.Stage.{Temps}
+use Rattle.tac_ir.specs.Fitting.{is_counted}
+use Rattle.tac_ir.specs.Meaning.{loops_of, function_in, begun, fits}
+use Rattle.c_lower.specs.Statements.{CountedIs}
+use Rattle.c_lower.specs.Counted.{CountedParts, Setting as Set, set_to, int_constant, is_one, int_variable, bare_name}
 use Rattle.c_lower.specs.Counted.{is_variable, set_by_name, set_first, compared_with, counts_up, if_counted, counted_by}
 use Rattle.c_lower.specs.Counted.{counted_parts}
 use Rattle.c_lower.proofs.NextInt.{next_no_less}
@@ -71,7 +76,7 @@ variable_is x (Some y) h = ap Some (eqb-true y x h)
 set_is : (o : Option ℕ) (y x w : ℕ) → set_to y o ≡ Some (record { variable = x; word = w }) → (y ≡ x) × (o ≡ Some w)
 set_is None y x w h = absurd (cc)
 set_is (Some v) y x w h = let same = same_Some _ _ h in
-    (ap (λ (z : Setting). z.variable) same, ap (λ (z : Setting). Some z.word) same)
+    (ap (λ (z : Set). z.variable) same, ap (λ (z : Set). Some z.word) same)
 
 set_by_is : (n o : Option ℕ) (x w : ℕ) → set_by_name n o ≡ Some (record { variable = x; word = w })
     → (n ≡ Some x) × (o ≡ Some w)
@@ -102,7 +107,7 @@ module _ (first : First) (condition step : Option Expression) (body : Statement)
       )
   parts_if false x a w h = absurd (cc)
 
-  parts_by : (a b : Option Setting) → set_first first ≡ a → compared_with condition ≡ b
+  parts_by : (a b : Option Set) → set_first first ≡ a → compared_with condition ≡ b
       → counted_by a b step body ≡ Some q → HasParts first condition step body q
   parts_by (Some a) (Some b) f c h =
       let p = parts_if _ a.variable a.word b.word h in
@@ -422,3 +427,13 @@ module _ (env : Env) (sc : Context) (sure : Calling sc env)
     stays = body_counted env sc first condition step body q (counts_by q e);
     ends = between_counted env sc first condition step body q (counts_by q e);
   }
+
+-- so what a turn is given fits
+pub turn_fits : (g : Setting) (t : Tac) (u m : ℕ) (counted : Option ℕ) (o : Option CountedParts)
+    (setting condition turn step : ℕ) → CountedIs (loops_of (function_in t u)) counted o setting condition turn step
+    → (s : State) → InRange o s → (temps : Temps) (k : ℕ) → fits g t (Turn counted m) u temps (at_work k s) ≡ true
+turn_fits g t u m None o setting condition turn step is s range temps k = refl
+turn_fits g t u m (Some i) None setting condition turn step is s range temps k = absurd is
+turn_fits g t u m (Some i) (Some q) setting condition turn step is s range temps k =
+    ap (λ l. is_counted l (at_work k s)) is
+    ∙ ap (λ b. not b && is_less true (plain_value q.variable s).word q.bound) range.0 ∙ range.1

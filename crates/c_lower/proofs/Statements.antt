@@ -17,6 +17,7 @@ use Rattle.c_tree.specs.Statements.{do_while, for, switch, break, continue, retu
 use Rattle.c_tree.specs.Statements.{statements, SwitchItems, no_items, items}
 use Rattle.c_tree.specs.Blocks.{block_variables, switch_variables, first_variables, opened}
 use Rattle.c_tree.specs.Walk.{assigns}
+use Rattle.c_tree.specs.Assigning.{statement_assigns}
 use Rattle.c_tree.specs.Valid.{Scope, at_number, within, is_converted, is_valid, is_condition}
 use Rattle.c_tree.specs.ValidProgram.{is_content, is_part, are_parts, is_initializer, are_declared, is_first}
 use Rattle.c_tree.specs.ValidProgram.{is_condition_if, is_expression_if, is_declaration, Inside as Surrounding}
@@ -68,6 +69,8 @@ use Rattle.c_lower.proofs.Accesses.{direct_is_live, value_moves}
 use Rattle.c_lower.proofs.Temporaries.{placed, put_same, ValueIn}
 use Rattle.c_lower.proofs.Values.{CallsRun, text_at, false_by, plain_fits, expression_runs, argument_at}
 use Rattle.c_lower.proofs.Fitting.{written_fits, AreDeclared}
+use Rattle.c_lower.specs.Counted.{counted_parts}
+use Rattle.c_lower.proofs.Counting.{FromStart, InRange, turning_any, begins_by, turning_by, turn_fits}
 use Rattle.c_lower.proofs.Flow.{Completes, Anyhow, home_kept, AreNamed, named_opened, completes_less}
 use Rattle.c_lower.proofs.Flow.{completes_frame, next_goes, test_goes, switch_left, choose_goes, labels_go}
 use Rattle.c_lower.proofs.Flow.{default_goes, turns_run, turns_before_run, scoped_goes}
@@ -286,7 +289,8 @@ module _ (t : Tac) (n : ℕ) (env : Env) (deep : env.depth ≡ suc n) (base : Sc
     (inside : Inside base sizes env)
     (callers : (vs : List Variable)
     → CallsRun env.setting t env.limit (context_of base sizes env.variables vs) env.call n)
-    (stays : (y : ℕ) (e : Expression) → assigns y e ≡ false → Stays y (evaluate env e)) (u : ℕ)
+    (stays : (y : ℕ) (e : Expression) → assigns y e ≡ false → Stays y (evaluate env e))
+    (stays_in : (y : ℕ) (st : Statement) → statement_assigns y st ≡ false → Stays y (execute env st)) (u : ℕ)
     (literals : List Bool)
     (tables : AreDeclared t env.setting (context_of base sizes env.variables env.variables) u)
     (all_sized : HaveBytes env.variables) where
@@ -394,12 +398,12 @@ module _ (t : Tac) (n : ℕ) (env : Env) (deep : env.depth ≡ suc n) (base : Sc
         goes_counted
         (goes_spare 3 (omega arith)
         (turns_run env.setting t env.limit n u frames (at vs) (length base.functions) base.result n0 tr.0 tr.1 n0 None x
-        _ _ _ (holds_at vs (Some e) v.0) (executed vs inside_loop st v.1) sure_skip
+        _ _ _ _ _ turning_any (holds_at vs (Some e) v.0) (executed vs inside_loop st v.1) sure_skip
         (λ t k s w l. condition_at vs frames (Some e) n0 tr.0 x.next t k s named tr.2 v.0 w l)
         (λ t k s w l. goes_done {a = tt} (omega arith) refl refl tt)
         (λ t k s w l. completes_less 2 (left_in_loop st v.2)
         (statement_runs vs frames inside_loop st tr.1 _ t k s named tr.4 v.1 w l))
-        tr.3 (λ temps k s. refl) env.depth (omega (arith, deep)) temps k _ good (omega (arith, lt, deep)) lt))
+        tr.3 (λ s w temps k. refl) env.depth (omega (arith, deep)) temps k _ good tt (omega (arith, lt, deep)) lt))
     statement_runs vs frames within (do_while st e) n0 x temps k s named tr ok good lt =
         let v = three (is_statement (at vs).scope inside_loop st) _ (is_condition (at vs).scope e) ok in
         goes_counted
@@ -416,6 +420,9 @@ module _ (t : Tac) (n : ℕ) (env : Env) (deep : env.depth ≡ suc n) (base : Sc
         let more = named_opened numbers 0 env.variables vs named in
         let v = five (is_first (at d).scope first) (is_condition_if (at d).scope condition)
         (is_expression_if (at d).scope step) (is_statement (at d).scope inside_loop st) _ ok in
+        let parts = counted_parts first condition step st in
+        let tested = condition_if (agree_same (at d).scope) condition v.1 in
+        let stepped = expression_if (agree_same (at d).scope) step v.2 in
         goes_counted (completes_less {b = 5} 2 (omega arith)
         (scoped_goes env.setting t env.limit u frames base sizes inside.at inside.mapped literals env.variables all_sized tables.variables vs
         numbers 1 5 line n0 tr.0 tr.5 x temps k _ _ tr.7.0 tr.7.1 tr.7.2 tr.7.3 good ?for (λ frames k0 s0 good0 e0.
@@ -425,14 +432,18 @@ module _ (t : Tac) (n : ℕ) (env : Env) (deep : env.depth ≡ suc n) (base : Sc
         temps k0 s0 tr.8 v.0 good0 (omega (arith, e0, lt))) (λ z s1 t1 k1 p1 le1 is1 lv1 w1.
         completes_frame 5 3 2
         (turns_run env.setting t env.limit n u frames (at d) (length base.functions) base.result tr.1 tr.2 tr.3 tr.4
-        tr.6 tr.5 _ _ _ (holds_at d condition v.1) (executed d inside_loop st v.3)
-        (perform_sure (inside.calling d) step (expression_if (agree_same (at d).scope) step v.2))
+        tr.6 tr.5 _ _ _ (FromStart parts) (InRange parts)
+        (turning_by env (at d) (inside.calling d) stays_in first condition step st tested stepped parts refl) (holds_at d condition v.1) (executed d inside_loop st v.3)
+        (perform_sure (inside.calling d) step stepped)
         (λ t k s w l. condition_at d frames condition tr.1 tr.2 tr.5.next t k s more tr.9 v.1 w l)
         (λ temps k s w l. part_runs t n env (at d) (inside.calling d) (callers d) stays u frames literals env.variables (declared_at d more) (sized_at d more) step
         tr.4 tr.1 temps k s tr.12 v.2 w l)
         (λ t k s w l. completes_less 2 (left_in_loop st v.4)
         (statement_runs d frames inside_loop st tr.3 _ t k s more tr.13 v.3 w l))
-        tr.10 ?turn env.depth (omega (arith, deep)) t1 k1 s1 lv1.good (omega (arith, le1, e0, lt, deep))
+        tr.10 (turn_fits env.setting t u tr.3 tr.6 parts tr.0 tr.1 tr.2 tr.4 tr.11) env.depth (omega (arith, deep)) t1 k1
+        s1 lv1.good
+        (begins_by env (at d) (inside.calling d) stays_in first condition step st tested stepped parts refl s0 s1 good0 is1)
+        (omega (arith, le1, e0, lt, deep))
         (omega (arith, le1, e0, lt)))))))
     statement_runs vs frames within (switch e line is) n0 x temps k s named tr ok good lt =
         let numbers = switch_variables is in

@@ -38,7 +38,8 @@ use Rattle.tac_ir.specs.Accesses.{is_place, is_home}
 use Rattle.tac_ir.specs.Fitting.{is_word, has_no_tag, is_of_type, is_scalar_of, is_plain_word, has_bytes, is_passed}
 use Rattle.tac_ir.specs.Fitting.{are_passed, is_written, is_in_place, is_held, is_update_of, is_type, taken_by, fit_type}
 use Rattle.tac_ir.specs.Fitting.{is_int, is_printed, each_printed, are_printed}
-use Rattle.tac_ir.specs.Meaning.{variables_in, function_in, type_of, header_of_code}
+use Rattle.tac_ir.specs.Meaning.{variables_in, function_in, header_of_code}
+use Rattle.c_lower.proofs.KeyNames.{HaveSizes}
 
 pub both_true : {a b : Bool} → a ≡ true → b ≡ true → (a && b) ≡ true
 both_true {a = true} e h = h
@@ -192,7 +193,7 @@ type_fits Pointer = refl
 pub record AreDeclared (t : Tac) (g : Setting) (sc : Context) (u : ℕ) : Type 0 where
   pub few : function_address (function_count sc) ≤ 2 ^ 64
   pub functions : length g.functions ≡ function_count sc
-  pub statics : map (λ (d : StaticData). d.size) t.statics ≡ map size_of_kind sc.scope.statics
+  pub statics : HaveSizes sc.scope.statics t.statics
   pub calls : (f : ℕ) (c : CodeFunction) → function_in t f ≡ Some c → taken_by (header_of_code c) ≡ taking sc f
   pub types : (f : ℕ) (h : Header) → slice_get g.functions f ≡ Some h
       → taken_by h ≡ (signature_in sc.scope.types h.type_number).parameters
@@ -222,15 +223,7 @@ type_arguments_fit types n vs fit (h ∷ hs) e =
         ∙ ap (λ m. are_passed (signature_in types m).parameters vs) (eqb-true h.type_number n same) ∙ fit
     by false same = refl
 
-pub lengths_same : (ds : List StaticData) (ks : List Kind) → map (λ (d : StaticData). d.size) ds ≡ map size_of_kind ks
-    → length ds ≡ length ks
-lengths_same [] [] e = refl
-lengths_same [] (k ∷ ks) e = cc
-lengths_same (d ∷ ds) [] e = cc
-lengths_same (d ∷ ds) (k ∷ ks) e = ap suc (lengths_same ds ks cc)
-
-pub object_is_named : (vs : List Variable) (x : ℕ) → (at_number vs x).is_object ≡ true
-    → (kind : Kind) × (object_kind vs x ≡ Some kind)
-object_is_named [] x e = cc
-object_is_named (v ∷ vs) zero e = (v.kind, ap (λ b. if b then Some v.kind else None) e)
-object_is_named (v ∷ vs) (suc x) e = object_is_named vs x e
+pub data_below : (ds : List StaticData) (n : ℕ) (d : StaticData) → slice_get ds n ≡ Some d → n < length ds
+data_below [] n d e = cc
+data_below (x ∷ ds) zero d e = omega arith
+data_below (x ∷ ds) (suc n) d e = omega (arith, data_below ds n d e)

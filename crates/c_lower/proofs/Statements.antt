@@ -519,7 +519,7 @@ module _ (t : Tac) (n : ℕ) (env : Env) (deep : env.depth ≡ suc n) (base : Sc
 
     -- the items that are run
     cases_run : (vs : List Variable) (frames : List Frame) (within : Surrounding) (is : SwitchItems) (c0 n0 other : ℕ)
-        (x : Exits) (all : List LabeledRun) (v : Rvalue) (temps : Temps) (k : ℕ) (s : State) → HaveBytes vs
+        (x : Exits) (all : List LabeledRun) (v : Rvalue) (temps : Temps) (k : ℕ) (s : State) → AreNamed env.variables vs
         → LowersItems here is c0 n0 other x → are_items (at vs).scope within is ≡ true → IsGood (at vs) s → temps 0 ≡ v
         → env.limit < n + s.turns
         → ((k : ℕ) → Completes env.setting t env.limit 0 0 u frames x

@@ -75,10 +75,10 @@ use Rattle.c_tree.specs.Kinds.{routine_signature}
 use Rattle.c_tree.specs.declared.expression.Update.{Update}
 use Rattle.c_tree.specs.Valid.{is_automatic, is_static}
 use Rattle.c_lower.specs.Values.{KeyIs}
-use Rattle.c_lower.proofs.KeyNames.{BaseIf, key_base_there, read_named, write_named}
+use Rattle.c_lower.proofs.KeyNames.{BaseIf, object_found, static_there, key_base_there, read_named, write_named}
 use Rattle.c_lower.proofs.Fitting.{both_true, in_place, word_fits, written_fits, held_fits, arguments_fit, printed_fits}
-use Rattle.c_lower.proofs.Fitting.{update_fits, kind_update_fits, type_fits, constant_fits, type_arguments_fit, lengths_same}
-use Rattle.c_lower.proofs.Fitting.{object_is_named, AreDeclared}
+use Rattle.c_lower.proofs.Fitting.{update_fits, kind_update_fits, type_fits, constant_fits, type_arguments_fit, data_below}
+use Rattle.c_lower.proofs.Fitting.{AreDeclared}
 use Rattle.source_meaning.proofs.Naming.{PlainNames, UpdatesKind}
 use Rattle.source_meaning.specs.Good.{plain_type, IsWord}
 use Rattle.source_meaning.specs.State.{NoObject}
@@ -341,15 +341,16 @@ module _ (t : Tac) (n : ℕ) (env : Env) (sc : Context) (sure : Calling sc env)
   home_fits : (x : ℕ) (kind : Kind) → is_automatic sc.scope x kind ≡ true → (s : State) → IsGood sc s
       → is_home (get_or s.frame x NoObject) s.objects ≡ true
   home_fits x kind ok s good =
-      let has = object_is_named sc.scope.variables x (both _ _ ok).0 in
-      let h = good.homes x has.0 has.1 in
+      let has = object_found sc.scope.variables x (both _ _ ok).0 in
+      let h = good.homes x _ has in
       ap (λ home. is_home home s.objects) h.home ∙ h.held.live
 
   static_fits : (n : ℕ) (kind : Kind) → is_static sc.scope n kind ≡ true → nat_lt n (length t.statics) ≡ true
   static_fits n kind ok =
       let le = ltb-true n (length sc.scope.statics) (both (nat_lt n (length sc.scope.statics)) _ ok).0 in
-      let same = lengths_same t.statics sc.scope.statics declared.statics in
-      lt-ltb _ _ (omega (arith, le, same))
+      let k = static_there sc.scope.statics n le in
+      let d = declared.statics n k.0 k.1 in
+      lt-ltb _ _ (data_below t.statics n d.0 d.1)
 
   -- the pointer of an access that has a key
   key_fits : (ok : Option Key) (key : Option ℕ) → KeyIs (keys_of (function_in t u)) key ok → (s : State) → IsGood sc s

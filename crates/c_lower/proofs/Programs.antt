@@ -50,6 +50,7 @@ use Rattle.source_meaning.proofs.SureFlow.{row_sure}
 use Rattle.source_meaning.proofs.Naming.{FunctionsName}
 use Rattle.source_meaning.proofs.Naming.{ProgramNames, FunctionNames, kinds_in, scope_of, names_of}
 use Rattle.source_meaning.proofs.Stays.{expression_stays}
+use Rattle.source_meaning.proofs.StaysFlow.{body_stays}
 use Rattle.source_meaning.proofs.Laying.{fresh_size}
 use Rattle.source_meaning.proofs.SureCalls.{set_up_by}
 use Rattle.source_meaning.proofs.SureMeaning.{NamesFound, found_names, SignatureIs, signature_found, static_context}
@@ -424,7 +425,8 @@ module _ (p : Program) (budgets : BudgetSizes) (mapped : AreMapped (setting_of p
       (sym ((is_setting p budgets mapped (valid_names p valid)).results fn.type_number))
       ((row_sure inside (fn.parameters ++ body_variables fn) fn.body named.body).by s3 up.good tt)))
       (statements_run t n env refl base g.sizes inside (λ vs. callers (context_of base g.sizes (all_of fn) vs).scope)
-      (λ y e. expression_stays p.functions g limit n (all_of fn) y e) f (literals_of p.statics)
+      (λ y e. expression_stays p.functions g limit n (all_of fn) y e)
+      (λ y st. body_stays p.functions g limit n (all_of fn) y st) f (literals_of p.statics)
       (tables_of f fn variables base refl refl refl) ok.sized
       (fn.parameters ++ body_variables fn) frames outside_loops fn.body c.entry _ no_temps k2 s3
       (named_body fn) b.2 ok.body up.good (omega (arith, e2, lt))))))

@@ -1,4 +1,3 @@
-use Rattle.c_lower.proofs.Statements.{statements_run}
 use Rattle.c_lower.proofs.KeyValues.{place_right, right_gives}
 use Rattle.c_lower.proofs.laws.keys_give_pointers.Goals as goal
 

@@ -310,8 +310,8 @@ module _ (g : Setting) (t t' : Tac) (ins : Inserted t t') where
       (read_ends k (temps a) line) (λ x f. refl) h.2 h.3 h.4 refl (λ k. refl)
       (s.work + (1 + entries_of (OfScalar k) + 2)) (omega arith) _ refl fine
   instruction_by (Read (Structure size) Unchecked line key d a m) u n temps frames s h fine =
-      checked u n h.0 h.1 size line a 1 key (is_in_place (temps a).contents d a) _ temps frames s (λ x. x) (read_rvalue (Structure size) true (temps a) line)
-      (given_in u m temps d frames)
+      checked u n h.0 h.1 size line a 1 key (is_in_place (temps a).contents d a) _ temps frames s (λ x. x)
+      (read_rvalue (Structure size) true (temps a) line) (given_in u m temps d frames)
       (read_structure_ends size (temps a) line) (λ x f. refl) h.2 h.3 h.4 refl (λ k. refl) (s.work + 3) (omega arith) _
       refl fine
   instruction_by (Write (OfScalar k) Unchecked line key d a b m) u n temps frames s h fine =
@@ -323,7 +323,8 @@ module _ (g : Setting) (t t' : Tac) (ins : Inserted t t') where
       (moved_passes (OfScalar k) (temps b) s.objects) h.2 h.3 h.4
       refl (λ k. refl) (s.work + (1 + stores_of (OfScalar k) + 2)) (omega arith) _ refl fine
   instruction_by (Write (Structure size) Unchecked line key d a b m) u n temps frames s h fine =
-      checked u n h.0 h.1 size line a 6 key (is_written (Structure size) (temps b)) _ temps frames s (moved_from (Structure size) (temps b) s.objects)
+      checked u n h.0 h.1 size line a 6 key (is_written (Structure size) (temps b)) _ temps frames s
+      (moved_from (Structure size) (temps b) s.objects)
       (heavier (write_rvalue (Structure size) true (temps a).value line (temps b))) (given_in u m temps d frames)
       (λ none. heavier_ends (write_structure_ends size (temps a).value line (temps b)))
       (moved_passes (Structure size) (temps b) s.objects) h.2 h.3 h.4 refl (λ k. refl) (s.work + 8) (omega arith) _

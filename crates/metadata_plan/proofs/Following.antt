@@ -19,7 +19,8 @@ use Rattle.tac_ir.specs.declared.instruction.Instruction.TheVariants as tac
 use Rattle.tac_ir.specs.declared.function.Tac.{Tac}
 use Rattle.tac_ir.specs.Stage.{Temps, Frame, Stage, Begins, Stands, Over, Stuck, seen}
 use Rattle.tac_ir.specs.Costs.{cost, spent}
-use Rattle.tac_ir.specs.Meaning.{effect, act_at, code_of, step, setting_of_code, objects_before, first_stage, tac_meaning}
+use Rattle.tac_ir.specs.Meaning.{effect, act_at, code_of, step, setting_of_code, objects_before, first_stage}
+use Rattle.tac_ir.specs.Meaning.{tac_meaning}
 use Rattle.flat_meaning.specs.declared.function.FlatProgram.{FlatProgram}
 use Rattle.flat_meaning.specs.Memory.{Bytes, AreBytes}
 use Rattle.flat_meaning.specs.State as flat

@@ -38,13 +38,16 @@ use Rattle.tac_ir.specs.Stage.{Temps, Frame, Stage, Begins, Stands, Over, Stuck,
 use Rattle.tac_ir.specs.Stage.{seen}
 use Rattle.tac_ir.specs.Keys.{gives}
 use Rattle.tac_ir.specs.Accesses.{only_if, is_there, is_place, admitted, moved_from}
+use Rattle.tac_ir.specs.Fitting.{is_written, is_in_place, is_update_of}
 use Rattle.tac_ir.specs.Costs.{entries_of, stores_of, updates_of, cost, spent, fourfold, heavier}
 use Rattle.tac_ir.specs.Meaning.{code_of, keys_of, function_in, keyed_by, keyed, right_value}
-use Rattle.tac_ir.specs.Meaning.{setting_of_code, given_in, act, act_at}
+use Rattle.tac_ir.specs.Meaning.{setting_of_code, given_in, fits_key, act, act_at}
 use Rattle.tac_ir.specs.Meaning.{check, at_node, step, objects_before, first_stage, tac_meaning}
+use Rattle.tac_ir.proofs.Fits.{only_true, only_opens}
 use Rattle.tac_ir.proofs.KeyWork.{gives_work}
 use Rattle.tac_ir.proofs.SameTables.{act_same, begins_same, meaning_same}
 use Rattle.tac_ir.proofs.Turns.{follower_never_stuck}
+use Rattle.check_insert.proofs.KeyFits.{key_fits_work}
 use Rattle.check_insert.specs.Inserted.{Has, StandsFor, InsertedAt, Inserted}
 
 abbrev pub IsFine : Stage → Type 0
@@ -65,19 +68,15 @@ same_matches Stuck y fine e = absurd (fine refl)
 
 -- tests that are passed
 
-only_true : (b : Bool) (x : Stage) → IsFine (only_if b x) → b ≡ true
-only_true true x fine = refl
-only_true false x fine = absurd (fine refl)
-
-only_passes : (b : Bool) (x : Stage) → IsFine (only_if b x) → only_if b x ≡ x
-only_passes true x fine = refl
-only_passes false x fine = absurd (fine refl)
+both_true : (a b : Bool) → a && b ≡ true → (a ≡ true) × (b ≡ true)
+both_true true b e = (refl, e)
+both_true false b e = cc
 
 moved_passes : (kind : Kind) (v : Rvalue) (objects : Objects) (x : Stage) → IsFine (moved_from kind v objects x)
     → moved_from kind v objects x ≡ x
 moved_passes Void v objects x fine = refl
 moved_passes (OfScalar k) v objects x fine = refl
-moved_passes (Structure n) v objects x fine = only_passes (is_there v.contents n v.value objects) x fine
+moved_passes (Structure n) v objects x fine = (only_true (is_there v.contents n v.value objects) x fine).1
 moved_passes (Array n) v objects x fine = refl
 
 key_passes_by : (key : Option Key) (k0 : ℕ) (s : State) (v : Value) (x : Stage)
@@ -85,7 +84,7 @@ key_passes_by : (key : Option Key) (k0 : ℕ) (s : State) (v : Value) (x : Stage
 key_passes_by None k0 s v x fine k y = absurd (fine refl)
 key_passes_by (Some key) k0 s v x fine k y =
     ap (λ b. only_if b y)
-    (gives_work key k s v ∙ sym (gives_work key k0 s v) ∙ only_true (gives key (at_work k0 s) v) x fine)
+    (gives_work key k s v ∙ sym (gives_work key k0 s v) ∙ (only_true (gives key (at_work k0 s) v) x fine).0)
 
 -- at any count of work
 key_passes : (keys : List Key) (key : Option ℕ) (k0 : ℕ) (s : State) (v : Value) (x : Stage)
@@ -179,37 +178,56 @@ module _ (g : Setting) (t t' : Tac) (ins : Inserted t t') where
         (ap (λ j. act_at g t' j u temps frames s) has ∙ act_same ins.tables g i u temps frames (spent (cost i) s)),
   )
 
-  -- an access that gets its checks: x is the step without them, and w what the access costs after them
-  module _ (u n n1 n2 size line a w : ℕ) (key : Option ℕ) (access : Instruction) (temps : Temps) (frames : List Frame)
-      (s : State) (W : Stage → Stage) (r : Run Rvalue) (F : Rvalue → State → Stage)
+  -- An access that gets its checks: x is the step without them, and w what the access costs after them. It fits where
+  -- what it is given does, whatever its key, and its pointer may be of its key.
+  module _ (u n n1 n2 size line a w : ℕ) (key : Option ℕ) (given_fits : Bool) (access : Instruction) (temps : Temps)
+      (frames : List Frame) (s : State) (W : Stage → Stage) (r : Run Rvalue) (F : Rvalue → State → Stage)
       (ends : (temps a).contents ≡ None → EndsAs r size (temps a).value line)
       (passes : (x : Stage) → IsFine (W x) → W x ≡ x)
       (has1 : at_node t' u n ≡ Some (Judge Spatial size line key a n1))
       (has2 : at_node t' u n1 ≡ Some (Judge Temporal size line key a n2)) (has3 : at_node t' u n2 ≡ Some access)
       (costs : cost access ≡ w)
       (acts : (k : ℕ) → act g t access u temps frames (at_work k s)
-      ≡ keyed (keys_of (function_in t u)) key (at_work k s) (temps a).value
-      (admitted Judged size (temps a) s.objects (W (came (r (at_work k s)) F))))
+      ≡ only_if (given_fits && fits_key t u key (at_work k s) (temps a).value)
+      (keyed (keys_of (function_in t u)) key (at_work k s) (temps a).value
+      (admitted Judged size (temps a) s.objects (W (came (r (at_work k s)) F)))))
       (before : ℕ) (paid : before ≡ s.work + 1 + 1 + w)
-      (x : Stage) (is : x ≡ keyed (keys_of (function_in t u)) key (at_work before s) (temps a).value
-      (admitted Unchecked size (temps a) s.objects (W (came (r (at_work before s)) F)))) (fine : IsFine x) where
+      (x : Stage) (is : x ≡ only_if (given_fits && fits_key t u key (at_work before s) (temps a).value)
+      (keyed (keys_of (function_in t u)) key (at_work before s) (temps a).value
+      (admitted Unchecked size (temps a) s.objects (W (came (r (at_work before s)) F))))) (fine : IsFine x) where
     abbrev v : Value
     v = (temps a).value
 
     abbrev keys : List Key
     keys = keys_of (function_in t u)
 
+    fit : (given_fits && fits_key t u key (at_work before s) v ≡ true)
+        × (x ≡ keyed keys key (at_work before s) v (admitted Unchecked size (temps a) s.objects
+        (W (came (r (at_work before s)) F))))
+    fit = let o = only_true (given_fits && fits_key t u key (at_work before s) v) _ (λ e. fine (is ∙ e)) in
+        (o.0, is ∙ o.1)
+
+    fit_parts : (given_fits ≡ true) × (fits_key t u key (at_work before s) v ≡ true)
+    fit_parts = both_true given_fits (fits_key t u key (at_work before s) v) fit.0
+
+    -- the checks and the access behind them fit too
+    key_fits : (k : ℕ) → fits_key t u key (at_work k s) v ≡ true
+    key_fits k = key_fits_work t u key k s v ∙ sym (key_fits_work t u key before s v) ∙ fit_parts.1
+
+    all_fits : (k : ℕ) → given_fits && fits_key t u key (at_work k s) v ≡ true
+    all_fits k = ap (λ b. b && fits_key t u key (at_work k s) v) fit_parts.0 ∙ key_fits k
+
     key_open : (k : ℕ) (y : Stage) → keyed keys key (at_work k s) v y ≡ y
-    key_open = key_passes keys key before s v _ (λ e. fine (is ∙ e))
+    key_open = key_passes keys key before s v _ (λ e. fine (fit.1 ∙ e))
 
     abbrev placed : Stage
     placed = W (came (r (at_work before s)) F)
 
     admits : x ≡ only_if (is_place (temps a).contents) placed
-    admits = is ∙ key_open before _
+    admits = fit.1 ∙ key_open before _
 
     is_none : is_place (temps a).contents ≡ true
-    is_none = only_true (is_place (temps a).contents) placed (λ e. fine (admits ∙ e))
+    is_none = (only_true (is_place (temps a).contents) placed (λ e. fine (admits ∙ e))).0
 
     x_is : x ≡ placed
     x_is = admits ∙ ap (λ b. only_if b placed) is_none
@@ -226,7 +244,7 @@ module _ (g : Setting) (t t' : Tac) (ins : Inserted t t') where
     first_step b e =
         ap (λ j. act_at g t' j u temps frames s) has1
         ∙ act_same ins.tables g (Judge Spatial size line key a n1) u temps frames (at_work (s.work + 1) s)
-        ∙ key_open (s.work + 1) _
+        ∙ only_opens _ (key_fits (s.work + 1)) ∙ key_open (s.work + 1) _
         ∙ ap (λ b. came (pass_or_stop b (ending.Spatial line) (at_work (s.work + 1) s))
         (λ _ z. Stands u n1 temps frames z)) e
 
@@ -236,7 +254,7 @@ module _ (g : Setting) (t t' : Tac) (ins : Inserted t t') where
     second_step e0 b e =
         ap (λ j. act_at g t' j u temps frames (at_work (s.work + 1) s)) has2
         ∙ act_same ins.tables g (Judge Temporal size line key a n2) u temps frames (at_work (s.work + 1 + 1) s)
-        ∙ key_open (s.work + 1 + 1) _
+        ∙ only_opens _ (key_fits (s.work + 1 + 1)) ∙ key_open (s.work + 1 + 1) _
         ∙ ap (λ q. only_if q (came (check Temporal size v line (at_work (s.work + 1 + 1) s))
         (λ _ z. Stands u n2 temps frames z))) e0
         ∙ ap (λ b. came (pass_or_stop b (ending.Temporal line) (at_work (s.work + 1 + 1) s))
@@ -248,7 +266,7 @@ module _ (g : Setting) (t t' : Tac) (ins : Inserted t t') where
         ap (λ j. act_at g t' j u temps frames (at_work (s.work + 1 + 1) s)) has3
         ∙ ap (λ w. act g t' access u temps frames (at_work (s.work + 1 + 1 + w) s)) costs
         ∙ act_same ins.tables g access u temps frames (at_work (s.work + 1 + 1 + w) s) ∙ acts (s.work + 1 + 1 + w)
-        ∙ key_open (s.work + 1 + 1 + w) _
+        ∙ only_opens _ (all_fits (s.work + 1 + 1 + w)) ∙ key_open (s.work + 1 + 1 + w) _
         ∙ ap (λ b. only_if (b && (is_within v.tag v.word size && is_live_tag v.tag s.objects))
         (W (came (r (at_work (s.work + 1 + 1 + w) s)) F))) is_none
         ∙ ap (λ b. only_if (b && is_live_tag v.tag s.objects) (W (came (r (at_work (s.work + 1 + 1 + w) s)) F))) e
@@ -286,30 +304,34 @@ module _ (g : Setting) (t t' : Tac) (ins : Inserted t t') where
       → StandsFor (code_of (function_in t' u)) n i → IsFine (act_at g t (Some i) u temps frames s)
       → (j : ℕ) × Matches (act_at g t (Some i) u temps frames s) (run (step g t') j (Stands u n temps frames s))
   instruction_by (Read (OfScalar k) Unchecked line key d a m) u n temps frames s h fine =
-      checked u n h.0 h.1 (scalar_size k) line a (1 + entries_of (OfScalar k) + 0) key _ temps frames s (λ x. x)
+      checked u n h.0 h.1 (scalar_size k) line a (1 + entries_of (OfScalar k) + 0) key
+      (is_in_place (temps a).contents d a) _ temps frames s (λ x. x)
       (read_rvalue (OfScalar k) true (temps a) line) (given_in u m temps d frames)
       (read_ends k (temps a) line) (λ x f. refl) h.2 h.3 h.4 refl (λ k. refl)
       (s.work + (1 + entries_of (OfScalar k) + 2)) (omega arith) _ refl fine
   instruction_by (Read (Structure size) Unchecked line key d a m) u n temps frames s h fine =
-      checked u n h.0 h.1 size line a 1 key _ temps frames s (λ x. x) (read_rvalue (Structure size) true (temps a) line)
-      (given_in u m temps d frames)
+      checked u n h.0 h.1 size line a 1 key (is_in_place (temps a).contents d a) _ temps frames s (λ x. x)
+      (read_rvalue (Structure size) true (temps a) line) (given_in u m temps d frames)
       (read_structure_ends size (temps a) line) (λ x f. refl) h.2 h.3 h.4 refl (λ k. refl) (s.work + 3) (omega arith) _
       refl fine
   instruction_by (Write (OfScalar k) Unchecked line key d a b m) u n temps frames s h fine =
-      checked u n h.0 h.1 (scalar_size k) line a (1 + stores_of (OfScalar k) + 0) key _ temps frames s
+      checked u n h.0 h.1 (scalar_size k) line a (1 + stores_of (OfScalar k) + 0) key
+      (is_written (OfScalar k) (temps b)) _ temps frames s
       (moved_from (OfScalar k) (temps b) s.objects)
       (heavier (write_rvalue (OfScalar k) true (temps a).value line (temps b))) (given_in u m temps d frames)
       (λ none. heavier_ends (write_ends k (temps a).value line (temps b)))
       (moved_passes (OfScalar k) (temps b) s.objects) h.2 h.3 h.4
       refl (λ k. refl) (s.work + (1 + stores_of (OfScalar k) + 2)) (omega arith) _ refl fine
   instruction_by (Write (Structure size) Unchecked line key d a b m) u n temps frames s h fine =
-      checked u n h.0 h.1 size line a 6 key _ temps frames s (moved_from (Structure size) (temps b) s.objects)
+      checked u n h.0 h.1 size line a 6 key (is_written (Structure size) (temps b)) _ temps frames s
+      (moved_from (Structure size) (temps b) s.objects)
       (heavier (write_rvalue (Structure size) true (temps a).value line (temps b))) (given_in u m temps d frames)
       (λ none. heavier_ends (write_structure_ends size (temps a).value line (temps b)))
       (moved_passes (Structure size) (temps b) s.objects) h.2 h.3 h.4 refl (λ k. refl) (s.work + 8) (omega arith) _
       refl fine
   instruction_by (Update w k f Unchecked line at key d a right m) u n temps frames s h fine =
-      checked u n h.0 h.1 (scalar_size k) line a (1 + updates_of (OfScalar k) + 0) key _ temps frames s (λ x. x)
+      checked u n h.0 h.1 (scalar_size k) line a (1 + updates_of (OfScalar k) + 0) key
+      (is_update_of w k) _ temps frames s (λ x. x)
       (as_rvalue (update k true (temps a).value line (updated w k (right_value right temps) at) f))
       (given_in u m temps d frames)
       (λ none. update_ends k (temps a).value line (updated w k (right_value right temps) at) f) (λ x f. refl) h.2 h.3

@@ -1,3 +1,4 @@
 pub mod Following
+mod KeyFits
 pub mod Nodes
 pub mod SameButChecks

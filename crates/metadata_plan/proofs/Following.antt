@@ -8,6 +8,7 @@ use Rattle.behaviours.specs.Steps.{run, Simulates, IsStepping}
 use Rattle.behaviours.proofs.Following.{follows_trans}
 use Rattle.behaviours.proofs.Running.{follows_by_steps, never_stuck}
 use Rattle.tac_ir.proofs.Turns.{follower_never_stuck}
+use Rattle.tac_ir.proofs.Fits.{act_fits}
 use Rattle.addr_map.specs.Places.{MapSizes, AreMapped}
 use Rattle.sb_base.specs.Budgets.{BudgetSizes}
 use Rattle.source_meaning.specs.State.{State, Setting}
@@ -18,7 +19,8 @@ use Rattle.tac_ir.specs.declared.instruction.Instruction.TheVariants as tac
 use Rattle.tac_ir.specs.declared.function.Tac.{Tac}
 use Rattle.tac_ir.specs.Stage.{Temps, Frame, Stage, Begins, Stands, Over, Stuck, seen}
 use Rattle.tac_ir.specs.Costs.{cost, spent}
-use Rattle.tac_ir.specs.Meaning.{act, act_at, code_of, step, setting_of_code, objects_before, first_stage, tac_meaning}
+use Rattle.tac_ir.specs.Meaning.{effect, act_at, code_of, step, setting_of_code, objects_before, first_stage}
+use Rattle.tac_ir.specs.Meaning.{tac_meaning}
 use Rattle.flat_meaning.specs.declared.function.FlatProgram.{FlatProgram}
 use Rattle.flat_meaning.specs.Memory.{Bytes, AreBytes}
 use Rattle.flat_meaning.specs.State as flat
@@ -55,11 +57,11 @@ module _ (o : OperatorCode) (views : Views) (g : Setting) (t : Tac) (address : (
   abbrev m : MapSizes
   m = g.sizes
 
-  -- an instruction of the part
+  -- what an instruction of the part does
   instruction : (u n : ℕ) (temps : Temps) (ws : List Frame) (s : State) (v : flat.State) (xs : List flat.Frame)
       → (h : IsAt views g t address p u n temps ws s u (address u n) v xs)
       → HasWords (flat.Stands u (address u n) v xs) → (i : Instruction) → slice_get h.code.code n ≡ Some i
-      → Result o views g t address p ops ex part (act g t i u temps ws (spent (cost i) s))
+      → Result o views g t address p ops ex part (effect g t i u temps ws (spent (cost i) s))
       (flat.Stands u (address u n) v xs)
   instruction u n temps ws s v xs h w (tac.Constant d k next) at =
       constant o views g t address p ops ex part u n temps ws s v xs h w.0 d k next at
@@ -104,8 +106,10 @@ module _ (o : OperatorCode) (views : Views) (g : Setting) (t : Tac) (address : (
           → (act_at g t q u temps ws s ≡ Stuck → ⊥)
           → Result o views g t address p ops ex part (act_at g t q u temps ws s) (flat.Stands u (address u n) v xs)
       by None e not_stuck = absurd (not_stuck refl)
-      by (Some i) e not_stuck = instruction u n temps ws s v xs h w i
-          (sym (ap (λ z. slice_get (code_of z) n) h.there) ∙ e)
+      by (Some i) e not_stuck =
+          subst (λ z. Result o views g t address p ops ex part z (flat.Stands u (address u n) v xs))
+          (sym (act_fits g t i u temps ws (spent (cost i) s) not_stuck).1)
+          (instruction u n temps ws s v xs h w i (sym (ap (λ z. slice_get (code_of z) n) h.there) ∙ e))
 
   one_step : (a : Stage) (x : flat.Stage) → MatchesBy views g t address p a x → HasWords x
       → (step g t a ≡ Stuck → ⊥) → Result o views g t address p ops ex part (step g t a) x

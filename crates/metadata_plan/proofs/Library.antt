@@ -22,7 +22,7 @@ use Rattle.tac_ir.specs.declared.function.CodeFunction.{CodeFunction}
 use Rattle.tac_ir.specs.declared.function.Tac.{Tac}
 use Rattle.tac_ir.specs.Stage.{Temps, with_temp, Frame, Stage, Stands, Over, came}
 use Rattle.tac_ir.specs.Costs.{spent, fourfold}
-use Rattle.tac_ir.specs.Meaning.{act, given_in}
+use Rattle.tac_ir.specs.Meaning.{effect, given_in}
 use Rattle.flat_meaning.specs.declared.instruction.FlatInstruction.TheVariants as flat_code
 use Rattle.flat_meaning.specs.declared.function.FlatProgram.{FlatProgram}
 use Rattle.flat_meaning.specs.Memory.{put}
@@ -83,7 +83,7 @@ module _ (o : OperatorCode) (views : Views) (g : Setting) (t : Tac) (address : (
 
   putchar : (line d count next : ℕ) → slice_get h.code.code n ≡ Some (tac.Library routine.Putchar line d count next)
       → count ≡ 1
-      → Gives (act g t (tac.Library routine.Putchar line d count next) u temps ws (spent 12 s))
+      → Gives (effect g t (tac.Library routine.Putchar line d count next) u temps ws (spent 12 s))
   putchar line d count next at one =
       let k = known (tac.Library routine.Putchar line d count next) at in
       let lt : d < most_temporaries c.code = omega (arith, k.temporaries_low) in
@@ -129,11 +129,11 @@ module _ (o : OperatorCode) (views : Views) (g : Setting) (t : Tac) (address : (
       })
       (record { objects = refl; frame = refl; stacked = refl; charged = refl }) refl (omega arith)
       (k.on next (inl refl)) in
-      subst (λ z. Gives (act g t (tac.Library routine.Putchar line d z next) u temps ws (spent 12 s))) (sym one)
+      subst (λ z. Gives (effect g t (tac.Library routine.Putchar line d z next) u temps ws (spent 12 s))) (sym one)
       (subst (λ z. Gives (stage_at z)) (sym word) result)
 
   getchar : (line d count next : ℕ) → slice_get h.code.code n ≡ Some (tac.Library routine.Getchar line d count next)
-      → Gives (act g t (tac.Library routine.Getchar line d count next) u temps ws (spent 12 s))
+      → Gives (effect g t (tac.Library routine.Getchar line d count next) u temps ws (spent 12 s))
   getchar line d count next at = by s.input refl
     where
       k : Node (tac.Library routine.Getchar line d count next)
@@ -190,7 +190,7 @@ module _ (o : OperatorCode) (views : Views) (g : Setting) (t : Tac) (address : (
 
   exit : (line d count next : ℕ) → slice_get h.code.code n ≡ Some (tac.Library routine.Exit line d count next)
       → count ≡ 1
-      → Gives (act g t (tac.Library routine.Exit line d count next) u temps ws (spent 12 s))
+      → Gives (effect g t (tac.Library routine.Exit line d count next) u temps ws (spent 12 s))
   exit line d count next at one =
       let k = known (tac.Library routine.Exit line d count next) at in
       let lt : d < most_temporaries c.code = omega (arith, k.temporaries_low) in
@@ -209,11 +209,11 @@ module _ (o : OperatorCode) (views : Views) (g : Setting) (t : Tac) (address : (
         turns = h.alike.turns;
       })
       (omega (arith, h.work, weight_small (function_in p u))) in
-      subst (λ z. Gives (act g t (tac.Library routine.Exit line d z next) u temps ws (spent 12 s))) (sym one)
+      subst (λ z. Gives (effect g t (tac.Library routine.Exit line d z next) u temps ws (spent 12 s))) (sym one)
       (subst (λ z. Gives (Over (ExitWith (int_of z)) (heavier_state (spent 12 s)))) (sym word) result)
 
   abort : (line d count next : ℕ) → slice_get h.code.code n ≡ Some (tac.Library routine.Abort line d count next)
-      → Gives (act g t (tac.Library routine.Abort line d count next) u temps ws (spent 12 s))
+      → Gives (effect g t (tac.Library routine.Abort line d count next) u temps ws (spent 12 s))
   abort line d count next at =
       let k = known (tac.Library routine.Abort line d count next) at in
       let report = report_of (AbortAt line) in
@@ -235,12 +235,12 @@ module _ (o : OperatorCode) (views : Views) (g : Setting) (t : Tac) (address : (
 
   pub library_step : (r : Routine) (line d count next : ℕ)
       → slice_get h.code.code n ≡ Some (tac.Library r line d count next)
-      → Gives (act g t (tac.Library r line d count next) u temps ws (spent 12 s))
+      → Gives (effect g t (tac.Library r line d count next) u temps ws (spent 12 s))
   library_step r line d count next at = by r at (known (tac.Library r line d count next) at).part
     where
       by : (r : Routine) → slice_get h.code.code n ≡ Some (tac.Library r line d count next)
           → is_integer_routine r count ≡ true
-          → Gives (act g t (tac.Library r line d count next) u temps ws (spent 12 s))
+          → Gives (effect g t (tac.Library r line d count next) u temps ws (spent 12 s))
       by routine.Putchar e fine = putchar line d count next e (eqb-true count 1 fine)
       by routine.Getchar e fine = getchar line d count next e
       by routine.Exit e fine = exit line d count next e (eqb-true count 1 fine)

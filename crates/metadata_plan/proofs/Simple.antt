@@ -25,7 +25,7 @@ use Rattle.tac_ir.specs.declared.function.CodeFunction.{CodeFunction}
 use Rattle.tac_ir.specs.declared.function.Tac.{Tac}
 use Rattle.tac_ir.specs.Stage.{Temps, with_temp, Frame, Stage, Stands, came}
 use Rattle.tac_ir.specs.Costs.{spent}
-use Rattle.tac_ir.specs.Meaning.{act, given_in, begun}
+use Rattle.tac_ir.specs.Meaning.{effect, given_in, begun}
 use Rattle.rv_isa.specs.declared.instruction.BranchOp.TheVariants.{Beq, Bne}
 use Rattle.rv_isa.specs.Results.{branch_taken}
 use Rattle.flat_meaning.specs.declared.instruction.RightOperand.TheVariants.{Register, Number}
@@ -172,7 +172,7 @@ module _ (o : OperatorCode) (views : Views) (g : Setting) (t : Tac) (address : (
       (set_by_put (first_free c) x (low_bits 64 w) v.values)
 
   pub constant : (d w next : ℕ) → slice_get h.code.code n ≡ Some (tac.Constant d w next)
-      → Gives (act g t (tac.Constant d w next) u temps ws (spent 1 s))
+      → Gives (effect g t (tac.Constant d w next) u temps ws (spent 1 s))
   constant d w next at =
       let k = known (tac.Constant d w next) at in
       let x = temporary_register c d in
@@ -187,7 +187,7 @@ module _ (o : OperatorCode) (views : Views) (g : Setting) (t : Tac) (address : (
       (computed_set o views g t address p ops ex part position place x w f f 5 r (omega arith)) (omega arith)
 
   pub get_plain : (d x next : ℕ) → slice_get h.code.code n ≡ Some (tac.GetPlain d x next)
-      → Gives (act g t (tac.GetPlain d x next) u temps ws (spent 1 s))
+      → Gives (effect g t (tac.GetPlain d x next) u temps ws (spent 1 s))
   get_plain d x next at =
       let k = known (tac.GetPlain d x next) at in
       let y = variable_register c x in
@@ -201,7 +201,7 @@ module _ (o : OperatorCode) (views : Views) (g : Setting) (t : Tac) (address : (
       (set_by_put (first_free c) r (v.values y) v.values) (omega arith))
 
   pub set_plain : (x a next : ℕ) → slice_get h.code.code n ≡ Some (tac.SetPlain x a next)
-      → Gives (act g t (tac.SetPlain x a next) u temps ws (spent 1 s))
+      → Gives (effect g t (tac.SetPlain x a next) u temps ws (spent 1 s))
   set_plain x a next at =
       let k = known (tac.SetPlain x a next) at in
       let y = variable_register c x in
@@ -216,7 +216,7 @@ module _ (o : OperatorCode) (views : Views) (g : Setting) (t : Tac) (address : (
       (set_by_put (first_free c) y (v.values r) v.values) (omega arith))
 
   pub zero_of : (kind : Kind) (d next : ℕ) → slice_get h.code.code n ≡ Some (tac.ZeroOf kind d next)
-      → Gives (act g t (tac.ZeroOf kind d next) u temps ws (spent 1 s))
+      → Gives (effect g t (tac.ZeroOf kind d next) u temps ws (spent 1 s))
   zero_of kind d next at = by kind at k.part
     where
       k : Node (tac.ZeroOf kind d next)
@@ -238,7 +238,7 @@ module _ (o : OperatorCode) (views : Views) (g : Setting) (t : Tac) (address : (
           (constant_set x 0 refl) (omega arith))
 
       by : (q : Kind) → slice_get h.code.code n ≡ Some (tac.ZeroOf q d next) → has_no_pointer q ≡ true
-          → Gives (act g t (tac.ZeroOf q d next) u temps ws (spent 1 s))
+          → Gives (effect g t (tac.ZeroOf q d next) u temps ws (spent 1 s))
       by Void e fine = zero_set Void (known (tac.ZeroOf Void d next) e)
       by (OfScalar (Integer ty)) e fine =
           zero_set (OfScalar (Integer ty)) (known (tac.ZeroOf (OfScalar (Integer ty)) d next) e)
@@ -247,11 +247,11 @@ module _ (o : OperatorCode) (views : Views) (g : Setting) (t : Tac) (address : (
       by (Array size) e fine = cc
 
   pub convert : (kind : Kind) (d a next : ℕ) → slice_get h.code.code n ≡ Some (tac.Convert kind d a next)
-      → Gives (act g t (tac.Convert kind d a next) u temps ws (spent 1 s))
+      → Gives (effect g t (tac.Convert kind d a next) u temps ws (spent 1 s))
   convert kind d a next at = by kind at (known (tac.Convert kind d a next) at).part
     where
       by : (q : Kind) → slice_get h.code.code n ≡ Some (tac.Convert q d a next) → has_no_pointer q ≡ true
-          → Gives (act g t (tac.Convert q d a next) u temps ws (spent 1 s))
+          → Gives (effect g t (tac.Convert q d a next) u temps ws (spent 1 s))
       by Void e fine =
           let k = known (tac.Convert Void d a next) e in
           let x = temporary_register c d in
@@ -285,7 +285,7 @@ module _ (o : OperatorCode) (views : Views) (g : Setting) (t : Tac) (address : (
 
   pub unary : (op : UnaryOperator) (ty : IntType) (d a next : ℕ)
       → slice_get h.code.code n ≡ Some (tac.Unary op ty d a next)
-      → Gives (act g t (tac.Unary op ty d a next) u temps ws (spent 1 s))
+      → Gives (effect g t (tac.Unary op ty d a next) u temps ws (spent 1 s))
   unary op ty d a next at =
       let i = tac.Unary op ty d a next in
       let k = known i at in
@@ -307,7 +307,7 @@ module _ (o : OperatorCode) (views : Views) (g : Setting) (t : Tac) (address : (
 
   pub binary : (op : BinaryOperator) (ty : IntType) (line d a b next : ℕ)
       → slice_get h.code.code n ≡ Some (tac.Binary op ty line d a b next)
-      → Gives (act g t (tac.Binary op ty line d a b next) u temps ws (spent 1 s))
+      → Gives (effect g t (tac.Binary op ty line d a b next) u temps ws (spent 1 s))
   binary op ty line d a b next at =
       subst (λ q. Gives (came (as_rvalue (value_or_divide q line) (spent 1 s)) (given_in u next temps d ws)))
       (sym (ap₂ (binary_value op ty) (held_word a left) (held_word b right)))
@@ -375,7 +375,7 @@ module _ (o : OperatorCode) (views : Views) (g : Setting) (t : Tac) (address : (
       (record { objects = refl; frame = refl; stacked = refl; charged = refl }) refl (omega arith) (k.on next l)
 
   pub branch : (a x y : ℕ) → slice_get h.code.code n ≡ Some (tac.Branch a x y)
-      → Gives (act g t (tac.Branch a x y) u temps ws (spent 1 s))
+      → Gives (effect g t (tac.Branch a x y) u temps ws (spent 1 s))
   branch a x y at =
       subst (λ z. Gives (Stands u (cond (z == 0) y x) temps ws (spent 1 s))) (sym (held_word a k.temporaries_low))
       (by (v.values (temporary_register c a) == 0) refl)
@@ -477,7 +477,7 @@ module _ (o : OperatorCode) (views : Views) (g : Setting) (t : Tac) (address : (
         (record { steps = all.steps; work = all.work; few = all.few; comes = all.comes })
         (subst (λ z. Leads (body_of (function_in p u)) z (address u y)) end_is label.put.leads.0)) (omega arith)
 
-    pub case : Gives (act g t (tac.Case a w x y) u temps ws (spent 1 s))
+    pub case : Gives (effect g t (tac.Case a w x y) u temps ws (spent 1 s))
     case =
         subst (λ z. Gives (Stands u (cond (z == w) x y) temps ws (spent 1 s)))
         (sym (held_word a label.temporaries_low)) (by (v.values register == w) refl)
@@ -487,7 +487,7 @@ module _ (o : OperatorCode) (views : Views) (g : Setting) (t : Tac) (address : (
         by false e = other_way e
 
   pub turn : (counted : Option ℕ) (next : ℕ) → slice_get h.code.code n ≡ Some (tac.Turn counted next)
-      → Gives (act g t (tac.Turn counted next) u temps ws (spent 1 s))
+      → Gives (effect g t (tac.Turn counted next) u temps ws (spent 1 s))
   turn counted next at =
       let k = known (tac.Turn counted next) at in
       stays o views g t address p ops ex part u n temps temps ws s (begun (spent 1 s)) v

@@ -18,7 +18,7 @@ use Rattle.tac_ir.specs.declared.function.CodeFunction.{CodeFunction}
 use Rattle.tac_ir.specs.declared.function.Tac.{Tac}
 use Rattle.tac_ir.specs.Stage.{Temps, with_temp, gathered, Waiting, Frame, Waits, Entered, Stage, Stands, Over}
 use Rattle.tac_ir.specs.Costs.{handed_bytes, spent}
-use Rattle.tac_ir.specs.Meaning.{function_in as code_in, called_at, called, act, given_to, line_in, objects_before}
+use Rattle.tac_ir.specs.Meaning.{function_in as code_in, called_at, called, effect, given_to, line_in, objects_before}
 use Rattle.flat_meaning.specs.declared.instruction.FlatInstruction.{FlatInstruction}
 use Rattle.flat_meaning.specs.declared.instruction.FlatInstruction.TheVariants as flat_code
 use Rattle.flat_meaning.specs.declared.function.FlatProgram.{FlatProgram}
@@ -180,7 +180,7 @@ module _ (o : OperatorCode) (views : Views) (g : Setting) (t : Tac) (address : (
           fits h.stacked (omega (arith, h.work)) h.stands (record { by = (waiting, h.wait.by) }))
           (cases_lt m.budgets.calls (s.charged + k.room))
 
-      pub call_step : Gives (act g t (tac.Call f line d count next) u temps ws (spent 6 s))
+      pub call_step : Gives (effect g t (tac.Call f line d count next) u temps ws (spent 6 s))
       call_step =
           subst (λ z. Gives (called_at g z f (gathered temps d count) line (Waits waits ∷ ws) (spent 6 s)))
           (sym called_is.is) (by_callee called_is.code called_is.is called_is.count)
@@ -192,7 +192,7 @@ module _ (o : OperatorCode) (views : Views) (g : Setting) (t : Tac) (address : (
     handed a = spent (handed_bytes (temps a)) (spent 3 s)
 
     pub return_step : (a : ℕ) → slice_get h.code.code n ≡ Some (tac.Return a)
-        → Gives (act g t (tac.Return a) u temps ws (spent 3 s))
+        → Gives (effect g t (tac.Return a) u temps ws (spent 3 s))
     return_step a at = by ws xs h.wait.by refl
       where
         known : IsNode o g.sizes t (address u) (body_of (function_in p u)) h.code (address u n) (tac.Return a)

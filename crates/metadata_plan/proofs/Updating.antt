@@ -35,7 +35,7 @@ use Rattle.tac_ir.specs.declared.function.Tac.{Tac}
 use Rattle.tac_ir.specs.Stage.{Temps, with_temp, Frame, Stage, Stands, Over, came}
 use Rattle.tac_ir.specs.Temporaries.{right_count}
 use Rattle.tac_ir.specs.Costs.{spent}
-use Rattle.tac_ir.specs.Meaning.{act, given_in, right_value}
+use Rattle.tac_ir.specs.Meaning.{effect, given_in, right_value}
 use Rattle.flat_meaning.specs.declared.instruction.FlatInstruction.{FlatInstruction}
 use Rattle.flat_meaning.specs.declared.instruction.FlatInstruction.TheVariants as flat_code
 use Rattle.flat_meaning.specs.declared.function.FlatProgram.{FlatProgram}
@@ -471,7 +471,7 @@ module _ (o : OperatorCode) (views : Views) (g : Setting) (t : Tac) (address : (
     abbrev old_word : ℕ
     old_word = (plain_value x s).word
 
-    pub integer_update : Gives (act g t i u temps ws (spent 2 s))
+    pub integer_update : Gives (effect g t i u temps ws (spent 2 s))
     integer_update =
         let old : fit ty old_word ≡ fit ty (v.values xr) =
         ap (λ (z : Value). fit ty z.word) (h.holds.variables x inside.0) in
@@ -481,7 +481,7 @@ module _ (o : OperatorCode) (views : Views) (g : Setting) (t : Tac) (address : (
 
   pub update_plain_step : (w : Update) (scalar : Scalar) (f : Fixity) (line d x : ℕ) (right : RightOperand) (next : ℕ)
       → slice_get h.code.code n ≡ Some (tac.UpdatePlain w scalar f line d x right next)
-      → Gives (act g t (tac.UpdatePlain w scalar f line d x right next) u temps ws (spent 2 s))
+      → Gives (effect g t (tac.UpdatePlain w scalar f line d x right next) u temps ws (spent 2 s))
   update_plain_step w scalar f line d x right next at = by w scalar at
       (and_parts (nat_lt x (length (all_variables c))) (is_integer_update w scalar right)
       (node o views g t address p ops ex part u h.code n (tac.UpdatePlain w scalar f line d x right next) h.there
@@ -490,7 +490,7 @@ module _ (o : OperatorCode) (views : Views) (g : Setting) (t : Tac) (address : (
       by : (w : Update) (scalar : Scalar)
           → slice_get h.code.code n ≡ Some (tac.UpdatePlain w scalar f line d x right next)
           → is_integer_update w scalar right ≡ true
-          → Gives (act g t (tac.UpdatePlain w scalar f line d x right next) u temps ws (spent 2 s))
+          → Gives (effect g t (tac.UpdatePlain w scalar f line d x right next) u temps ws (spent 2 s))
       by (Arithmetic op ty) (Integer k) e fine = integer_update op ty k f line d x right next e
       by (Arithmetic op ty) Pointer e fine = cc
       by (Forward size) scalar e fine = cc

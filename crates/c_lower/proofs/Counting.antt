@@ -18,7 +18,8 @@ use Rattle.c_tree.specs.declared.expression.Kind.{Kind}
 use Rattle.c_tree.specs.declared.expression.Kind.TheVariants.{Void, Scalar as OfScalar, Structure, Array}
 use Rattle.c_tree.specs.declared.expression.PlainName.{PlainName}
 use Rattle.c_tree.specs.declared.expression.Update.TheVariants.{Arithmetic}
-use Rattle.c_tree.specs.Tree.{Expression, expression, constant, plain, convert, binary, assign_plain, step_plain, kind_of}
+use Rattle.c_tree.specs.Tree.{Expression, expression, constant, plain, convert, binary, assign_plain, step_plain}
+use Rattle.c_tree.specs.Tree.{kind_of}
 use Rattle.c_tree.specs.Statements.{Initializer, of_plain, First, first_expression, first_declaration, Statement}
 use Rattle.c_tree.specs.Assigning.{statement_assigns}
 use Rattle.c_tree.specs.Valid.{Scope}
@@ -280,7 +281,8 @@ counted_sets env sc (Some (expression kind line (step_plain (Arithmetic Add Int)
     let k = plain_kind sc n.variable kind names.0 (ap (plain_type sc.variables) same ∙ typed) in
     subst (λ kind. Sets (perform env (Some (expression kind line (step_plain (Arithmetic Add Int) fixity n)))) x
     (integer (next_word x s)) s) (sym k) (step_sets env line fixity n x h s is)
-counted_sets env sc (Some (expression kind line (assign_plain n (expression k l (binary Add a b))))) x names typed h s is =
+counted_sets env sc (Some (expression kind line (assign_plain n (expression k l (binary Add a b))))) x names typed h s
+    is =
     let v = both (is_variable x (bare_name n)) _ h in
     let w = both (is_variable x (int_variable a)) (is_one b) v.1 in
     sum_sets env kind k line l n a b x v.0 w.0 w.1 s
@@ -385,7 +387,8 @@ module _ (env : Env) (sc : Context) (first : First) (condition step : Option Exp
       → InRange (Some q) s1
   body_counted s s1 f j e =
       let kept = subst (KeptBy q.variable (begun s)) e (counts.keeps.stays (begun s)) in
-      subst (λ (v : Value). (is_less true v.word q.start ≡ false) × (is_less true v.word q.bound ≡ true)) (sym kept.plain) j
+      subst (λ (v : Value). (is_less true v.word q.start ≡ false) × (is_less true v.word q.bound ≡ true))
+      (sym kept.plain) j
 
   between_counted : (s s1 : State) → IsGood sc s → InRange (Some q) s → perform env step s ≡ Gives tt s1
       → FromStart (Some q) s1

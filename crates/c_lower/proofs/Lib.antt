@@ -1,5 +1,6 @@
 pub mod Comes
 pub mod KeyValues
+pub mod KeyNames
 pub mod KeyStays
 pub mod Credits
 pub mod Accesses

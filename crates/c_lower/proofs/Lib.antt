@@ -2,6 +2,7 @@ pub mod Comes
 pub mod KeyValues
 pub mod KeyNames
 pub mod KeyStays
+pub mod Opening
 pub mod Credits
 pub mod Accesses
 pub mod Temporaries

@@ -18,7 +18,8 @@ use Rattle.tac_ir.specs.declared.instruction.Instruction.TheVariants.{Branch, Tu
 use Rattle.tac_ir.specs.declared.function.Tac.{Tac}
 use Rattle.tac_ir.specs.Stage.{Temps, Frame, Stage, Stands, Over, came, seen}
 use Rattle.tac_ir.specs.Costs.{cost, fourfold, heavier}
-use Rattle.tac_ir.specs.Meaning.{begun, act, act_at, at_node, step}
+use Rattle.tac_ir.specs.Meaning.{begun, fits, effect, act, act_at, at_node, step}
+use Rattle.tac_ir.proofs.Fits.{only_opens}
 
 -- Some steps lead from one stage to another. The source goes from s to s', the code counts k and then k' units of work
 -- in the same states; c units may be spent beside the 8 for each unit of the source, and b of them are left.
@@ -132,22 +133,25 @@ module _ {g : Setting} {t : Tac} where
         → GoesLeaving g t limit (c + y) (λ a. b a + y) u frames to P x k s o
     goes_framed y c b {o = o} h = frame_by y c b o h
 
-    -- a step of an instruction that costs w
+    -- a step of an instruction that costs w, and that what it is given fits
     pub goes_steps : (w c : ℕ) {b : A → ℕ} {n : ℕ} {i : Instruction} {temps : Temps} {k : ℕ} {s : State} {x : Stage}
-        {o : Outcome A} → at_node t u n ≡ Some i → cost i ≡ w → act g t i u temps frames (at_work (k + w) s) ≡ x
+        {o : Outcome A} → at_node t u n ≡ Some i → cost i ≡ w → fits g t i u temps (at_work (k + w) s) ≡ true
+        → effect g t i u temps frames (at_work (k + w) s) ≡ x
         → GoesLeaving g t limit c b u frames to P x (k + w) s o
         → GoesLeaving g t limit (w + c) b u frames to P (Stands u n temps frames (at_work k s)) k s o
-    goes_steps w c {i = i} {temps = temps} {k = k} {s = s} {o = o} has costs does h =
+    goes_steps w c {i = i} {temps = temps} {k = k} {s = s} {o = o} has costs fit does h =
         from_by o 1 (ap (λ j. act_at g t j u temps frames (at_work k s)) has
-        ∙ ap (λ w. act g t i u temps frames (at_work (k + w) s)) costs ∙ does) (omega arith) (omega arith) h
+        ∙ ap (λ w. act g t i u temps frames (at_work (k + w) s)) costs
+        ∙ only_opens (effect g t i u temps frames (at_work (k + w) s)) fit ∙ does) (omega arith) (omega arith) h
 
     -- that costs 1
     pub goes_step : (c : ℕ) {b : A → ℕ} {n : ℕ} {i : Instruction} {temps : Temps} {k : ℕ} {s : State} {x : Stage}
         {o : Outcome A}
-        → at_node t u n ≡ Some i → cost i ≡ 1 → act g t i u temps frames (at_work (k + 1) s) ≡ x
+        → at_node t u n ≡ Some i → cost i ≡ 1 → fits g t i u temps (at_work (k + 1) s) ≡ true
+        → effect g t i u temps frames (at_work (k + 1) s) ≡ x
         → GoesLeaving g t limit c b u frames to P x (k + 1) s o
         → GoesLeaving g t limit (1 + c) b u frames to P (Stands u n temps frames (at_work k s)) k s o
-    goes_step c has costs does h = goes_steps 1 c has costs does h
+    goes_step c has costs fit does h = goes_steps 1 c has costs fit does h
 
     -- there already
     pub goes_done : {c : ℕ} {b : A → ℕ} {a : A} {temps : Temps} {k : ℕ} {s s' : State} → b a ≤ c → s'.turns ≡ s.turns
@@ -364,9 +368,9 @@ module _ {g : Setting} {t : Tac} where
         → GoesLeaving g t limit c b u frames to P (Stands u taken temps frames (at_work (k + 1) s)) (k + 1) s (r' s)
         → GoesLeaving g t limit (1 + c) b u frames to P (Stands u n temps frames (at_work k s)) k s (choose q r r' s)
     branch_by c true r r' {taken = taken} {other = other} {temps = temps} {k = k} {s = s} has e h h' =
-        goes_step c has refl (ap (λ q. Stands u (cond q other taken) temps frames (at_work (k + 1) s)) e) h
+        goes_step c has refl refl (ap (λ q. Stands u (cond q other taken) temps frames (at_work (k + 1) s)) e) h
     branch_by c false r r' {taken = taken} {other = other} {temps = temps} {k = k} {s = s} has e h h' =
-        goes_step c has refl (ap (λ q. Stands u (cond q other taken) temps frames (at_work (k + 1) s)) e) h'
+        goes_step c has refl refl (ap (λ q. Stands u (cond q other taken) temps frames (at_work (k + 1) s)) e) h'
 
     -- two ways, by whether a value is 0
     pub goes_branch : (c : ℕ) (v : Rvalue) (r r' : Run A) {b : A → ℕ} {n a taken other : ℕ} {temps : Temps} {k : ℕ}
@@ -382,19 +386,21 @@ module _ {g : Setting} {t : Tac} where
     -- a turn begins, where one is left
     turn_by : (c : ℕ) (q : Bool) (r : Run A) {b : A → ℕ} {n m : ℕ} {counted : Option ℕ} {temps : Temps} {k : ℕ}
         {s : State}
-        → at_node t u n ≡ Some (Turn counted m) → nat_lt s.turns limit ≡ q
+        → at_node t u n ≡ Some (Turn counted m)
+        → fits g t (Turn counted m) u temps (at_work (k + 1) s) ≡ true → nat_lt s.turns limit ≡ q
         → GoesLeaving g t limit c b u frames to P (Stands u m temps frames (at_work (k + 1) (begun s)))
         (k + 1) (begun s) (r (begun s))
         → GoesLeaving g t limit (1 + c) b u frames to P (Stands u n temps frames (at_work k s)) k s
         (on (choose q (λ s. Gives (tt {0}) (begun s)) (λ s. Paused s) s) (λ _. r))
-    turn_by c true r {temps = temps} {k = k} {s = s} has e h =
-        from_by (r (begun s)) 1 (ap (λ j. act_at g t j u temps frames (at_work k s)) has) (omega arith) (omega arith) h
-    turn_by c false r {s = s} has e h = goes_pause refl (ltb-false s.turns limit e)
+    turn_by c true r {temps = temps} {k = k} {s = s} has fit e h =
+        from_by (r (begun s)) 1 (ap (λ j. act_at g t j u temps frames (at_work k s)) has
+        ∙ only_opens (Stands u _ temps frames (at_work (k + 1) (begun s))) fit) (omega arith) (omega arith) h
+    turn_by c false r {s = s} has fit e h = goes_pause refl (ltb-false s.turns limit e)
 
     pub goes_turn : (c : ℕ) (r : Run A) {b : A → ℕ} {n m : ℕ} {counted : Option ℕ} {temps : Temps} {k : ℕ} {s : State}
-        → at_node t u n ≡ Some (Turn counted m)
+        → at_node t u n ≡ Some (Turn counted m) → fits g t (Turn counted m) u temps (at_work (k + 1) s) ≡ true
         → GoesLeaving g t limit c b u frames to P (Stands u m temps frames (at_work (k + 1) (begun s)))
         (k + 1) (begun s) (r (begun s))
         → GoesLeaving g t limit (1 + c) b u frames to P (Stands u n temps frames (at_work k s)) k s
         (on (begin_turn limit s) (λ _. r))
-    goes_turn c r {s = s} has h = turn_by c (nat_lt s.turns limit) r has refl h
+    goes_turn c r {s = s} has fit h = turn_by c (nat_lt s.turns limit) r has fit refl h

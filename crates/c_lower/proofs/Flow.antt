@@ -19,7 +19,7 @@ use Rattle.source_meaning.specs.Statements.{items_at, compared, or_default, run_
 use Rattle.source_meaning.specs.Blocks.{Block, has_objects, enter_block, leave_block}
 use Rattle.addr_map.specs.Places.{MapSizes, AreMapped}
 use Rattle.source_meaning.specs.Keeping.{LivesOn}
-use Rattle.source_meaning.specs.Good.{Context, HasHome, IsGood, Sure, Any, CompletionIs, context_of}
+use Rattle.source_meaning.specs.Good.{Context, object_kind, HasHome, IsGood, Sure, Any, CompletionIs, context_of}
 use Rattle.source_meaning.specs.Good.{EntersBy}
 use Rattle.source_meaning.specs.Acting.{at_work}
 use Rattle.source_meaning.specs.Working.{CountsBy, HaveBytes}
@@ -31,7 +31,8 @@ use Rattle.tac_ir.specs.declared.instruction.Instruction.TheVariants as tac
 use Rattle.tac_ir.specs.declared.function.Tac.{Tac}
 use Rattle.tac_ir.specs.Stage.{Temps, Frame, Entered, Stage, Stands, came}
 use Rattle.tac_ir.specs.Meaning.{if_there, variables_in, blocks_in, objects_in, function_in, at_node, begun, act}
-use Rattle.tac_ir.specs.Meaning.{act_at}
+use Rattle.tac_ir.specs.Meaning.{act_at, fits}
+use Rattle.tac_ir.specs.Fitting.{have_no_homes}
 use Rattle.tac_ir.specs.Accesses.{only_if}
 use Rattle.tac_ir.specs.Costs.{handed_bytes, heavier}
 use Rattle.c_lower.specs.Placed.{HasAt}
@@ -125,6 +126,26 @@ sized_opened numbers first (d ∷ ds) (v ∷ vs) h h' zero kind e = sized_at (is
 sized_opened numbers first (d ∷ ds) (v ∷ vs) h h' (suc x) kind e = sized_opened numbers (suc first) ds vs
     (λ y. h (suc y)) (λ y. h' (suc y)) x kind e
 
+-- the objects that can be named are as they are declared
+abbrev pub AreNamed : (all vs : List Variable) → Type 0
+AreNamed all vs = (x : ℕ) (kind : Kind) → object_kind vs x ≡ Some kind → object_kind all x ≡ Some kind
+
+named_at : (b : Bool) (d v : Variable) (kind : Kind)
+    → ((if v.is_object then Some v.kind else None) ≡ Some kind
+    → (if d.is_object then Some d.kind else None) ≡ Some kind)
+    → (if (if b then d else v).is_object then Some (if b then d else v).kind else None) ≡ Some kind
+    → (if d.is_object then Some d.kind else None) ≡ Some kind
+named_at true d v kind h e = e
+named_at false d v kind h e = h e
+
+pub named_opened : (numbers : List ℕ) (first : ℕ) (all vs : List Variable) → AreNamed all vs
+    → AreNamed all (opened numbers first all vs)
+named_opened numbers first [] vs h x kind e = cc
+named_opened numbers first (d ∷ ds) [] h x kind e = cc
+named_opened numbers first (d ∷ ds) (v ∷ vs) h zero kind e = named_at (is_among numbers first) d v kind (h zero kind) e
+named_opened numbers first (d ∷ ds) (v ∷ vs) h (suc x) kind e =
+    named_opened numbers (suc first) ds vs (λ y. h (suc y)) x kind e
+
 none_closed : (v : Variable) (kind : Kind) → (if (closed v).is_object then Some (closed v).kind else None) ≡ Some kind
     → ⊥
 none_closed v kind e = by v.is_object refl e
@@ -134,6 +155,16 @@ none_closed v kind e = by v.is_object refl e
         ≡ Some kind → ⊥
     by true is e = cc
     by false is e = let none = sym (ap (λ b. if b then Some v.kind else None) is) ∙ e in cc
+
+pub named_closed : (vs : List Variable) → AreNamed vs (map closed vs)
+named_closed [] x kind e = cc
+named_closed (v ∷ vs) zero kind e = absurd (none_closed v kind e)
+named_closed (v ∷ vs) (suc x) kind e = named_closed vs x kind e
+
+pub named_append : (ps vs ws : List Variable) → AreNamed vs ws → AreNamed (ps ++ vs) (ps ++ ws)
+named_append [] vs ws h x kind e = h x kind e
+named_append (p ∷ ps) vs ws h zero kind e = e
+named_append (p ∷ ps) vs ws h (suc x) kind e = named_append ps vs ws h x kind e
 
 pub sized_closed : (vs : List Variable) → HaveBytes (map closed vs)
 sized_closed [] x kind e = cc
@@ -176,10 +207,10 @@ module _ {g : Setting} {t : Tac} {limit u : ℕ} {frames : List Frame} where
   pub test_goes : (q : Bool) (n x y : ℕ) (temps : Temps) (k : ℕ) (s : State) → at_node t u n ≡ Some (tac.Branch 0 x y)
       → is_zero (temps 0).value ≡ q → Goes g t limit 2 0 u frames (λ b. cond b x y) Anyhow
       (Stands u n temps frames (at_work k s)) k s (Gives (not q) s)
-  test_goes true n x y temps k s h e = goes_step 1 h refl
+  test_goes true n x y temps k s h e = goes_step 1 h refl refl
       (ap (λ q. Stands u (cond q y x) temps frames (at_work (k + 1) s)) e)
       (goes_done {a = false} (omega arith) refl refl tt)
-  test_goes false n x y temps k s h e = goes_step 1 h refl
+  test_goes false n x y temps k s h e = goes_step 1 h refl refl
       (ap (λ q. Stands u (cond q y x) temps frames (at_work (k + 1) s)) e)
       (goes_done {a = true} (omega arith) refl refl tt)
 
@@ -243,7 +274,7 @@ module _ {g : Setting} {t : Tac} {limit u : ℕ} {frames : List Frame} where
           (run_items (or_default
           (items_at (elim b [ true ↦ Some (Case w ∷ ls) | false ↦ labels_from (is_case_of v.value.word) ls ]) i rest
           others) all) s)) (sym e)
-          (goes_step 16 tr.1 refl (does true e) (completes_frame 16 0 0 (hit (Case w ∷ ls) (k + 1))))
+          (goes_step 16 tr.1 refl refl (does true e) (completes_frame 16 0 0 (hit (Case w ∷ ls) (k + 1))))
       by false e h =
           subst (λ (b : Bool). Completes g t limit
           (16 + elim b [ true ↦ 1 | false ↦ 1 + compared v.value.word (ls ++ more) ]) 16 u frames x
@@ -252,7 +283,7 @@ module _ {g : Setting} {t : Tac} {limit u : ℕ} {frames : List Frame} where
           (items_at (elim b [ true ↦ Some (Case w ∷ ls) | false ↦ labels_from (is_case_of v.value.word) ls ]) i rest
           others) all) s)) (sym e)
           (goes_spare (1 + (16 + compared v.value.word (ls ++ more))) (omega arith)
-          (goes_step (16 + compared v.value.word (ls ++ more)) tr.1 refl (does false e) (h (k + 1))))
+          (goes_step (16 + compared v.value.word (ls ++ more)) tr.1 refl refl (does false e) (h (k + 1))))
 
   -- where no case label is equal: the default label, or behind the switch
   pub default_goes : (ls : List CaseLabel) (item other c0 c1 : ℕ) (x : Exits) (i : LabeledRun) (rest : List LabeledRun)
@@ -286,23 +317,24 @@ module _ (g : Setting) (t : Tac) (limit n u : ℕ) (frames : List Frame) (sc : C
       → ((temps : Temps) (k : ℕ) (s : State) → IsGood sc s → limit < n + s.turns
       → Completes g t limit 0 2 u frames (in_loop x c) (Stands u b temps frames (at_work k s)) k s
       (body s))
-      → at_node t u turn ≡ Some (tac.Turn counted b) → (m : ℕ) → m ≤ suc n → (temps : Temps) (k : ℕ) (s : State)
+      → at_node t u turn ≡ Some (tac.Turn counted b)
+      → ((temps : Temps) (k : ℕ) (s : State) → fits g t (tac.Turn counted b) u temps (at_work k s) ≡ true) → (m : ℕ) → m ≤ suc n → (temps : Temps) (k : ℕ) (s : State)
       → IsGood sc s → limit < m + s.turns → limit < n + s.turns
       → Completes g t limit 3 2 u frames x (Stands u h temps frames (at_work k s)) k s
       (turns m limit condition body between s)
-  turns_run h turn b c counted x condition body between ws wb we rt rs rb ht zero le temps k s good lt ln = goes_pause
+  turns_run h turn b c counted x condition body between ws wb we rt rs rb ht fit zero le temps k s good lt ln = goes_pause
       refl (omega (arith, lt))
-  turns_run h turn b c counted x condition body between ws wb we rt rs rb ht (suc m) le temps k s good lt ln =
+  turns_run h turn b c counted x condition body between ws wb we rt rs rb ht fit (suc m) le temps k s good lt ln =
       goes_sure _ (ws.by s good tt) (rt temps k s good ln) (λ q s1 t1 k1 p1 le1 is1 lv1 w1.
       choose_goes q turn x.next x t1 k1 s1 _ _
-      (goes_turn 2 _ ht
+      (goes_turn 2 _ ht (fit t1 (k1 + 1) s1)
       (goes_sure _ (wb.by (begun s1) lv1.good tt) (rb t1 (k1 + 1) (begun s1) lv1.good (omega (arith, le1, ln)))
       (λ f s2 t2 k2 p2 le2 is2 lv2 w2.
       after_goes f c x t2 k2 s2 _ (omega arith) p2
       (goes_sure _ (we.by s2 lv2.good tt) (rs t2 k2 s2 lv2.good (omega (arith, le1, le2, ln)))
       (λ z s3 t3 k3 p3 le3 is3 lv3 w3.
       goes_spare 3 (omega (arith, least_with_result 2 f))
-      (turns_run h turn b c counted x condition body between ws wb we rt rs rb ht m (omega (arith, le)) t3 k3 s3
+      (turns_run h turn b c counted x condition body between ws wb we rt rs rb ht fit m (omega (arith, le)) t3 k3 s3
       lv3.good (omega (arith, le1, le2, le3, lt)) (omega (arith, le1, le2, le3, ln))))))))
       (goes_done (omega arith) refl refl tt))
 
@@ -315,14 +347,15 @@ module _ (g : Setting) (t : Tac) (limit n u : ℕ) (frames : List Frame) (sc : C
       → ((temps : Temps) (k : ℕ) (s : State) → IsGood sc s → limit < n + s.turns
       → Completes g t limit 0 2 u frames (in_loop x c) (Stands u b temps frames (at_work k s)) k s
       (body s))
-      → at_node t u turn ≡ Some (tac.Turn counted b) → (m : ℕ) → m ≤ suc n → (temps : Temps) (k : ℕ) (s : State)
+      → at_node t u turn ≡ Some (tac.Turn counted b)
+      → ((temps : Temps) (k : ℕ) (s : State) → fits g t (tac.Turn counted b) u temps (at_work k s) ≡ true) → (m : ℕ) → m ≤ suc n → (temps : Temps) (k : ℕ) (s : State)
       → IsGood sc s → limit < m + s.turns → limit < n + s.turns
       → Completes g t limit 3 2 u frames x (Stands u turn temps frames (at_work k s)) k s
       (turns_before m limit condition body s)
-  turns_before_run turn b c counted x condition body ws wb rt rb ht zero le temps k s good lt ln = goes_pause refl
+  turns_before_run turn b c counted x condition body ws wb rt rb ht fit zero le temps k s good lt ln = goes_pause refl
       (omega (arith, lt))
-  turns_before_run turn b c counted x condition body ws wb rt rb ht (suc m) le temps k s good lt ln =
-      goes_turn 2 _ ht
+  turns_before_run turn b c counted x condition body ws wb rt rb ht fit (suc m) le temps k s good lt ln =
+      goes_turn 2 _ ht (fit temps (k + 1) s)
       (goes_sure _ (wb.by (begun s) good tt) (rb temps (k + 1) (begun s) good (omega (arith, ln)))
       (λ f s2 t2 k2 p2 le2 is2 lv2 w2.
       after_goes f c x t2 k2 s2 _ (omega arith) p2
@@ -330,7 +363,7 @@ module _ (g : Setting) (t : Tac) (limit n u : ℕ) (frames : List Frame) (sc : C
       (λ q s3 t3 k3 p3 le3 is3 lv3 w3.
       choose_goes q turn x.next x t3 k3 s3 _ _
       (goes_spare 3 (omega (arith, least_with_result 2 f))
-      (turns_before_run turn b c counted x condition body ws wb rt rb ht m (omega (arith, le)) t3 k3 s3 lv3.good
+      (turns_before_run turn b c counted x condition body ws wb rt rb ht fit m (omega (arith, le)) t3 k3 s3 lv3.good
       (omega (arith, le2, le3, lt)) (omega (arith, le2, le3, ln))))
       (goes_done (omega arith) refl refl tt)))))
 
@@ -380,17 +413,17 @@ module _ (g : Setting) (t : Tac) (limit u : ℕ) (frames : List Frame) (base : S
       → (line n0 b0 : ℕ) (y x : Exits) (temps : Temps) (k : ℕ) (s : State) (body : Run Completion) (b : Option ℕ)
       → HasNumber (placed t u literals all) q numbers b
       → LowersEntry (placed t u literals all) b line n0 b0 → LowersLeaving (placed t u literals all) b y x
-      → IsGood (context_of base sizes all vs) s
+      → IsGood (context_of base sizes all vs) s → have_no_homes s.frame numbers ≡ true
       → ((frames : List Frame) (k1 : ℕ) (s1 : State) → IsGood (context_of base sizes all (opened numbers 0 all vs)) s1
       → s1.turns ≡ s.turns → Completes g t limit (7 + c) (2 + e) u frames y
       (Stands u b0 temps frames (at_work k1 s1)) k1 s1 (body s1))
       → Completes g t limit (7 + c) e u frames x (Stands u n0 temps frames (at_work k s)) k s
       (choose q (enter_block g own line
       >>= (λ b. body >>= (λ completion. change (leave_block b) >> done completion))) body s)
-  scoped_by c e true is line n0 b0 y x temps k s body (Some n) has entry ways good h =
+  scoped_by c e true is line n0 b0 y x temps k s body (Some n) has entry ways good free h =
       let bytes = sized_opened numbers 0 all (map closed all) sized (sized_closed all) in
       let counted = (counts_enter_block g own line bytes is).counts s in
-      goes_steps 7 c entry refl
+      goes_steps 7 c entry refl (ap (λ o. have_no_homes s.frame (if_there o)) has ∙ free)
       (ap (λ vars. came (heavier (enter_block g vars line) (at_work (k + 7) s))
       (λ b z. Stands u b0 temps (Entered n b ∷ frames) z)) (objects_are n has))
       (goes_heavier (λ b z. Stands u b0 temps (Entered n b ∷ frames) z) (acts_enter_block g own line) (λ b s1 k1 e1 is1.
@@ -400,9 +433,9 @@ module _ (g : Setting) (t : Tac) (limit u : ℕ) (frames : List Frame) (base : S
       goes_spare (7 + c) (omega (arith, two))
       (goes_after (h (Entered n b ∷ frames) k1 s1 up.good e1)
       (λ f s2 t2 k2 p2 le2 is2. leave_goes e f n b y x literals all t2 k2 s2 ways p2))))
-  scoped_by c e true is line n0 b0 y x temps k s body None has entry ways good h = absurd has
-  scoped_by c e false is line n0 b0 y x temps k s body (Some n) has entry ways good h = absurd has
-  scoped_by c e false is line n0 b0 y x temps k s body None has entry ways good h =
+  scoped_by c e true is line n0 b0 y x temps k s body None has entry ways good free h = absurd has
+  scoped_by c e false is line n0 b0 y x temps k s body (Some n) has entry ways good free h = absurd has
+  scoped_by c e false is line n0 b0 y x temps k s body None has entry ways good free h =
       goes_at entry
       (subst (λ z. Completes g t limit (7 + c) e u frames z (Stands u b0 temps frames (at_work k s)) k s (body s)) ways
       (completes_less {b = 2 + e} e (omega arith)
@@ -411,11 +444,12 @@ module _ (g : Setting) (t : Tac) (limit u : ℕ) (frames : List Frame) (base : S
   pub scoped_goes : (c e line n0 b0 : ℕ) (y x : Exits) (temps : Temps) (k : ℕ) (s : State) (body : Run Completion)
       (b : Option ℕ) → HasNumber (placed t u literals all) (has_objects own) numbers b
       → LowersEntry (placed t u literals all) b line n0 b0 → LowersLeaving (placed t u literals all) b y x → IsGood (context_of base sizes all vs) s
+      → have_no_homes s.frame numbers ≡ true
       → ((frames : List Frame) (k1 : ℕ) (s1 : State) → IsGood (context_of base sizes all (opened numbers 0 all vs)) s1
       → s1.turns ≡ s.turns → Completes g t limit (7 + c) (2 + e) u frames y
       (Stands u b0 temps frames (at_work k1 s1)) k1 s1 (body s1))
       → Completes g t limit (7 + c) e u frames x (Stands u n0 temps frames (at_work k s)) k s
       (choose (has_objects own)
       (enter_block g own line >>= (λ b. body >>= (λ completion. change (leave_block b) >> done completion))) body s)
-  scoped_goes c e line n0 b0 y x temps k s body b has entry ways good h = scoped_by c e (has_objects own) refl line n0
-      b0 y x temps k s body b has entry ways good h
+  scoped_goes c e line n0 b0 y x temps k s body b has entry ways good free h = scoped_by c e (has_objects own) refl line n0
+      b0 y x temps k s body b has entry ways good free h

@@ -46,7 +46,7 @@ BaseIf sc (Some key) = BaseIs sc key.base
 object_by : (v : Variable) → v.is_object ≡ true → (if v.is_object then Some v.kind else None) ≡ Some v.kind
 object_by v e = ap (λ b. if b then Some v.kind else None) e
 
-object_found : (vs : List Variable) (x : ℕ) → (at_number vs x).is_object ≡ true
+pub object_found : (vs : List Variable) (x : ℕ) → (at_number vs x).is_object ≡ true
     → object_kind vs x ≡ Some (at_number vs x).kind
 object_found [] x e = never e
 object_found (v ∷ vs) zero e = object_by v e
@@ -182,17 +182,10 @@ static_there [] n h = absurd (omega arith)
 static_there (k ∷ ks) zero h = (k, refl)
 static_there (k ∷ ks) (suc n) h = static_there ks n (omega arith)
 
--- the data of a static object have as many bytes as its kind
-data_there : (ds : List StaticData) (ks : List Kind) (n : ℕ) (kind : Kind)
-    → map (λ (d : StaticData). d.size) ds ≡ map size_of_kind ks → static_kind ks n ≡ Some kind
+-- the data of static objects have as many bytes as their kinds
+abbrev pub HaveSizes : List Kind → List StaticData → Type 0
+HaveSizes ks ds = (n : ℕ) (kind : Kind) → static_kind ks n ≡ Some kind
     → (d : StaticData) × (slice_get ds n ≡ Some d) × (d.size ≡ size_of_kind kind)
-data_there [] [] n kind same e = cc
-data_there [] (k ∷ ks) n kind same e = cc
-data_there (d ∷ ds) [] n kind same e = cc
-data_there (d ∷ ds) (k ∷ ks) zero kind same e =
-    let kinds : k ≡ kind = cc in let sizes : d.size ≡ size_of_kind k = cc in
-    (d, refl, sizes ∙ ap size_of_kind kinds)
-data_there (d ∷ ds) (k ∷ ks) (suc n) kind same e = data_there ds ks n kind (cc) e
 
 home_there : (frame : List Home) (objects : List ObjectState) (x size : ℕ) (kind : Kind) → size ≡ size_of_kind kind
     → HasHome frame objects x kind → is_home_of size (get_or frame x NoObject) objects ≡ true
@@ -209,7 +202,7 @@ data_held o d size s e same live bytes = ap (λ q. is_static_of q s) e ∙ whole
 pub key_base_there : (sc : Context) (base : Base) (s : State) (all : List Variable) (ds : List StaticData)
     → BaseIs sc.scope base → IsGood sc s
     → ((x : ℕ) (kind : Kind) → object_kind sc.scope.variables x ≡ Some kind → object_kind all x ≡ Some kind)
-    → map (λ (d : StaticData). d.size) ds ≡ map size_of_kind sc.scope.statics → is_base_there all ds base s ≡ true
+    → HaveSizes sc.scope.statics ds → is_base_there all ds base s ≡ true
 key_base_there sc (Plain x) s all ds named good declared same = refl
 key_base_there sc (Automatic x) s all ds named good declared same =
     let kind = declared_kind all x named.0 (declared x named.0 named.1) in
@@ -217,6 +210,6 @@ key_base_there sc (Automatic x) s all ds named good declared same =
     (good.homes x named.0 named.1)
 key_base_there sc (Static n) s all ds named good declared same =
     let k = static_there sc.scope.statics n named in
-    let d = data_there ds sc.scope.statics n k.0 same k.1 in
+    let d = same n k.0 k.1 in
     let held = good.statics n k.0 k.1 in
     data_held (slice_get ds n) d.0 (size_of_kind k.0) (object_at s.objects n) d.1 d.2 held.live held.size

@@ -12,3 +12,4 @@ pub mod Statements
 pub mod Programs
 pub mod Homes
 pub mod Liveness
+mod Fitting

@@ -1,7 +1,8 @@
 -- The code of a program does what the program means.
 use Rattle.std.proofs.Common.{◌≡◌, ℕ, zero, suc, ◌+◌, ◌-◌, ◌*◌, ◌<◌, ◌≤◌, List, [], ◌∷◌, ◌++◌, Option, Some, None}
-use Rattle.std.proofs.Common.{Bool, true, false, refl, sym, ap, ◌∙◌, subst, arith}
-use Rattle.std.specs.Prelude.{map, length, nat_lt, nat_le, if◌then◌else◌}
+use Rattle.std.proofs.Common.{◌^◌, Bool, true, false, refl, sym, ap, ◌∙◌, subst, arith, eq-eqb, le-leb}
+use Rattle.std.proofs.lemmas.List.{length-map}
+use Rattle.std.specs.Prelude.{slice_get, map, length, nat_lt, nat_le, if◌then◌else◌}
 use Rattle.std.specs.List.{list_all}
 use Rattle.std.proofs.lemmas.Bool.{ltb-true, ltb-false, leb-true}
 use Rattle.behaviours.specs.Behaviour.{Meets, Follows}
@@ -10,9 +11,12 @@ use Rattle.behaviours.proofs.Running.{run_add}
 use Rattle.sb_base.specs.Budgets.{BudgetSizes}
 use Rattle.sb_base.specs.Endings.{report_of}
 use Rattle.sb_base.specs.declared.ending.Ending.TheVariants.{Exit}
-use Rattle.addr_map.specs.Places.{AreMapped}
+use Rattle.addr_map.specs.Places.{AreMapped, function_address}
 use Rattle.obj_memory.specs.declared.object.Storage.TheVariants.{Automatic}
-use Rattle.obj_memory.specs.Objects.{Objects}
+use Rattle.obj_memory.specs.declared.value.Scalar.TheVariants.{Integer, Pointer}
+use Rattle.obj_memory.specs.Heap.{rounded_up}
+use Rattle.obj_memory.proofs.Words.{fit_zero}
+use Rattle.obj_memory.specs.Objects.{Objects, object_at}
 use Rattle.c_tree.specs.declared.program.Variable.{Variable}
 use Rattle.c_tree.specs.declared.expression.Kind.{Kind}
 use Rattle.c_tree.specs.declared.expression.Kind.TheVariants.{Void, Scalar as OfScalar, Structure, Array}
@@ -35,22 +39,30 @@ use Rattle.source_meaning.specs.Meaning.{setting_of, initial_objects, fresh, lin
 use Rattle.source_meaning.specs.Meaning.{meaning}
 use Rattle.source_meaning.specs.Acting.{at_work, ActsBy, state_of}
 use Rattle.source_meaning.specs.Working.{HaveBytes}
+use Rattle.source_meaning.specs.Good.{static_kind, IsHeld, After, CompletionIs}
 use Rattle.source_meaning.specs.Good.{Context, IsGood, ArgumentsAre, signature_in, context_of, Inside, IsSetUp}
 use Rattle.source_meaning.specs.Good.{SetsUpBy}
 use Rattle.source_meaning.proofs.ActionsAct.{acts_set_up}
 use Rattle.source_meaning.proofs.Working.{counts_set_up}
 use Rattle.tac_ir.specs.Costs.{handed_bytes, fourfold, heavier}
+use Rattle.source_meaning.specs.Places.{statics_first}
+use Rattle.source_meaning.proofs.SureFlow.{row_sure}
+use Rattle.source_meaning.proofs.Naming.{FunctionsName}
 use Rattle.source_meaning.proofs.Naming.{ProgramNames, FunctionNames, kinds_in, scope_of, names_of}
 use Rattle.source_meaning.proofs.Stays.{expression_stays}
 use Rattle.source_meaning.proofs.Laying.{fresh_size}
 use Rattle.source_meaning.proofs.SureCalls.{set_up_by}
 use Rattle.source_meaning.proofs.SureMeaning.{NamesFound, found_names, SignatureIs, signature_found, static_context}
-use Rattle.source_meaning.proofs.SureMeaning.{start_good, inside_good}
+use Rattle.source_meaning.proofs.SureMeaning.{is_setting, start_good, inside_good}
 use Rattle.source_meaning.proofs.ValidNames.{both, five, six}
 use Rattle.source_meaning.proofs.ValidProgramNames.{valid_names}
 use Rattle.tac_ir.specs.declared.instruction.Instruction.TheVariants as tac
 use Rattle.tac_ir.specs.declared.function.CodeFunction.{CodeFunction}
+use Rattle.tac_ir.specs.declared.function.StaticData.{StaticData}
 use Rattle.tac_ir.specs.declared.function.Tac.{Tac}
+use Rattle.tac_ir.specs.Fitting.{is_passed, taken_by}
+use Rattle.tac_ir.specs.Meaning.{type_of, placed_data}
+use Rattle.tac_ir.proofs.Fits.{only_opens}
 use Rattle.source_meaning.proofs.LimitLaw.{is_source}
 use Rattle.tac_ir.proofs.Turns.{follower_never_stuck}
 use Rattle.tac_ir.specs.Stage.{Temps, no_temps, with_temp, Frame, Stage, Begins, Stands, Stuck, came, seen}
@@ -62,7 +74,9 @@ use Rattle.c_lower.specs.Programs.{IsLowered}
 use Rattle.c_lower.proofs.Comes.{Reached, reached_for}
 use Rattle.c_lower.proofs.Temporaries.{loops_in, placed, put_same}
 use Rattle.c_lower.proofs.Values.{Called, Calls, CallsRun}
-use Rattle.c_lower.proofs.Flow.{exit_of, LeftBy, with_result, Completes, sized_opened, sized_closed}
+use Rattle.c_lower.proofs.KeyNames.{HaveSizes}
+use Rattle.c_lower.proofs.Fitting.{passed_fits, AreDeclared}
+use Rattle.c_lower.proofs.Flow.{exit_of, LeftBy, with_result, Completes, AreNamed, named_opened, named_closed, named_append}
 use Rattle.c_lower.proofs.Statements.{statements_run}
 
 -- the objects among the variables of a function have bytes
@@ -89,26 +103,41 @@ sized_all (v ∷ vs) h zero kind e = sized_variable v.is_object v.kind kind
     (object_sized v (both (is_variable v) (list_all is_variable vs) h).0) e
 sized_all (v ∷ vs) h (suc x) kind e = sized_all vs (both (is_variable v) (list_all is_variable vs) h).1 x kind e
 
-sized_append : (xs ys : List Variable) → HaveBytes xs → HaveBytes ys → HaveBytes (xs ++ ys)
-sized_append [] ys h h' x kind e = h' x kind e
-sized_append (v ∷ xs) ys h h' zero kind e = h zero kind e
-sized_append (v ∷ xs) ys h h' (suc x) kind e = sized_append xs ys (λ y. h (suc y)) h' x kind e
-
-sized_front : (xs ys : List Variable) → HaveBytes (xs ++ ys) → HaveBytes xs
-sized_front [] ys h x kind e = cc
-sized_front (v ∷ xs) ys h zero kind e = h zero kind e
-sized_front (v ∷ xs) ys h (suc x) kind e = sized_front xs ys (λ y. h (suc y)) x kind e
-
-sized_back : (xs ys : List Variable) → HaveBytes (xs ++ ys) → HaveBytes ys
-sized_back [] ys h = h
-sized_back (v ∷ xs) ys h = sized_back xs ys (λ y. h (suc y))
-
 -- those that its body enters
-sized_body : (f : Function) → HaveBytes (all_of f) → HaveBytes (f.parameters ++ body_variables f)
-sized_body f h =
-    sized_append f.parameters (body_variables f) (sized_front f.parameters f.variables h)
-    (sized_opened (block_variables f.body) (length f.parameters) f.variables (map closed f.variables)
-    (sized_back f.parameters f.variables h) (sized_closed f.variables))
+named_body : (f : Function) → AreNamed (all_of f) (f.parameters ++ body_variables f)
+named_body f = named_append f.parameters f.variables (body_variables f)
+    (named_opened (block_variables f.body) (length f.parameters) f.variables (map closed f.variables)
+    (named_closed f.variables))
+
+-- what functions take is what their types say
+header_takes : (u : ProgramNames) (fs : List Function) → FunctionsName u fs → (f : ℕ) (h : Header)
+    → slice_get (map header_of fs) f ≡ Some h → taken_by h ≡ (signature_in u.types h.type_number).parameters
+header_takes u [] names f h e = cc
+header_takes u (x ∷ xs) names zero h e =
+    let is : header_of x ≡ h = cc in
+    subst (λ (z : Header). taken_by z ≡ (signature_in u.types z.type_number).parameters) is names.0.parameters
+header_takes u (x ∷ xs) names (suc f) h e = header_takes u xs names.1 f h e
+
+few_addresses : (n : ℕ) → n ≤ 4096 → function_address n ≤ 2 ^ 64
+unfolding function_address
+few_addresses n le = omega (arith, le)
+
+-- the objects before the run have the sizes of their data
+data_at : (first : ℕ) (ds : List StaticData) (offset n : ℕ) → n < length (placed_data first ds offset)
+    → (d : StaticData) × (slice_get ds n ≡ Some d)
+    × ((object_at (placed_data first ds offset) n).size ≡ d.size)
+data_at first [] offset n lt = absurd (omega (arith, lt))
+data_at first (d ∷ ds) offset zero lt = (d, refl, refl)
+data_at first (d ∷ ds) offset (suc n) lt =
+    data_at first ds (rounded_up 16 offset + d.size) n (omega (arith, lt))
+
+sizes_from : (ks : List Kind) (first : ℕ) (ds : List StaticData)
+    → ((n : ℕ) (kind : Kind) → static_kind ks n ≡ Some kind → IsHeld (placed_data first ds 0) n kind)
+    → HaveSizes ks ds
+sizes_from ks first ds held n kind e =
+    let h = held n kind e in
+    let d = data_at first ds 0 n h.made in
+    (d.0, d.1, sym d.2 ∙ h.size)
 
 -- functions of a valid program
 
@@ -145,6 +174,34 @@ module _ (p : Program) where
       valid_functions 0 p.functions q.3
 
 -- calls
+
+-- a result that a function returns is passed on
+abbrev HasPassed : Kind → Completion → Type 0
+HasPassed kind Normal = Unit {0}
+HasPassed kind Broken = Unit {0}
+HasPassed kind Continued = Unit {0}
+HasPassed kind (Returned v) = is_passed kind v ≡ true
+
+zero_fits : (kind : Kind) → is_passed kind (zero_of kind) ≡ true
+zero_fits Void = refl
+zero_fits (OfScalar (Integer t)) = eq-eqb _ _ (fit_zero t)
+zero_fits (OfScalar Pointer) = refl
+zero_fits (Structure n) = le-leb _ _ (let e = fresh_size Automatic 0 n in omega arith)
+zero_fits (Array n) = refl
+
+completion_fits : (fc : ℕ) → function_address fc ≤ 2 ^ 64 → (kind : Kind) (completion : Completion)
+    (objects : Objects) → CompletionIs fc kind completion objects → HasPassed kind completion
+completion_fits fc few kind Normal objects h = tt
+completion_fits fc few kind Broken objects h = tt
+completion_fits fc few kind Continued objects h = tt
+completion_fits fc few kind (Returned v) objects h = passed_fits fc few kind v objects h
+
+after_fits : (fc : ℕ) → function_address fc ≤ 2 ^ 64 → (kind : Kind) (sc : Context) (s : State) (o : Outcome Completion)
+    → After sc s (CompletionIs fc kind) o → (completion : Completion) (s1 : State) → o ≡ Gives completion s1
+    → HasPassed kind completion
+after_fits fc few kind sc s o after completion s1 is =
+    let h = subst (λ z. After sc s (CompletionIs fc kind) z) is after in
+    completion_fits fc few kind completion s1.objects h.1
 
 handed_zero : (kind : Kind) → handed_bytes (zero_of kind) ≡ contents_size kind
 handed_zero Void = refl
@@ -191,11 +248,12 @@ module _ (g : Setting) (t : Tac) (limit : ℕ) (q : Caller) (frames : List Frame
 
   -- the end of a function: 0 is made where nothing is returned, and the value goes to the caller
   module _ (result : Kind) (f end ret : ℕ) (he : at_node t f end ≡ Some (tac.ZeroOf result 0 ret))
-      (hr : at_node t f ret ≡ Some (tac.Return 0)) where
-    returned : (temps : Temps) (k : ℕ) (s : State) (v : Rvalue) → temps 0 ≡ v
+      (hr : at_node t f ret ≡ Some (tac.Return 0)) (gives : result_of g (type_of (function_in t f)) ≡ result) where
+    returned : (temps : Temps) (k : ℕ) (s : State) (v : Rvalue) → temps 0 ≡ v → is_passed result v ≡ true
         → run (step g t) 1 (Stands f ret temps frames (at_work k s))
         ≡ given_to frames v (at_work (k + 3 + handed_bytes v) s)
-    returned temps k s v e = ap (λ j. act_at g t j f temps frames (at_work k s)) hr
+    returned temps k s v e fit = ap (λ j. act_at g t j f temps frames (at_work k s)) hr
+        ∙ only_opens _ (ap (λ kind. is_passed kind (temps 0)) gives ∙ ap (is_passed result) e ∙ fit)
         ∙ ap (λ z. given_to frames z (at_work (k + 3 + handed_bytes z) s)) e
 
     ends : (j left : ℕ) (x x1 x2 : Stage) (k k1 k2 : ℕ) (s s1 s2 : State) → run (step g t) j x1 ≡ x2
@@ -221,35 +279,37 @@ module _ (g : Setting) (t : Tac) (limit : ℕ) (q : Caller) (frames : List Frame
           refl,
           ends 2 0 x _ _ k k1 (made + 3 + handed_bytes v) s s1 s2
               (ap (λ j. step g t (act_at g t j f temps frames (at_work k1 s1))) he
-              ∙ returned (with_temp temps 0 v) made s1 v (put_same temps 0 v)) refl
+              ∙ returned (with_temp temps 0 v) made s1 v (put_same temps 0 v) (zero_fits result)) refl
               (omega (arith, handed_zero result)) r,
         )
 
     given : (completion : Completion) (x : Stage) (k : ℕ) (s s1 : State) (temps : Temps) (k1 : ℕ)
-        → LeftBy completion temps s1 → Reached g t 0 (with_result 0 completion) x k s s1
+        → HasPassed result completion → LeftBy completion temps s1 → Reached g t 0 (with_result 0 completion) x k s s1
         (Stands f (exit_of (function_exits end ret) completion) temps frames (at_work k1 s1)) k1
         → Called g t limit 8 4 0 q frames x k s
         (on (returned_by result completion s1) (λ v. change (back_to q) >> done v))
-    given Normal x k s s1 temps k1 p r = zero_given x k s s1 temps k1 r
-    given Broken x k s s1 temps k1 p r = zero_given x k s s1 temps k1 r
-    given Continued x k s s1 temps k1 p r = zero_given x k s s1 temps k1 r
-    given (Returned v) x k s s1 temps k1 p r = (
+    given Normal x k s s1 temps k1 fit p r = zero_given x k s s1 temps k1 r
+    given Broken x k s s1 temps k1 fit p r = zero_given x k s s1 temps k1 r
+    given Continued x k s s1 temps k1 fit p r = zero_given x k s s1 temps k1 r
+    given (Returned v) x k s s1 temps k1 fit p r = (
       s1,
       k1 + 3 + handed_bytes v,
       refl,
-      ends 1 (0 + handed_bytes v) x _ _ k k1 (k1 + 3 + handed_bytes v) s s1 s1 (returned temps k1 s1 v p) refl
+      ends 1 (0 + handed_bytes v) x _ _ k k1 (k1 + 3 + handed_bytes v) s s1 s1 (returned temps k1 s1 v p fit) refl
           (omega arith) r,
     )
 
     end_goes : (x : Stage) (k : ℕ) (s : State) (o : Outcome Completion)
+        → ((completion : Completion) (s1 : State) → o ≡ Gives completion s1 → HasPassed result completion)
         → Completes g t limit 0 0 f frames (function_exits end ret) x k s o
         → Called g t limit 8 4 0 q frames x k s
         (on o (λ completion. returned_by result completion >>= (λ v. change (back_to q) >> done v)))
-    end_goes x k s (Gives completion s1) h = let b = h.by in given completion x k s s1 b.0 b.1 b.2 b.3
-    end_goes x k s (Ended e s1) h =
+    end_goes x k s (Gives completion s1) fit h = let b = h.by in
+        given completion x k s s1 b.0 b.1 (fit completion s1 refl) b.2 b.3
+    end_goes x k s (Ended e s1) fit h =
         let b = h.by in let r = b.1 in
         (b.0, record { steps = r.steps; comes = r.comes; turns = r.turns; work = omega (arith, r.work) })
-    end_goes x k s (Paused s1) h =
+    end_goes x k s (Paused s1) fit h =
         let b = h.by in let r = b.3 in (
           b.0,
           b.1,
@@ -259,7 +319,8 @@ module _ (g : Setting) (t : Tac) (limit : ℕ) (q : Caller) (frames : List Frame
         )
 
 module _ (p : Program) (budgets : BudgetSizes) (mapped : AreMapped (setting_of p budgets).sizes)
-    (valid : is_valid_program p ≡ true) (t : Tac) (limit : ℕ)
+    (valid : is_valid_program p ≡ true) (few : length p.functions ≤ 4096) (t : Tac)
+    (sizes : HaveSizes (names_of p).statics t.statics) (limit : ℕ)
     (lowers : (f : ℕ) → LowersAt t.texts (literals_of p.statics) (result_in (setting_of p budgets).results (function_at p.functions f))
     (height_in p.statics f (function_at p.functions f)) (function_at p.functions f) (function_in t f)) where
   abbrev g : Setting
@@ -272,6 +333,40 @@ module _ (p : Program) (budgets : BudgetSizes) (mapped : AreMapped (setting_of p
   abbrev within_program : Scope → Context
   within_program around = record
       { scope = record around { statics = u.statics; functions = u.functions }; sizes = g.sizes }
+
+  addresses : function_address (length u.functions) ≤ 2 ^ 64
+  addresses = few_addresses (length u.functions)
+      (let same = length-map p.functions (λ f. signature_in u.types f.type_number) in omega (arith, few))
+
+  taken_at : (f : ℕ) (of : Option Function) (oc : Option CodeFunction) (q : Signature)
+      → LowersAt t.texts (literals_of p.statics) (result_in g.results of) (height_in p.statics f of) of oc
+      → NamesFound u of → SignatureIs u.types q of → (c : CodeFunction) → oc ≡ Some c
+      → taken_by (header_of_code c) ≡ q.parameters
+  taken_at f None None q low named same c e = cc
+  taken_at f None (Some c') q low named same c e = absurd low
+  taken_at f (Some fn) None q low named same c e = absurd low
+  taken_at f (Some fn) (Some c') q low named same c e =
+      let is : c' ≡ c = cc in
+      ap (λ (z : CodeFunction). taken_by (header_of_code z)) (sym is)
+      ∙ ap taken_by low.header ∙ named.parameters ∙ ap (λ (z : Signature). z.parameters) (sym same)
+
+  -- the tables of a function's code are as its text declares
+  tables_of : (f : ℕ) (fn : Function) → variables_in (function_in t f) ≡ all_of fn → (base : Scope)
+      → base.statics ≡ u.statics → base.functions ≡ u.functions → base.types ≡ u.types
+      → AreDeclared t g (context_of base g.sizes (all_of fn) (all_of fn)) f
+  tables_of f fn variables base es ef et = record {
+    few = subst (λ (l : List Signature). function_address (length l) ≤ 2 ^ 64) (sym ef) addresses;
+    functions = length-map p.functions header_of ∙ sym (length-map p.functions (λ f. signature_in u.types f.type_number))
+        ∙ ap length (sym ef);
+    statics = subst (λ ks. HaveSizes ks t.statics) (sym es) sizes;
+    calls = λ f c e. taken_at f (function_at p.functions f) (function_in t f) (signature_in u.functions f) (lowers f)
+        (found_names u p.functions (valid_names p valid).functions f) (signature_found u.types p.functions f) c e
+        ∙ ap (λ (l : List Signature). (signature_in l f).parameters) (sym ef);
+    types = λ f h e. header_takes u p.functions (valid_names p valid).functions f h e
+        ∙ ap (λ (l : List Signature). (signature_in l h.type_number).parameters) (sym et);
+    variables = variables;
+    objects = λ x kind e. e;
+  }
 
   abbrev AllCallsRun : ℕ → Type 0
   AllCallsRun n = (around : Scope) → CallsRun g t limit (within_program around) (calls p.functions g limit n) n
@@ -307,6 +402,8 @@ module _ (p : Program) (budgets : BudgetSizes) (mapped : AreMapped (setting_of p
       }) result c.entry fn.body) (sym is) low.body in
       let variables : variables_in (function_in t f) ≡ all_of fn = ap variables_in is
       ∙ ap (λ (h : Header). h.parameters ++ h.variables) low.header in
+      let types : type_of (function_in t f) ≡ fn.type_number = ap type_of is
+      ∙ ap (λ (h : Header). h.type_number) low.header in
       let inside : Inside base g.sizes env = inside_good p budgets mapped (valid_names p valid) limit n fn in
       called_from g t limit q frames 0 0 8 8 4 4 _
       (came (heavier (set_up g (header_of fn) vs line) (at_work k s)) F) k k s s _ 0
@@ -320,11 +417,17 @@ module _ (p : Program) (budgets : BudgetSizes) (mapped : AreMapped (setting_of p
       (on (in_order (each_of env fn.body) s3)
       (λ completion. returned_by result completion >>= (λ v. change (back_to q) >> done v))) 0 refl (omega arith)
       (omega arith) (omega arith)
-      (end_goes g t limit q frames result f b.0 b.1 b.3 b.4 _ k2 s3 (in_order (each_of env fn.body) s3)
+      (end_goes g t limit q frames result f b.0 b.1 b.3 b.4 (ap (result_of g) types) _ k2 s3
+      (in_order (each_of env fn.body) s3)
+      (after_fits (length u.functions) addresses result inner s3 _ (subst (λ kind. After inner s3
+      (CompletionIs (length u.functions) kind) (in_order (each_of env fn.body) s3))
+      (sym ((is_setting p budgets mapped (valid_names p valid)).results fn.type_number))
+      ((row_sure inside (fn.parameters ++ body_variables fn) fn.body named.body).by s3 up.good tt)))
       (statements_run t n env refl base g.sizes inside (λ vs. callers (context_of base g.sizes (all_of fn) vs).scope)
-      (λ y e. expression_stays p.functions g limit n (all_of fn) y e) f (literals_of p.statics) variables ok.sized
+      (λ y e. expression_stays p.functions g limit n (all_of fn) y e) f (literals_of p.statics)
+      (tables_of f fn variables base refl refl refl) ok.sized
       (fn.parameters ++ body_variables fn) frames outside_loops fn.body c.entry _ no_temps k2 s3
-      (sized_body fn ok.sized) b.2 ok.body up.good (omega (arith, e2, lt))))))
+      (named_body fn) b.2 ok.body up.good (omega (arith, e2, lt))))))
 
   -- A call that costs w, of which c units are paid; what is left of the call's own unit pays for 4 more where the
   -- function is there.
@@ -450,7 +553,8 @@ main_number p h =
     ltb-true p.main (length p.functions) (both (nat_lt p.main (length p.functions)) _ q.4).0
 
 module _ (p : Program) (budgets : BudgetSizes) (mapped : AreMapped (setting_of p budgets).sizes)
-    (valid : is_valid_program p ≡ true) (t : Tac)
+    (valid : is_valid_program p ≡ true) (few : length p.functions ≤ 4096) (t : Tac)
+    (sizes : HaveSizes (names_of p).statics t.statics)
     (lowers : (f : ℕ) → LowersAt t.texts (literals_of p.statics) (result_in (setting_of p budgets).results (function_at p.functions f))
     (height_in p.statics f (function_at p.functions f)) (function_at p.functions f) (function_in t f)) (input : List ℕ)
     (main : t.main ≡ p.main) where
@@ -469,7 +573,7 @@ module _ (p : Program) (budgets : BudgetSizes) (mapped : AreMapped (setting_of p
       (outcome_in limit)
   started limit =
       let names = valid_names p valid in
-      first_runs p budgets mapped valid t limit lowers (limit + 1) t.main []
+      first_runs p budgets mapped valid few t sizes limit lowers (limit + 1) t.main []
       (line_of (function_at p.functions t.main)) (Begins first) 0 first main_there
       (record {
         steps = ap (λ l. called (setting_of p budgets) t t.main [] l [] (at_work 4 first))
@@ -521,9 +625,17 @@ module _ (p : Program) (t : Tac) (h : IsLowered p t) where
       (height_in p.statics f (function_at p.functions f)) (function_at p.functions f) (function_in t f)) h.results
       (h.functions f)
 
-  pub lower_follows : is_valid_program p ≡ true → (budgets : BudgetSizes) → AreMapped (setting_of p budgets).sizes
+  data_sized : is_valid_program p ≡ true → (budgets : BudgetSizes) → AreMapped (setting_of p budgets).sizes
+      → HaveSizes (names_of p).statics t.statics
+  data_sized valid budgets mapped =
+      let g = setting_of p budgets in
+      let good = start_good p budgets mapped (valid_names p valid) [] in
+      sizes_from (names_of p).statics (statics_first g) t.statics
+      (λ n kind e. subst (λ objects. IsHeld objects n kind) (sym (h.statics budgets)) (good.statics n kind e))
+
+  pub lower_follows : is_valid_program p ≡ true → length p.functions ≤ 4096 → (budgets : BudgetSizes) → AreMapped (setting_of p budgets).sizes
       → (input : List ℕ) → Follows 8 (meaning p budgets input) (tac_meaning t budgets input)
-  lower_follows valid budgets mapped input =
+  lower_follows valid few budgets mapped input =
       let g = setting_of p budgets in
       subst (λ (z : Setting). Follows 8 (meaning p budgets input)
       (seen_after (step z t) seen (Begins (fresh z (objects_before t z) input)))) (sym (setting_is budgets))
@@ -533,10 +645,10 @@ module _ (p : Program) (t : Tac) (h : IsLowered p t) where
       (λ limit. moment_of (calls p.functions g limit (limit + 1) m [] (line_of (function_at p.functions m))
       (fresh g (initial_objects p g) input)))
       (seen_after (step g t) seen (Begins (fresh g (initial_objects p g) input)))) h.main
-      (follows_from p budgets mapped valid t (functions_lower budgets) input h.main)))
+      (follows_from p budgets mapped valid few t (data_sized valid budgets mapped) (functions_lower budgets) input h.main)))
 
-  pub lower_never_stuck : is_valid_program p ≡ true → (budgets : BudgetSizes) → AreMapped (setting_of p budgets).sizes
+  pub lower_never_stuck : is_valid_program p ≡ true → length p.functions ≤ 4096 → (budgets : BudgetSizes) → AreMapped (setting_of p budgets).sizes
       → (input : List ℕ) (k : ℕ) → run (step (setting_of_code t budgets) t) k (first_stage t budgets input) ≡ Stuck → ⊥
-  lower_never_stuck valid budgets mapped input k e =
+  lower_never_stuck valid few budgets mapped input k e =
       follower_never_stuck t budgets input 8 (meaning p budgets input) (is_source p budgets input)
-      (lower_follows valid budgets mapped input) k e
+      (lower_follows valid few budgets mapped input) k e

@@ -5,6 +5,7 @@ use Rattle.std.proofs.Common.{sym, ap, ◌∙◌, subst, arith}
 use Rattle.std.specs.Prelude.{◌&&◌, not, cond, ◌==◌}
 use Rattle.addr_map.specs.Places.{function_address}
 use Rattle.sb_base.specs.declared.ending.Ending.TheVariants.{BadCall}
+use Rattle.obj_memory.specs.declared.value.Scalar.{Scalar}
 use Rattle.obj_memory.specs.declared.value.Tag.{Tag}
 use Rattle.obj_memory.specs.declared.value.Tag.TheVariants.{Untagged, OfFunction, OfObject}
 use Rattle.obj_memory.specs.declared.value.Value.{Value}
@@ -64,6 +65,25 @@ use Rattle.tac_ir.specs.Costs.{entries_of, stores_of, updates_of, checks_of, byt
 use Rattle.tac_ir.specs.Meaning.{keys_of, function_in, if_there, text_in, at_node, keyed, given_in}
 use Rattle.tac_ir.specs.Meaning.{given_to, called, act_at, step as advance}
 use Rattle.tac_ir.proofs.Turns.{acts_as}
+use Rattle.tac_ir.proofs.Fits.{only_opens}
+use Rattle.tac_ir.specs.Accesses.{is_home}
+use Rattle.tac_ir.specs.Fitting.{is_word, are_passed, is_written, is_held, is_update_of, is_type, fit_type, are_printed}
+use Rattle.tac_ir.specs.Fitting.{is_base_there, is_of_key}
+use Rattle.tac_ir.specs.Meaning.{fit_call, fits_key, variables_in}
+use Rattle.tac_ir.specs.declared.function.CodeFunction.{CodeFunction}
+use Rattle.c_tree.specs.Kinds.{routine_signature}
+use Rattle.c_tree.specs.declared.expression.Update.{Update}
+use Rattle.c_tree.specs.Valid.{is_automatic, is_static}
+use Rattle.c_lower.specs.Values.{KeyIs}
+use Rattle.c_lower.proofs.KeyNames.{BaseIf, object_found, static_there, key_base_there, read_named, write_named}
+use Rattle.c_lower.proofs.Fitting.{both_true, in_place, word_fits, written_fits, held_fits, arguments_fit, printed_fits}
+use Rattle.c_lower.proofs.Fitting.{update_fits, kind_update_fits, type_fits, constant_fits, type_arguments_fit, data_below}
+use Rattle.c_lower.proofs.Fitting.{AreDeclared}
+use Rattle.source_meaning.proofs.Naming.{PlainNames, UpdatesKind}
+use Rattle.source_meaning.specs.Good.{plain_type, IsWord}
+use Rattle.source_meaning.specs.State.{NoObject}
+use Rattle.std.specs.Prelude.{nat_lt, length, get_or}
+use Rattle.std.proofs.Common.{lt-ltb, ltb-true}
 use Rattle.c_lower.specs.Placed.{HasAt}
 use Rattle.c_lower.specs.Keys.{place_key, key_after, key_if, read_key, write_key}
 use Rattle.c_lower.specs.Values.{mode_for, LowersTaking, count, LowersExpression, LowersNode, LowersLvalue, LowersPlace}
@@ -128,12 +148,12 @@ module _ {g : Setting} {t : Tac} {limit u : ℕ} {frames : List Frame} where
       → Goes g t limit 8 6 u frames (λ v. n1) (ValueIn d before) (Stands u n temps frames (at_work k s)) k s
       (Gives (rvalue (integer (one_if (not q)))) s)
   flag_goes true d n one none n1 before temps k s h hz ho e below =
-      goes_step 7 h refl (ap (λ q. Stands u (cond q none one) temps frames (at_work (k + 1) s)) e)
-      (goes_step 6 hz refl refl
+      goes_step 7 h refl refl (ap (λ q. Stands u (cond q none one) temps frames (at_work (k + 1) s)) e)
+      (goes_step 6 hz refl refl refl
       (goes_done (omega arith) refl refl (put_value d (rvalue (integer 0)) _ before temps s refl below)))
   flag_goes false d n one none n1 before temps k s h hz ho e below =
-      goes_step 7 h refl (ap (λ q. Stands u (cond q none one) temps frames (at_work (k + 1) s)) e)
-      (goes_step 6 ho refl refl
+      goes_step 7 h refl refl (ap (λ q. Stands u (cond q none one) temps frames (at_work (k + 1) s)) e)
+      (goes_step 6 ho refl refl refl
       (goes_done (omega arith) refl refl (put_value d (rvalue (integer 1)) _ before temps s refl below)))
 
   -- six units are enough for any expression that is no conversion
@@ -219,7 +239,7 @@ module _ {g : Setting} {t : Tac} {limit u : ℕ} {frames : List Frame} where
   taking_runs fc (Structure m) line d n0 n1 before temps k s v literals vars tr e below h =
       let F : Rvalue → State → Stage = given_in u n1 temps d frames in
       let z = at_work (k + 5) s in
-      goes_steps 5 1 tr refl
+      goes_steps 5 1 tr refl (in_place (temps d).contents d)
       (ap (λ v. moved_from (Structure m) v s.objects (came (heavier (take_value (Structure m) line v) z) F)) e
       ∙ value_moves fc (Structure m) v s.objects h _)
       (goes_last_heavier F (acts_take_value (Structure m) line v)
@@ -246,7 +266,7 @@ false_by false e = refl
 module _ (t : Tac) (n : ℕ) (env : Env) (sc : Context) (sure : Calling sc env)
     (calls : CallsRun env.setting t env.limit sc env.call n)
     (stays : (y : ℕ) (e : Expression) → assigns y e ≡ false → Stays y (evaluate env e)) (u : ℕ) (frames : List Frame)
-    (literals : List Bool) (vars : List Variable) where
+    (literals : List Bool) (vars : List Variable) (declared : AreDeclared t env.setting sc u) where
   abbrev g : Setting
   g = env.setting
 
@@ -277,6 +297,89 @@ module _ (t : Tac) (n : ℕ) (env : Env) (sc : Context) (sure : Calling sc env)
       right_after (function_count sc) a s1 s2 (λ y ne. plain_kept y s1 s2 _ x is ((stays y a ne).stays s1)) lv.frame
       lv.lives.continues ok v sound h
 
+  -- what instructions are given fits
+
+  plain_declared : (x : ℕ) (k : Scalar) (s : State) → IsGood sc s → plain_type sc.scope.variables x ≡ Some k
+      → plain_type (variables_in (function_in t u)) x ≡ Some k
+  plain_declared x k s good e = ap (λ vs. plain_type vs x) declared.variables ∙ good.typed.named x k e
+
+  pub plain_fits : (x : ℕ) (kind : Kind) → PlainNames sc.scope x kind → (v : Rvalue) (s : State) → IsGood sc s
+      → ValueIs (function_count sc) kind v s.objects → (w : Rvalue) → w ≡ v
+      → is_held (plain_type (variables_in (function_in t u)) x) w ≡ true
+  plain_fits x Void nm v s good h w e = absurd nm
+  plain_fits x (OfScalar k) nm v s good h w e =
+      ap (λ o. is_held o w) (plain_declared x k s good nm) ∙ ap (is_held (Some k)) e
+      ∙ held_fits (function_count sc) declared.few k v s.objects h
+  plain_fits x (Structure n) nm v s good h w e = absurd nm
+  plain_fits x (Array n) nm v s good h w e = absurd nm
+
+  plain_update_fits : (w : Update) (kind : Kind) (x : ℕ) (s : State) → IsGood sc s → PlainNames sc.scope x kind
+      → UpdatesKind w kind
+      → (is_type (plain_type (variables_in (function_in t u)) x) (scalar_of kind) && is_update_of w (scalar_of kind))
+      ≡ true
+  plain_update_fits w Void x s good nm h = absurd nm
+  plain_update_fits w (OfScalar k) x s good nm h =
+      both_true (ap (λ o. is_type o k) (plain_declared x k s good nm) ∙ type_fits k) (update_fits w k h)
+  plain_update_fits w (Structure n) x s good nm h = absurd nm
+  plain_update_fits w (Array n) x s good nm h = absurd nm
+
+  call_fits : (f : ℕ) (vs : List Rvalue) (objects : Objects)
+      → ArgumentsAre (function_count sc) (taking sc f) vs objects → fit_call (function_in t f) vs ≡ true
+  call_fits f vs objects h = by (function_in t f) refl
+    where
+      by : (c : Option CodeFunction) → function_in t f ≡ c → fit_call c vs ≡ true
+      by None e = refl
+      by (Some c) e = ap (λ ks. are_passed ks vs) (declared.calls f c e)
+          ∙ arguments_fit (function_count sc) declared.few (taking sc f) vs objects h
+
+  through_fits : (n : ℕ) (vs : List Rvalue) (objects : Objects)
+      → ArgumentsAre (function_count sc) (signature_in sc.scope.types n).parameters vs objects
+      → fit_type env.setting.functions n vs ≡ true
+  through_fits n vs objects h = type_arguments_fit sc.scope.types n vs
+      (arguments_fit (function_count sc) declared.few _ vs objects h) env.setting.functions declared.types
+
+  home_fits : (x : ℕ) (kind : Kind) → is_automatic sc.scope x kind ≡ true → (s : State) → IsGood sc s
+      → is_home (get_or s.frame x NoObject) s.objects ≡ true
+  home_fits x kind ok s good =
+      let has = object_found sc.scope.variables x (both _ _ ok).0 in
+      let h = good.homes x _ has in
+      ap (λ home. is_home home s.objects) h.home ∙ h.held.live
+
+  static_fits : (n : ℕ) (kind : Kind) → is_static sc.scope n kind ≡ true → nat_lt n (length t.statics) ≡ true
+  static_fits n kind ok =
+      let le = ltb-true n (length sc.scope.statics) (both (nat_lt n (length sc.scope.statics)) _ ok).0 in
+      let k = static_there sc.scope.statics n le in
+      let d = declared.statics n k.0 k.1 in
+      lt-ltb _ _ (data_below t.statics n d.0 d.1)
+
+  -- the pointer of an access that has a key
+  key_fits : (ok : Option Key) (key : Option ℕ) → KeyIs (keys_of (function_in t u)) key ok → (s : State) → IsGood sc s
+      → (v : Value) → IsWord (function_count sc) v.word → BaseIf sc.scope ok → (w : Rvalue) → w.value ≡ v → (n : ℕ)
+      → fits_key t u key (at_work n s) w.value ≡ true
+  key_fits ok None is s good v word base w e n = refl
+  key_fits None (Some m) is s good v word base w e n = absurd is
+  key_fits (Some k) (Some m) is s good v word base w e n =
+      ap (λ o. is_of_key (variables_in (function_in t u)) t.statics o (at_work n s) w.value) is
+      ∙ both_true (ap (λ (z : Value). is_word z.word) e ∙ word_fits (function_count sc) declared.few v.word word)
+      (ap (λ vs. is_base_there vs t.statics k.base (at_work n s)) declared.variables
+      ∙ key_base_there sc k.base (at_work n s) sc.scope.all t.statics base good declared.objects declared.statics)
+
+  read_key_fits : (p : Lvalue) → is_valid_lvalue sc.scope p ≡ true → (key : Option ℕ) (s : State) → IsGood sc s
+      → (q : Rvalue) → KeyIs (keys_of (function_in t u)) key (read_key literals p)
+      → LvalueIs (function_count sc) (basis_of p) (lvalue_kind p) q s.objects → (w : Rvalue) → w ≡ q → (n : ℕ)
+      → fits_key t u key (at_work n s) w.value ≡ true
+  read_key_fits p ok key s good q is h w e n =
+      key_fits (read_key literals p) key is s good q.value h.word (read_named sc.scope literals p ok) w
+      (ap (λ (z : Rvalue). z.value) e) n
+
+  write_key_fits : (p : Lvalue) (a : Expression) → is_valid_lvalue sc.scope p ≡ true → (key : Option ℕ) (s1 s : State)
+      → IsGood sc s → (q : Rvalue) → KeyIs (keys_of (function_in t u)) key (write_key literals p a)
+      → LvalueIs (function_count sc) (basis_of p) (lvalue_kind p) q s1.objects → (w : Rvalue) → w ≡ q → (n : ℕ)
+      → fits_key t u key (at_work n s) w.value ≡ true
+  write_key_fits p a ok key s1 s good q is h w e n =
+      key_fits (write_key literals p a) key is s good q.value h.word (write_named sc.scope literals p a ok) w
+      (ap (λ (z : Rvalue). z.value) e) n
+
   mutual
     pub expression_runs : (e : Expression) (d n0 n1 : ℕ) (temps : Temps) (k : ℕ) (s : State)
         → LowersExpression (placed t u literals vars) e d n0 n1 → is_valid sc.scope e ≡ true → IsGood sc s → limit < n + s.turns
@@ -298,14 +401,15 @@ module _ (t : Tac) (n : ℕ) (env : Env) (sc : Context) (sure : Calling sc env)
         → Goes g t limit 0 (left_by kind (is_convert node)) u frames (λ v. n1) (ValueIn d temps)
         (Stands u n0 temps frames (at_work k s)) k s (value env node kind line s)
     node_runs (constant w) kind line d n0 n1 temps k s tr ok good lt =
-        six_left kind (goes_counted (goes_step 7 tr refl refl
+        six_left kind (goes_counted (goes_step 7 tr refl (constant_fits w kind (named (constant w) kind ok)) refl
         (goes_done (omega arith) refl refl (put_value d (rvalue (integer w)) _ temps temps _ refl (λ i l. refl)))))
     node_runs (function f) kind line d n0 n1 temps k s tr ok good lt =
-        six_left kind (goes_counted (goes_step 7 tr refl refl
+        let there : f < length env.setting.functions = omega (arith, (named (function f) kind ok).0, declared.functions) in
+        six_left kind (goes_counted (goes_step 7 tr refl (lt-ltb _ _ there) refl
         (goes_done (omega arith) refl refl
         (put_value d (rvalue (function_pointer f)) _ temps temps _ refl (λ i l. refl)))))
     node_runs (plain x) kind line d n0 n1 temps k s tr ok good lt =
-        six_left kind (goes_counted (goes_step 7 tr refl refl
+        six_left kind (goes_counted (goes_step 7 tr refl refl refl
         (goes_done (omega arith) refl refl
         (put_value d (rvalue (plain_value x s)) _ temps temps _ refl (λ i l. refl)))))
     node_runs (read p) kind line d n0 n1 temps k s tr ok good lt =
@@ -322,6 +426,8 @@ module _ (t : Tac) (n : ℕ) (env : Env) (sc : Context) (sure : Calling sc env)
         let keys = keys_of (function_in t u) in
         goes_spare (w + rest) (omega (arith, read_cost pk j))
         (goes_steps w rest tr.4 refl
+        (both_true (in_place (t1 d).contents d)
+        (read_key_fits p v.0 tr.1 s1 lv1.good q tr.2 w1 (t1 d) p1.value (k1 + w)))
         (ap (λ (v : Rvalue). keyed keys tr.1 z v.value
         (admitted (mode_for j) (size_of_kind pk) v s1.objects
         (came (read_rvalue pk (is_through (mode_for j)) v (lvalue_line p) z) F))) p1.value
@@ -361,7 +467,7 @@ module _ (t : Tac) (n : ℕ) (env : Env) (sc : Context) (sure : Calling sc env)
         let v = both (is_valid sc.scope a) (is_conversion (kind_of a) kind) ok in
         six_left kind (goes_counted
         (goes_then (two a d n0 tr.0 temps k _ tr.1 v.0 good lt) (λ v s1 t1 k1 p1 le1 is1.
-        goes_step 10 tr.2 refl refl
+        goes_step 10 tr.2 refl (in_place (t1 d).contents d) refl
         (goes_done (omega arith) refl refl
         (put_value d (rvalue (converted kind v.value)) _ temps t1 _
         (ap (λ (z : Rvalue). rvalue (converted kind z.value)) p1.value) p1.below)))))
@@ -370,7 +476,7 @@ module _ (t : Tac) (n : ℕ) (env : Env) (sc : Context) (sure : Calling sc env)
         let ty = integer_type (scalar_of (kind_of a)) in
         six_left kind (goes_counted
         (goes_then (two a d n0 tr.0 temps k _ tr.1 v.0 good lt) (λ v s1 t1 k1 p1 le1 is1.
-        goes_step 10 tr.2 refl refl
+        goes_step 10 tr.2 refl refl refl
         (goes_done (omega arith) refl refl
         (put_value d (rvalue (integer (unary_value op ty v.value.word))) _ temps t1 _
         (ap (λ (z : Rvalue). rvalue (integer (unary_value op ty z.value.word))) p1.value) p1.below)))))
@@ -383,7 +489,7 @@ module _ (t : Tac) (n : ℕ) (env : Env) (sc : Context) (sure : Calling sc env)
         (λ y s2 t2 k2 p2 le2 is2.
         let F : Rvalue → State → Stage = given_in u n1 t2 d frames in
         let z = at_work (k2 + 1) s2 in
-        goes_step 13 tr.4 refl
+        goes_step 13 tr.4 refl refl
         (ap (λ (v : Rvalue). came (as_rvalue (operate op ty v.value (t2 (d + 1)).value line) z) F)
         (p2.below d (omega arith) ∙ p1.value)
         ∙ ap (λ (v : Rvalue). came (as_rvalue (operate op ty x.value v.value line) z) F) p2.value)
@@ -396,7 +502,7 @@ module _ (t : Tac) (n : ℕ) (env : Env) (sc : Context) (sure : Calling sc env)
         (goes_sure _ (after a v.0 _ good) (two a d n0 tr.0 temps k _ tr.2 v.0 good lt) (λ x s1 t1 k1 p1 le1 is1 lv1 w1.
         goes_then (two b (d + 1) tr.0 tr.1 t1 k1 s1 tr.3 v.1 lv1.good (omega (arith, le1, lt)))
         (λ y s2 t2 k2 p2 le2 is2.
-        goes_steps 2 12 tr.4 refl refl
+        goes_steps 2 12 tr.4 refl refl refl
         (goes_done (omega arith) refl refl
         (put_value d (rvalue (offset_value form size x.value y.value)) _ temps t2 _
         (ap (λ (v : Rvalue). rvalue (offset_value form size v.value (t2 (d + 1)).value))
@@ -409,7 +515,7 @@ module _ (t : Tac) (n : ℕ) (env : Env) (sc : Context) (sure : Calling sc env)
         (goes_sure _ (after a v.0 _ good) (two a d n0 tr.0 temps k _ tr.2 v.0 good lt) (λ x s1 t1 k1 p1 le1 is1 lv1 w1.
         goes_then (two b (d + 1) tr.0 tr.1 t1 k1 s1 tr.3 v.1 lv1.good (omega (arith, le1, lt)))
         (λ y s2 t2 k2 p2 le2 is2.
-        goes_step 13 tr.4 refl refl
+        goes_step 13 tr.4 refl refl refl
         (goes_done (omega arith) refl refl
         (put_value d (rvalue (difference_value size x.value y.value)) _ temps t2 _
         (ap (λ (v : Rvalue). rvalue (difference_value size v.value (t2 (d + 1)).value))
@@ -421,7 +527,7 @@ module _ (t : Tac) (n : ℕ) (env : Env) (sc : Context) (sure : Calling sc env)
         six_left kind (goes_counted
         (goes_sure _ (after a v.0 _ good) (two a d n0 tr.0 temps k _ tr.5 v.0 good lt) (λ x s1 t1 k1 p1 le1 is1 lv1 w1.
         goes_branch 10 x _ _ tr.6 p1.value
-        (goes_step 9 tr.9 refl refl
+        (goes_step 9 tr.9 refl refl refl
         (goes_done (omega arith) refl refl (put_value d (rvalue (integer 0)) _ temps t1 _ refl p1.below)))
         (goes_then (two b d tr.2 tr.1 t1 (k1 + 1) s1 tr.7 v.1 lv1.good (omega (arith, le1, lt)))
         (λ y s2 t2 k2 p2 le2 is2.
@@ -438,7 +544,7 @@ module _ (t : Tac) (n : ℕ) (env : Env) (sc : Context) (sure : Calling sc env)
         goes_spare 8 (omega arith)
         (flag_goes (is_zero y.value) d tr.1 tr.4 tr.3 n1 temps t2 k2 s2 tr.8 tr.9 tr.10
         (ap (λ (v : Rvalue). is_zero v.value) p2.value) (λ i l. p2.below i l ∙ p1.below i l))))
-        (goes_step 9 tr.10 refl refl
+        (goes_step 9 tr.10 refl refl refl
         (goes_done (omega arith) refl refl (put_value d (rvalue (integer 1)) _ temps t1 _ refl p1.below))))))
     node_runs (comma a b) kind line d n0 n1 temps k s tr ok good lt =
         let v = three (is_valid sc.scope a) (is_valid sc.scope b) _ ok in
@@ -476,6 +582,10 @@ module _ (t : Tac) (n : ℕ) (env : Env) (sc : Context) (sure : Calling sc env)
         let size = size_of_kind pk in
         goes_spare (w + 12) (omega (arith, most))
         (goes_steps w 12 tr.6 refl
+        (both_true (ap (is_written pk) p2.value
+        ∙ written_fits (function_count sc) declared.few pk x s2.objects
+        (subst (λ y. ValueIs (function_count sc) y x s2.objects) (sym nm.3) w2))
+        (write_key_fits p a v.0 tr.2 s1 s2 lv2.good q tr.3 w1 (t2 d) (p2.below d (omega arith) ∙ p1.value) (k2 + w)))
         (ap (λ (y : Rvalue). keyed keys tr.2 z y.value
         (admitted (mode_for j) size y s2.objects
         (moved_from pk (t2 (d + 1)) s2.objects
@@ -502,6 +612,7 @@ module _ (t : Tac) (n : ℕ) (env : Env) (sc : Context) (sure : Calling sc env)
         six_left kind (goes_counted_as (nodes_of x) 16 (omega arith)
         (goes_sure _ (after a v.0 _ good) (two a d n0 tr.0 temps k _ tr.1 v.0 good lt) (λ y s1 t1 k1 p1 le1 is1 lv1 w1.
         goes_step 18 tr.2 refl
+        (plain_fits x.variable (kind_of a) nm.1 y s1 lv1.good w1 (t1 d) p1.value)
         (ap (λ (w : Rvalue). Stands u n1 t1 frames (at_work (k1 + 1) (with_plain x.variable w.value s1))) p1.value)
         (goes_done (omega arith) refl refl
         (turned (plain_contents (function_count sc) (kind_of a) y s1.objects
@@ -525,6 +636,8 @@ module _ (t : Tac) (n : ℕ) (env : Env) (sc : Context) (sure : Calling sc env)
         let keys = keys_of (function_in t u) in
         goes_spare (w' + 11) (omega (arith, most))
         (goes_steps w' 11 tr.6 refl
+        (both_true (kind_update_fits w (lvalue_kind p) nm.2)
+        (write_key_fits p a v.0 tr.2 s1 s2 lv2.good q tr.3 w1 (t2 d) (p2.below d (omega arith) ∙ p1.value) (k2 + w')))
         (ap (λ (x : Rvalue). keyed keys tr.2 z x.value
         (admitted (mode_for j) (scalar_size sk) x s2.objects
         (came (as_rvalue (update sk (is_through (mode_for j)) x.value at (updated w sk (t2 (d + 1)).value line)
@@ -546,12 +659,14 @@ module _ (t : Tac) (n : ℕ) (env : Env) (sc : Context) (sure : Calling sc env)
         (put_value d x x temps t2 s3 refl (λ i l. p2.below i (omega arith) ∙ p1.below i l)))))))))
     node_runs (change_plain w x a) kind line d n0 n1 temps k s tr ok good lt =
         let v = three (is_valid sc.scope a) (is_plain sc.scope x.variable kind) _ ok in
+        let nm = named (change_plain w x a) kind ok in
         let sk = scalar_of kind in
         six_left kind (goes_counted_as (nodes_of x) 16 (omega arith)
-        (goes_then (two a d n0 tr.0 temps k _ tr.1 v.0 good lt) (λ y s1 t1 k1 p1 le1 is1.
+        (goes_sure _ (after a v.0 _ good) (two a d n0 tr.0 temps k _ tr.1 v.0 good lt)
+        (λ y s1 t1 k1 p1 le1 is1 lv1 w1.
         let F : Rvalue → State → Stage = given_in u n1 t1 d frames in
         let z = at_work (k1 + 2) s1 in
-        goes_steps 2 17 tr.2 refl
+        goes_steps 2 17 tr.2 refl (plain_update_fits w kind x.variable s1 lv1.good nm.1 nm.2)
         (ap (λ (v : Rvalue). came (as_rvalue (update_plain x.variable (updated w sk v.value line) Prefix) z)
         F) p1.value)
         (goes_last F (acts_as
@@ -574,6 +689,8 @@ module _ (t : Tac) (n : ℕ) (env : Env) (sc : Context) (sure : Calling sc env)
         let keys = keys_of (function_in t u) in
         goes_spare (w' + 8) (omega (arith, most))
         (goes_steps w' 8 tr.4 refl
+        (both_true (kind_update_fits w (lvalue_kind p) nm.2)
+        (read_key_fits p v.0 tr.1 s1 lv1.good q tr.2 w1 (t1 d) p1.value (k1 + w')))
         (ap (λ (x : Rvalue). keyed keys tr.1 z x.value
         (admitted (mode_for j) (scalar_size sk) x s1.objects
         (came (as_rvalue (update sk (is_through (mode_for j)) x.value at (updated w sk (integer 1) line) fixity) z)
@@ -588,9 +705,10 @@ module _ (t : Tac) (n : ℕ) (env : Env) (sc : Context) (sure : Calling sc env)
         goes_done (omega arith) refl refl (put_value d x x temps t1 s2 refl p1.below)))))))
     node_runs (step_plain w fixity x) kind line d n0 n1 temps k s tr ok good lt =
         let sk = scalar_of kind in
+        let nm = named (step_plain w fixity x) kind ok in
         let F : Rvalue → State → Stage = given_in u n1 temps d frames in
         six_left kind (goes_counted_as (nodes_of x) 16 (omega arith)
-        (goes_steps 2 14 tr refl refl
+        (goes_steps 2 14 tr refl (plain_update_fits w kind x.variable s good nm.0 nm.1) refl
         (goes_last F (acts_as
         (acts_update_plain x.variable (updated w sk (integer 1) line) fixity (acts_updated w sk (integer 1) line)))
         (λ v s2 k2 e.
@@ -603,12 +721,14 @@ module _ (t : Tac) (n : ℕ) (env : Env) (sc : Context) (sure : Calling sc env)
         (arguments_leave args d n0 tr.0 temps k _ tr.1 v.0 good lt))
         (λ vs s1 t1 k1 p1 le1 is1 lv1 w1.
         let w = Waits (record { function = u; node = n1; place = d; caller = caller s1; temps = t1 }) in
+        let taken = subst (λ ks. ArgumentsAre (function_count sc) ks vs s1.objects) nm.1 w1 in
         let does = ap (λ j. act_at g t j u t1 frames (at_work k1 s1)) tr.2
+        ∙ only_opens _ (ap (fit_call (function_in t f)) p1.values ∙ call_fits f vs s1.objects taken)
         ∙ ap (λ l. called g t f l line (w ∷ frames) (at_work (k1 + 6) s1)) p1.values in
         goes_less {b = 10} 6 (omega arith)
         (goes_frame 2 6 8 (back_by 6 n1 d temps t1 _ k1 s1 _ p1.below
         (calls 6 f vs line (w ∷ frames) _ k1 s1 (record { steps = does; seen_now = refl }) lv1.good
-        (subst (λ ks. ArgumentsAre (function_count sc) ks vs s1.objects) nm.1 w1) (omega (arith, le1, lt))))))))
+        taken (omega (arith, le1, lt))))))))
     node_runs (call_through type_number a args) kind line d n0 n1 temps k s tr ok good lt =
         let v = five (is_valid sc.scope a) _ (are_valid sc.scope args) _ _ ok in
         let nm = named (call_through type_number a args) kind ok in
@@ -621,8 +741,10 @@ module _ (t : Tac) (n : ℕ) (env : Env) (sc : Context) (sure : Calling sc env)
         let w = Waits (record { function = u; node = n1; place = d; caller = caller s2; temps = t2 }) in
         let z = at_work (k2 + 8) s2 in
         let e : t2 d ≡ x = p2.below d (omega arith) ∙ p1.value in
+        let taken = subst (λ ks. ArgumentsAre (function_count sc) ks vs s2.objects) nm.2 w2 in
         let does =
         ap (λ j. act_at g t j u t2 frames (at_work k2 s2)) tr.4
+        ∙ only_opens _ (ap (fit_type g.functions type_number) p2.values ∙ through_fits type_number vs s2.objects taken)
         ∙ ap (λ (v : Rvalue). came (callee g.functions type_number v.value line z)
         (λ f z. called g t f (gathered t2 (d + 1) (count args)) line (w ∷ frames) z)) e
         ∙ ap (λ l. came (callee g.functions type_number x.value line z)
@@ -630,19 +752,21 @@ module _ (t : Tac) (n : ℕ) (env : Env) (sc : Context) (sure : Calling sc env)
         in
         goes_less {b = 11} 6 (omega arith)
         (goes_frame 3 8 8
-        (through_goes n sc env sure refl calls vs line n1 d temps t2 _ k2 s2 lv2.good type_number
-        (subst (λ ks. ArgumentsAre (function_count sc) ks vs s2.objects) nm.2 w2) refl (omega (arith, le1, le2, lt))
+        (through_goes n sc env sure refl calls vs line n1 d temps t2 _ k2 s2 lv2.good type_number taken refl (omega (arith, le1, le2, lt))
         (λ i l. p2.below i (omega arith) ∙ p1.below i l) x.value.word x.value.tag does))))))
     node_runs (library name args) kind line d n0 n1 temps k s tr ok good lt =
         let v = both (are_valid sc.scope args) _ ok in
         let plain = subst IsNoStructure (sym (named (library name args) kind ok).2) (none_routine name) in
         let rest = plainly_left kind false plain in
         goes_counted
-        (goes_then (goes_less {b = args_left args} 0 (omega arith)
-        (arguments_leave args d n0 tr.0 temps k _ tr.1 v.0 good lt)) (λ vs s1 t1 k1 p1 le1 is1.
+        (goes_sure _ (after_each args v.0 _ good) (goes_less {b = args_left args} 0 (omega arith)
+        (arguments_leave args d n0 tr.0 temps k _ tr.1 v.0 good lt)) (λ vs s1 t1 k1 p1 le1 is1 lv1 w1.
         let F : Rvalue → State → Stage = given_in u n1 t1 d frames in
         goes_counted
         (goes_steps 12 4 tr.2 refl
+        (ap (are_passed (routine_signature name).parameters) p1.values
+        ∙ arguments_fit (function_count sc) declared.few (routine_signature name).parameters vs s1.objects
+        (subst (λ ks. ArgumentsAre (function_count sc) ks vs s1.objects) (named (library name args) kind ok).1 w1))
         (ap (λ l. came (heavier (as_rvalue (routine g name (values_of l) line)) (at_work (k1 + 12) s1)) F) p1.values)
         (goes_last_heavier F (acts_as (acts_routine g name (values_of vs) line))
         (λ v s2 k2 e is2. goes_done (omega (arith, rest)) refl refl (put_value d v v temps t1 s2 refl p1.below))))))
@@ -651,12 +775,17 @@ module _ (t : Tac) (n : ℕ) (env : Env) (sc : Context) (sure : Calling sc env)
         let each = formatted_left (pieces format) args v.1 in
         let paid = 2 + 3 * count args in
         six_left kind (goes_counted (goes_counted
-        (goes_then (arguments_leave args d n0 tr.0 temps k _ tr.3 v.0 good lt) (λ vs s1 t1 k1 p1 le1 is1.
+        (goes_sure _ (after_each args v.0 _ good) (arguments_leave args d n0 tr.0 temps k _ tr.3 v.0 good lt)
+        (λ vs s1 t1 k1 p1 le1 is1 lv1 w1.
         let F : Rvalue → State → Stage = given_in u n1 t1 d frames in
         let z = at_work (k1 + paid) s1 in
         goes_counted
         (goes_spare (paid + 22) (omega (arith, each))
         (goes_steps paid 22 tr.4 refl
+        (ap (λ b. are_printed (pieces b) (gathered t1 d (count args))) (text_at t tr.1 format tr.2)
+        ∙ ap (are_printed (pieces format)) p1.values
+        ∙ printed_fits (pieces format) (kinds_of args) vs v.1
+        (arguments_fit (function_count sc) declared.few (kinds_of args) vs s1.objects w1))
         (ap (λ l. came (heavier (as_rvalue (print_formatted (text_in t tr.1) (values_of l) line)) z) F) p1.values
         ∙ ap (λ b. came (heavier (as_rvalue (print_formatted b (values_of vs) line)) z) F) (text_at t tr.1 format tr.2))
         (goes_last_heavier F (acts_as (acts_print format (values_of vs) line))
@@ -666,7 +795,7 @@ module _ (t : Tac) (n : ℕ) (env : Env) (sc : Context) (sure : Calling sc env)
         let rest = plainly_left kind true (named (convert a) kind ok).1 in
         goes_then (goes_less 4 (not_converted a (false_by (is_converted a) v.2))
         (expression_runs a d n0 tr.0 temps k s tr.1 v.0 good lt)) (λ v s1 t1 k1 p1 le1 is1.
-        goes_step 3 tr.2 refl refl
+        goes_step 3 tr.2 refl (in_place (t1 d).contents d) refl
         (goes_done (omega (arith, rest)) refl refl
         (put_value d (rvalue (converted kind v.value)) _ temps t1 _
         (ap (λ (z : Rvalue). rvalue (converted kind z.value)) p1.value) p1.below)))
@@ -685,11 +814,11 @@ module _ (t : Tac) (n : ℕ) (env : Env) (sc : Context) (sure : Calling sc env)
         → Goes g t limit 0 (place_left (is_node_judged node)) u frames (λ v. n1) (ValueIn d temps)
         (Stands u n0 temps frames (at_work k s)) k s (node_place env node s)
     place_runs (automatic x) kind d n0 n1 temps k s tr ok good lt =
-        goes_counted (goes_step 7 tr refl refl
+        goes_counted (goes_step 7 tr refl (home_fits x kind ok s good) refl
         (goes_done (omega arith) refl refl
         (put_value d (rvalue (home_pointer x s)) _ temps temps _ refl (λ i l. refl))))
     place_runs (static m) kind d n0 n1 temps k s tr ok good lt =
-        goes_counted (goes_step 7 tr refl refl
+        goes_counted (goes_step 7 tr refl (static_fits m kind ok) refl
         (goes_done (omega arith) refl refl
         (put_value d (rvalue (pointer_to m s.objects)) _ temps temps _ refl (λ i l. refl))))
     place_runs (deref a) kind d n0 n1 temps k s tr ok good lt =
@@ -704,7 +833,7 @@ module _ (t : Tac) (n : ℕ) (env : Env) (sc : Context) (sure : Calling sc env)
         (goes_sure _ (after a v.0 _ good) (two a d n0 tr.0 temps k _ tr.2 v.0 good lt) (λ x s1 t1 k1 p1 le1 is1 lv1 w1.
         goes_then (two b (d + 1) tr.0 tr.1 t1 k1 s1 tr.3 v.1 lv1.good (omega (arith, le1, lt)))
         (λ y s2 t2 k2 p2 le2 is2.
-        goes_steps 2 12 tr.4 refl refl
+        goes_steps 2 12 tr.4 refl refl refl
         (goes_done (omega arith) refl refl
         (put_value d (rvalue (offset_value form size x.value y.value)) _ temps t2 _
         (ap (λ (v : Rvalue). rvalue (offset_value form size v.value (t2 (d + 1)).value))
@@ -717,14 +846,14 @@ module _ (t : Tac) (n : ℕ) (env : Env) (sc : Context) (sure : Calling sc env)
         (goes_then (lvalue_runs p d n0 tr.0 temps k _ tr.1 v.0 good lt) (λ q s1 t1 k1 p1 le1 is1.
         let seven = seven_left (is_judged p) in
         goes_spare (2 + place_left (is_judged p)) (omega arith)
-        (goes_steps 2 (place_left (is_judged p)) tr.2 refl refl
+        (goes_steps 2 (place_left (is_judged p)) tr.2 refl (in_place (t1 d).contents d) refl
         (goes_done (omega arith) refl refl
         (put_value d (member_of offset size q) _ temps t1 _ (ap (member_of offset size) p1.value) p1.below)))))
     place_runs (arrow a offset size) kind d n0 n1 temps k s tr ok good lt =
         let v = three (is_valid sc.scope a) (is_kind (kind_of a) pointer) _ ok in
         goes_counted
         (goes_then (two a d n0 tr.0 temps k _ tr.1 v.0 good lt) (λ q s1 t1 k1 p1 le1 is1.
-        goes_steps 2 9 tr.2 refl refl
+        goes_steps 2 9 tr.2 refl refl refl
         (goes_done (omega arith) refl refl
         (put_value d (rvalue (narrowed offset size q.value)) _ temps t1 _
         (ap (λ (z : Rvalue). rvalue (narrowed offset size z.value)) p1.value) p1.below))))
@@ -732,7 +861,7 @@ module _ (t : Tac) (n : ℕ) (env : Env) (sc : Context) (sure : Calling sc env)
         let v = three (is_valid sc.scope a) (has_member (kind_of a) offset size) _ ok in
         goes_counted
         (goes_then (two a d n0 tr.0 temps k _ tr.1 v.0 good lt) (λ q s1 t1 k1 p1 le1 is1.
-        goes_steps 2 9 tr.2 refl refl
+        goes_steps 2 9 tr.2 refl (in_place (t1 d).contents d) refl
         (goes_done (omega arith) refl refl
         (put_value d (member_of offset size q) _ temps t1 _ (ap (member_of offset size) p1.value) p1.below))))
     place_runs (parenthesized_lvalue p) kind d n0 n1 temps k s tr ok good lt =

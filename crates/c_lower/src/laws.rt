@@ -1,6 +1,6 @@
 //! Laws of the definitions, each as the contract of a function that does nothing.
 
-ghost use Rattle.std.specs.Prelude.{◌≡◌, ◌≤◌, ℕ, Bool, List, true, Some};
+ghost use Rattle.std.specs.Prelude.{◌≡◌, ◌≤◌, ℕ, Bool, List, length, true, Some};
 ghost use Rattle.behaviours.specs.Behaviour.{Follows};
 ghost use Rattle.behaviours.specs.Steps.{run};
 ghost use Rattle.sb_base.specs.Budgets.{BudgetSizes};
@@ -23,10 +23,11 @@ ghost use Rattle.c_lower.specs.Programs.{IsLowered};
 
 pub mod liveness;
 
-/// The code of a valid program shows what the program shows, at each moment, for each budget and input, with at most 8
+/// The code of a valid program of at most 4096 functions shows what the program shows, at each moment, for each budget and input, with at most 8
 /// units of work for each of the program's.
 pub fn lowered_code_follows_its_program()
-    ensures { (p : Program) (t : Tac) → IsLowered p t → is_valid_program p ≡ true → (budgets : BudgetSizes)
+    ensures { (p : Program) (t : Tac) → IsLowered p t → is_valid_program p ≡ true → length p.functions ≤ 4096
+        → (budgets : BudgetSizes)
         → AreMapped (setting_of p budgets).sizes → (input : List ℕ)
         → Follows 8 (meaning p budgets input) (tac_meaning t budgets input) }
 {}
@@ -34,7 +35,8 @@ pub fn lowered_code_follows_its_program()
 /// And it is never stuck: what its steps test is true. An access that gets no check, a zeroing, a literal stored and a
 /// structure moved are of a live object or of contents, and the key of an access gives its pointer.
 pub fn lowered_code_is_never_stuck()
-    ensures { (p : Program) (t : Tac) → IsLowered p t → is_valid_program p ≡ true → (budgets : BudgetSizes)
+    ensures { (p : Program) (t : Tac) → IsLowered p t → is_valid_program p ≡ true → length p.functions ≤ 4096
+        → (budgets : BudgetSizes)
         → AreMapped (setting_of p budgets).sizes → (input : List ℕ) (k : ℕ)
         → run (step (setting_of_code t budgets) t) k (first_stage t budgets input) ≡ Stuck → ⊥ }
 {}

@@ -42,6 +42,7 @@ use Rattle.c_lower.proofs.Comes.{GoesLeaving, Goes, goes_from, goes_spare, goes_
 use Rattle.c_lower.proofs.Comes.{goes_done}
 use Rattle.c_lower.proofs.Comes.{goes_at, goes_leaving, goes_after, goes_sure, goes_heavier, goes_turn, goes_pause}
 use Rattle.c_lower.proofs.KeyStays.{pointer_kept}
+use Rattle.c_lower.proofs.Counting.{Turning}
 use Rattle.c_lower.proofs.Opening.{AreUnnamed, Homed, HomedBy, block_homeless, block_homed, inside_homed}
 use Rattle.c_lower.proofs.Temporaries.{placed}
 
@@ -224,13 +225,22 @@ module _ {g : Setting} {t : Tac} {limit u : ℕ} {frames : List Frame} where
   switch_left Continued x temps k s p = goes_done (omega arith) refl refl tt
   switch_left (Returned v) x temps k s p = goes_done (omega arith) refl refl p
 
+  -- what is known where the first of two runs is chosen
+  choose_when : {c b : ℕ} (q : Bool) (ka kb : ℕ) (x : Exits) (temps : Temps) (k : ℕ) (s : State)
+      (r r' : Run Completion)
+      → (q ≡ true → Completes g t limit c b u frames x (Stands u ka temps frames (at_work k s)) k s (r s))
+      → Completes g t limit c b u frames x (Stands u kb temps frames (at_work k s)) k s (r' s)
+      → Completes g t limit c b u frames x (Stands u (cond q ka kb) temps frames (at_work k s)) k s
+      (choose q r r' s)
+  choose_when true ka kb x temps k s r r' h h' = h refl
+  choose_when false ka kb x temps k s r r' h h' = h'
+
   pub choose_goes : {c b : ℕ} (q : Bool) (ka kb : ℕ) (x : Exits) (temps : Temps) (k : ℕ) (s : State)
       (r r' : Run Completion) → Completes g t limit c b u frames x (Stands u ka temps frames (at_work k s))
       k s (r s) → Completes g t limit c b u frames x (Stands u kb temps frames (at_work k s)) k s (r' s)
       → Completes g t limit c b u frames x (Stands u (cond q ka kb) temps frames (at_work k s)) k s
       (choose q r r' s)
-  choose_goes true ka kb x temps k s r r' h h' = h
-  choose_goes false ka kb x temps k s r r' h h' = h'
+  choose_goes q ka kb x temps k s r r' h h' = choose_when q ka kb x temps k s r r' (λ _. h) h'
 
   -- the tests of an item's labels: one for each comparison of the source
   pub labels_go : (ls : List CaseLabel) (item other c0 c1 : ℕ) (x : Exits) (i : LabeledRun) (rest : List LabeledRun)
@@ -305,9 +315,10 @@ module _ {g : Setting} {t : Tac} {limit u : ℕ} {frames : List Frame} where
 
 module _ (g : Setting) (t : Tac) (limit n u : ℕ) (frames : List Frame) (sc : Context) (functions : ℕ)
     (result : Kind) where
-  -- a loop: its condition leads to the turn or out, its body to what comes between turns
+  -- A loop: its condition leads to the turn or out, its body to what comes between turns. I holds where the condition is
+  -- tested, and J where a turn begins.
   pub turns_run : (h turn b c : ℕ) (counted : Option ℕ) (homes : List Home) (x : Exits) (condition : Run Bool) (body : Run Completion)
-      (between : Run (Unit {0}))
+      (between : Run (Unit {0})) (I J : State → Type 0) → Turning sc I J condition body between
       → Sure sc Any condition (λ _. Any) → Sure sc Any body (CompletionIs functions result)
       → Sure sc Any between (λ _. Any)
       → ((temps : Temps) (k : ℕ) (s : State) → IsGood sc s → limit < n + s.turns
@@ -319,25 +330,31 @@ module _ (g : Setting) (t : Tac) (limit n u : ℕ) (frames : List Frame) (sc : C
       → Completes g t limit 0 2 u frames (in_loop x c) (Stands u b temps frames (at_work k s)) k s
       (body s))
       → at_node t u turn ≡ Some (tac.Turn counted b)
-      → ((temps : Temps) (k : ℕ) (s : State) → fits g t (tac.Turn counted b) u temps (at_work k s) ≡ true) → (m : ℕ) → m ≤ suc n → (temps : Temps) (k : ℕ) (s : State)
-      → IsGood sc s → s.frame ≡ homes → limit < m + s.turns → limit < n + s.turns
+      → ((s : State) → J s → (temps : Temps) (k : ℕ) → fits g t (tac.Turn counted b) u temps (at_work k s) ≡ true)
+      → (m : ℕ) → m ≤ suc n → (temps : Temps) (k : ℕ) (s : State)
+      → IsGood sc s → I s → s.frame ≡ homes → limit < m + s.turns → limit < n + s.turns
       → Completes g t limit 3 2 u frames x (Stands u h temps frames (at_work k s)) k s
       (turns m limit condition body between s)
-  turns_run h turn b c counted homes x condition body between ws wb we rt rs rb ht fit zero le temps k s good same lt ln = goes_pause
-      refl (omega (arith, lt))
-  turns_run h turn b c counted homes x condition body between ws wb we rt rs rb ht fit (suc m) le temps k s good same lt ln =
+  turns_run h turn b c counted homes x condition body between I J turning ws wb we rt rs rb ht fit zero le temps k s good
+      from same lt ln = goes_pause refl (omega (arith, lt))
+  turns_run h turn b c counted homes x condition body between I J turning ws wb we rt rs rb ht fit (suc m) le temps k s good
+      from same lt ln =
       goes_sure _ (ws.by s good tt) (rt temps k s good ln) (λ q s1 t1 k1 p1 le1 is1 lv1 w1.
-      choose_goes q turn x.next x t1 k1 s1 _ _
-      (goes_turn 2 _ ht (fit t1 (k1 + 1) s1)
+      choose_when q turn x.next x t1 k1 s1 _ _
+      (λ again.
+      let in_turn = turning.begins s s1 good from (is1 ∙ ap (λ q. Gives q s1) again) in
+      goes_turn 2 _ ht (fit s1 in_turn t1 (k1 + 1))
       (goes_sure _ (wb.by (begun s1) lv1.good tt) (rb t1 (k1 + 1) (begun s1) lv1.good (lv1.frame ∙ same) (omega (arith, le1, ln)))
       (λ f s2 t2 k2 p2 le2 is2 lv2 w2.
+      let behind = turning.stays s1 s2 f in_turn is2 in
       after_goes f c x t2 k2 s2 _ (omega arith) p2
       (goes_sure _ (we.by s2 lv2.good tt) (rs t2 k2 s2 lv2.good (omega (arith, le1, le2, ln)))
       (λ z s3 t3 k3 p3 le3 is3 lv3 w3.
       goes_spare 3 (omega (arith, least_with_result 2 f))
-      (turns_run h turn b c counted homes x condition body between ws wb we rt rs rb ht fit m (omega (arith, le)) t3 k3 s3
-      lv3.good (lv3.frame ∙ lv2.frame ∙ lv1.frame ∙ same)
-      (omega (arith, le1, le2, le3, lt)) (omega (arith, le1, le2, le3, ln))))))))
+      (turns_run h turn b c counted homes x condition body between I J turning ws wb we rt rs rb ht fit m (omega (arith, le))
+      t3 k3 s3 lv3.good (turning.ends s2 s3 lv2.good behind is3) (lv3.frame ∙ lv2.frame ∙ lv1.frame ∙ same)
+      (omega (arith, le1, le2, le3, lt))
+      (omega (arith, le1, le2, le3, ln))))))))
       (goes_done (omega arith) refl refl tt))
 
   -- a loop whose condition comes behind its body

@@ -1,7 +1,9 @@
 pub mod Comes
 pub mod KeyValues
-pub mod KeyNames
 pub mod KeyStays
+pub mod Counting
+pub mod NextInt
+pub mod KeyNames
 pub mod Opening
 pub mod Credits
 pub mod Accesses

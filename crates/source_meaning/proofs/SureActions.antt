@@ -4,6 +4,7 @@ use Rattle.source_meaning.specs.Good.{IsGiven, IsOfKind, IsOfType, IsWord, plain
 use Rattle.source_meaning.specs.Good.{OnName, OnPointer, OnValue, Sure}
 use Rattle.std.proofs.Common.{◌≡◌, ℕ, zero, suc, ◌+◌, ◌-◌, ◌*◌, ◌%◌, ◌^◌, List, [], ◌∷◌, Bool, true, false, Option}
 use Rattle.std.proofs.Common.{Some, None, get_or, set, refl, sym, ap, ◌∙◌, subst, arith, nat_lt, IfSome}
+use Rattle.std.proofs.Math.Seq.{lt-length-set}
 use Rattle.behaviours.specs.Shown.{AccessKind, Read, Write}
 use Rattle.sb_base.specs.declared.ending.Ending.TheVariants.{Keys}
 use Rattle.obj_memory.specs.declared.int_type.IntType.{IntType}
@@ -350,6 +351,7 @@ typed_set : (functions : ℕ) (scope : Scope) (x : ℕ) (k : Scalar) (v : Value)
     → plain_type scope.variables x ≡ Some k → IsOfType functions k v → AreTyped functions scope values
     → AreTyped functions scope (set values x v)
 typed_set functions scope x k v values at t h = record {
+  there = λ y l e. lt-length-set values x v (h.there y l e);
   value = λ y l e.
       at_set (λ w. IsOfType functions l w) (integer 0) values x y v
       (λ same. subst (λ z. IsOfType functions z v)

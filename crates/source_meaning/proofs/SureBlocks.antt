@@ -142,7 +142,8 @@ module _ (base : Scope) (sizes : MapSizes) (all vars : List Variable) (numbers :
   -- where the block is entered, more objects can be named, and the same plain variables
   opened_typed : (functions : ℕ) (values : List Value) → AreTyped functions sc.scope values
       → AreTyped functions inner.scope values
-  opened_typed functions values h = record { value = h.value; named = opened_as numbers 0 all vars h.named }
+  opened_typed functions values h = record
+      { there = h.there; value = h.value; named = opened_as numbers 0 all vars h.named }
 
   homes_lived : (s s' : State) → IsGood sc s → LivesOn s.objects s'.objects → s'.frame ≡ s.frame
       → HomesOf vars s'.frame s'.objects
@@ -248,7 +249,7 @@ module _ (base : Scope) (sizes : MapSizes) (all vars : List Variable) (numbers :
                     l home.object kind home.held;
               };
           plain = λ x. sound_tag_continues _ s2.objects (without_homes homes s2.objects) c _ (after.plain x);
-          typed = record { value = after.typed.value; named = good.typed.named };
+          typed = record { there = after.typed.there; value = after.typed.value; named = good.typed.named };
           separate = separate_back sizes s.stacked s2.stacked s.objects (without_homes homes s2.objects) good.separate
               (separate_without sizes s2.stacked homes s2.objects after.separate) l.continues ended;
         };
@@ -307,7 +308,7 @@ module _ (base : Scope) (sizes : MapSizes) (all vars : List Variable) (numbers :
       homes = homes_lived s s' good
           h.lives h.frame;
       plain = h.good.plain;
-      typed = record { value = h.good.typed.value; named = good.typed.named };
+      typed = record { there = h.good.typed.there; value = h.good.typed.value; named = good.typed.named };
       separate = h.good.separate;
     };
     lives = h.lives;

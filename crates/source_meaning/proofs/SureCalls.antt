@@ -42,7 +42,7 @@ use Rattle.source_meaning.proofs.Sure.{stable_tagged, stable_arguments}
 use Rattle.source_meaning.proofs.SureStructures.{sure_write_rvalue, zero_argument}
 use Rattle.source_meaning.proofs.SureFlow.{sure_begin_turn, row_sure}
 use Rattle.c_tree.specs.Blocks.{all_of, block_variables, body_variables}
-use Rattle.source_meaning.proofs.Typing.{entered_as, values_typed}
+use Rattle.source_meaning.proofs.Typing.{entered_as, values_there, values_typed}
 use Rattle.source_meaning.proofs.Laying.{low_word, within_stack, PlacedHome, Placed, placed_homes, placed_on}
 use Rattle.source_meaning.proofs.Laying.{placed_from, without_sound, without_low, without_lives, ends_but_then}
 use Rattle.source_meaning.proofs.Laying.{ends_without, PlacesBy, places}
@@ -207,6 +207,7 @@ module _ (u : ProgramNames) (f : Function) (names : FunctionNames u f) (g : Sett
               (stable_arguments _ (kinds_in f.parameters) vs s.objects s2.objects lives tagged))
               (zeros_tagged _ head.variables s2.objects));
           typed = subst (AreTyped (length u.functions) inner.scope) (sym (h.2 ∙ w)) (record {
+            there = values_there f.parameters f.variables vs;
             value = values_typed (length u.functions) f.parameters f.variables vs s.objects tagged;
             named = entered_as f.parameters f.variables (block_variables f.body);
           });

@@ -263,7 +263,7 @@ good_start u g input objects sound low held separate = record {
   statics = held;
   homes = λ x kind e. absurd (cc);
   plain = λ x. tt;
-  typed = record { value = λ x k e. absurd (cc); named = λ x k e. e };
+  typed = record { there = λ x k e. absurd (cc); value = λ x k e. absurd (cc); named = λ x k e. e };
   separate = separate;
 }
 

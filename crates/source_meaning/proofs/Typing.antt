@@ -1,6 +1,6 @@
 -- Plain variables hold values of their types, where a block is entered and where a function is.
-use Rattle.std.proofs.Common.{◌≡◌, ℕ, zero, suc, List, [], ◌∷◌, ◌++◌, map, length, Bool, true, false, if◌then◌else◌}
-use Rattle.std.proofs.Common.{Option, Some, None, get_or, refl, subst}
+use Rattle.std.proofs.Common.{◌≡◌, ℕ, zero, suc, ◌<◌, List, [], ◌∷◌, ◌++◌, map, length, Bool, true, false}
+use Rattle.std.proofs.Common.{if◌then◌else◌, Option, Some, None, get_or, refl, subst, arith}
 use Rattle.obj_memory.specs.declared.value.Scalar.{Scalar}
 use Rattle.obj_memory.specs.declared.value.Value.{Value}
 use Rattle.obj_memory.specs.Objects.{Objects}
@@ -10,7 +10,7 @@ use Rattle.c_tree.specs.declared.program.Variable.{Variable}
 use Rattle.c_tree.specs.Blocks.{no_variable, closed, is_among, opened}
 use Rattle.source_meaning.specs.State.{Rvalue}
 use Rattle.source_meaning.specs.Actions.{integer}
-use Rattle.source_meaning.specs.Calls.{parameter_values}
+use Rattle.source_meaning.specs.Calls.{rest_of, parameter_values}
 use Rattle.source_meaning.specs.Good.{IsOfKind, IsOfType, scalar_if, plain_type, ArgumentsAre}
 use Rattle.source_meaning.proofs.Naming.{kinds_in}
 use Rattle.source_meaning.proofs.Sure.{zero_of_type}
@@ -18,6 +18,12 @@ use Rattle.source_meaning.proofs.Sure.{zero_of_type}
 -- the plain variables of some variables have the types that they have in others
 abbrev pub AreAs : (vs all : List Variable) → Type 0
 AreAs vs all = (x : ℕ) (k : Scalar) → plain_type vs x ≡ Some k → plain_type all x ≡ Some k
+
+zero_less : (n : ℕ) → 0 < suc n
+zero_less n = omega arith
+
+less_suc : (m n : ℕ) → m < n → suc m < suc n
+less_suc m n le = omega (arith, le)
 
 no_type : {A : Type 0} {k : Scalar} → None ≡ Some k → A
 no_type e = absurd (cc)
@@ -69,6 +75,22 @@ entered_as ps ds numbers =
     (opened_as numbers (length ps) ds (map closed ds) (closed_as ds))
 
 -- the plain values of a call
+
+zeros_there : (vs : List Variable) (x : ℕ) (k : Scalar) → plain_type vs x ≡ Some k
+    → x < length (map (λ _. integer 0) vs)
+zeros_there [] x k e = no_type e
+zeros_there (v ∷ vs) zero k e = zero_less (length (map (λ _. integer 0) vs))
+zeros_there (v ∷ vs) (suc x) k e = less_suc x (length (map (λ _. integer 0) vs)) (zeros_there vs x k e)
+
+-- each plain variable is there
+pub values_there : (ps rest : List Variable) (vs : List Rvalue) (x : ℕ) (k : Scalar)
+    → plain_type (ps ++ rest) x ≡ Some k → x < length (parameter_values ps vs ++ map (λ _. integer 0) rest)
+values_there [] rest vs x k e = zeros_there rest x k e
+values_there (p ∷ ps) rest vs zero k e =
+    zero_less (length (parameter_values ps (rest_of vs) ++ map (λ _. integer 0) rest))
+values_there (p ∷ ps) rest vs (suc x) k e =
+    less_suc x (length (parameter_values ps (rest_of vs) ++ map (λ _. integer 0) rest))
+    (values_there ps rest (rest_of vs) x k e)
 
 zeros_typed : (functions : ℕ) (vs : List Variable) (x : ℕ) (k : Scalar)
     → IsOfType functions k (get_or (map (λ _. integer 0) vs) x (integer 0))

@@ -125,8 +125,10 @@ plain_type [] x = None
 plain_type (v ∷ vs) zero = if v.is_object then None else scalar_if v.kind
 plain_type (v ∷ vs) (suc x) = plain_type vs x
 
--- each plain variable of a function holds a value of its type, and those that can be named are as they are declared
+-- each plain variable of a function is there and holds a value of its type, and those that can be named are as they are
+-- declared
 pub record AreTyped (functions : ℕ) (scope : Scope) (values : List Value) : Type 0 where
+  pub there : (x : ℕ) (k : Scalar) → plain_type scope.all x ≡ Some k → x < length values
   pub value : (x : ℕ) (k : Scalar) → plain_type scope.all x ≡ Some k
       → IsOfType functions k (get_or values x (integer 0))
   pub named : (x : ℕ) (k : Scalar) → plain_type scope.variables x ≡ Some k → plain_type scope.all x ≡ Some k

@@ -15,7 +15,7 @@ use Rattle.image_laws.proofs.Images.Images.{integers_mapped, no_data, does_what_
 use Rattle.image_laws.proofs.laws.images.images_do_what_is_meant.Goals as goal
 
 pub returns : goal.returns
-returns c = λ p budgets valid ints few range code flat plans accepted file image.
+returns c = λ p budgets valid ints few count range code flat plans accepted file image.
     let m = sizes_of p budgets in
     let r = flat.checked in
     let t = flat.is_checked.lowered in
@@ -24,7 +24,7 @@ returns c = λ p budgets valid ints few range code flat plans accepted file imag
     let lowered : (input : List ℕ) → Follows 8 (meaning p budgets input) (tac_meaning r budgets input) =
     λ input. c.checked_code_is_never_stuck.ensures.follows t r flat.is_checked.inserted budgets input 8
     (meaning p budgets input) (source input)
-    (c.lowered_code_follows_its_program.ensures p t flat.is_checked.is_lowered valid budgets mapped input) in
+    (c.lowered_code_follows_its_program.ensures p t flat.is_checked.is_lowered valid count budgets mapped input) in
     let part = c.lowered_integers_are_integer_code.ensures p t r valid ints flat.is_checked.is_lowered
     (inserted_is_same t r flat.is_checked.inserted) in
     let accepted' = subst (λ k. AreAccepted k plans) flat.expanded accepted in

@@ -10,7 +10,7 @@ use Rattle.c_tree.specs.declared.statement.CaseLabel.TheVariants.{Case, Default}
 use Rattle.c_tree.specs.Kinds.{size_of_kind}
 use Rattle.c_tree.specs.Blocks.{no_variable, closed, block_objects, opened, is_among}
 use Rattle.c_tree.specs.Valid.{Scope}
-use Rattle.source_meaning.specs.State.{State, Rvalue, NoObject, Outcome, Gives, Run, ◌>>=◌, ◌>>◌, choose, done, change}
+use Rattle.source_meaning.specs.State.{State, Rvalue, Home, NoObject, Outcome, Gives, Run, ◌>>=◌, ◌>>◌, choose, done, change}
 use Rattle.source_meaning.specs.State.{Setting}
 use Rattle.source_meaning.specs.Actions.{is_zero, home_value, home_pointer}
 use Rattle.source_meaning.specs.Statements.{Completion, Normal, Broken, Continued, Returned, next_after, after_body}
@@ -43,6 +43,7 @@ use Rattle.c_lower.proofs.Comes.{goes_done}
 use Rattle.c_lower.proofs.Comes.{goes_at, goes_leaving, goes_after, goes_sure, goes_heavier, goes_turn, goes_pause}
 use Rattle.c_lower.proofs.KeyStays.{pointer_kept}
 use Rattle.c_lower.proofs.Counting.{Turning}
+use Rattle.c_lower.proofs.Opening.{AreUnnamed, Homed, HomedBy, block_homeless, block_homed, inside_homed}
 use Rattle.c_lower.proofs.Temporaries.{placed}
 
 abbrev pub exit_of : Exits → Completion → ℕ
@@ -316,7 +317,7 @@ module _ (g : Setting) (t : Tac) (limit n u : ℕ) (frames : List Frame) (sc : C
     (result : Kind) where
   -- A loop: its condition leads to the turn or out, its body to what comes between turns. I holds where the condition is
   -- tested, and J where a turn begins.
-  pub turns_run : (h turn b c : ℕ) (counted : Option ℕ) (x : Exits) (condition : Run Bool) (body : Run Completion)
+  pub turns_run : (h turn b c : ℕ) (counted : Option ℕ) (homes : List Home) (x : Exits) (condition : Run Bool) (body : Run Completion)
       (between : Run (Unit {0})) (I J : State → Type 0) → Turning sc I J condition body between
       → Sure sc Any condition (λ _. Any) → Sure sc Any body (CompletionIs functions result)
       → Sure sc Any between (λ _. Any)
@@ -325,62 +326,64 @@ module _ (g : Setting) (t : Tac) (limit n u : ℕ) (frames : List Frame) (sc : C
       (condition s))
       → ((temps : Temps) (k : ℕ) (s : State) → IsGood sc s → limit < n + s.turns
       → Goes g t limit 0 0 u frames (λ v. h) Anyhow (Stands u c temps frames (at_work k s)) k s (between s))
-      → ((temps : Temps) (k : ℕ) (s : State) → IsGood sc s → limit < n + s.turns
+      → ((temps : Temps) (k : ℕ) (s : State) → IsGood sc s → s.frame ≡ homes → limit < n + s.turns
       → Completes g t limit 0 2 u frames (in_loop x c) (Stands u b temps frames (at_work k s)) k s
       (body s))
       → at_node t u turn ≡ Some (tac.Turn counted b)
       → ((s : State) → J s → (temps : Temps) (k : ℕ) → fits g t (tac.Turn counted b) u temps (at_work k s) ≡ true)
       → (m : ℕ) → m ≤ suc n → (temps : Temps) (k : ℕ) (s : State)
-      → IsGood sc s → I s → limit < m + s.turns → limit < n + s.turns
+      → IsGood sc s → I s → s.frame ≡ homes → limit < m + s.turns → limit < n + s.turns
       → Completes g t limit 3 2 u frames x (Stands u h temps frames (at_work k s)) k s
       (turns m limit condition body between s)
-  turns_run h turn b c counted x condition body between I J turning ws wb we rt rs rb ht fit zero le temps k s good
-      from lt ln = goes_pause refl (omega (arith, lt))
-  turns_run h turn b c counted x condition body between I J turning ws wb we rt rs rb ht fit (suc m) le temps k s good
-      from lt ln =
+  turns_run h turn b c counted homes x condition body between I J turning ws wb we rt rs rb ht fit zero le temps k s good
+      from same lt ln = goes_pause refl (omega (arith, lt))
+  turns_run h turn b c counted homes x condition body between I J turning ws wb we rt rs rb ht fit (suc m) le temps k s good
+      from same lt ln =
       goes_sure _ (ws.by s good tt) (rt temps k s good ln) (λ q s1 t1 k1 p1 le1 is1 lv1 w1.
       choose_when q turn x.next x t1 k1 s1 _ _
       (λ again.
       let in_turn = turning.begins s s1 good from (is1 ∙ ap (λ q. Gives q s1) again) in
       goes_turn 2 _ ht (fit s1 in_turn t1 (k1 + 1))
-      (goes_sure _ (wb.by (begun s1) lv1.good tt) (rb t1 (k1 + 1) (begun s1) lv1.good (omega (arith, le1, ln)))
+      (goes_sure _ (wb.by (begun s1) lv1.good tt) (rb t1 (k1 + 1) (begun s1) lv1.good (lv1.frame ∙ same) (omega (arith, le1, ln)))
       (λ f s2 t2 k2 p2 le2 is2 lv2 w2.
       let behind = turning.stays s1 s2 f in_turn is2 in
       after_goes f c x t2 k2 s2 _ (omega arith) p2
       (goes_sure _ (we.by s2 lv2.good tt) (rs t2 k2 s2 lv2.good (omega (arith, le1, le2, ln)))
       (λ z s3 t3 k3 p3 le3 is3 lv3 w3.
       goes_spare 3 (omega (arith, least_with_result 2 f))
-      (turns_run h turn b c counted x condition body between I J turning ws wb we rt rs rb ht fit m (omega (arith, le))
-      t3 k3 s3 lv3.good (turning.ends s2 s3 lv2.good behind is3) (omega (arith, le1, le2, le3, lt))
+      (turns_run h turn b c counted homes x condition body between I J turning ws wb we rt rs rb ht fit m (omega (arith, le))
+      t3 k3 s3 lv3.good (turning.ends s2 s3 lv2.good behind is3) (lv3.frame ∙ lv2.frame ∙ lv1.frame ∙ same)
+      (omega (arith, le1, le2, le3, lt))
       (omega (arith, le1, le2, le3, ln))))))))
       (goes_done (omega arith) refl refl tt))
 
   -- a loop whose condition comes behind its body
-  pub turns_before_run : (turn b c : ℕ) (counted : Option ℕ) (x : Exits) (condition : Run Bool) (body : Run Completion)
+  pub turns_before_run : (turn b c : ℕ) (counted : Option ℕ) (homes : List Home) (x : Exits) (condition : Run Bool) (body : Run Completion)
       → Sure sc Any condition (λ _. Any) → Sure sc Any body (CompletionIs functions result)
       → ((temps : Temps) (k : ℕ) (s : State) → IsGood sc s → limit < n + s.turns
       → Goes g t limit 0 0 u frames (λ q. cond q turn x.next) Anyhow (Stands u c temps frames (at_work k s)) k s
       (condition s))
-      → ((temps : Temps) (k : ℕ) (s : State) → IsGood sc s → limit < n + s.turns
+      → ((temps : Temps) (k : ℕ) (s : State) → IsGood sc s → s.frame ≡ homes → limit < n + s.turns
       → Completes g t limit 0 2 u frames (in_loop x c) (Stands u b temps frames (at_work k s)) k s
       (body s))
       → at_node t u turn ≡ Some (tac.Turn counted b)
       → ((temps : Temps) (k : ℕ) (s : State) → fits g t (tac.Turn counted b) u temps (at_work k s) ≡ true) → (m : ℕ) → m ≤ suc n → (temps : Temps) (k : ℕ) (s : State)
-      → IsGood sc s → limit < m + s.turns → limit < n + s.turns
+      → IsGood sc s → s.frame ≡ homes → limit < m + s.turns → limit < n + s.turns
       → Completes g t limit 3 2 u frames x (Stands u turn temps frames (at_work k s)) k s
       (turns_before m limit condition body s)
-  turns_before_run turn b c counted x condition body ws wb rt rb ht fit zero le temps k s good lt ln = goes_pause refl
+  turns_before_run turn b c counted homes x condition body ws wb rt rb ht fit zero le temps k s good same lt ln = goes_pause refl
       (omega (arith, lt))
-  turns_before_run turn b c counted x condition body ws wb rt rb ht fit (suc m) le temps k s good lt ln =
+  turns_before_run turn b c counted homes x condition body ws wb rt rb ht fit (suc m) le temps k s good same lt ln =
       goes_turn 2 _ ht (fit temps (k + 1) s)
-      (goes_sure _ (wb.by (begun s) good tt) (rb temps (k + 1) (begun s) good (omega (arith, ln)))
+      (goes_sure _ (wb.by (begun s) good tt) (rb temps (k + 1) (begun s) good same (omega (arith, ln)))
       (λ f s2 t2 k2 p2 le2 is2 lv2 w2.
       after_goes f c x t2 k2 s2 _ (omega arith) p2
       (goes_sure _ (ws.by s2 lv2.good tt) (rt t2 k2 s2 lv2.good (omega (arith, le2, ln)))
       (λ q s3 t3 k3 p3 le3 is3 lv3 w3.
       choose_goes q turn x.next x t3 k3 s3 _ _
       (goes_spare 3 (omega (arith, least_with_result 2 f))
-      (turns_before_run turn b c counted x condition body ws wb rt rb ht fit m (omega (arith, le)) t3 k3 s3 lv3.good
+      (turns_before_run turn b c counted homes x condition body ws wb rt rb ht fit m (omega (arith, le)) t3 k3 s3 lv3.good
+      (lv3.frame ∙ lv2.frame ∙ same)
       (omega (arith, le2, le3, lt)) (omega (arith, le2, le3, ln))))
       (goes_done (omega arith) refl refl tt)))))
 
@@ -430,43 +433,47 @@ module _ (g : Setting) (t : Tac) (limit u : ℕ) (frames : List Frame) (base : S
       → (line n0 b0 : ℕ) (y x : Exits) (temps : Temps) (k : ℕ) (s : State) (body : Run Completion) (b : Option ℕ)
       → HasNumber (placed t u literals all) q numbers b
       → LowersEntry (placed t u literals all) b line n0 b0 → LowersLeaving (placed t u literals all) b y x
-      → IsGood (context_of base sizes all vs) s → have_no_homes s.frame numbers ≡ true
+      → IsGood (context_of base sizes all vs) s → AreUnnamed numbers vs → Homed all vs s.frame
       → ((frames : List Frame) (k1 : ℕ) (s1 : State) → IsGood (context_of base sizes all (opened numbers 0 all vs)) s1
-      → s1.turns ≡ s.turns → Completes g t limit (7 + c) (2 + e) u frames y
+      → Homed all (opened numbers 0 all vs) s1.frame → s1.turns ≡ s.turns → Completes g t limit (7 + c) (2 + e) u frames y
       (Stands u b0 temps frames (at_work k1 s1)) k1 s1 (body s1))
       → Completes g t limit (7 + c) e u frames x (Stands u n0 temps frames (at_work k s)) k s
       (choose q (enter_block g own line
       >>= (λ b. body >>= (λ completion. change (leave_block b) >> done completion))) body s)
-  scoped_by c e true is line n0 b0 y x temps k s body (Some n) has entry ways good free h =
+  scoped_by c e true is line n0 b0 y x temps k s body (Some n) has entry ways good unnamed homed h =
       let bytes = sized_opened numbers 0 all (map closed all) sized (sized_closed all) in
       let counted = (counts_enter_block g own line bytes is).counts s in
-      goes_steps 7 c entry refl (ap (λ o. have_no_homes s.frame (if_there o)) has ∙ free)
+      goes_steps 7 c entry refl (ap (λ o. have_no_homes s.frame (if_there o)) has
+      ∙ block_homeless all vs s.frame numbers homed unnamed)
       (ap (λ vars. came (heavier (enter_block g vars line) (at_work (k + 7) s))
       (λ b z. Stands u b0 temps (Entered n b ∷ frames) z)) (objects_are n has))
       (goes_heavier (λ b z. Stands u b0 temps (Entered n b ∷ frames) z) (acts_enter_block g own line) (λ b s1 k1 e1 is1.
       let two = subst (CountsBy 2 s) is1 counted in
       let up = subst (λ o. EntersBy base sizes all vs numbers s o) is1
       (enters base sizes all vs numbers g at mapped line s good) in
+      let homes = subst (HomedBy all (opened numbers 0 all vs)) is1
+      (block_homed all vs numbers unnamed g line s homed) in
       goes_spare (7 + c) (omega (arith, two))
-      (goes_after (h (Entered n b ∷ frames) k1 s1 up.good e1)
+      (goes_after (h (Entered n b ∷ frames) k1 s1 up.good homes e1)
       (λ f s2 t2 k2 p2 le2 is2. leave_goes e f n b y x literals all t2 k2 s2 ways p2))))
-  scoped_by c e true is line n0 b0 y x temps k s body None has entry ways good free h = absurd has
-  scoped_by c e false is line n0 b0 y x temps k s body (Some n) has entry ways good free h = absurd has
-  scoped_by c e false is line n0 b0 y x temps k s body None has entry ways good free h =
+  scoped_by c e true is line n0 b0 y x temps k s body None has entry ways good unnamed homed h = absurd has
+  scoped_by c e false is line n0 b0 y x temps k s body (Some n) has entry ways good unnamed homed h = absurd has
+  scoped_by c e false is line n0 b0 y x temps k s body None has entry ways good unnamed homed h =
       goes_at entry
       (subst (λ z. Completes g t limit (7 + c) e u frames z (Stands u b0 temps frames (at_work k s)) k s (body s)) ways
       (completes_less {b = 2 + e} e (omega arith)
-      (h frames k s (good_inside base sizes all vs numbers s is good) refl)))
+      (h frames k s (good_inside base sizes all vs numbers s is good)
+      (inside_homed all vs numbers s.frame homed unnamed) refl)))
 
   pub scoped_goes : (c e line n0 b0 : ℕ) (y x : Exits) (temps : Temps) (k : ℕ) (s : State) (body : Run Completion)
       (b : Option ℕ) → HasNumber (placed t u literals all) (has_objects own) numbers b
       → LowersEntry (placed t u literals all) b line n0 b0 → LowersLeaving (placed t u literals all) b y x → IsGood (context_of base sizes all vs) s
-      → have_no_homes s.frame numbers ≡ true
+      → AreUnnamed numbers vs → Homed all vs s.frame
       → ((frames : List Frame) (k1 : ℕ) (s1 : State) → IsGood (context_of base sizes all (opened numbers 0 all vs)) s1
-      → s1.turns ≡ s.turns → Completes g t limit (7 + c) (2 + e) u frames y
+      → Homed all (opened numbers 0 all vs) s1.frame → s1.turns ≡ s.turns → Completes g t limit (7 + c) (2 + e) u frames y
       (Stands u b0 temps frames (at_work k1 s1)) k1 s1 (body s1))
       → Completes g t limit (7 + c) e u frames x (Stands u n0 temps frames (at_work k s)) k s
       (choose (has_objects own)
       (enter_block g own line >>= (λ b. body >>= (λ completion. change (leave_block b) >> done completion))) body s)
-  scoped_goes c e line n0 b0 y x temps k s body b has entry ways good free h = scoped_by c e (has_objects own) refl line n0
-      b0 y x temps k s body b has entry ways good free h
+  scoped_goes c e line n0 b0 y x temps k s body b has entry ways good unnamed homed h = scoped_by c e (has_objects own) refl line n0
+      b0 y x temps k s body b has entry ways good unnamed homed h

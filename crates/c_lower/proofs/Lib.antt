@@ -4,6 +4,7 @@ pub mod KeyStays
 pub mod Counting
 pub mod NextInt
 pub mod KeyNames
+pub mod Opening
 pub mod Credits
 pub mod Accesses
 pub mod Temporaries

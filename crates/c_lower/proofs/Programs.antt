@@ -77,6 +77,7 @@ use Rattle.c_lower.proofs.Temporaries.{loops_in, placed, put_same}
 use Rattle.c_lower.proofs.Values.{Called, Calls, CallsRun}
 use Rattle.c_lower.proofs.KeyNames.{HaveSizes}
 use Rattle.c_lower.proofs.Fitting.{passed_fits, AreDeclared}
+use Rattle.c_lower.proofs.Opening.{EachOpens, body_opens, Homed, HomedBy, set_up_homed}
 use Rattle.c_lower.proofs.Flow.{exit_of, LeftBy, with_result, Completes, AreNamed, named_opened, named_closed, named_append}
 use Rattle.c_lower.proofs.Statements.{statements_run}
 
@@ -148,6 +149,7 @@ outside_loops = record { may_break = false; may_continue = false }
 record IsValidFunction (p : Program) (f : Function) : Type 0 where
   sized : HaveBytes (all_of f)
   body : are_statements (function_scope p f) outside_loops f.body ≡ true
+  opens : EachOpens (all_of f) (f.parameters ++ body_variables f) f.body
 
 abbrev ValidIf : Program → Option Function → Type 0
 ValidIf p None = Unit {0}
@@ -159,7 +161,7 @@ module _ (p : Program) where
       let q = six _ (are_parameters f.parameters (signature_at p f.type_number).parameters)
       (list_all is_variable (all_of f)) (declares_all f) (are_statements (function_scope p f) outside_loops f.body)
       _ h in
-      record { sized = sized_all (all_of f) q.2; body = q.4 }
+      record { sized = sized_all (all_of f) q.2; body = q.4; opens = body_opens f q.3 }
 
   valid_functions : (n : ℕ) (fs : List Function) → are_functions p n fs ≡ true → (f : ℕ) → ValidIf p (function_at fs f)
   valid_functions n [] h f = tt
@@ -224,18 +226,18 @@ module _ (g : Setting) (t : Tac) (limit : ℕ) (q : Caller) (frames : List Frame
       (h.0, h.1, h.2, reached_for over over' j is turns ended h.3, h.4)
 
   -- What a call does before its body: it counts a unit at once, of which four are left however it goes on.
-  set_up_goes : (inner : Context) (old : Objects) (k : ℕ) (s : State) (o o' : Outcome (Unit {0}))
+  set_up_goes : (inner : Context) (all vs : List Variable) (old : Objects) (k : ℕ) (s : State) (o o' : Outcome (Unit {0}))
       (F : Unit {0} → State → Stage) (R : Run Rvalue) → ActsBy k s o o' → s.work + 1 ≤ (state_of o).work
-      → SetsUpBy inner old o
-      → ((s' : State) (k' : ℕ) → s'.turns ≡ s.turns → IsSetUp inner old s'
+      → SetsUpBy inner old o → HomedBy all vs o
+      → ((s' : State) (k' : ℕ) → s'.turns ≡ s.turns → IsSetUp inner old s' → Homed all vs s'.frame
       → Called g t limit 0 4 0 q frames (F tt (at_work k' s')) k' s' (R s'))
       → Called g t limit 0 8 4 q frames (came (fourfold k o') F) k s (on o (λ _. R))
-  set_up_goes inner old k s (Gives a s') o' F R h one up next =
+  set_up_goes inner all vs old k s (Gives a s') o' F R h one up homed next =
       let e = h.2 in
       let k1 = h.0 + 3 * (h.0 - k) in
       called_from 0 0 4 8 0 4 _ _ k k1 s s' (R s') 0 (ap (λ o. came (fourfold k o) F) h.1) (omega (arith, e.turns))
-      (omega (arith, e.work, one)) (omega (arith, e.work, one)) (next s' k1 e.turns up)
-  set_up_goes inner old k s (Ended x s') o' F R h one up next =
+      (omega (arith, e.work, one)) (omega (arith, e.work, one)) (next s' k1 e.turns up homed)
+  set_up_goes inner all vs old k s (Ended x s') o' F R h one up homed next =
       let e = h.2 in (
         h.0 + 3 * (h.0 - k),
         record {
@@ -245,7 +247,7 @@ module _ (g : Setting) (t : Tac) (limit : ℕ) (q : Caller) (frames : List Frame
           work = omega (arith, e.work, one);
         },
       )
-  set_up_goes inner old k s (Paused s') o' F R h one up next = absurd h
+  set_up_goes inner all vs old k s (Paused s') o' F R h one up homed next = absurd h
 
   -- the end of a function: 0 is made where nothing is returned, and the value goes to the caller
   module _ (result : Kind) (f end ret : ℕ) (he : at_node t f end ≡ Some (tac.ZeroOf result 0 ret))
@@ -409,10 +411,11 @@ module _ (p : Program) (budgets : BudgetSizes) (mapped : AreMapped (setting_of p
       called_from g t limit q frames 0 0 8 8 4 4 _
       (came (heavier (set_up g (header_of fn) vs line) (at_work k s)) F) k k s s _ 0
       (ap (λ h. came (heavier (set_up g h vs line) (at_work k s)) F) low.header) (omega arith) (omega arith) (omega arith)
-      (set_up_goes g t limit q frames inner s.objects k s (set_up g (header_of fn) vs line s)
+      (set_up_goes g t limit q frames inner (all_of fn) (fn.parameters ++ body_variables fn) s.objects k s (set_up g (header_of fn) vs line s)
       (set_up g (header_of fn) vs line (at_work k s)) F R ((acts_set_up g (header_of fn) vs line).acts s k)
       ((counts_set_up g (header_of fn) vs line).counts s)
-      (set_up_by u fn named g g.sizes refl mapped around vs line s good arguments) (λ s2 k2 e2 up.
+      (set_up_by u fn named g g.sizes refl mapped around vs line s good arguments) (set_up_homed fn g vs line s)
+      (λ s2 k2 e2 up homed.
       let s3 : State = record s2 { work = s2.work + 1 } in
       called_from g t limit q frames 0 8 4 4 0 0 _ _ k2 k2 s2 s3
       (on (in_order (each_of env fn.body) s3)
@@ -429,7 +432,7 @@ module _ (p : Program) (budgets : BudgetSizes) (mapped : AreMapped (setting_of p
       (λ y st. body_stays p.functions g limit n (all_of fn) y st) f (literals_of p.statics)
       (tables_of f fn variables base refl refl refl) ok.sized
       (fn.parameters ++ body_variables fn) frames outside_loops fn.body c.entry _ no_temps k2 s3
-      (named_body fn) b.2 ok.body up.good (omega (arith, e2, lt))))))
+      (named_body fn) ok.opens homed b.2 ok.body up.good (omega (arith, e2, lt))))))
 
   -- A call that costs w, of which c units are paid; what is left of the call's own unit pays for 4 more where the
   -- function is there.

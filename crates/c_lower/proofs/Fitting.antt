@@ -1,5 +1,6 @@
 -- What instructions are given fits them: in good states values are of their kinds, and what is named is there.
-use Rattle.std.proofs.Common.{◌≡◌, ℕ, zero, suc, ◌+◌, ◌<◌, ◌≤◌, ◌^◌, List, [], ◌∷◌, Option, Some, None, Bool, true, false}
+use Rattle.std.proofs.Common.{◌≡◌, ℕ, zero, suc, ◌+◌, ◌<◌, ◌≤◌, ◌^◌, List, [], ◌∷◌, Option, Some, None, Bool, true}
+use Rattle.std.proofs.Common.{false}
 use Rattle.std.proofs.Common.{refl, sym, ap, ◌∙◌, subst, arith, eq-eqb, eqb-true, le-leb, lt-ltb}
 use Rattle.std.specs.Prelude.{if◌then◌else◌, ◌&&◌, ◌||◌, ◌==◌, not, length, map, slice_get}
 use Rattle.std.specs.List.{list_all}
@@ -21,7 +22,8 @@ use Rattle.c_tree.specs.declared.format.Directive.TheVariants as directive
 use Rattle.c_tree.specs.declared.format.Piece.{Piece}
 use Rattle.c_tree.specs.declared.program.Variable.{Variable}
 use Rattle.c_tree.specs.Format.{directives}
-use Rattle.c_tree.specs.Kinds.{Signature, integer, pointer, is_kind, is_integer, size_of_kind, fits_directive, fit_directives}
+use Rattle.c_tree.specs.Kinds.{Signature, integer, pointer, is_kind, is_integer, size_of_kind, fits_directive}
+use Rattle.c_tree.specs.Kinds.{fit_directives}
 use Rattle.c_tree.specs.Valid.{at_number, are_printed as are_printed_kinds}
 use Rattle.source_meaning.specs.State.{State, Rvalue, Header, Setting, Home, NoObject, InObject}
 use Rattle.source_meaning.specs.Good.{Context, function_count, object_kind, plain_type, IsGood, HasHome, Updates}
@@ -36,7 +38,8 @@ use Rattle.tac_ir.specs.declared.function.StaticData.{StaticData}
 use Rattle.tac_ir.specs.declared.function.Tac.{Tac}
 use Rattle.tac_ir.specs.Accesses.{is_place, is_home}
 use Rattle.tac_ir.specs.Fitting.{is_word, has_no_tag, is_of_type, is_scalar_of, is_plain_word, has_bytes, is_passed}
-use Rattle.tac_ir.specs.Fitting.{are_passed, is_written, is_in_place, is_held, is_update_of, is_type, taken_by, fit_type}
+use Rattle.tac_ir.specs.Fitting.{are_passed, is_written, is_in_place, is_held, is_update_of, is_type, taken_by}
+use Rattle.tac_ir.specs.Fitting.{fit_type}
 use Rattle.tac_ir.specs.Fitting.{is_int, is_printed, each_printed, are_printed}
 use Rattle.tac_ir.specs.Meaning.{variables_in, function_in, header_of_code}
 use Rattle.c_lower.proofs.KeyNames.{HaveSizes}
@@ -121,7 +124,8 @@ either_true false b e f h = h e
 int_fits : (k : Kind) (v : Rvalue) → (is_kind k (integer Int) || is_kind k (integer UnsignedInt)) ≡ true
     → is_passed k v ≡ true → is_int v ≡ true
 int_fits k v e h = either_true (is_kind k (integer Int)) _ e
-    (λ same. left_true (is_passed (integer Int) v) _ (subst (λ z. is_passed z v ≡ true) (same_kind k (integer Int) same) h))
+    (λ same. left_true (is_passed (integer Int) v) _ (subst (λ z. is_passed z v ≡ true) (same_kind k
+    (integer Int) same) h))
     (λ same. right_true (is_passed (integer Int) v)
     (subst (λ z. is_passed z v ≡ true) (same_kind k (integer UnsignedInt) same) h))
 

@@ -10,7 +10,8 @@ use Rattle.c_tree.specs.declared.statement.CaseLabel.TheVariants.{Case, Default}
 use Rattle.c_tree.specs.Kinds.{size_of_kind}
 use Rattle.c_tree.specs.Blocks.{no_variable, closed, block_objects, opened, is_among}
 use Rattle.c_tree.specs.Valid.{Scope}
-use Rattle.source_meaning.specs.State.{State, Rvalue, Home, NoObject, Outcome, Gives, Run, ◌>>=◌, ◌>>◌, choose, done, change}
+use Rattle.source_meaning.specs.State.{State, Rvalue, Home, NoObject, Outcome, Gives, Run, ◌>>=◌, ◌>>◌, choose, done}
+use Rattle.source_meaning.specs.State.{change}
 use Rattle.source_meaning.specs.State.{Setting}
 use Rattle.source_meaning.specs.Actions.{is_zero, home_value, home_pointer}
 use Rattle.source_meaning.specs.Statements.{Completion, Normal, Broken, Continued, Returned, next_after, after_body}
@@ -256,7 +257,8 @@ module _ {g : Setting} {t : Tac} {limit u : ℕ} {frames : List Frame} where
       (Stands u c0 temps frames (at_work k s)) k s
       (run_items (or_default (items_at (labels_from (is_case_of v.value.word) ls) i rest others) all) s)
   labels_go [] item other c0 c1 x i rest others more all v literals vars temps k s tr ev hit miss = goes_at tr (miss k)
-  labels_go (Default ∷ ls) item other c0 c1 x i rest others more all v literals vars temps k s tr ev hit miss = labels_go ls item
+  labels_go (Default ∷ ls) item other c0 c1 x i rest others more all v literals vars temps k s tr ev hit miss =
+      labels_go ls item
       other c0 c1 x i rest others more all v literals vars temps k s tr.1 ev hit miss
   labels_go (Case w ∷ ls) item other c0 c1 x i rest others more all v literals vars temps k s tr ev hit miss =
       by (w == v.value.word) refl
@@ -298,7 +300,8 @@ module _ {g : Setting} {t : Tac} {limit u : ℕ} {frames : List Frame} where
 
   -- where no case label is equal: the default label, or behind the switch
   pub default_goes : (ls : List CaseLabel) (item other c0 c1 : ℕ) (x : Exits) (i : LabeledRun) (rest : List LabeledRun)
-      (others : Option (List LabeledRun)) (literals : List Bool) (vars : List Variable) (temps : Temps) (k : ℕ) (s : State)
+      (others : Option (List LabeledRun)) (literals : List Bool) (vars : List Variable) (temps : Temps) (k : ℕ)
+      (s : State)
       → LowersLabels (placed t u literals vars) ls item other c0 c1
       → ((ls : List CaseLabel) (k : ℕ)
       → Completes g t limit 0 0 u frames x (Stands u item temps frames (at_work k s)) k s
@@ -310,14 +313,16 @@ module _ {g : Setting} {t : Tac} {limit u : ℕ} {frames : List Frame} where
   default_goes [] item other c0 c1 x i rest others literals vars temps k s tr hit miss = miss refl
   default_goes (Default ∷ ls) item other c0 c1 x i rest others literals vars temps k s tr hit miss = goes_at (sym tr.0)
       (hit (Default ∷ ls) k)
-  default_goes (Case w ∷ ls) item other c0 c1 x i rest others literals vars temps k s tr hit miss = default_goes ls item other
+  default_goes (Case w ∷ ls) item other c0 c1 x i rest others literals vars temps k s tr hit miss = default_goes ls
+      item other
       tr.0 c1 x i rest others literals vars temps k s tr.2 hit miss
 
 module _ (g : Setting) (t : Tac) (limit n u : ℕ) (frames : List Frame) (sc : Context) (functions : ℕ)
     (result : Kind) where
-  -- A loop: its condition leads to the turn or out, its body to what comes between turns. I holds where the condition is
-  -- tested, and J where a turn begins.
-  pub turns_run : (h turn b c : ℕ) (counted : Option ℕ) (homes : List Home) (x : Exits) (condition : Run Bool) (body : Run Completion)
+  -- A loop: its condition leads to the turn or out, its body to what comes between turns. I holds where the condition
+  -- is tested, and J where a turn begins.
+  pub turns_run : (h turn b c : ℕ) (counted : Option ℕ) (homes : List Home) (x : Exits) (condition : Run Bool)
+      (body : Run Completion)
       (between : Run (Unit {0})) (I J : State → Type 0) → Turning sc I J condition body between
       → Sure sc Any condition (λ _. Any) → Sure sc Any body (CompletionIs functions result)
       → Sure sc Any between (λ _. Any)
@@ -335,30 +340,35 @@ module _ (g : Setting) (t : Tac) (limit n u : ℕ) (frames : List Frame) (sc : C
       → IsGood sc s → I s → s.frame ≡ homes → limit < m + s.turns → limit < n + s.turns
       → Completes g t limit 3 2 u frames x (Stands u h temps frames (at_work k s)) k s
       (turns m limit condition body between s)
-  turns_run h turn b c counted homes x condition body between I J turning ws wb we rt rs rb ht fit zero le temps k s good
+  turns_run h turn b c counted homes x condition body between I J turning ws wb we rt rs rb ht fit zero le temps k s
+      good
       from same lt ln = goes_pause refl (omega (arith, lt))
-  turns_run h turn b c counted homes x condition body between I J turning ws wb we rt rs rb ht fit (suc m) le temps k s good
+  turns_run h turn b c counted homes x condition body between I J turning ws wb we rt rs rb ht fit
+      (suc m) le temps k s good
       from same lt ln =
       goes_sure _ (ws.by s good tt) (rt temps k s good ln) (λ q s1 t1 k1 p1 le1 is1 lv1 w1.
       choose_when q turn x.next x t1 k1 s1 _ _
       (λ again.
       let in_turn = turning.begins s s1 good from (is1 ∙ ap (λ q. Gives q s1) again) in
       goes_turn 2 _ ht (fit s1 in_turn t1 (k1 + 1))
-      (goes_sure _ (wb.by (begun s1) lv1.good tt) (rb t1 (k1 + 1) (begun s1) lv1.good (lv1.frame ∙ same) (omega (arith, le1, ln)))
+      (goes_sure _ (wb.by (begun s1) lv1.good tt) (rb t1 (k1 + 1) (begun s1) lv1.good (lv1.frame ∙ same) (omega
+      (arith, le1, ln)))
       (λ f s2 t2 k2 p2 le2 is2 lv2 w2.
       let behind = turning.stays s1 s2 f in_turn is2 in
       after_goes f c x t2 k2 s2 _ (omega arith) p2
       (goes_sure _ (we.by s2 lv2.good tt) (rs t2 k2 s2 lv2.good (omega (arith, le1, le2, ln)))
       (λ z s3 t3 k3 p3 le3 is3 lv3 w3.
       goes_spare 3 (omega (arith, least_with_result 2 f))
-      (turns_run h turn b c counted homes x condition body between I J turning ws wb we rt rs rb ht fit m (omega (arith, le))
+      (turns_run h turn b c counted homes x condition body between I J turning ws wb we rt rs rb ht fit m (omega
+      (arith, le))
       t3 k3 s3 lv3.good (turning.ends s2 s3 lv2.good behind is3) (lv3.frame ∙ lv2.frame ∙ lv1.frame ∙ same)
       (omega (arith, le1, le2, le3, lt))
       (omega (arith, le1, le2, le3, ln))))))))
       (goes_done (omega arith) refl refl tt))
 
   -- a loop whose condition comes behind its body
-  pub turns_before_run : (turn b c : ℕ) (counted : Option ℕ) (homes : List Home) (x : Exits) (condition : Run Bool) (body : Run Completion)
+  pub turns_before_run : (turn b c : ℕ) (counted : Option ℕ) (homes : List Home) (x : Exits) (condition : Run Bool)
+      (body : Run Completion)
       → Sure sc Any condition (λ _. Any) → Sure sc Any body (CompletionIs functions result)
       → ((temps : Temps) (k : ℕ) (s : State) → IsGood sc s → limit < n + s.turns
       → Goes g t limit 0 0 u frames (λ q. cond q turn x.next) Anyhow (Stands u c temps frames (at_work k s)) k s
@@ -367,11 +377,13 @@ module _ (g : Setting) (t : Tac) (limit n u : ℕ) (frames : List Frame) (sc : C
       → Completes g t limit 0 2 u frames (in_loop x c) (Stands u b temps frames (at_work k s)) k s
       (body s))
       → at_node t u turn ≡ Some (tac.Turn counted b)
-      → ((temps : Temps) (k : ℕ) (s : State) → fits g t (tac.Turn counted b) u temps (at_work k s) ≡ true) → (m : ℕ) → m ≤ suc n → (temps : Temps) (k : ℕ) (s : State)
+      → ((temps : Temps) (k : ℕ) (s : State) → fits g t (tac.Turn counted b) u temps (at_work k s) ≡ true) → (m : ℕ)
+      → m ≤ suc n → (temps : Temps) (k : ℕ) (s : State)
       → IsGood sc s → s.frame ≡ homes → limit < m + s.turns → limit < n + s.turns
       → Completes g t limit 3 2 u frames x (Stands u turn temps frames (at_work k s)) k s
       (turns_before m limit condition body s)
-  turns_before_run turn b c counted homes x condition body ws wb rt rb ht fit zero le temps k s good same lt ln = goes_pause refl
+  turns_before_run turn b c counted homes x condition body ws wb rt rb ht fit zero le temps k s good same lt ln =
+      goes_pause refl
       (omega (arith, lt))
   turns_before_run turn b c counted homes x condition body ws wb rt rb ht fit (suc m) le temps k s good same lt ln =
       goes_turn 2 _ ht (fit temps (k + 1) s)
@@ -382,13 +394,15 @@ module _ (g : Setting) (t : Tac) (limit n u : ℕ) (frames : List Frame) (sc : C
       (λ q s3 t3 k3 p3 le3 is3 lv3 w3.
       choose_goes q turn x.next x t3 k3 s3 _ _
       (goes_spare 3 (omega (arith, least_with_result 2 f))
-      (turns_before_run turn b c counted homes x condition body ws wb rt rb ht fit m (omega (arith, le)) t3 k3 s3 lv3.good
+      (turns_before_run turn b c counted homes x condition body ws wb rt rb ht fit m (omega
+      (arith, le)) t3 k3 s3 lv3.good
       (lv3.frame ∙ lv2.frame ∙ same)
       (omega (arith, le2, le3, lt)) (omega (arith, le2, le3, ln))))
       (goes_done (omega arith) refl refl tt)))))
 
 -- the block of that number is left
-block_left : (g : Setting) (t : Tac) (u : ℕ) (frames : List Frame) (n : ℕ) (b : Block) (temps : Temps) (k : ℕ) (s : State)
+block_left : (g : Setting) (t : Tac) (u : ℕ) (frames : List Frame) (n : ℕ) (b : Block) (temps : Temps) (k : ℕ)
+    (s : State)
     (o : Option Instruction) (m : ℕ) → o ≡ Some (tac.LeaveBlock n m)
     → act_at g t o u temps (Entered n b ∷ frames) (at_work k s)
     ≡ Stands u m temps frames (leave_block b (at_work (k + 2) s))
@@ -435,7 +449,8 @@ module _ (g : Setting) (t : Tac) (limit u : ℕ) (frames : List Frame) (base : S
       → LowersEntry (placed t u literals all) b line n0 b0 → LowersLeaving (placed t u literals all) b y x
       → IsGood (context_of base sizes all vs) s → AreUnnamed numbers vs → Homed all vs s.frame
       → ((frames : List Frame) (k1 : ℕ) (s1 : State) → IsGood (context_of base sizes all (opened numbers 0 all vs)) s1
-      → Homed all (opened numbers 0 all vs) s1.frame → s1.turns ≡ s.turns → Completes g t limit (7 + c) (2 + e) u frames y
+      → Homed all (opened numbers 0 all vs) s1.frame → s1.turns ≡ s.turns → Completes g t limit (7 + c)
+      (2 + e) u frames y
       (Stands u b0 temps frames (at_work k1 s1)) k1 s1 (body s1))
       → Completes g t limit (7 + c) e u frames x (Stands u n0 temps frames (at_work k s)) k s
       (choose q (enter_block g own line
@@ -467,13 +482,16 @@ module _ (g : Setting) (t : Tac) (limit u : ℕ) (frames : List Frame) (base : S
 
   pub scoped_goes : (c e line n0 b0 : ℕ) (y x : Exits) (temps : Temps) (k : ℕ) (s : State) (body : Run Completion)
       (b : Option ℕ) → HasNumber (placed t u literals all) (has_objects own) numbers b
-      → LowersEntry (placed t u literals all) b line n0 b0 → LowersLeaving (placed t u literals all) b y x → IsGood (context_of base sizes all vs) s
+      → LowersEntry (placed t u literals all) b line n0 b0 → LowersLeaving (placed t u literals all) b y x → IsGood
+      (context_of base sizes all vs) s
       → AreUnnamed numbers vs → Homed all vs s.frame
       → ((frames : List Frame) (k1 : ℕ) (s1 : State) → IsGood (context_of base sizes all (opened numbers 0 all vs)) s1
-      → Homed all (opened numbers 0 all vs) s1.frame → s1.turns ≡ s.turns → Completes g t limit (7 + c) (2 + e) u frames y
+      → Homed all (opened numbers 0 all vs) s1.frame → s1.turns ≡ s.turns → Completes g t limit (7 + c)
+      (2 + e) u frames y
       (Stands u b0 temps frames (at_work k1 s1)) k1 s1 (body s1))
       → Completes g t limit (7 + c) e u frames x (Stands u n0 temps frames (at_work k s)) k s
       (choose (has_objects own)
       (enter_block g own line >>= (λ b. body >>= (λ completion. change (leave_block b) >> done completion))) body s)
-  scoped_goes c e line n0 b0 y x temps k s body b has entry ways good unnamed homed h = scoped_by c e (has_objects own) refl line n0
+  scoped_goes c e line n0 b0 y x temps k s body b has entry ways good unnamed homed h = scoped_by c e
+      (has_objects own) refl line n0
       b0 y x temps k s body b has entry ways good unnamed homed h

@@ -202,8 +202,8 @@ abbrev mutual
   ItemsOpen all vs no_items = Unit {0}
   ItemsOpen all vs (items labels s is) = Opens all vs s × ItemsOpen all vs is
 
--- Of the numbers from a first one on, as many as some list has, those that are none of a block's own are no objects that
--- can be named.
+-- Of the numbers from a first one on, as many as some list has, those that are none of a block's own are no objects
+-- that can be named.
 record AreLeft (own : List ℕ) (first : ℕ) (xs : List ℕ) (vs : List Variable) : Type 0 where
   none : (x : ℕ) → first ≤ x → x < first + length xs → is_among own x ≡ false → object_kind vs x ≡ None
 
@@ -252,7 +252,8 @@ left_alone : (own : List ℕ) (first : ℕ) (xs : List ℕ) (vs : List Variable)
 left_alone own first xs vs left = record { none = λ x least most other. left.none x least most refl }
 
 -- the variables of the first part of a `for` come before those of its body
-left_behind : (own numbers : List ℕ) (first : ℕ) (xs : List ℕ) (all vs : List Variable) → count_from first numbers ≡ true
+left_behind : (own numbers : List ℕ) (first : ℕ) (xs : List ℕ) (all vs : List Variable)
+    → count_from first numbers ≡ true
     → AreLeft [] first (numbers ++ xs) vs → AreLeft own (first + length numbers) xs (opened numbers 0 all vs)
 left_behind own numbers first xs all vs counted left = record {
   none = λ x least most other.
@@ -551,7 +552,8 @@ local_write_parameters : (ps : List Variable) (homes : List Home) (line : ℕ) (
 local_write_parameters [] homes line vs = local_skip
 local_write_parameters (p ∷ ps) [] line vs = local_skip
 local_write_parameters (p ∷ ps) (home ∷ homes) line vs =
-    local_then (local_write_parameter p.kind home line (first_of vs)) (local_write_parameters ps homes line (rest_of vs))
+    local_then (local_write_parameter p.kind home line (first_of vs)) (local_write_parameters ps homes line
+    (rest_of vs))
 
 module _ (f : Function) (g : Setting) (vs : List Rvalue) (line : ℕ) where
   abbrev head : Header

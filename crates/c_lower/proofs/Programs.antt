@@ -70,7 +70,8 @@ use Rattle.tac_ir.specs.Stage.{Temps, no_temps, with_temp, Frame, Stage, Begins,
 use Rattle.tac_ir.specs.Meaning.{code_of, keys_of, variables_in, blocks_in, function_in, at_node, header_of_code}
 use Rattle.tac_ir.specs.Meaning.{setting_of_code, begun, called_at, called, given_to, act_at, line_in, objects_before}
 use Rattle.tac_ir.specs.Meaning.{step, first_stage, tac_meaning}
-use Rattle.c_lower.specs.Programs.{literals_of, function_exits, LowersBody, LowersFunction, result_in, height_in, LowersAt}
+use Rattle.c_lower.specs.Programs.{literals_of, function_exits, LowersBody, LowersFunction, result_in, height_in}
+use Rattle.c_lower.specs.Programs.{LowersAt}
 use Rattle.c_lower.specs.Programs.{IsLowered}
 use Rattle.c_lower.proofs.Comes.{Reached, reached_for}
 use Rattle.c_lower.proofs.Temporaries.{loops_in, placed, put_same}
@@ -78,7 +79,8 @@ use Rattle.c_lower.proofs.Values.{Called, Calls, CallsRun}
 use Rattle.c_lower.proofs.KeyNames.{HaveSizes}
 use Rattle.c_lower.proofs.Fitting.{passed_fits, AreDeclared}
 use Rattle.c_lower.proofs.Opening.{EachOpens, body_opens, Homed, HomedBy, set_up_homed}
-use Rattle.c_lower.proofs.Flow.{exit_of, LeftBy, with_result, Completes, AreNamed, named_opened, named_closed, named_append}
+use Rattle.c_lower.proofs.Flow.{exit_of, LeftBy, with_result, Completes, AreNamed, named_opened, named_closed}
+use Rattle.c_lower.proofs.Flow.{named_append}
 use Rattle.c_lower.proofs.Statements.{statements_run}
 
 -- the objects among the variables of a function have bytes
@@ -226,7 +228,8 @@ module _ (g : Setting) (t : Tac) (limit : ℕ) (q : Caller) (frames : List Frame
       (h.0, h.1, h.2, reached_for over over' j is turns ended h.3, h.4)
 
   -- What a call does before its body: it counts a unit at once, of which four are left however it goes on.
-  set_up_goes : (inner : Context) (all vs : List Variable) (old : Objects) (k : ℕ) (s : State) (o o' : Outcome (Unit {0}))
+  set_up_goes : (inner : Context) (all vs : List Variable) (old : Objects) (k : ℕ) (s : State) (o o' : Outcome
+      (Unit {0}))
       (F : Unit {0} → State → Stage) (R : Run Rvalue) → ActsBy k s o o' → s.work + 1 ≤ (state_of o).work
       → SetsUpBy inner old o → HomedBy all vs o
       → ((s' : State) (k' : ℕ) → s'.turns ≡ s.turns → IsSetUp inner old s' → Homed all vs s'.frame
@@ -324,7 +327,8 @@ module _ (g : Setting) (t : Tac) (limit : ℕ) (q : Caller) (frames : List Frame
 module _ (p : Program) (budgets : BudgetSizes) (mapped : AreMapped (setting_of p budgets).sizes)
     (valid : is_valid_program p ≡ true) (few : length p.functions ≤ 4096) (t : Tac)
     (sizes : HaveSizes (names_of p).statics t.statics) (limit : ℕ)
-    (lowers : (f : ℕ) → LowersAt t.texts (literals_of p.statics) (result_in (setting_of p budgets).results (function_at p.functions f))
+    (lowers : (f : ℕ) → LowersAt t.texts (literals_of p.statics) (result_in (setting_of p budgets).results
+    (function_at p.functions f))
     (height_in p.statics f (function_at p.functions f)) (function_at p.functions f) (function_in t f)) where
   abbrev g : Setting
   g = setting_of p budgets
@@ -359,7 +363,8 @@ module _ (p : Program) (budgets : BudgetSizes) (mapped : AreMapped (setting_of p
       → AreDeclared t g (context_of base g.sizes (all_of fn) (all_of fn)) f
   tables_of f fn variables base es ef et = record {
     few = subst (λ (l : List Signature). function_address (length l) ≤ 2 ^ 64) (sym ef) addresses;
-    functions = length-map p.functions header_of ∙ sym (length-map p.functions (λ f. signature_in u.types f.type_number))
+    functions = length-map p.functions header_of ∙ sym (length-map p.functions
+        (λ f. signature_in u.types f.type_number))
         ∙ ap length (sym ef);
     statics = subst (λ ks. HaveSizes ks t.statics) (sym es) sizes;
     calls = λ f c e. taken_at f (function_at p.functions f) (function_in t f) (signature_in u.functions f) (lowers f)
@@ -377,7 +382,8 @@ module _ (p : Program) (budgets : BudgetSizes) (mapped : AreMapped (setting_of p
   -- a call whose turn has begun
   begun_runs : (n f : ℕ) (fn : Function) (c : CodeFunction) (vs : List Rvalue) (line : ℕ) (frames : List Frame) (k : ℕ)
       (s : State) → AllCallsRun n → function_in t f ≡ Some c
-      → LowersFunction t.texts (literals_of p.statics) (result_of g fn.type_number) (height_in p.statics f (Some fn)) fn c → FunctionNames u fn
+      → LowersFunction t.texts (literals_of p.statics) (result_of g fn.type_number) (height_in p.statics f
+      (Some fn)) fn c → FunctionNames u fn
       → IsValidFunction p fn → (around : Scope) → IsGood (within_program around) s
       → ArgumentsAre (length u.functions) (kinds_in fn.parameters) vs s.objects → limit < n + s.turns
       → Called g t limit 0 8 4 (caller s) frames
@@ -410,8 +416,10 @@ module _ (p : Program) (budgets : BudgetSizes) (mapped : AreMapped (setting_of p
       let inside : Inside base g.sizes env = inside_good p budgets mapped (valid_names p valid) limit n fn in
       called_from g t limit q frames 0 0 8 8 4 4 _
       (came (heavier (set_up g (header_of fn) vs line) (at_work k s)) F) k k s s _ 0
-      (ap (λ h. came (heavier (set_up g h vs line) (at_work k s)) F) low.header) (omega arith) (omega arith) (omega arith)
-      (set_up_goes g t limit q frames inner (all_of fn) (fn.parameters ++ body_variables fn) s.objects k s (set_up g (header_of fn) vs line s)
+      (ap (λ h. came (heavier (set_up g h vs line) (at_work k s)) F) low.header) (omega arith) (omega arith)
+      (omega arith)
+      (set_up_goes g t limit q frames inner (all_of fn) (fn.parameters ++ body_variables fn) s.objects k s (set_up g
+      (header_of fn) vs line s)
       (set_up g (header_of fn) vs line (at_work k s)) F R ((acts_set_up g (header_of fn) vs line).acts s k)
       ((counts_set_up g (header_of fn) vs line).counts s)
       (set_up_by u fn named g g.sizes refl mapped around vs line s good arguments) (set_up_homed fn g vs line s)
@@ -440,7 +448,8 @@ module _ (p : Program) (budgets : BudgetSizes) (mapped : AreMapped (setting_of p
       (of : Option Function) (oc : Option CodeFunction) → AllCallsRun n → (of ≡ None → w ≤ c) → w ≤ c + 4
       → w + back ≤ c + 8
       → step g t x ≡ called_at g oc f vs line frames (at_work (k + w) s) → seen x ≡ moment_at (at_work k s) [] None
-      → function_in t f ≡ oc → LowersAt t.texts (literals_of p.statics) (result_in g.results of) (height_in p.statics f of) of oc
+      → function_in t f ≡ oc → LowersAt t.texts (literals_of p.statics) (result_in g.results of)
+      (height_in p.statics f of) of oc
       → NamesFound u of → ValidIf p of
       → (q : Signature) → SignatureIs u.types q of → ArgumentsAre (length u.functions) q.parameters vs s.objects
       → (around : Scope) → IsGood (within_program around) s → limit < suc n + s.turns
@@ -537,7 +546,8 @@ module _ (g : Setting) (t : Tac) (limit : ℕ) where
         },
       )
 
-line_is : (texts : List (List ℕ)) (literals : List Bool) (result : Kind) (height : ℕ) (of : Option Function) (oc : Option CodeFunction)
+line_is : (texts : List (List ℕ)) (literals : List Bool) (result : Kind) (height : ℕ) (of : Option Function)
+    (oc : Option CodeFunction)
     → LowersAt texts literals result height of oc → line_in oc ≡ line_of of
 line_is texts literals result height None None h = refl
 line_is texts literals result height None (Some c) h = absurd h
@@ -560,7 +570,8 @@ main_number p h =
 module _ (p : Program) (budgets : BudgetSizes) (mapped : AreMapped (setting_of p budgets).sizes)
     (valid : is_valid_program p ≡ true) (few : length p.functions ≤ 4096) (t : Tac)
     (sizes : HaveSizes (names_of p).statics t.statics)
-    (lowers : (f : ℕ) → LowersAt t.texts (literals_of p.statics) (result_in (setting_of p budgets).results (function_at p.functions f))
+    (lowers : (f : ℕ) → LowersAt t.texts (literals_of p.statics) (result_in (setting_of p budgets).results
+    (function_at p.functions f))
     (height_in p.statics f (function_at p.functions f)) (function_at p.functions f) (function_in t f)) (input : List ℕ)
     (main : t.main ≡ p.main) where
   abbrev first : State
@@ -638,7 +649,8 @@ module _ (p : Program) (t : Tac) (h : IsLowered p t) where
       sizes_from (names_of p).statics (statics_first g) t.statics
       (λ n kind e. subst (λ objects. IsHeld objects n kind) (sym (h.statics budgets)) (good.statics n kind e))
 
-  pub lower_follows : is_valid_program p ≡ true → length p.functions ≤ 4096 → (budgets : BudgetSizes) → AreMapped (setting_of p budgets).sizes
+  pub lower_follows : is_valid_program p ≡ true → length p.functions ≤ 4096 → (budgets : BudgetSizes) → AreMapped
+      (setting_of p budgets).sizes
       → (input : List ℕ) → Follows 8 (meaning p budgets input) (tac_meaning t budgets input)
   lower_follows valid few budgets mapped input =
       let g = setting_of p budgets in
@@ -650,9 +662,11 @@ module _ (p : Program) (t : Tac) (h : IsLowered p t) where
       (λ limit. moment_of (calls p.functions g limit (limit + 1) m [] (line_of (function_at p.functions m))
       (fresh g (initial_objects p g) input)))
       (seen_after (step g t) seen (Begins (fresh g (initial_objects p g) input)))) h.main
-      (follows_from p budgets mapped valid few t (data_sized valid budgets mapped) (functions_lower budgets) input h.main)))
+      (follows_from p budgets mapped valid few t (data_sized valid budgets mapped)
+      (functions_lower budgets) input h.main)))
 
-  pub lower_never_stuck : is_valid_program p ≡ true → length p.functions ≤ 4096 → (budgets : BudgetSizes) → AreMapped (setting_of p budgets).sizes
+  pub lower_never_stuck : is_valid_program p ≡ true → length p.functions ≤ 4096 → (budgets : BudgetSizes) → AreMapped
+      (setting_of p budgets).sizes
       → (input : List ℕ) (k : ℕ) → run (step (setting_of_code t budgets) t) k (first_stage t budgets input) ≡ Stuck → ⊥
   lower_never_stuck valid few budgets mapped input k e =
       follower_never_stuck t budgets input 8 (meaning p budgets input) (is_source p budgets input)

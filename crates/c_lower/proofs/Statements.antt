@@ -112,11 +112,13 @@ module _ (t : Tac) (n : ℕ) (env : Env) (sc : Context) (sure : Calling sc env)
       (expression_runs t n env sc sure calls stays u frames literals vars declared e 0 n0 n1 temps k s tr ok good lt)
 
   pub result_at : (e : Expression) (n0 n1 : ℕ) (temps : Temps) (k : ℕ) (s : State)
-      → LowersArgument (placed t u literals vars) e 0 n0 n1 → is_valid sc.scope e ≡ true → IsGood sc s → env.limit < n + s.turns
+      → LowersArgument (placed t u literals vars) e 0 n0 n1 → is_valid sc.scope e ≡ true → IsGood sc s
+      → env.limit < n + s.turns
       → GoesLeaving env.setting t env.limit 0 (λ w. taken_left (kind_of e) + handed_bytes w) u frames (λ v. n1)
       (ValueIn 0 temps) (Stands u n0 temps frames (at_work k s)) k s
       (argument (kind_of e) (line_of e) (evaluate env e) s)
-  result_at e n0 n1 temps k s tr ok good lt = argument_at t n env sc sure calls stays u frames literals vars declared e 0 n0 tr.0 n1 temps
+  result_at e n0 n1 temps k s tr ok good lt = argument_at t n env sc sure calls stays u frames literals vars declared e
+      0 n0 tr.0 n1 temps
       k s tr.1 tr.2 ok good lt
 
   pub condition_runs : (e : Option Expression) (n0 x y : ℕ) (temps : Temps) (k : ℕ) (s : State)
@@ -142,7 +144,8 @@ module _ (t : Tac) (n : ℕ) (env : Env) (sc : Context) (sure : Calling sc env)
 
   -- a part of the object of variable x, to whose first byte p points
   content_runs : (x : ℕ) (kind : Kind) (p : Value) (whole offset : ℕ) (content : Content) (n0 n1 : ℕ) (temps : Temps)
-      (k : ℕ) (s : State) → LowersContent (placed t u literals vars) x offset content n0 n1 → is_content sc.scope content ≡ true
+      (k : ℕ) (s : State) → LowersContent (placed t u literals vars) x offset content n0 n1
+      → is_content sc.scope content ≡ true
       → ContentNames sc.scope whole offset content → IsGood sc s → IsBase sure p whole s.objects
       → object_kind sc.scope.variables x ≡ Some kind → home_pointer x s ≡ p → env.limit < n + s.turns
       → Goes env.setting t env.limit 0 0 u frames (λ v. n1) Anyhow (Stands u n0 temps frames (at_work k s)) k s
@@ -278,7 +281,8 @@ module _ (t : Tac) (n : ℕ) (env : Env) (sc : Context) (sure : Calling sc env)
       (λ z s1 t1 k1 p1 le1 is1 lv1 w1.
       declared_run ds tr.0 n1 t1 k1 s1 tr.2 v.1 lv1.good (omega (arith, le1, lt)))
 
-  pub first_runs : (f : First) (n0 n1 : ℕ) (temps : Temps) (k : ℕ) (s : State) → LowersFirst (placed t u literals vars) f n0 n1
+  pub first_runs : (f : First) (n0 n1 : ℕ) (temps : Temps) (k : ℕ) (s : State) → LowersFirst
+      (placed t u literals vars) f n0 n1
       → is_first sc.scope f ≡ true → IsGood sc s → env.limit < n + s.turns
       → Goes env.setting t env.limit 0 0 u frames (λ v. n1) Anyhow (Stands u n0 temps frames (at_work k s)) k s
       (perform_first env f s)
@@ -328,7 +332,8 @@ module _ (t : Tac) (n : ℕ) (env : Env) (deep : env.depth ≡ suc n) (base : Sc
       → Goes env.setting t env.limit 0 0 u frames (λ b. cond b x y) Anyhow (Stands u n0 temps frames (at_work k s)) k s
       (holds env e s)
   condition_at vs frames e n0 x y temps k s named tr ok good lt = condition_runs t n env (at vs) (inside.calling vs)
-      (callers vs) stays u frames literals env.variables (declared_at vs named) (sized_at vs named) e n0 x y temps k s tr ok good lt
+      (callers vs) stays u frames literals env.variables (declared_at vs named)
+      (sized_at vs named) e n0 x y temps k s tr ok good lt
 
   value_of : (vs : List Variable) (frames : List Frame) (e : Expression) (n0 n1 : ℕ) (temps : Temps) (k : ℕ) (s : State)
       → AreNamed env.variables vs → LowersExpression here e 0 n0 n1 → is_valid (at vs).scope e ≡ true → IsGood (at vs) s
@@ -353,7 +358,8 @@ module _ (t : Tac) (n : ℕ) (env : Env) (deep : env.depth ≡ suc n) (base : Sc
 
   mutual
     statement_runs : (vs : List Variable) (frames : List Frame) (within : Surrounding) (st : Statement) (n0 : ℕ)
-        (x : Exits) (temps : Temps) (k : ℕ) (s : State) → AreNamed env.variables vs → Opens env.variables vs st → Homed env.variables vs s.frame → LowersStatement here st n0 x
+        (x : Exits) (temps : Temps) (k : ℕ) (s : State) → AreNamed env.variables vs → Opens env.variables vs st
+        → Homed env.variables vs s.frame → LowersStatement here st n0 x
         → is_statement (at vs).scope within st ≡ true → IsGood (at vs) s → env.limit < n + s.turns
         → Completes env.setting t env.limit 0 (left_of (is_declaration st)) u frames x
         (Stands u n0 temps frames (at_work k s)) k s (execute env st s)
@@ -363,14 +369,17 @@ module _ (t : Tac) (n : ℕ) (env : Env) (deep : env.depth ≡ suc n) (base : Sc
     statement_runs vs frames within empty n0 x temps k s named opens homed tr ok good lt = goes_counted
         (goes_at tr (goes_done {a = Normal} (omega arith) refl refl tt))
     statement_runs vs frames within (declaration ds) n0 x temps k s named opens homed tr ok good lt =
-        goes_then (declared_run t n env (at vs) (inside.calling vs) (callers vs) stays u frames literals env.variables (declared_at vs named) (sized_at vs named) ds
+        goes_then (declared_run t n env (at vs) (inside.calling vs) (callers vs) stays u frames literals env.variables
+        (declared_at vs named) (sized_at vs named) ds
         n0 x.next temps k s tr ok good lt)
         (λ v s1 t1 k1 p1 le1 is1. goes_done {a = Normal} (omega arith) refl refl tt)
     statement_runs vs frames within (block line body) n0 x temps k s named opens homed tr ok good lt =
         let numbers = block_variables body in
         goes_counted (completes_less {b = 6} 2 (omega arith)
-        (scoped_goes env.setting t env.limit u frames base sizes inside.at inside.mapped literals env.variables all_sized tables.variables vs
-        numbers 1 6 line n0 tr.0 tr.1 x temps k _ _ tr.2.0 tr.2.1 tr.2.2 tr.2.3 good opens.0 homed (λ frames k1 s1 good1 homed1 e1.
+        (scoped_goes env.setting t env.limit u frames base sizes inside.at inside.mapped literals env.variables
+        all_sized tables.variables vs
+        numbers 1 6 line n0 tr.0 tr.1 x temps k _ _ tr.2.0 tr.2.1 tr.2.2 tr.2.3 good opens.0 homed
+        (λ frames k1 s1 good1 homed1 e1.
         completes_frame 8 0 0 (statements_run (opened numbers 0 env.variables vs) frames within body tr.0 tr.1 temps
         k1 s1 (named_opened numbers 0 env.variables vs named) opens.1 homed1 tr.3 ok good1 (omega (arith, e1, lt))))))
     statement_runs vs frames within (if_then e st) n0 x temps k s named opens homed tr ok good lt =
@@ -395,16 +404,19 @@ module _ (t : Tac) (n : ℕ) (env : Env) (deep : env.depth ≡ suc n) (base : Sc
         choose_goes q tr.0 tr.1 x t1 k1 s1 _ _
         (completes_less {b = 8} 2 (omega arith)
         (completes_frame 8 0 0 (completes_less 0 (omega arith)
-        (statement_runs vs frames within st tr.0 x t1 k1 s1 named opens.0 (homed_on lv1.frame homed) tr.3 v.1 lv1.good (omega (arith, le1, lt))))))
+        (statement_runs vs frames within st tr.0 x t1 k1 s1 named opens.0 (homed_on lv1.frame homed) tr.3 v.1 lv1.good
+        (omega (arith, le1, lt))))))
         (completes_less {b = 8} 2 (omega arith)
         (completes_frame 8 0 0 (completes_less 0 (omega arith)
-        (statement_runs vs frames within other tr.1 x t1 k1 s1 named opens.1 (homed_on lv1.frame homed) tr.4 v.3 lv1.good
+        (statement_runs vs frames within other tr.1 x t1 k1 s1 named opens.1
+        (homed_on lv1.frame homed) tr.4 v.3 lv1.good
         (omega (arith, le1, lt))))))))
     statement_runs vs frames within (while_do e st) n0 x temps k s named opens homed tr ok good lt =
         let v = three (is_condition (at vs).scope e) (is_statement (at vs).scope inside_loop st) _ ok in
         goes_counted
         (goes_spare 3 (omega arith)
-        (turns_run env.setting t env.limit n u frames (at vs) (length base.functions) base.result n0 tr.0 tr.1 n0 None s.frame x
+        (turns_run env.setting t env.limit n u frames (at vs)
+        (length base.functions) base.result n0 tr.0 tr.1 n0 None s.frame x
         _ _ _ _ _ turning_any (holds_at vs (Some e) v.0) (executed vs inside_loop st v.1) sure_skip
         (λ t k s w l. condition_at vs frames (Some e) n0 tr.0 x.next t k s named tr.2 v.0 w l)
         (λ t k s w l. goes_done {a = tt} (omega arith) refl refl tt)
@@ -431,26 +443,33 @@ module _ (t : Tac) (n : ℕ) (env : Env) (deep : env.depth ≡ suc n) (base : Sc
         let tested = condition_if (agree_same (at d).scope) condition v.1 in
         let stepped = expression_if (agree_same (at d).scope) step v.2 in
         goes_counted (completes_less {b = 5} 2 (omega arith)
-        (scoped_goes env.setting t env.limit u frames base sizes inside.at inside.mapped literals env.variables all_sized tables.variables vs
-        numbers 1 5 line n0 tr.0 tr.5 x temps k _ _ tr.7.0 tr.7.1 tr.7.2 tr.7.3 good opens.0 homed (λ frames k0 s0 good0 homed0 e0.
+        (scoped_goes env.setting t env.limit u frames base sizes inside.at inside.mapped literals env.variables
+        all_sized tables.variables vs
+        numbers 1 5 line n0 tr.0 tr.5 x temps k _ _ tr.7.0 tr.7.1 tr.7.2 tr.7.3 good opens.0 homed
+        (λ frames k0 s0 good0 homed0 e0.
         goes_sure _ ((first_sure (inside.calling d) first (first_names (agree_same (at d).scope) first v.0)).by s0
         good0 tt)
-        (first_runs t n env (at d) (inside.calling d) (callers d) stays u frames literals env.variables (declared_at d more) (sized_at d more) first tr.0 tr.1
+        (first_runs t n env (at d) (inside.calling d) (callers d) stays u frames literals env.variables
+        (declared_at d more) (sized_at d more) first tr.0 tr.1
         temps k0 s0 tr.8 v.0 good0 (omega (arith, e0, lt))) (λ z s1 t1 k1 p1 le1 is1 lv1 w1.
         completes_frame 5 3 2
         (turns_run env.setting t env.limit n u frames (at d) (length base.functions) base.result tr.1 tr.2 tr.3 tr.4
         tr.6 s1.frame tr.5 _ _ _ (FromStart parts) (InRange parts)
-        (turning_by env (at d) (inside.calling d) stays_in first condition step st tested stepped parts refl) (holds_at d condition v.1) (executed d inside_loop st v.3)
+        (turning_by env (at d) (inside.calling d) stays_in first condition step st tested stepped parts refl)
+        (holds_at d condition v.1) (executed d inside_loop st v.3)
         (perform_sure (inside.calling d) step stepped)
         (λ t k s w l. condition_at d frames condition tr.1 tr.2 tr.5.next t k s more tr.9 v.1 w l)
-        (λ temps k s w l. part_runs t n env (at d) (inside.calling d) (callers d) stays u frames literals env.variables (declared_at d more) (sized_at d more) step
+        (λ temps k s w l. part_runs t n env (at d) (inside.calling d) (callers d) stays u frames literals env.variables
+        (declared_at d more) (sized_at d more) step
         tr.4 tr.1 temps k s tr.12 v.2 w l)
         (λ t k s w e l. completes_less 2 (left_in_loop st v.4)
         (statement_runs d frames inside_loop st tr.3 _ t k s more opens.1 (homed_on (e ∙ lv1.frame) homed0) tr.13 v.3 w
         l))
-        tr.10 (turn_fits env.setting t u tr.3 tr.6 parts tr.0 tr.1 tr.2 tr.4 tr.11) env.depth (omega (arith, deep)) t1 k1
+        tr.10 (turn_fits env.setting t u tr.3 tr.6 parts tr.0 tr.1 tr.2 tr.4 tr.11) env.depth (omega
+        (arith, deep)) t1 k1
         s1 lv1.good
-        (begins_by env (at d) (inside.calling d) stays_in first condition step st tested stepped parts refl s0 s1 good0 is1)
+        (begins_by env (at d) (inside.calling d) stays_in first condition step st tested stepped parts refl s0 s1 good0
+        is1)
         refl (omega (arith, le1, e0, lt, deep))
         (omega (arith, le1, e0, lt)))))))
     statement_runs vs frames within (switch e line is) n0 x temps k s named opens homed tr ok good lt =
@@ -463,14 +482,18 @@ module _ (t : Tac) (n : ℕ) (env : Env) (deep : env.depth ≡ suc n) (base : Sc
         (λ w s1 t1 k1 p1 le1 is1 lv1 w1.
         let all = items_of env is in
         goes_counted (completes_less {b = 6} 2 (omega arith)
-        (scoped_goes env.setting t env.limit u frames base sizes inside.at inside.mapped literals env.variables all_sized tables.variables vs
-        numbers 12 6 line tr.0 tr.1 tr.4 x t1 k1 _ _ tr.6.0 tr.6.1 tr.6.2 tr.6.3 lv1.good opens.0 (homed_on lv1.frame homed) (λ frames k2 s2 good2 homed2 e2.
+        (scoped_goes env.setting t env.limit u frames base sizes inside.at inside.mapped literals env.variables
+        all_sized tables.variables vs
+        numbers 12 6 line tr.0 tr.1 tr.4 x t1 k1 _ _ tr.6.0 tr.6.1 tr.6.2 tr.6.3 lv1.good opens.0
+        (homed_on lv1.frame homed) (λ frames k2 s2 good2 homed2 e2.
         goes_counted_as (compared w.value.word (labels_of all)) (16 + compared w.value.word (labels_of all))
         (omega arith)
         (goes_after
-        (cases_run d frames (inside_switch within) is tr.1 tr.2 tr.3 (in_switch tr.4) all w t1 k2 _ more opens.1 homed2 tr.8 v.4 good2
+        (cases_run d frames (inside_switch within) is tr.1 tr.2 tr.3
+        (in_switch tr.4) all w t1 k2 _ more opens.1 homed2 tr.8 v.4 good2
         p1.value (omega (arith, le1, e2, lt))
-        (λ k. default_run d frames (inside_switch within) is tr.1 tr.2 tr.3 (in_switch tr.4) t1 k _ more opens.1 homed2 tr.8 v.4 good2
+        (λ k. default_run d frames (inside_switch within) is tr.1 tr.2 tr.3
+        (in_switch tr.4) t1 k _ more opens.1 homed2 tr.8 v.4 good2
         (omega (arith, le1, e2, lt)) tr.7))
         (λ f s3 t3 k3 p3 le3 is3. switch_left f tr.4 t3 k3 s3 p3)))))))
     statement_runs vs frames within break n0 x temps k s named opens homed tr ok good lt = goes_counted
@@ -484,12 +507,14 @@ module _ (t : Tac) (n : ℕ) (env : Env) (deep : env.depth ≡ suc n) (base : Sc
     statement_runs vs frames within (return (Some e)) n0 x temps k s named opens homed tr ok good lt =
         let v = three (is_valid (at vs).scope e) (is_kind (kind_of e) base.result) (is_value (kind_of e)) ok in
         goes_counted (goes_then
-        (result_at t n env (at vs) (inside.calling vs) (callers vs) stays u frames literals env.variables (declared_at vs named) (sized_at vs named) e n0
+        (result_at t n env (at vs) (inside.calling vs) (callers vs) stays u frames literals env.variables
+        (declared_at vs named) (sized_at vs named) e n0
         x.returns temps k _ tr v.0 good lt)
         (λ v s1 t1 k1 p1 le1 is1. goes_done {a = Returned v} (omega arith) refl refl p1.value))
 
     pub statements_run : (vs : List Variable) (frames : List Frame) (within : Surrounding) (ss : Statements) (n0 : ℕ)
-        (x : Exits) (temps : Temps) (k : ℕ) (s : State) → AreNamed env.variables vs → EachOpens env.variables vs ss → Homed env.variables vs s.frame → LowersStatements here ss n0 x
+        (x : Exits) (temps : Temps) (k : ℕ) (s : State) → AreNamed env.variables vs → EachOpens env.variables vs ss
+        → Homed env.variables vs s.frame → LowersStatements here ss n0 x
         → are_statements (at vs).scope within ss ≡ true → IsGood (at vs) s → env.limit < n + s.turns
         → Completes env.setting t env.limit 0 0 u frames x (Stands u n0 temps frames (at_work k s)) k s
         (in_order (each_of env ss) s)
@@ -499,15 +524,18 @@ module _ (t : Tac) (n : ℕ) (env : Env) (deep : env.depth ≡ suc n) (base : Sc
         let v = both (is_statement (at vs).scope within st) (are_statements (at vs).scope within ss) ok in
         goes_sure _ ((executed vs within st v.0).by _ good tt)
         (completes_less 0 (omega arith)
-        (statement_runs vs frames within st n0 (record x { next = tr.0 }) temps k s named opens.0 homed tr.1 v.0 good lt))
+        (statement_runs vs frames within st n0 (record x { next = tr.0 }) temps k s named opens.0 homed tr.1 v.0 good
+        lt))
         (λ f s1 t1 k1 p1 le1 is1 lv1 w1.
         next_goes f tr.0 x t1 k1 s1 _ (omega arith) p1
         (goes_spare 0 (omega arith)
-        (statements_run vs frames within ss tr.0 x t1 k1 s1 named opens.1 (homed_on lv1.frame homed) tr.2 v.1 lv1.good (omega (arith, le1, lt)))))
+        (statements_run vs frames within ss tr.0 x t1 k1 s1 named opens.1 (homed_on lv1.frame homed) tr.2 v.1 lv1.good
+        (omega (arith, le1, lt)))))
 
     -- the items of a switch, from one on
     items_run : (vs : List Variable) (frames : List Frame) (within : Surrounding) (is : SwitchItems) (c0 n0 other : ℕ)
-        (x : Exits) (temps : Temps) (k : ℕ) (s : State) → AreNamed env.variables vs → ItemsOpen env.variables vs is → Homed env.variables vs s.frame → LowersItems here is c0 n0 other x
+        (x : Exits) (temps : Temps) (k : ℕ) (s : State) → AreNamed env.variables vs → ItemsOpen env.variables vs is
+        → Homed env.variables vs s.frame → LowersItems here is c0 n0 other x
         → are_items (at vs).scope within is ≡ true → IsGood (at vs) s → env.limit < n + s.turns
         → Completes env.setting t env.limit 0 0 u frames x (Stands u n0 temps frames (at_work k s)) k s
         (in_order (map run_labeled (items_of env is)) s)
@@ -518,16 +546,19 @@ module _ (t : Tac) (n : ℕ) (env : Env) (deep : env.depth ≡ suc n) (base : Sc
         goes_counted_as (length labels) 0 (omega arith)
         (goes_sure _ ((executed vs within st q.0).by _ good tt)
         (completes_less 0 (omega arith)
-        (statement_runs vs frames within st n0 (record x { next = tr.1 }) temps k _ named opens.0 homed tr.3 q.0 good lt))
+        (statement_runs vs frames within st n0 (record x { next = tr.1 }) temps k _ named opens.0 homed tr.3 q.0 good
+        lt))
         (λ f s1 t1 k1 p1 le1 is1 lv1 w1.
         next_goes f tr.1 x t1 k1 s1 _ (omega arith) p1
         (goes_spare 0 (omega arith)
-        (items_run vs frames within is tr.0 tr.1 other x t1 k1 s1 named opens.1 (homed_on lv1.frame homed) tr.4 q.1 lv1.good
+        (items_run vs frames within is tr.0 tr.1 other x t1 k1 s1 named opens.1
+        (homed_on lv1.frame homed) tr.4 q.1 lv1.good
         (omega (arith, le1, lt))))))
 
     -- the items that are run
     cases_run : (vs : List Variable) (frames : List Frame) (within : Surrounding) (is : SwitchItems) (c0 n0 other : ℕ)
-        (x : Exits) (all : List LabeledRun) (v : Rvalue) (temps : Temps) (k : ℕ) (s : State) → AreNamed env.variables vs → ItemsOpen env.variables vs is → Homed env.variables vs s.frame
+        (x : Exits) (all : List LabeledRun) (v : Rvalue) (temps : Temps) (k : ℕ) (s : State)
+        → AreNamed env.variables vs → ItemsOpen env.variables vs is → Homed env.variables vs s.frame
         → LowersItems here is c0 n0 other x → are_items (at vs).scope within is ≡ true → IsGood (at vs) s → temps 0 ≡ v
         → env.limit < n + s.turns
         → ((k : ℕ) → Completes env.setting t env.limit 0 0 u frames x
@@ -535,7 +566,8 @@ module _ (t : Tac) (n : ℕ) (env : Env) (deep : env.depth ≡ suc n) (base : Sc
         → Completes env.setting t env.limit (16 + compared v.value.word (labels_of (items_of env is))) 16 u frames x
         (Stands u c0 temps frames (at_work k s)) k s
         (run_items (or_default (items_from (is_case_of v.value.word) (items_of env is)) all) s)
-    cases_run vs frames within no_items c0 n0 other x all v temps k s named opens homed tr ok good ev lt h = goes_at tr.0
+    cases_run vs frames within no_items c0 n0 other x all v temps k s named opens homed tr ok good ev lt h = goes_at
+        tr.0
         (completes_frame 16 0 0 (h k))
     cases_run vs frames within (items labels st is) c0 n0 other x all v temps k s named opens homed tr ok good ev lt h =
         let q = both (is_statement (at vs).scope within st) (are_items (at vs).scope within is) ok in
@@ -543,16 +575,19 @@ module _ (t : Tac) (n : ℕ) (env : Env) (deep : env.depth ≡ suc n) (base : Sc
         (λ ls k. goes_counted_as (length ls) 0 (omega arith)
         (goes_sure _ ((executed vs within st q.0).by _ good tt)
         (completes_less 0 (omega arith)
-        (statement_runs vs frames within st n0 (record x { next = tr.1 }) temps k _ named opens.0 homed tr.3 q.0 good lt))
+        (statement_runs vs frames within st n0 (record x { next = tr.1 }) temps k _ named opens.0 homed tr.3 q.0 good
+        lt))
         (λ f s1 t1 k1 p1 le1 is1 lv1 w1.
         next_goes f tr.1 x t1 k1 s1 _ (omega arith) p1
         (goes_spare 0 (omega arith)
-        (items_run vs frames within is tr.0 tr.1 other x t1 k1 s1 named opens.1 (homed_on lv1.frame homed) tr.4 q.1 lv1.good
+        (items_run vs frames within is tr.0 tr.1 other x t1 k1 s1 named opens.1
+        (homed_on lv1.frame homed) tr.4 q.1 lv1.good
         (omega (arith, le1, lt)))))))
         (λ k. cases_run vs frames within is tr.0 tr.1 other x all v temps k s named opens.1 homed tr.4 q.1 good ev lt h)
 
     default_run : (vs : List Variable) (frames : List Frame) (within : Surrounding) (is : SwitchItems) (c0 n0 other : ℕ)
-        (x : Exits) (temps : Temps) (k : ℕ) (s : State) → AreNamed env.variables vs → ItemsOpen env.variables vs is → Homed env.variables vs s.frame → LowersItems here is c0 n0 other x
+        (x : Exits) (temps : Temps) (k : ℕ) (s : State) → AreNamed env.variables vs → ItemsOpen env.variables vs is
+        → Homed env.variables vs s.frame → LowersItems here is c0 n0 other x
         → are_items (at vs).scope within is ≡ true → IsGood (at vs) s → env.limit < n + s.turns
         → (has_default is ≡ false → other ≡ x.next)
         → Completes env.setting t env.limit 0 0 u frames x (Stands u other temps frames (at_work k s)) k s
@@ -565,11 +600,13 @@ module _ (t : Tac) (n : ℕ) (env : Env) (deep : env.depth ≡ suc n) (base : Sc
         (λ ls k. goes_counted_as (length ls) 0 (omega arith)
         (goes_sure _ ((executed vs within st q.0).by _ good tt)
         (completes_less 0 (omega arith)
-        (statement_runs vs frames within st n0 (record x { next = tr.1 }) temps k _ named opens.0 homed tr.3 q.0 good lt))
+        (statement_runs vs frames within st n0 (record x { next = tr.1 }) temps k _ named opens.0 homed tr.3 q.0 good
+        lt))
         (λ f s1 t1 k1 p1 le1 is1 lv1 w1.
         next_goes f tr.1 x t1 k1 s1 _ (omega arith) p1
         (goes_spare 0 (omega arith)
-        (items_run vs frames within is tr.0 tr.1 other x t1 k1 s1 named opens.1 (homed_on lv1.frame homed) tr.4 q.1 lv1.good
+        (items_run vs frames within is tr.0 tr.1 other x t1 k1 s1 named opens.1
+        (homed_on lv1.frame homed) tr.4 q.1 lv1.good
         (omega (arith, le1, lt)))))))
         (λ none. default_run vs frames within is tr.0 tr.1 other x temps k s named opens.1 homed tr.4 q.1 good lt
         (λ e. h (ap (λ b. b || has_default is) none ∙ e)))

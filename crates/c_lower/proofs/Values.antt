@@ -77,7 +77,8 @@ use Rattle.c_tree.specs.Valid.{is_automatic, is_static}
 use Rattle.c_lower.specs.Values.{KeyIs}
 use Rattle.c_lower.proofs.KeyNames.{BaseIf, object_found, static_there, key_base_there, read_named, write_named}
 use Rattle.c_lower.proofs.Fitting.{both_true, in_place, word_fits, written_fits, held_fits, arguments_fit, printed_fits}
-use Rattle.c_lower.proofs.Fitting.{update_fits, kind_update_fits, type_fits, constant_fits, type_arguments_fit, data_below}
+use Rattle.c_lower.proofs.Fitting.{update_fits, kind_update_fits, type_fits, constant_fits, type_arguments_fit}
+use Rattle.c_lower.proofs.Fitting.{data_below}
 use Rattle.c_lower.proofs.Fitting.{AreDeclared}
 use Rattle.source_meaning.proofs.Naming.{PlainNames, UpdatesKind}
 use Rattle.source_meaning.specs.Good.{plain_type, IsWord}
@@ -223,7 +224,8 @@ module _ {g : Setting} {t : Tac} {limit u : ℕ} {frames : List Frame} where
 
   -- the contents of a structure are taken; what is counted for its bytes pays for handing them on
   taking_runs : (fc : ℕ) (kind : Kind) (line d n0 n1 : ℕ) (before temps : Temps) (k : ℕ) (s : State) (v : Rvalue)
-      (literals : List Bool) (vars : List Variable) → LowersTaking (placed t u literals vars) kind line d n0 n1 → temps d ≡ v
+      (literals : List Bool) (vars : List Variable) → LowersTaking (placed t u literals vars) kind line d n0 n1
+      → temps d ≡ v
       → KeepsBelow d before temps → ValueIs fc kind v s.objects
       → GoesLeaving g t limit (left_by kind true) (λ w. taken_left kind + handed_bytes w) u frames (λ v. n1)
       (ValueIn d before) (Stands u n0 temps frames (at_work k s)) k s (take_value kind line v s)
@@ -382,14 +384,16 @@ module _ (t : Tac) (n : ℕ) (env : Env) (sc : Context) (sure : Calling sc env)
 
   mutual
     pub expression_runs : (e : Expression) (d n0 n1 : ℕ) (temps : Temps) (k : ℕ) (s : State)
-        → LowersExpression (placed t u literals vars) e d n0 n1 → is_valid sc.scope e ≡ true → IsGood sc s → limit < n + s.turns
+        → LowersExpression (placed t u literals vars) e d n0 n1 → is_valid sc.scope e ≡ true → IsGood sc s
+        → limit < n + s.turns
         → Goes g t limit 0 (left e) u frames (λ v. n1) (ValueIn d temps) (Stands u n0 temps frames (at_work k s)) k s
         (evaluate env e s)
     expression_runs (expression kind line node) d n0 n1 temps k s tr ok good lt = node_runs node kind line d n0 n1 temps
         k s tr ok good lt
 
     two : (e : Expression) (d n0 n1 : ℕ) (temps : Temps) (k : ℕ) (s : State)
-        → LowersExpression (placed t u literals vars) e d n0 n1 → is_valid sc.scope e ≡ true → IsGood sc s → limit < n + s.turns
+        → LowersExpression (placed t u literals vars) e d n0 n1 → is_valid sc.scope e ≡ true → IsGood sc s
+        → limit < n + s.turns
         → Goes g t limit 0 3 u frames (λ v. n1) (ValueIn d temps) (Stands u n0 temps frames (at_work k s)) k s
         (evaluate env e s)
     two (expression kind line node) d n0 n1 temps k s tr ok good lt = goes_less 3 (three_left kind (is_convert node))
@@ -404,7 +408,12 @@ module _ (t : Tac) (n : ℕ) (env : Env) (sc : Context) (sure : Calling sc env)
         six_left kind (goes_counted (goes_step 7 tr refl (constant_fits w kind (named (constant w) kind ok)) refl
         (goes_done (omega arith) refl refl (put_value d (rvalue (integer w)) _ temps temps _ refl (λ i l. refl)))))
     node_runs (function f) kind line d n0 n1 temps k s tr ok good lt =
-        let there : f < length env.setting.functions = omega (arith, (named (function f) kind ok).0, declared.functions) in
+        let there : f < length env.setting.functions = omega (
+          arith,
+          (named
+              (function f) kind ok).0,
+          declared.functions,
+        ) in
         six_left kind (goes_counted (goes_step 7 tr refl (lt-ltb _ _ there) refl
         (goes_done (omega arith) refl refl
         (put_value d (rvalue (function_pointer f)) _ temps temps _ refl (λ i l. refl)))))
@@ -597,7 +606,8 @@ module _ (t : Tac) (n : ℕ) (env : Env) (sc : Context) (sure : Calling sc env)
         (came (heavier (write_rvalue pk (is_through (mode_for j)) q.value at y) z) F)))) p2.value
         ∙ key_opens keys tr.2 (write_key literals p a) s2 q.value tr.3
         (if_right j (key_after a (place_key literals p)) s2 q.value
-        (later a s1 s2 x is2 lv2 (place_key literals p) q.value w1.tag (place_right env literals p _ s1 q is1))) (k2 + w) _
+        (later a s1 s2 x is2 lv2 (place_key literals p) q.value w1.tag (place_right env literals p _ s1 q is1)))
+        (k2 + w) _
         ∙ access_opens (function_count sc) p size q s2.objects
         (reach_later (function_count sc) (basis_of p) nm.1 size q s1.objects s2.objects lv2.lives w1.reach) _
         ∙ value_moves (function_count sc) pk x s2.objects
@@ -648,7 +658,8 @@ module _ (t : Tac) (n : ℕ) (env : Env) (sc : Context) (sure : Calling sc env)
         F))) p2.value
         ∙ key_opens keys tr.2 (write_key literals p a) s2 q.value tr.3
         (if_right j (key_after a (place_key literals p)) s2 q.value
-        (later a s1 s2 y is2 lv2 (place_key literals p) q.value w1.tag (place_right env literals p _ s1 q is1))) (k2 + w') _
+        (later a s1 s2 y is2 lv2 (place_key literals p) q.value w1.tag (place_right env literals p _ s1 q is1)))
+        (k2 + w') _
         ∙ access_opens (function_count sc) p (scalar_size sk) q s2.objects
         (reach_scalar (function_count sc) (basis_of p) (lvalue_kind p) (updates_scalar w (lvalue_kind p) nm.2) q
         s2.objects (reach_later (function_count sc) (basis_of p) nm.1 (size_of_kind (lvalue_kind p)) q s1.objects
@@ -752,7 +763,8 @@ module _ (t : Tac) (n : ℕ) (env : Env) (sc : Context) (sure : Calling sc env)
         in
         goes_less {b = 11} 6 (omega arith)
         (goes_frame 3 8 8
-        (through_goes n sc env sure refl calls vs line n1 d temps t2 _ k2 s2 lv2.good type_number taken refl (omega (arith, le1, le2, lt))
+        (through_goes n sc env sure refl calls vs line n1 d temps t2 _ k2 s2 lv2.good type_number taken refl (omega
+        (arith, le1, le2, lt))
         (λ i l. p2.below i (omega arith) ∙ p1.below i l) x.value.word x.value.tag does))))))
     node_runs (library name args) kind line d n0 n1 temps k s tr ok good lt =
         let v = both (are_valid sc.scope args) _ ok in
@@ -809,7 +821,8 @@ module _ (t : Tac) (n : ℕ) (env : Env) (sc : Context) (sure : Calling sc env)
         good lt
 
     place_runs : (node : LvalueNode) (kind : Kind) (d n0 n1 : ℕ) (temps : Temps) (k : ℕ) (s : State)
-        → LowersPlace (placed t u literals vars) node d n0 n1 → is_valid_lvalue_node sc.scope node kind ≡ true → IsGood sc s
+        → LowersPlace (placed t u literals vars) node d n0 n1 → is_valid_lvalue_node sc.scope node kind ≡ true
+        → IsGood sc s
         → limit < n + s.turns
         → Goes g t limit 0 (place_left (is_node_judged node)) u frames (λ v. n1) (ValueIn d temps)
         (Stands u n0 temps frames (at_work k s)) k s (node_place env node s)
@@ -870,7 +883,8 @@ module _ (t : Tac) (n : ℕ) (env : Env) (sc : Context) (sure : Calling sc env)
         (goes_frame 8 0 (place_left (is_judged p)) (lvalue_runs p d n0 n1 temps k _ tr v.0 good lt)))
 
     pub argument_at : (e : Expression) (d n0 j n1 : ℕ) (temps : Temps) (k : ℕ) (s : State)
-        → LowersExpression (placed t u literals vars) e d n0 j → LowersTaking (placed t u literals vars) (kind_of e) (line_of e) d j n1
+        → LowersExpression (placed t u literals vars) e d n0 j → LowersTaking (placed t u literals vars) (kind_of e)
+        (line_of e) d j n1
         → is_valid sc.scope e ≡ true → IsGood sc s → limit < n + s.turns
         → GoesLeaving g t limit 0 (λ w. taken_left (kind_of e) + handed_bytes w) u frames (λ v. n1) (ValueIn d temps)
         (Stands u n0 temps frames (at_work k s)) k s (argument (kind_of e) (line_of e) (evaluate env e) s)

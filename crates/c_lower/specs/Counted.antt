@@ -1,4 +1,5 @@
--- A `for` that counts a plain int variable v up by 1 over a range of constants (C99 6.8.5.3): `for (v = A; v < B; v++)`.
+-- A `for` that counts a plain int variable v up by 1 over a range of constants (C99 6.8.5.3): `for (v = A; v < B;
+-- v++)`.
 -- A and B are integer constant expressions whose own type is int, and the body assigns v nowhere. The tree keeps the
 -- parentheses of the text but for those of a declarator, and marks each conversion.
 use Rattle.std.specs.Prelude.{ℕ, Bool, true, false, not, ◌&&◌, ◌==◌, if◌then◌else◌, [], ◌∷◌, Option, Some, None}

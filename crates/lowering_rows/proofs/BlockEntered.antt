@@ -155,7 +155,8 @@ checked_run : seen (tac_meaning checked_code default_sizes [] 80)
 unfolding checked_code code_of function_with code_with computing
 checked_run = refl
 
-body : LowersFunction [] [] int 2 function_main (function_with (code_with (tac.Read int Unchecked 2 (Some 0) 0 0 26) []))
+body : LowersFunction [] [] int 2 function_main (function_with (code_with
+    (tac.Read int Unchecked 2 (Some 0) 0 0 26) []))
 unfolding function_main function_with code_with are_most constant_word computing
 body = record {
   header = refl;

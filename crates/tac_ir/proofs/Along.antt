@@ -144,9 +144,11 @@ given_along i u (Entered k b ∷ frames) v s = record { by = tt }
 
 effect_along : (g : Setting) (t : Tac) (i : Instruction) (u : ℕ) (temps : Temps) (frames : List Frame) (s : State)
     → GoesAlong i u frames (effect g t i u temps frames s)
-effect_along g t (Call f line d n m) u temps frames s = call_along (Call f line d n m) u frames g (function_in t f) f m d _
+effect_along g t (Call f line d n m) u temps frames s = call_along (Call f line d n m) u frames g
+    (function_in t f) f m d _
     line _ temps s (inl refl)
-effect_along g t (CallThrough type_number line d n m) u temps frames s = came_along (CallThrough type_number line d n m) u
+effect_along g t (CallThrough type_number line d n m) u temps frames s = came_along
+    (CallThrough type_number line d n m) u
     frames _ _ (λ f z. call_along (CallThrough type_number line d n m) u frames g (function_in t f) f m d _ line _ temps
     z (inl refl))
 effect_along g t (Return a) u temps frames s = given_along (Return a) u frames (temps a)

@@ -132,7 +132,8 @@ called_later : (g : Setting) (c : Option CodeFunction) (f : ℕ) (vs : List Rval
 called_later g None f vs line frames s = over_later
 called_later g (Some c) f vs line frames s =
     after_later (begun s) _ (later_begun s)
-    (came_later (begun s) (acts_heavier (acts_set_up g (header_of_code c) vs line)) _ (λ _ z. stands_later (later_same z)))
+    (came_later (begun s) (acts_heavier (acts_set_up g (header_of_code c) vs line)) _ (λ _ z. stands_later
+    (later_same z)))
 
 ruleset later = (
   stuck_later,
@@ -163,13 +164,21 @@ effect_later g t (Take kind line d a m) u temps frames s =
 effect_later g t (Read kind mode line key d a m) u temps frames s =
     search (later, came_later s (acts_read_rvalue kind (is_through mode) (temps a) line)) depth 9
 effect_later g t (Write kind mode line key d a b m) u temps frames s =
-    search (later, came_later s (acts_heavier (acts_write_rvalue kind (is_through mode) (temps a).value line (temps b)))) depth 9
+    search (
+      later,
+      came_later s (acts_heavier (acts_write_rvalue kind (is_through mode) (temps a).value line
+          (temps b))),
+    ) depth 9
 effect_later g t (Update w k f mode line at key d a right m) u temps frames s =
     let run = acts_update k (is_through mode) (temps a).value line w (right_value right temps) at f in
     search (later, came_later s (acts_as run)) depth 9
 effect_later g t (Judge test size line key a m) u temps frames s =
     search (later, came_later s (acts_check test size (temps a).value line)) depth 9
-effect_later g t (Zero x m) u temps frames s = search (later, came_later s (acts_heavier (acts_zero_variable x))) depth 9
+effect_later g t (Zero x m) u temps frames s = search (
+  later,
+  came_later s (acts_heavier
+      (acts_zero_variable x)),
+) depth 9
 effect_later g t (StorePart kind line x offset a m) u temps frames s =
     let run = acts_write_rvalue kind false (part_pointer x offset (size_of_kind kind) s) line (temps a) in
     search (later, came_later s (acts_heavier run)) depth 9
@@ -177,9 +186,17 @@ effect_later g t (StoreText n x offset m) u temps frames s =
     let run = acts_store_bytes (home_pointer x s) offset (text_in t n) in
     search (later, came_later s (acts_heavier (acts_then (acts_tally (length (text_in t n))) run))) depth 9
 effect_later g t (Library r line d n m) u temps frames s =
-    search (later, came_later s (acts_heavier (acts_as (acts_routine g r (values_of (gathered temps d n)) line)))) depth 9
+    search (
+      later,
+      came_later s (acts_heavier (acts_as (acts_routine g r (values_of
+          (gathered temps d n)) line))),
+    ) depth 9
 effect_later g t (Print x line d n m) u temps frames s =
-    search (later, came_later s (acts_heavier (acts_as (acts_print (text_in t x) (values_of (gathered temps d n)) line)))) depth 9
+    search (
+      later,
+      came_later s (acts_heavier (acts_as (acts_print (text_in t x) (values_of
+          (gathered temps d n)) line))),
+    ) depth 9
 effect_later g t (CallThrough type_number line d n m) u temps frames s =
     search (later, came_later s (acts_callee g.functions type_number (temps d).value line)) depth 9
 effect_later g t (EnterBlock b line m) u temps frames s =

@@ -13,7 +13,8 @@ use Rattle.source_meaning.specs.Good.{plain_type}
 use Rattle.source_meaning.specs.Places.{statics_first}
 use Rattle.source_meaning.specs.Meaning.{fresh}
 use Rattle.tac_ir.specs.declared.instruction.Instruction.{Instruction}
-use Rattle.tac_ir.specs.declared.instruction.Instruction.TheVariants.{SetPlain, UpdatePlain, StaticPointer, Turn, Return}
+use Rattle.tac_ir.specs.declared.instruction.Instruction.TheVariants.{SetPlain, UpdatePlain, StaticPointer, Turn}
+use Rattle.tac_ir.specs.declared.instruction.Instruction.TheVariants.{Return}
 use Rattle.tac_ir.specs.declared.instruction.Instruction.TheVariants.{Read, Write, Update, Judge, StoreText, Print}
 use Rattle.tac_ir.specs.declared.instruction.Instruction.TheVariants.{Call}
 use Rattle.tac_ir.specs.declared.instruction.Instruction.TheVariants.{CallThrough, EnterBlock}

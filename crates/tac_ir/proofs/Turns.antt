@@ -44,10 +44,12 @@ use Rattle.tac_ir.specs.declared.function.CodeFunction.{CodeFunction}
 use Rattle.tac_ir.specs.declared.function.Tac.{Tac}
 use Rattle.tac_ir.specs.Stage.{Temps, gathered, Frame, Waits, Entered, Stage, Begins, Stands, Over, Stuck, came, seen}
 use Rattle.tac_ir.specs.Keys.{gives}
-use Rattle.tac_ir.specs.Accesses.{only_if, can_check, is_live_at, is_there, is_place, admitted, moved_from, is_home, is_through}
+use Rattle.tac_ir.specs.Accesses.{only_if, can_check, is_live_at, is_there, is_place, admitted, moved_from, is_home}
+use Rattle.tac_ir.specs.Accesses.{is_through}
 use Rattle.tac_ir.specs.Costs.{cost, first_call, handed_bytes, spent, fourfold, heavier}
 use Rattle.tac_ir.specs.Meaning.{objects_in, function_in, text_in, keyed_by, keyed, right_value, part_pointer, check}
-use Rattle.tac_ir.specs.Meaning.{header_of_code, setting_of_code, given_to, left_for, called_at, called, fits, effect, act, act_at}
+use Rattle.tac_ir.specs.Meaning.{header_of_code, setting_of_code, given_to, left_for, called_at, called, fits, effect}
+use Rattle.tac_ir.specs.Meaning.{act, act_at}
 use Rattle.tac_ir.specs.Meaning.{at_node, step, first_stage, tac_meaning}
 
 -- no more than so many turns are begun

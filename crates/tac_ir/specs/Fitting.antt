@@ -1,5 +1,5 @@
--- Whether what an instruction is given is what it can be asked of: values are of the kinds of where they go, and what is
--- named is there. Where it is not the code is stuck.
+-- Whether what an instruction is given is what it can be asked of: values are of the kinds of where they go, and what
+-- is named is there. Where it is not the code is stuck.
 use Rattle.std.specs.Prelude.{ℕ, ◌+◌, ◌^◌, Bool, true, false, not, ◌&&◌, ◌||◌, ◌==◌, nat_lt, nat_le, List, [], ◌∷◌, map}
 use Rattle.std.specs.Prelude.{Option, Some, None, get_or, slice_get}
 use Rattle.std.specs.List.{list_all}

@@ -36,7 +36,8 @@ use Rattle.tac_ir.specs.declared.instruction.RightOperand.TheVariants.{Temporary
 use Rattle.tac_ir.specs.declared.instruction.Test.{Test}
 use Rattle.tac_ir.specs.declared.instruction.Test.TheVariants.{Spatial, Temporal}
 use Rattle.tac_ir.specs.declared.instruction.Instruction.{Instruction}
-use Rattle.tac_ir.specs.declared.instruction.Instruction.TheVariants.{Reserved, Skip, Constant, FunctionPointer, GetPlain}
+use Rattle.tac_ir.specs.declared.instruction.Instruction.TheVariants.{Reserved, Skip, Constant, FunctionPointer}
+use Rattle.tac_ir.specs.declared.instruction.Instruction.TheVariants.{GetPlain}
 use Rattle.tac_ir.specs.declared.instruction.Instruction.TheVariants.{SetPlain, UpdatePlain, HomePointer, StaticPointer}
 use Rattle.tac_ir.specs.declared.instruction.Instruction.TheVariants.{ZeroOf, Convert, Unary, Binary, Offset}
 use Rattle.tac_ir.specs.declared.instruction.Instruction.TheVariants.{Difference, Narrow, Member, Take, Read, Write}
@@ -52,7 +53,8 @@ use Rattle.tac_ir.specs.Stage.{Temps, no_temps, with_temp, gathered, Frame, Wait
 use Rattle.tac_ir.specs.Stage.{Stuck, came, seen}
 use Rattle.tac_ir.specs.Keys.{gives}
 use Rattle.tac_ir.specs.Accesses.{only_if, can_check, is_live_at, admitted, moved_from, is_home, is_through}
-use Rattle.tac_ir.specs.Fitting.{is_word, is_passed, are_passed, is_written, is_in_place, is_held, is_update_of, is_type}
+use Rattle.tac_ir.specs.Fitting.{is_word, is_passed, are_passed, is_written, is_in_place, is_held, is_update_of}
+use Rattle.tac_ir.specs.Fitting.{is_type}
 use Rattle.tac_ir.specs.Fitting.{taken_by, fit_type, are_printed, is_of_key, is_counted, have_no_homes}
 use Rattle.tac_ir.specs.Costs.{cost, first_call, handed_bytes, spent, heavier}
 
@@ -175,7 +177,8 @@ abbrev pub effect : Setting → Tac → Instruction → (function : ℕ) → Tem
 effect g t Reserved u temps frames s = Stuck
 effect g t (Skip m) u temps frames s = Stands u m temps frames s
 effect g t (Constant d w m) u temps frames s = Stands u m (with_temp temps d (rvalue (integer w))) frames s
-effect g t (FunctionPointer d f m) u temps frames s = Stands u m (with_temp temps d (rvalue (function_pointer f))) frames s
+effect g t (FunctionPointer d f m) u temps frames s = Stands u m (with_temp temps d
+    (rvalue (function_pointer f))) frames s
 effect g t (GetPlain d x m) u temps frames s = Stands u m (with_temp temps d (rvalue (plain_value x s))) frames s
 effect g t (SetPlain x a m) u temps frames s = came (set_plain x (temps a).value s) (λ _ s. Stands u m temps frames s)
 effect g t (UpdatePlain w k f line d x right m) u temps frames s =
@@ -184,7 +187,8 @@ effect g t (HomePointer d x m) u temps frames s = Stands u m (with_temp temps d 
 effect g t (StaticPointer d n m) u temps frames s = Stands u m (with_temp temps d (rvalue (pointer_to n s.objects)))
     frames s
 effect g t (ZeroOf kind d m) u temps frames s = came (heavier (make_zero kind) s) (given_in u m temps d frames)
-effect g t (Convert kind d a m) u temps frames s = Stands u m (with_temp temps d (rvalue (converted kind (temps a).value)))
+effect g t (Convert kind d a m) u temps frames s = Stands u m (with_temp temps d
+    (rvalue (converted kind (temps a).value)))
     frames s
 effect g t (Unary op ty d a m) u temps frames s =
     Stands u m (with_temp temps d (rvalue (integer (unary_value op ty (temps a).value.word)))) frames s
@@ -196,7 +200,8 @@ effect g t (Difference size d a b m) u temps frames s =
     Stands u m (with_temp temps d (rvalue (difference_value size (temps a).value (temps b).value))) frames s
 effect g t (Narrow offset size d a m) u temps frames s =
     Stands u m (with_temp temps d (rvalue (narrowed offset size (temps a).value))) frames s
-effect g t (Member offset size d a m) u temps frames s = Stands u m (with_temp temps d (member_of offset size (temps a)))
+effect g t (Member offset size d a m) u temps frames s = Stands u m (with_temp temps d
+    (member_of offset size (temps a)))
     frames s
 effect g t (Take kind line d a m) u temps frames s =
     moved_from kind (temps a) s.objects

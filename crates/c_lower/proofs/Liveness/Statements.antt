@@ -274,7 +274,8 @@ at_end c result k n m holds h =
     along c.code Nothing Result (tac.ZeroOf result 0 m) k n m holds (λ y e. false≢true e)
     (λ y q e. not_written Nothing 0 y q e) (λ x q. only_one x m q) h
 
-pub none_is_live : (texts : List (List ℕ)) (literals : List Bool) (result : Kind) (height : ℕ) (f : Function) (c : CodeFunction) (y : ℕ)
+pub none_is_live : (texts : List (List ℕ)) (literals : List Bool) (result : Kind) (height : ℕ) (f : Function)
+    (c : CodeFunction) (y : ℕ)
     → LowersFunction texts literals result height f c → IsLive c.code c.entry y → ⊥
 none_is_live texts literals result height f c y l live =
     let p = placed_in texts literals f c in

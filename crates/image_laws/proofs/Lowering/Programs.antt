@@ -206,7 +206,8 @@ before_some None (Some x) c' i e = absurd i
 before_some (Some c) None c' i e = absurd i
 before_some (Some c) (Some x) c' i e = (c, refl, subst (SameButChecksIn c) (same_Some x c' e) i)
 
-lowered_at : (texts : List (List ℕ)) (literals : List Bool) (result : Option Function → Kind) (height : Option Function → ℕ)
+lowered_at : (texts : List (List ℕ)) (literals : List Bool) (result : Option Function → Kind) (height : Option Function
+    → ℕ)
     (o : Option Function) (o' : Option CodeFunction) (f : Function) (c : CodeFunction)
     → LowersAt texts literals (result o) (height o) o o' → o ≡ Some f → o' ≡ Some c
     → LowersFunction texts literals (result (Some f)) (height (Some f)) f c
@@ -319,9 +320,11 @@ module _ (q : Program) (t r : Tac) (valid : is_valid_program q ≡ true) (ints :
     pub entry_same : c'.entry ≡ lowered.0.entry
     entry_same = (function_same ins.tables u lowered.0 c' lowered.1 at).entry
 
-    pub lowers : LowersFunction t.texts (literals_of q.statics) (result_in t.results (Some f)) (height_in q.statics u (Some f)) f lowered.0
+    pub lowers : LowersFunction t.texts (literals_of q.statics) (result_in t.results (Some f)) (height_in q.statics u
+        (Some f)) f lowered.0
     lowers =
-        lowered_at t.texts (literals_of q.statics) (result_in t.results) (height_in q.statics u) (function_at q.functions u)
+        lowered_at t.texts (literals_of q.statics) (result_in t.results) (height_in q.statics u)
+        (function_at q.functions u)
         (slice_get t.functions u) f lowered.0 (low.functions u) function_is.1 lowered.1
 
     -- its code is safe

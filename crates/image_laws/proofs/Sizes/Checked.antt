@@ -22,12 +22,14 @@ kept ts b (tac.Update u k f mode line at key d a e m) le = absurd (omega (arith,
 kept ts b (tac.Judge test size line key a m) le = absurd (omega (arith, le))
 kept ts b i le = record { needed = refl; own = refl }
 
-none_needed : (ts : List (List ℕ)) (b : ℕ) (is : List Instruction) → code_weight ts is (words (suc b)) ≤ b → sum_over checks_needed is ≡ 0
+none_needed : (ts : List (List ℕ)) (b : ℕ) (is : List Instruction) → code_weight ts is (words (suc b)) ≤ b
+    → sum_over checks_needed is ≡ 0
 none_needed ts b [] le = refl
 none_needed ts b (i ∷ is) le =
     let h = kept ts b i (omega (arith, le)) in omega (arith, h.needed, none_needed ts b is (omega (arith, le)))
 
-kept_at : (ts : List (List ℕ)) (b : ℕ) (is : List Instruction) → code_weight ts is (words (suc b)) ≤ b → (n : ℕ) (i : Instruction) → Has is n i
+kept_at : (ts : List (List ℕ)) (b : ℕ) (is : List Instruction) → code_weight ts is (words (suc b)) ≤ b → (n : ℕ)
+    (i : Instruction) → Has is n i
     → HasNoChecks i
 kept_at ts b [] le n i h = cc
 kept_at ts b (j ∷ is) le zero i h = subst HasNoChecks (same_Some _ _ h) (kept ts b j (omega (arith, le)))
@@ -42,7 +44,8 @@ same_code (x ∷ xs) (y ∷ ys) e h =
     let rest = same_code xs ys (omega (arith, e)) (λ n i g. h (suc n) i g) in
     ap (λ z. z ∷ ys) (same_Some _ _ (h 0 x refl)) ∙ ap (λ zs. x ∷ zs) rest
 
-function_same : (ts : List (List ℕ)) (b : ℕ) (c c' : CodeFunction) → SameButChecksIn c c' → code_weight ts c.code (words (suc b)) ≤ b
+function_same : (ts : List (List ℕ)) (b : ℕ) (c c' : CodeFunction) → SameButChecksIn c c' → code_weight ts c.code
+    (words (suc b)) ≤ b
     → c'.code ≡ c.code
 function_same ts b c c' f le =
     let none = none_needed ts b c.code le in
@@ -51,7 +54,8 @@ function_same ts b c c' f le =
     (λ n i h. f.code n i h (kept_at ts b c.code le n i h))
 
 -- the code of all functions weighs the same
-functions_same : (ts : List (List ℕ)) (b k : ℕ) (cs cs' : List CodeFunction) → ((u : ℕ) → SameButChecksAt (slice_get cs u) (slice_get cs' u))
+functions_same : (ts : List (List ℕ)) (b k : ℕ) (cs cs' : List CodeFunction) → ((u : ℕ) → SameButChecksAt
+    (slice_get cs u) (slice_get cs' u))
     → codes_weight ts cs (words (suc b)) ≤ b → codes_weight ts cs' (words k) ≡ codes_weight ts cs (words k)
 functions_same ts b k [] [] h le = refl
 functions_same ts b k [] (c' ∷ cs') h le = absurd (h 0)
@@ -60,6 +64,7 @@ functions_same ts b k (c ∷ cs) (c' ∷ cs') h le =
     let first = ap (λ is. code_weight ts is (words k)) (function_same ts b c c' (h 0) (omega (arith, le))) in
     omega (arith, first, functions_same ts b k cs cs' (λ u. h (suc u)) (omega (arith, le)))
 
-pub weighs_the_same : (ts : List (List ℕ)) (b k : ℕ) (t r : Tac) → SameButChecks t r → codes_weight ts t.functions (words (suc b)) ≤ b
+pub weighs_the_same : (ts : List (List ℕ)) (b k : ℕ) (t r : Tac) → SameButChecks t r → codes_weight ts t.functions
+    (words (suc b)) ≤ b
     → codes_weight ts r.functions (words k) ≡ codes_weight ts t.functions (words k)
 weighs_the_same ts b k t r same le = functions_same ts b k t.functions r.functions same.functions le

@@ -43,7 +43,8 @@ returns-clause-does c =
     let range : AreInRange budgets = subst (λ (m : MapSizes). AreInRange m.budgets) same
     c.sizes_are_in_range.ensures.budgets in
     does_result p budgets c.built_of.result
-    (c.images_do_what_is_meant.ensures p budgets c.requires.valid c.requires.integers c.requires.parameters c.requires.few range)
+    (c.images_do_what_is_meant.ensures p budgets c.requires.valid c.requires.integers c.requires.parameters
+    c.requires.few range)
     (built_result p c.in_ok-lowered.lowered c.map_of-map.result (sizes_of p budgets) c.built_of.result
     c.in_ok-lowered.ensures.code c.in_ok-lowered.ensures.weighed same c.built_of.ensures.built)
 

@@ -1,10 +1,9 @@
 #!/usr/bin/env python3
 """How the time and the memory of `lower` and of `insert` grow with a program: nodes of three-address code behind each,
 processor seconds (the best of three) and the greatest resident memory, by crates/lowering_vectors, which does each
-behind those before it; `lower` here includes `is_valid`, which comes before it. Shapes: operators on a plain
-variable; members through pointers, whose keys are as long as the chains; elements of an array, each access with a key
-of its own; counted loops; blocks with an object; the cases of one switch; and as many functions as a program may
-have. No memory below this script's own, some 17000 kB, is seen.
+behind those before it. Shapes: operators on a plain variable; members through pointers, whose keys are as long as the
+chains; elements of an array, each access with a key of its own; counted loops; blocks with an object; the cases of
+one switch; and as many functions as a program may have. No memory below this script's own, some 17000 kB, is seen.
 
 usage: python3 bench/lowering_growth.py [MOST]     (at most so many nodes, 1000000 if none; the program must be built:
                                                      `rt run` in its folder)

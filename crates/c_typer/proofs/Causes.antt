@@ -11,13 +11,16 @@ use Rattle.c_tree.specs.View as view
 use Rattle.c_faults.specs.declared.fault.Fault.{Fault}
 use Rattle.c_faults.specs.declared.fault.Refusal.{Refusal}
 use Rattle.c_faults.specs.declared.fault.Refusal.TheVariants as rules
+use Rattle.c_const.specs.Initializers.{first_not_constant}
+use Rattle.c_counts.specs.Counts.{counts_of}
 use Rattle.c_faults.specs.Answer.{Fails}
 use Rattle.c_unit_typing.specs.declared.limits.Limited.{Limited}
 use Rattle.c_unit_typing.specs.Files.{File}
 use Rattle.c_unit_typing.specs.Programs.{program_of}
-use Rattle.c_unit_typing.specs.Typed.{TypedUnit, a_fault, a_program, are_constant, too_large, typed_as, typed_unit}
-use Rattle.c_unit_typing.specs.Typed.{within_limits}
+use Rattle.c_unit_typing.specs.Typed.{TypedUnit, a_fault, a_program, limited_program, not_constant, too_large}
+use Rattle.c_unit_typing.specs.Typed.{typed_as, typed_unit, unless_not_constant, within_limits}
 use Rattle.c_unit_typing.specs.Units.{file_in}
+use Rattle.c_unit_typing.proofs.Within.{unit_constant}
 use Rattle.c_typer.specs.Limits.{IsExcess}
 use Rattle.c_typer.specs.Outlines.{Outline, program_in}
 use Rattle.c_typer.specs.Rooms.{first_without_room}
@@ -25,7 +28,7 @@ use Rattle.program_laws.specs.TreeSizes.Nodes.{nodes_of}
 use Rattle.program_laws.proofs.ProgramSizes.Programs.{unit_words_program}
 use Rattle.program_laws.proofs.Programs.Units.{unit_valid}
 use Rattle.c_typer.specs.declared.unit.UnitRefusal.{UnitRefusal}
-use Rattle.c_typer.specs.declared.unit.UnitRefusal.TheVariants.{Fault as OfFault, Memory, RoomTooLarge, TooLarge}
+use Rattle.c_typer.specs.declared.unit.UnitRefusal.TheVariants.{Fault as OfFault, Memory}
 use Rattle.c_typer.specs.Refused.{IsCauseOf, IsWithoutRoom, UnlessMemory, refusal_of}
 
 moved : (e : UnitRefusal) (u v : TypedUnit) → u ≡ v → UnlessMemory e (IsCauseOf e u) → UnlessMemory e (IsCauseOf e v)
@@ -35,20 +38,38 @@ pub without_room : (p : Program) (k : ℕ) → first_without_room 0 p.functions 
     → IsWithoutRoom k (a_program p)
 without_room p k first = record { program = p; is_program = refl; is_first = first }
 
--- within the limits
+-- initializers, and within the limits
 
-pub within : (es : List External) (o : Outline) (p : Program) → IsExcess es o None → p ≡ program_in o
+limited : (es : List External) (o : Outline) → None ≡ first_not_constant (program_in o)
+    → within_limits es (program_in o) ≡ limited_program (counts_of es) (program_in o)
+limited es o constant =
+    ap (λ z. unless_not_constant z (limited_program (counts_of es) (program_in o))) (sym constant)
+
+pub fine : (es : List External) (o : Outline) → None ≡ first_not_constant (program_in o) → IsExcess es o None
+    → within_limits es (program_in o) ≡ a_program (program_in o)
+fine es o constant none = limited es o constant ∙ none
+
+pub large : (es : List External) (o : Outline) (which : Limited) (n : ℕ) → None ≡ first_not_constant (program_in o)
+    → IsExcess es o (Some (which, n)) → within_limits es (program_in o) ≡ too_large which n
+large es o which n constant is = limited es o constant ∙ is
+
+pub inconstant : (es : List External) (o : Outline) (line : ℕ) → Some line ≡ first_not_constant (program_in o)
+    → within_limits es (program_in o) ≡ not_constant line
+inconstant es o line is =
+    ap (λ z. unless_not_constant z (limited_program (counts_of es) (program_in o))) (sym is)
+
+-- the program of an outline
+
+pub within : (es : List External) (o : Outline) (p : Program)
+    → within_limits es (program_in o) ≡ a_program (program_in o) → p ≡ program_in o
     → within_limits es (program_in o) ≡ a_program p
 within es o p none is = none ∙ ap a_program (sym is)
 
-pub caused : (es : List External) (o : Outline) (e : UnitRefusal) → IsExcess es o None
+pub caused : (es : List External) (o : Outline) (e : UnitRefusal)
+    → within_limits es (program_in o) ≡ a_program (program_in o)
     → UnlessMemory e (IsCauseOf e (a_program (program_in o)))
     → UnlessMemory e (IsCauseOf e (within_limits es (program_in o)))
 caused es o e none cause = moved e (a_program (program_in o)) (within_limits es (program_in o)) (sym none) cause
-
-pub large : (es : List External) (o : Outline) (which : Limited) (n : ℕ) → IsExcess es o (Some (which, n))
-    → within_limits es (program_in o) ≡ too_large which n
-large es o which n is = is
 
 -- of a file
 
@@ -90,8 +111,14 @@ few_nodes end u (Err e) typed = tt
 
 pub valid_program : (end : ℕ) (u : SyntaxUnit) (r : Result CodeProgram UnitRefusal)
     → IfOk r (λ program. typed_unit end u ≡ a_program (view.program_of program))
-    → IfOk r (λ program. IsWellFormed u → are_constant (view.program_of program) ≡ true
-    → is_valid_program (view.program_of program) ≡ true)
-valid_program end u (Ok program) typed = λ formed constant.
-    unit_valid end u (view.program_of program) formed typed constant
+    → IfOk r (λ program. IsWellFormed u → is_valid_program (view.program_of program) ≡ true)
+valid_program end u (Ok program) typed = λ formed. unit_valid end u (view.program_of program) formed typed
 valid_program end u (Err e) typed = tt
+
+-- and has constant initializers
+
+pub constant_program : (end : ℕ) (u : SyntaxUnit) (r : Result CodeProgram UnitRefusal)
+    → IfOk r (λ program. typed_unit end u ≡ a_program (view.program_of program))
+    → IfOk r (λ program. first_not_constant (view.program_of program) ≡ None)
+constant_program end u (Ok program) typed = unit_constant end u (view.program_of program) typed
+constant_program end u (Err e) typed = tt

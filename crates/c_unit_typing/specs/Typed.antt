@@ -1,17 +1,12 @@
--- What the typing of a file gives (C99 6.9): the typed program; the first rule that it violates; or, where it violates
--- none and the initializer of each static object is constant (6.7.8 paragraph 4), what it has too much of and how
--- much.
-use Rattle.std.specs.Prelude.{◌≡◌, ◌≤◌, ℕ, ◌+◌, Bool, true, if◌then◌else◌, List, [], ◌∷◌, length}
-use Rattle.std.specs.Prelude.{replicate, Option, Some, None, is_some, Ok, Err}
-use Rattle.std.specs.List.{list_all}
+-- What the typing of a file gives (C99 6.9): the typed program; the first rule that it violates; where it violates
+-- none, the line of the first expression that an initializer of a static object stores and that is not constant (6.7.8
+-- paragraph 4); or, where there is none either, what it has too much of and how much.
+use Rattle.std.specs.Prelude.{◌≡◌, ◌≤◌, ℕ, ◌+◌, List, [], ◌∷◌, length, Option, Some, None, Ok, Err}
 use Rattle.obj_memory.specs.Heap.{rounded_up}
 use Rattle.c_syntax.specs.Statements.{Unit, External}
 use Rattle.c_tree.specs.Kinds.{size_of_kind}
 use Rattle.c_tree.specs.Programs.{Program, StaticObject}
-use Rattle.c_tree.specs.Statements.{Content, literal_content, value_content}
-use Rattle.c_tree.specs.Tree.{kind_of}
-use Rattle.c_const.specs.Addresses.{Pointers, untagged}
-use Rattle.c_const.specs.Contents.{constant_in}
+use Rattle.c_const.specs.Initializers.{first_not_constant}
 use Rattle.c_faults.specs.declared.fault.Fault.{Fault}
 use Rattle.c_faults.specs.Answer.{Answer}
 use Rattle.c_counts.specs.Counts.{Count, counts_of}
@@ -25,25 +20,8 @@ use Rattle.c_unit_typing.specs.Units.{file_in}
 pub data TypedUnit : Type 0 where
   a_program : Program → TypedUnit
   a_fault : Fault → TypedUnit
+  not_constant : (line : ℕ) → TypedUnit
   too_large : Limited → (count : ℕ) → TypedUnit
-
--- whether the initializers of static objects are constant, wherever these and the functions stand
-
-abbrev pub any_pointers : Program → Pointers
-any_pointers p = record {
-  statics = replicate (length p.statics) (untagged 0);
-  functions = replicate (length p.functions) (untagged 0);
-}
-
-abbrev pub is_constant : Pointers → Content → Bool
-is_constant ps (value_content e) = is_some (constant_in ps (kind_of e) e)
-is_constant ps (literal_content bytes) = true
-
-abbrev pub has_constants : Pointers → StaticObject → Bool
-has_constants ps o = list_all (λ p. is_constant ps p.content) o.parts
-
-abbrev pub are_constant : Program → Bool
-are_constant p = list_all (has_constants (any_pointers p)) p.statics
 
 -- The limits, in their order. Of the lists of parameters that are too long the first counts, and of those of members.
 
@@ -72,13 +50,19 @@ limited_program counts p =
     (when_large limited.Members (first_above most_members (members_among counts))
     (when_large limited.Globals (first_above most_bytes (global_bytes p ∷ [])) (a_program p))))
 
--- that an initializer is not constant is said where the program is lowered
-abbrev pub within_limits : List External → Program → TypedUnit
-within_limits es p = if are_constant p then limited_program (counts_of es) p else a_program p
+abbrev pub unless_not_constant : Option ℕ → TypedUnit → TypedUnit
+unless_not_constant (Some line) other = not_constant line
+unless_not_constant None other = other
 
--- the program that is given is the one that is typed, and within the limits, as no list of parameters is too long
+-- that an initializer is not constant comes before the limits
+abbrev pub within_limits : List External → Program → TypedUnit
+within_limits es p = unless_not_constant (first_not_constant p) (limited_program (counts_of es) p)
+
+-- the program that is given is the one that is typed; its initializers are constant, and it is within the limits, as
+-- no list of parameters is too long
 pub record IsWithin (counts : List Count) (typed given : Program) : Type 0 where
   pub same : typed ≡ given
+  pub constant : first_not_constant typed ≡ None
   pub functions : length typed.functions ≤ most_functions
   pub parameters : first_above most_parameters (parameters_among counts) ≡ None
   pub bytes : global_bytes typed ≤ most_bytes

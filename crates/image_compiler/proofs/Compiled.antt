@@ -1,8 +1,7 @@
 -- What is built of lowered code is built of the program.
-use Rattle.std.proofs.Common.{◌≡◌, ℕ, ◌+◌, ◌-◌, ◌^◌, ◌<◌, List, [], length, true, Some, refl, sym, ap, ◌∙◌, subst}
+use Rattle.std.proofs.Common.{◌≡◌, ℕ, ◌+◌, ◌-◌, ◌^◌, ◌<◌, List, [], length, true, refl, sym, ap, ◌∙◌, subst}
 use Rattle.std.proofs.Common.{arith}
 use Rattle.std.specs.Prelude.{min, Result, Ok, Err, IfOk, IfErr}
-use Rattle.std.proofs.lemmas.Option.{none-some}
 use Rattle.std.proofs.lemmas.List.{length-map}
 use Rattle.sb_base.specs.Budgets.{BudgetSizes}
 use Rattle.addr_map.specs.Places.{MapSizes}
@@ -16,7 +15,6 @@ use Rattle.program_lowering.specs.ProgramCode.Checks.{checks_of, AwaitsChecks}
 use Rattle.check_insert.specs.Counting.{checks, checks_to_insert}
 use Rattle.check_insert.specs.Inserted.{Inserted}
 use Rattle.compiled_programs.specs.Programs.{is_integer_program}
-use Rattle.static_data.specs.Data.{first_fault, program_pointers}
 use Rattle.flat_meaning.specs.declared.function.FlatProgram.{FlatProgram}
 use Rattle.reg_plan.specs.declared.plan.FunctionPlan.{FunctionPlan}
 use Rattle.metadata_expansion.specs.Numbers.{AreAllSmall}
@@ -25,7 +23,7 @@ use Rattle.reg_plan.specs.Tests.{AreAccepted}
 use Rattle.machine_laws.specs.Following.Code.{IsEncodable}
 use Rattle.rv_codegen.specs.MachineImages.Image.{IsImage}
 use Rattle.image_laws.specs.Images.Images.{sizes_of, IsChecked, IsFlat, DoesWhatIsMeant}
-use Rattle.image_laws.proofs.Images.Images.{no_statics, no_bytes}
+use Rattle.image_laws.proofs.Images.Images.{no_bytes}
 use Rattle.rv_codegen.specs.declared.code.GenerateError.TheVariants as generate
 use Rattle.rv_codegen.specs.Generated.{IsCause}
 use Rattle.image_laws.specs.Sizes.Nodes.{program_nodes}
@@ -158,10 +156,3 @@ nodes_result p t m (Err NumbersTooLarge) law h = tt
 nodes_result p t m (Err (TooLarge bytes)) law h = large_code p t m bytes (λ k plans. law k plans bytes) h
 nodes_result p t m (Err (FunctionTooLong number)) law h = tt
 nodes_result p t m (Err Memory) law h = tt
-
--- ---- without static objects no initializer is at fault
-
-pub never_faulty : (p : Program) (line : ℕ) → is_integer_program p ≡ true
-    → first_fault (program_pointers p) p.statics ≡ Some line → ⊥
-never_faulty p line ints e =
-    none-some line (sym (ap (first_fault (program_pointers p)) (no_statics p ints)) ∙ e)

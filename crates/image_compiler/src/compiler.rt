@@ -1,12 +1,11 @@
 //! From a typed program to its image.
 
-ghost use Rattle.std.specs.Prelude.{◌≡◌, ◌+◌, ◌≤◌, ◌-◌, ◌^◌, true, length, min, Ok, Err, IfOk, IfErr};
+ghost use Rattle.std.specs.Prelude.{◌≡◌, ◌+◌, ◌≤◌, ◌-◌, ◌^◌, true, length, min, None, Ok, Err, IfOk, IfErr};
 ghost use Rattle.c_tree.specs.View.{program_of};
 ghost use Rattle.c_tree.specs.ValidProgram.{is_valid_program};
+ghost use Rattle.c_const.specs.Initializers.{first_not_constant};
 ghost use Rattle.tac_ir.specs.declared.function.Tac.{Tac};
-ghost use Rattle.c_lower.specs.Programs.{IsLowered};
-ghost use Rattle.program_lowering.specs.ProgramCode.Weights.{IsWeighed};
-ghost use Rattle.program_lowering.specs.ProgramCode.Checks.{checks_of, AwaitsChecks};
+ghost use Rattle.program_lowering.specs.ProgramCode.Checks.{checks_of};
 ghost use Rattle.check_insert.specs.Counting.{checks, checks_to_insert};
 ghost use Rattle.check_insert.specs.Inserted.{Inserted};
 ghost use Rattle.compiled_programs.specs.Programs.{is_integer_program};
@@ -18,7 +17,6 @@ use crate::error::CompileError;
 use crate::image::image_of_checked;
 use addr_map::AddrMap;
 use addr_map::laws::sizes_are_in_range;
-use c_const::contents::InitialFault;
 use c_tree::Program;
 use check_insert::{checks, insert};
 use image_laws::laws::images::{expansions_are_encodable, images_do_what_is_meant};
@@ -26,7 +24,7 @@ use image_laws::laws::plans::expansions_are_plannable;
 use image_laws::laws::sizes::code_of_few_nodes_is_not_too_large;
 use program_lowering::programs::lower;
 use sb_base::Budgets;
-use std::alloc::{AllocError, Global};
+use std::alloc::Global;
 use tac_ir::Tac;
 
 /// What is built of a program.
@@ -64,22 +62,6 @@ fn built_of(alloc: Global, map: &AddrMap, lowered: Tac) -> Result<Built, Compile
     with_checks(image_of_checked(alloc, map, &checked), count)
 }
 
-// The code of a program without static objects, lowered.
-fn lowered_code(alloc: Global, program: &Program) -> Result<Tac, AllocError>
-    requires valid { is_valid_program (program_of program.now) ≡ true }
-    requires integers { is_integer_program (program_of program.now) ≡ true }
-    requires few { length (program_of program.now).functions ≤ 4096 }
-    ensures code { IfOk result (λ code. IsLowered (program_of program.now) code) }
-    ensures weighed { IfOk result (λ code. IsWeighed (program_of program.now) code) }
-    ensures checks { IfOk result (λ code. AwaitsChecks (program_of program.now) code) }
-{
-    match lower(alloc, program) {
-        Ok(code) => Ok(code),
-        Err(InitialFault::Memory) => Err(AllocError),
-        Err(InitialFault::NotConstant(_)) => unreachable!(),
-    }
-}
-
 // The map of a program without static objects.
 #[tactic(auto, unfolding(addr_map::specs::Places::mapped))]
 fn map_of(budgets: &Budgets) -> AddrMap
@@ -91,13 +73,14 @@ fn map_of(budgets: &Budgets) -> AddrMap
     }
 }
 
-/// What is built of a valid program of integers, which has at most 4096 functions of at most 127 parameters each, with
-/// some budgets; or why nothing is. The image does what the program means, with at most 1008 instructions for each unit
+/// What is built of a valid program of integers, whose initializers are constant and which has at most 4096 functions
+/// of at most 127 parameters each, with some budgets; or why nothing is. The image does what the program means, with at most 1008 instructions for each unit
 /// of its work; its checks are those of the text, of more than 2^64 - 1 so many. Want of memory is the one answer that
 /// may come without a cause; the code is too large only of a text with more than 8192 nodes.
 pub fn compile(alloc: Global, budgets: &Budgets, program: &Program) -> Result<Built, CompileError>
     requires valid { is_valid_program (program_of program.now) ≡ true }
     requires integers { is_integer_program (program_of program.now) ≡ true }
+    requires constant { first_not_constant (program_of program.now) ≡ None }
     requires few { length (program_of program.now).functions ≤ 4096 }
     requires parameters { HaveFewParameters (program_of program.now) }
     ensures built { IfOk result (λ built. IsBuilt (IsChecked (program_of program.now))
@@ -114,6 +97,6 @@ pub fn compile(alloc: Global, budgets: &Budgets, program: &Program) -> Result<Bu
     images_do_what_is_meant();
     let map = map_of(budgets);
     sizes_are_in_range(&map);
-    let lowered = lowered_code(alloc, program)?;
+    let lowered = lower(alloc, program)?;
     built_of(alloc, &map, lowered)
 }

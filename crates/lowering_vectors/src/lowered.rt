@@ -1,8 +1,11 @@
 //! From a text to its three-address code.
 
-ghost use Rattle.std.specs.Prelude.{◌≡◌, ◌≤◌, ◌+◌, true, map, IfSome};
+ghost use Rattle.std.specs.Prelude.{◌≡◌, ◌≤◌, ◌+◌, true, map, IfOk, IfSome, None};
 ghost use Rattle.obj_memory.specs.Heap.{rounded_up};
+ghost use Rattle.c_const.specs.Initializers.{first_not_constant};
 ghost use Rattle.c_tree.specs.Kinds.{size_of_kind};
+ghost use Rattle.c_tree.specs.ValidProgram.{is_valid_program};
+ghost use Rattle.c_tree.specs.View as view;
 ghost use Rattle.c_tree.specs.View.{static_of};
 ghost use Rattle.source_meaning.specs.Meaning.{statics_end};
 
@@ -13,7 +16,6 @@ use c_pre::expand;
 use c_tree::{Kind, Program, StaticObject};
 use c_typer::type_unit;
 use program_lowering::programs::lower;
-use program_validity::is_valid;
 use static_data::pointers::size_of;
 use std::alloc::Global;
 use tac_ir::Tac;
@@ -55,7 +57,10 @@ fn is_small(statics: &[StaticObject]) -> bool
     true
 }
 
-fn program_of(alloc: Global, tokens: &Tokens) -> Result<Program> {
+fn program_of(alloc: Global, tokens: &Tokens) -> Result<Program>
+    ensures valid { IfOk result (λ program. is_valid_program (view.program_of program) ≡ true) }
+    ensures constant { IfOk result (λ program. first_not_constant (view.program_of program) ≡ None) }
+{
     match parse(alloc, tokens) {
         Ok(unit) => {
             let typed = type_unit(alloc, tokens.end(), &unit);
@@ -70,7 +75,10 @@ fn program_of(alloc: Global, tokens: &Tokens) -> Result<Program> {
 }
 
 /// The typed program of a text.
-pub fn typed(alloc: Global, text: &[u8]) -> Result<Program> {
+pub fn typed(alloc: Global, text: &[u8]) -> Result<Program>
+    ensures valid { IfOk result (λ program. is_valid_program (view.program_of program) ≡ true) }
+    ensures constant { IfOk result (λ program. first_not_constant (view.program_of program) ≡ None) }
+{
     if text.len() > MOST_TEXT {
         bail!("a text is too long");
     }
@@ -84,17 +92,15 @@ pub fn typed(alloc: Global, text: &[u8]) -> Result<Program> {
 }
 
 /// The three-address code of a program.
-pub fn lowered(alloc: Global, program: &Program) -> Result<Tac> {
+pub fn lowered(alloc: Global, program: &Program) -> Result<Tac>
+    requires valid { is_valid_program (view.program_of program.now) ≡ true }
+    requires constant { first_not_constant (view.program_of program.now) ≡ None }
+{
     if program.functions.as_slice().len() > MOST_FUNCTIONS
         || !is_small(program.statics.as_slice())
     {
         bail!("a program is too large");
     }
-    if !is_valid(alloc, program)? {
-        bail!("a program is not valid");
-    }
-    match lower(alloc, program) {
-        Ok(code) => Ok(code),
-        Err(_) => bail!("an initializer is not constant"),
-    }
+    let code = lower(alloc, program)?;
+    Ok(code)
 }

@@ -21,6 +21,11 @@ mod row;
 mod shown;
 mod tables;
 
+ghost use Rattle.std.specs.Prelude.{◌≡◌, true, None};
+ghost use Rattle.c_const.specs.Initializers.{first_not_constant};
+ghost use Rattle.c_tree.specs.ValidProgram.{is_valid_program};
+ghost use Rattle.c_tree.specs.View.{program_of};
+
 use crate::lowered::{lowered, typed};
 use crate::row::Row;
 use crate::shown::{count_checks, put_run};
@@ -67,7 +72,10 @@ fn put_row(rt: &HostRuntime, row: &Row, done: &mut [bool]) -> Result<()> {
     }
 }
 
-fn put_program(rt: &HostRuntime, row: &Row, program: &Program, done: &mut [bool]) -> Result<()> {
+fn put_program(rt: &HostRuntime, row: &Row, program: &Program, done: &mut [bool]) -> Result<()>
+    requires valid { is_valid_program (program_of program.now) ≡ true }
+    requires constant { first_not_constant (program_of program.now) ≡ None }
+{
     let alloc = rt.alloc();
     let code = lowered(alloc, program)?;
     let checked = insert(alloc, lowered(alloc, program)?)?;

@@ -20,8 +20,7 @@ use Rattle.sbcets_core.specs.declared.refusal.SourceRefusal.TheVariants.{Lex, Pr
 use Rattle.sbcets_core.specs.declared.refusal.SourceRefusal.TheVariants.{Typing, Const, TooLarge, Uncompiled}
 use Rattle.sbcets_core.specs.declared.refusal.SourceRefusal.TheVariants.{RoomTooLarge, NumbersTooLarge}
 use Rattle.sbcets_core.specs.declared.refusal.SourceRefusal.TheVariants.{FunctionTooLong, Memory}
-use Rattle.sbcets_core.specs.Programs.{Judged, constant_fault, unless_large, unless_fault, if_compiled}
-use Rattle.sbcets_core.specs.Programs.{judged_program, judged_unit}
+use Rattle.sbcets_core.specs.Programs.{Judged, unless_large, if_compiled, judged_program, judged_unit}
 use Rattle.sbcets_core.specs.Accepted.{Readable, expanded_tokens, unless_unsupported, with_support, of_readable}
 use Rattle.sbcets_core.specs.Accepted.{supported_tokens, RefusesTokens, IsTyped, HasProgram, JudgesTokens}
 use Rattle.sbcets_core.specs.Accepted.{JudgesReadable, Judges, UnlessMemory}
@@ -106,7 +105,7 @@ unfolding judged_program
 room_refused end typed number w =
     let p = w.program in
     ap (judged_unit end) w.is_program
-    ∙ ap (λ room. unless_large room (unless_fault (constant_fault p) (if_compiled end p))) w.is_first
+    ∙ ap (λ room. unless_large room (if_compiled end p)) w.is_first
 
 pub program_judged : (list : TokenList) (p : Program) (judged : Judged) → HasProgram list p
     → judged_program list.end p ≡ judged → JudgesReadable (with_support list) judged

@@ -18,9 +18,9 @@ use Rattle.sbcets_core.specs.declared.refusal.Counted.TheVariants.{Source}
 use Rattle.sbcets_core.specs.Outcomes.{max_source}
 use Rattle.c_tree.specs.Programs.{Program}
 use Rattle.c_typer.specs.Rooms.{first_without_room}
-use Rattle.c_unit_typing.specs.Typed.{TypedUnit, a_program, a_fault, too_large, typed_unit}
+use Rattle.c_unit_typing.specs.Typed.{TypedUnit, a_program, a_fault, not_constant, too_large, typed_unit}
 use Rattle.compiled_programs.specs.Programs.{is_integer_program}
-use Rattle.sbcets_core.specs.Programs.{Judged, constant_fault, judged_program, judged_unit, unless_fault, unless_large}
+use Rattle.sbcets_core.specs.Programs.{Judged, judged_program, judged_unit, unless_large}
 use Rattle.sbcets_core.specs.Accepted.{Readable, RefusesTokens, IsTyped, expanded_tokens, supported_tokens}
 use Rattle.sbcets_core.specs.Accepted.{with_support}
 use Rattle.sbcets_core.specs.Accepted.{unless_unsupported, of_readable, of_expanded, of_tokens, JudgesTokens}
@@ -84,15 +84,15 @@ early source =
 -- no tree is typed as the parser refuses
 typed_late : (end : ℕ) (t : TypedUnit) → IsUnparsed (judged_unit end t) → ⊥
 unfolding judged_program
-typed_late end (a_program p) i = by (first_without_room 0 p.functions) (constant_fault p) (is_integer_program p) i
+typed_late end (a_program p) i = by (first_without_room 0 p.functions) (is_integer_program p) i
   where
-    by : (room fault : Option ℕ) (b : Bool)
-        → IsUnparsed (unless_large room (unless_fault fault (if b then Ok p else Err (Uncompiled end)))) → ⊥
-    by (Some n) fault b i = i
-    by None (Some line) b i = i
-    by None None false i = i
-    by None None true i = i
+    by : (room : Option ℕ) (b : Bool)
+        → IsUnparsed (unless_large room (if b then Ok p else Err (Uncompiled end))) → ⊥
+    by (Some n) b i = i
+    by None false i = i
+    by None true i = i
 typed_late end (a_fault f) i = i
+typed_late end (not_constant line) i = i
 typed_late end (too_large which n) i = i
 
 not_typed : (list : TokenList) (judged : Judged) → IsUnparsed judged → IsTyped list judged → ⊥

@@ -24,19 +24,27 @@ use std::alloc::Global;
 // The largest image that is read, in bytes.
 const MAX_IMAGE: u64 = 67_108_864;
 
-/// `go`: reads a source, compiles it with these budgets, and runs the image, at most `limit` instructions of it.
+/// What a source that is compiled and run may use.
+#[derive(Clone, Copy)]
+pub struct Limits {
+    /// The budgets that it is compiled with.
+    pub budgets: Budgets,
+    /// The greatest number of instructions of its image that are run.
+    pub instructions: u64,
+}
+
+/// `go`: reads a source, compiles it with the budgets, and runs the image, at most so many instructions of it.
 #[tactic(auto, using(crate::proofs::Cases::going))]
 pub fn go<F: Files, I: Source, O: Sink, E: Sink>(
     alloc: Global,
     name: &str,
-    budgets: Budgets,
-    limit: u64,
+    limits: &Limits,
     files: &mut F,
     input: &mut I,
     output: &mut O,
     errors: &mut E,
 ) -> (Outcome, Vec<u8>)
-    ensures goes { Goes name.now budgets limit result.0 result.1.items
+    ensures goes { Goes name.now limits.now.budgets limits.now.instructions result.0 result.1.items
         (outside_of (F.held files.old) (F.writes files.old) (I.rest input.old)
         (O.taken output.old) (E.taken errors.old))
         (outside_of (F.held files.new) (F.writes files.new) (I.rest input.new)
@@ -47,10 +55,11 @@ pub fn go<F: Files, I: Source, O: Sink, E: Sink>(
         (counts_of (F.read_faults files.new) (F.write_faults files.new) (I.faults input.new)
         (O.faults output.new) (E.faults errors.new)) }
 {
-    let built = match built_of(alloc, name, &budgets, files) {
+    let built = match built_of(alloc, name, &limits.budgets, files) {
         Ok(built) => built,
         Err(outcome) => return (outcome, Vec::new(alloc)),
     };
+    let limit = limits.instructions;
     match run_image(alloc, &built.image, limit, input, output, errors) {
         Ok(stop) => (outcome_of(stop, limit), built.image),
         Err(ReadError::Memory) => (Outcome::Memory, Vec::new(alloc)),

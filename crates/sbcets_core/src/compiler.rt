@@ -107,7 +107,7 @@ fn accepted_of(alloc: Global, tokens: &Tokens) -> Result<Program, SourceRefusal>
         Ok(program) => program,
         Err(refusal) => return Err(refusal),
     };
-    match test(alloc, tokens.end(), &program) {
+    match test(tokens.end(), &program) {
         Ok(()) => Ok(program),
         Err(refusal) => Err(refusal),
     }
@@ -139,6 +139,7 @@ fn typing_refusal(refusal: UnitRefusal) -> SourceRefusal
 {
     match refusal {
         UnitRefusal::Fault(fault) => SourceRefusal::Typing(fault),
+        UnitRefusal::NotConstant(line) => SourceRefusal::Const(line),
         UnitRefusal::TooLarge(which, count) => SourceRefusal::TooLarge {
             which: counted_as(which),
             count,

@@ -59,9 +59,9 @@ impl RefusedWord {
 }
 
 /// Why a source is refused. First comes `TooLarge` of the source's bytes; then a lexical fault, a fault of a directive,
-/// an unsupported word, `Syntax` or `Nesting`; then a violated rule of typing; where all initializers of static objects
-/// are constant, `TooLarge` of functions, parameters, members or globals, in this order; then `RoomTooLarge`, and an
-/// initializer that is not constant; then `Uncompiled`, and last what is too large to be built.
+/// an unsupported word, `Syntax` or `Nesting`; then a violated rule of typing, and last of these an initializer that is
+/// not constant; then `TooLarge` of functions, parameters, members or globals, in this order; then `RoomTooLarge`, and
+/// `Uncompiled`; and last what is too large to be built.
 #[derive(Debug, Drop, Error)]
 pub enum SourceRefusal {
     /// The first place where no token stands.

@@ -6,7 +6,7 @@ ghost use Rattle.sbcets_core.specs.Commands.{outside_of};
 ghost use Rattle.sbcets_core.specs.Counting.{CommandCounts, counts_of};
 ghost use Rattle.sbcets_core.specs.Top.{Answers, Does, Finishes, IsComplete};
 
-use crate::commands::{build, go, run};
+use crate::commands::{Limits, build, go, run};
 use crate::outcome::Outcome;
 use crate::report::report;
 use command_line::{Command, WordsFault, command_of};
@@ -133,7 +133,13 @@ fn obey<F: Files, I: Source, O: Sink, E: Sink>(
             source,
             budgets,
             limit,
-        } => go(alloc, source, budgets, limit, files, input, output, errors),
+        } => {
+            let limits = Limits {
+                budgets,
+                instructions: limit,
+            };
+            go(alloc, source, &limits, files, input, output, errors)
+        }
     }
 }
 

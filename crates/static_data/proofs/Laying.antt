@@ -1,8 +1,8 @@
 -- Static objects in turn.
 use Rattle.std.proofs.Common.{◌≡◌, ℕ, zero, suc, ◌+◌, ◌-◌, ◌≤◌, ◌<◌, ◌^◌, List, [], ◌∷◌, ◌++◌, length, map, drop}
 use Rattle.std.proofs.Common.{true}
-use Rattle.std.proofs.Common.{refl, sym, ap, ◌∙◌, subst, arith, Some, append_assoc}
-use Rattle.std.specs.Prelude.{get_or, nat_le, Err}
+use Rattle.std.proofs.Common.{refl, sym, ap, ◌∙◌, subst, arith, append_assoc}
+use Rattle.std.specs.Prelude.{get_or, nat_le}
 use Rattle.std.specs.List.{list_all}
 use Rattle.std.proofs.lemmas.Bool.{and_parts, and_from}
 use Rattle.std.proofs.lemmas.List.{append-nil, drop_all, drop_more}
@@ -20,14 +20,13 @@ use Rattle.c_tree.specs.ValidProgram.{is_valid_program, is_static_object, is_par
 use Rattle.c_tree.specs.ValidProgram.{content_size, are_functions}
 use Rattle.c_tree.specs.View.{static_of}
 use Rattle.c_const.specs.Addresses.{Pointers}
-use Rattle.c_const.specs.Contents.{is_laid_out, is_inside, are_inside, initial_contents}
+use Rattle.c_const.specs.Contents.{is_laid_out, is_inside, are_inside}
 use Rattle.source_meaning.specs.Constants.Leaving.{AreBytes}
 use Rattle.source_meaning.proofs.Constants.Statics.{ends}
 use Rattle.source_meaning.specs.Expressions.{function_pointer}
 use Rattle.source_meaning.specs.Meaning.{statics_end}
 use Rattle.tac_ir.specs.declared.function.StaticData.{StaticData}
-use Rattle.static_data.specs.Data.{static_pointers, function_pointers, pointer_at, IsData, AreData, fault_or}
-use Rattle.static_data.specs.Data.{first_fault}
+use Rattle.static_data.specs.Data.{static_pointers, function_pointers, pointer_at, IsData, AreData}
 
 -- what is found within a list is found whatever stands behind it
 again : (xs : List CodeObject) (i : ℕ) (x : CodeObject) → i < length xs → get_or xs i x ≡ get_or xs i (get_or xs i x)
@@ -139,22 +138,6 @@ continue_all {ps = ps} {done = done} xs i e c =
     let none : drop i xs ≡ [] = drop_all i xs (omega (arith, e)) in
     subst (AreData ps (map static_of xs)) (append-nil done)
     (c.by [] (subst (λ os. AreData ps (map static_of os) []) (sym none) tt))
-
--- the first fault
-
-pub fault_step : (ps : Pointers) (xs : List CodeObject) (i : ℕ) (x : CodeObject) (d : StaticData) → i < length xs
-    → x ≡ get_or xs i x → IsData ps (static_of x) d
-    → first_fault ps (map static_of (drop i xs)) ≡ first_fault ps (map static_of (drop (i + 1) xs))
-fault_step ps xs i x d lt e h =
-    ap (first_fault ps) (from_here xs i x lt e)
-    ∙ ap (λ r. fault_or r (first_fault ps (map static_of (drop (i + 1) xs)))) h.constant.leaves
-
-pub fault_here : (ps : Pointers) (xs : List CodeObject) (i line : ℕ) (x : CodeObject) → i < length xs
-    → x ≡ get_or xs i x → initial_contents ps (static_of x) ≡ Err line
-    → first_fault ps (map static_of (drop i xs)) ≡ Some line
-fault_here ps xs i line x lt e h =
-    ap (first_fault ps) (from_here xs i x lt e)
-    ∙ ap (λ r. fault_or r (first_fault ps (map static_of (drop (i + 1) xs)))) h
 
 -- laid out, as in a valid program
 

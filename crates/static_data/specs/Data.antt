@@ -1,5 +1,5 @@
 -- Static objects before a run, as three-address code has them.
-use Rattle.std.specs.Prelude.{◌≡◌, ℕ, zero, suc, ◌+◌, List, [], ◌∷◌, length, Option, None, Some, Result, Ok, Err}
+use Rattle.std.specs.Prelude.{◌≡◌, ℕ, zero, suc, ◌+◌, List, [], ◌∷◌, length}
 use Rattle.obj_memory.specs.declared.value.Value.{Value}
 use Rattle.obj_memory.specs.declared.value.Tag.TheVariants.{OfObject}
 use Rattle.obj_memory.specs.Heap.{rounded_up}
@@ -8,9 +8,6 @@ use Rattle.sb_base.specs.Budgets.{BudgetSizes}
 use Rattle.c_tree.specs.Kinds.{size_of_kind}
 use Rattle.c_tree.specs.Programs.{StaticObject, Program}
 use Rattle.c_const.specs.Addresses.{Pointers}
-use Rattle.c_const.specs.Contents.{Contents, initial_contents}
-use Rattle.c_const.specs.declared.contents.InitialFault.{InitialFault}
-use Rattle.c_const.specs.declared.contents.InitialFault.TheVariants.{Memory, NotConstant}
 use Rattle.source_meaning.specs.Constants.Leaving.{IsConstant}
 use Rattle.source_meaning.specs.Expressions.{function_pointer}
 use Rattle.source_meaning.specs.Places.{statics_first}
@@ -49,22 +46,6 @@ abbrev pub AreData : Pointers → List StaticObject → List StaticData → Type
 AreData ps [] [] = Unit {0}
 AreData ps (o ∷ os) (d ∷ ds) = IsData ps o d × AreData ps os ds
 AreData ps _ _ = ⊥
-
--- the line of the first expression of their initializers that is not constant
-
-abbrev pub fault_or : Result Contents ℕ → Option ℕ → Option ℕ
-fault_or (Ok c) rest = rest
-fault_or (Err line) rest = Some line
-
-abbrev pub first_fault : Pointers → List StaticObject → Option ℕ
-first_fault ps [] = None
-first_fault ps (o ∷ os) = fault_or (initial_contents ps o) (first_fault ps os)
-
--- for want of memory nothing is claimed
-abbrev pub OnNotConstant : {A : Type 0} → Result A InitialFault → (ℕ → Type 0) → Type 0
-OnNotConstant (Ok a) P = Unit {0}
-OnNotConstant (Err Memory) P = Unit {0}
-OnNotConstant (Err (NotConstant line)) P = P line
 
 -- they are the objects before the run, whatever the budgets
 pub record AreInitial (program : Program) (ds : List StaticData) : Type 0 where

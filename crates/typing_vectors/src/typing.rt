@@ -44,6 +44,11 @@ fn put_fault(rt: &HostRuntime, fault: Fault) -> Result<()> {
     Ok(())
 }
 
+fn put_inconstant(rt: &HostRuntime, line: Line) -> Result<()> {
+    println!(rt; "not constant line {}", line.number())?;
+    Ok(())
+}
+
 fn put_limit(rt: &HostRuntime, which: Limited, count: u128) -> Result<()> {
     println!(rt; "{} {count}", name_of(which))?;
     Ok(())
@@ -52,6 +57,7 @@ fn put_limit(rt: &HostRuntime, which: Limited, count: u128) -> Result<()> {
 fn put_refusal(rt: &HostRuntime, refusal: UnitRefusal) -> Result<()> {
     match refusal {
         UnitRefusal::Fault(fault) => put_fault(rt, fault),
+        UnitRefusal::NotConstant(line) => put_inconstant(rt, line),
         UnitRefusal::TooLarge(which, count) => put_limit(rt, which, count),
         UnitRefusal::RoomTooLarge(number) => bail!("function {number} has no room"),
         UnitRefusal::Memory => bail!("out of memory"),

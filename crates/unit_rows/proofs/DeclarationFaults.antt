@@ -18,6 +18,7 @@ use Rattle.c_tree.specs.Extents.{extent_of}
 use Rattle.c_tree.specs.Layout.{array_size, member_offsets, structure_of, union_of}
 use Rattle.c_tree.specs.Room.{room}
 use Rattle.c_tree.specs.ValidProgram.{is_valid_program}
+use Rattle.c_const.specs.Initializers.{first_not_constant}
 use Rattle.c_const.specs.Integers.{constant_word}
 use Rattle.c_rules.specs.Binary.{binary}
 use Rattle.c_rules.specs.Conversions.{assigned, cast}
@@ -53,7 +54,7 @@ unfolding balanced_type common_type fit is_signed mixed_type promoted rank size_
     union_of room is_valid_program constant_word binary assigned cast row_of comma combined unary dereferenced indexed
     size_of_words assignment compound stepped condition conditional switch_value called called_through routine_words
     composite judged start reached reached_by reached_in element_number member_number number_behind part closed opened
-    with_literal with_value without typed_unit
+    with_literal with_value without first_not_constant typed_unit
 static_of_unknown_size = refl
 
 -- struct S s;int n=
@@ -80,7 +81,7 @@ unfolding balanced_type common_type fit is_signed mixed_type promoted rank size_
     union_of room is_valid_program constant_word binary assigned cast row_of comma combined unary dereferenced indexed
     size_of_words assignment compound stepped condition conditional switch_value called called_through routine_words
     composite judged start reached reached_by reached_in element_number member_number number_behind part closed opened
-    with_literal with_value without typed_unit
+    with_literal with_value without first_not_constant typed_unit
 not_yet_complete = refl
 
 -- struct S s;int main(void){return 0;}
@@ -97,7 +98,7 @@ unfolding balanced_type common_type fit is_signed mixed_type promoted rank size_
     union_of room is_valid_program constant_word binary assigned cast row_of comma combined unary dereferenced indexed
     size_of_words assignment compound stepped condition conditional switch_value called called_through routine_words
     composite judged start reached reached_by reached_in element_number member_number number_behind part closed opened
-    with_literal with_value without typed_unit
+    with_literal with_value without first_not_constant typed_unit
 never_complete = refl
 
 -- struct S s;int f(void){
@@ -122,7 +123,7 @@ unfolding balanced_type common_type fit is_signed mixed_type promoted rank size_
     is_valid_program constant_word binary assigned cast row_of comma combined unary dereferenced indexed size_of_words
     assignment compound stepped condition conditional switch_value called called_through routine_words composite judged
     start reached reached_by reached_in element_number member_number number_behind part closed opened with_literal
-    with_value without typed_unit
+    with_value without first_not_constant typed_unit
 read_before_its_members = refl
 
 -- extern struct S s;int n=(s
@@ -156,7 +157,7 @@ unfolding balanced_type common_type fit is_signed mixed_type promoted rank size_
     is_valid_program constant_word binary assigned cast row_of comma combined unary dereferenced indexed size_of_words
     assignment compound stepped condition conditional switch_value called called_through routine_words composite judged
     start reached reached_by reached_in element_number member_number number_behind part closed opened with_literal
-    with_value without typed_unit
+    with_value without first_not_constant typed_unit
 written_before_its_members = refl
 
 -- int main(void){void
@@ -174,7 +175,7 @@ unfolding balanced_type common_type fit is_signed mixed_type promoted rank size_
     union_of room is_valid_program constant_word binary assigned cast row_of comma combined unary dereferenced indexed
     size_of_words assignment compound stepped condition conditional switch_value called called_through routine_words
     composite judged start reached reached_by reached_in element_number member_number number_behind part closed opened
-    with_literal with_value without typed_unit
+    with_literal with_value without first_not_constant typed_unit
 of_void = refl
 
 -- int x;
@@ -193,7 +194,7 @@ unfolding balanced_type common_type fit is_signed mixed_type promoted rank size_
     union_of room is_valid_program constant_word binary assigned cast row_of comma combined unary dereferenced indexed
     size_of_words assignment compound stepped condition conditional switch_value called called_through routine_words
     composite judged start reached reached_by reached_in element_number member_number number_behind part closed opened
-    with_literal with_value without typed_unit
+    with_literal with_value without first_not_constant typed_unit
 other_type = refl
 
 -- const int x;
@@ -213,7 +214,7 @@ unfolding balanced_type common_type fit is_signed mixed_type promoted rank size_
     union_of room is_valid_program constant_word binary assigned cast row_of comma combined unary dereferenced indexed
     size_of_words assignment compound stepped condition conditional switch_value called called_through routine_words
     composite judged start reached reached_by reached_in element_number member_number number_behind part closed opened
-    with_literal with_value without typed_unit
+    with_literal with_value without first_not_constant typed_unit
 other_qualifier = refl
 
 -- int f(void){return 0;}
@@ -234,7 +235,7 @@ unfolding balanced_type common_type fit is_signed mixed_type promoted rank size_
     union_of room is_valid_program constant_word binary assigned cast row_of comma combined unary dereferenced indexed
     size_of_words assignment compound stepped condition conditional switch_value called called_through routine_words
     composite judged start reached reached_by reached_in element_number member_number number_behind part closed opened
-    with_literal with_value without typed_unit
+    with_literal with_value without first_not_constant typed_unit
 defined_twice = refl
 
 -- int
@@ -254,7 +255,7 @@ unfolding balanced_type common_type fit is_signed mixed_type promoted rank size_
     union_of room is_valid_program constant_word binary assigned cast row_of comma combined unary dereferenced indexed
     size_of_words assignment compound stepped condition conditional switch_value called called_through routine_words
     composite judged start reached reached_by reached_in element_number member_number number_behind part closed opened
-    with_literal with_value without typed_unit
+    with_literal with_value without first_not_constant typed_unit
 library_defined = refl
 
 -- int f(int x,
@@ -275,7 +276,7 @@ unfolding balanced_type common_type fit is_signed mixed_type promoted rank size_
     union_of room is_valid_program constant_word binary assigned cast row_of comma combined unary dereferenced indexed
     size_of_words assignment compound stepped condition conditional switch_value called called_through routine_words
     composite judged start reached reached_by reached_in element_number member_number number_behind part closed opened
-    with_literal with_value without typed_unit
+    with_literal with_value without first_not_constant typed_unit
 parameters_of_one_name = refl
 
 -- int x;int main(void){int x;
@@ -296,7 +297,7 @@ unfolding balanced_type common_type fit is_signed mixed_type promoted rank size_
     union_of room is_valid_program constant_word binary assigned cast row_of comma combined unary dereferenced indexed
     size_of_words assignment compound stepped condition conditional switch_value called called_through routine_words
     composite judged start reached reached_by reached_in element_number member_number number_behind part closed opened
-    with_literal with_value without typed_unit
+    with_literal with_value without first_not_constant typed_unit
 local_and_extern = refl
 
 -- int f(int x){
@@ -317,7 +318,7 @@ unfolding balanced_type common_type fit is_signed mixed_type promoted rank size_
     union_of room is_valid_program constant_word binary assigned cast row_of comma combined unary dereferenced indexed
     size_of_words assignment compound stepped condition conditional switch_value called called_through routine_words
     composite judged start reached reached_by reached_in element_number member_number number_behind part closed opened
-    with_literal with_value without typed_unit
+    with_literal with_value without first_not_constant typed_unit
 parameter_and_local = refl
 
 -- void f(void){extern char x;}
@@ -338,7 +339,7 @@ unfolding balanced_type common_type fit is_signed mixed_type promoted rank size_
     union_of room is_valid_program constant_word binary assigned cast row_of comma combined unary dereferenced indexed
     size_of_words assignment compound stepped condition conditional switch_value called called_through routine_words
     composite judged start reached reached_by reached_in element_number member_number number_behind part closed opened
-    with_literal with_value without typed_unit
+    with_literal with_value without first_not_constant typed_unit
 types_of_an_entity = refl
 
 -- struct S{int a;};
@@ -359,7 +360,7 @@ unfolding balanced_type common_type fit is_signed mixed_type promoted rank size_
     union_of room is_valid_program constant_word binary assigned cast row_of comma combined unary dereferenced indexed
     size_of_words assignment compound stepped condition conditional switch_value called called_through routine_words
     composite judged start reached reached_by reached_in element_number member_number number_behind part closed opened
-    with_literal with_value without typed_unit
+    with_literal with_value without first_not_constant typed_unit
 tag_of_another_kind = refl
 
 -- int f(void)[2];int main(void){return 0;}
@@ -377,7 +378,7 @@ unfolding balanced_type common_type fit is_signed mixed_type promoted rank size_
     union_of room is_valid_program constant_word binary assigned cast row_of comma combined unary dereferenced indexed
     size_of_words assignment compound stepped condition conditional switch_value called called_through routine_words
     composite judged start reached reached_by reached_in element_number member_number number_behind part closed opened
-    with_literal with_value without typed_unit
+    with_literal with_value without first_not_constant typed_unit
 result_is_an_array = refl
 
 -- struct S;
@@ -397,7 +398,7 @@ unfolding balanced_type common_type fit is_signed mixed_type promoted rank size_
     union_of room is_valid_program constant_word binary assigned cast row_of comma combined unary dereferenced indexed
     size_of_words assignment compound stepped condition conditional switch_value called called_through routine_words
     composite judged start reached reached_by reached_in element_number member_number number_behind part closed opened
-    with_literal with_value without typed_unit
+    with_literal with_value without first_not_constant typed_unit
 result_is_incomplete = refl
 
 -- struct S;int f(struct S s){return 0;}int main(void){return 0;}
@@ -417,7 +418,7 @@ unfolding balanced_type common_type fit is_signed mixed_type promoted rank size_
     union_of room is_valid_program constant_word binary assigned cast row_of comma combined unary dereferenced indexed
     size_of_words assignment compound stepped condition conditional switch_value called called_through routine_words
     composite judged start reached reached_by reached_in element_number member_number number_behind part closed opened
-    with_literal with_value without typed_unit
+    with_literal with_value without first_not_constant typed_unit
 parameter_is_incomplete = refl
 
 -- int n;int a[
@@ -437,7 +438,7 @@ unfolding balanced_type common_type fit is_signed mixed_type promoted rank size_
     union_of room is_valid_program constant_word binary assigned cast row_of comma combined unary dereferenced indexed
     size_of_words assignment compound stepped condition conditional switch_value called called_through routine_words
     composite judged start reached reached_by reached_in element_number member_number number_behind part closed opened
-    with_literal with_value without typed_unit
+    with_literal with_value without first_not_constant typed_unit
 no_size = refl
 
 -- char a[4294967297];int main(void){return 0;}
@@ -454,7 +455,7 @@ unfolding balanced_type common_type fit is_signed mixed_type promoted rank size_
     union_of room is_valid_program constant_word binary assigned cast row_of comma combined unary dereferenced indexed
     size_of_words assignment compound stepped condition conditional switch_value called called_through routine_words
     composite judged start reached reached_by reached_in element_number member_number number_behind part closed opened
-    with_literal with_value without typed_unit
+    with_literal with_value without first_not_constant typed_unit
 large_array = refl
 
 -- auto
@@ -472,7 +473,7 @@ unfolding balanced_type common_type fit is_signed mixed_type promoted rank size_
     union_of room is_valid_program constant_word binary assigned cast row_of comma combined unary dereferenced indexed
     size_of_words assignment compound stepped condition conditional switch_value called called_through routine_words
     composite judged start reached reached_by reached_in element_number member_number number_behind part closed opened
-    with_literal with_value without typed_unit
+    with_literal with_value without first_not_constant typed_unit
 auto_in_a_file = refl
 
 -- static extern
@@ -490,7 +491,7 @@ unfolding balanced_type common_type fit is_signed mixed_type promoted rank size_
     union_of room is_valid_program constant_word binary assigned cast row_of comma combined unary dereferenced indexed
     size_of_words assignment compound stepped condition conditional switch_value called called_through routine_words
     composite judged start reached reached_by reached_in element_number member_number number_behind part closed opened
-    with_literal with_value without typed_unit
+    with_literal with_value without first_not_constant typed_unit
 two_storages = refl
 
 -- extern int
@@ -508,7 +509,7 @@ unfolding balanced_type common_type fit is_signed mixed_type promoted rank size_
     union_of room is_valid_program constant_word binary assigned cast row_of comma combined unary dereferenced indexed
     size_of_words assignment compound stepped condition conditional switch_value called called_through routine_words
     composite judged start reached reached_by reached_in element_number member_number number_behind part closed opened
-    with_literal with_value without typed_unit
+    with_literal with_value without first_not_constant typed_unit
 extern_undefined = refl
 
 -- int x;int main(void){extern int x=
@@ -531,7 +532,7 @@ unfolding balanced_type common_type fit is_signed mixed_type promoted rank size_
     union_of room is_valid_program constant_word binary assigned cast row_of comma combined unary dereferenced indexed
     size_of_words assignment compound stepped condition conditional switch_value called called_through routine_words
     composite judged start reached reached_by reached_in element_number member_number number_behind part closed opened
-    with_literal with_value without typed_unit
+    with_literal with_value without first_not_constant typed_unit
 extern_with_initializer = refl
 
 -- typedef int T=
@@ -553,7 +554,7 @@ unfolding balanced_type common_type fit is_signed mixed_type promoted rank size_
     union_of room is_valid_program constant_word binary assigned cast row_of comma combined unary dereferenced indexed
     size_of_words assignment compound stepped condition conditional switch_value called called_through routine_words
     composite judged start reached reached_by reached_in element_number member_number number_behind part closed opened
-    with_literal with_value without typed_unit
+    with_literal with_value without first_not_constant typed_unit
 typedef_with_initializer = refl
 
 -- int main(void){
@@ -573,7 +574,7 @@ unfolding balanced_type common_type fit is_signed mixed_type promoted rank size_
     union_of room is_valid_program constant_word binary assigned cast row_of comma combined unary dereferenced indexed
     size_of_words assignment compound stepped condition conditional switch_value called called_through routine_words
     composite judged start reached reached_by reached_in element_number member_number number_behind part closed opened
-    with_literal with_value without typed_unit
+    with_literal with_value without first_not_constant typed_unit
 static_function_in_a_block = refl
 
 -- typedef
@@ -592,7 +593,7 @@ unfolding balanced_type common_type fit is_signed mixed_type promoted rank size_
     union_of room is_valid_program constant_word binary assigned cast row_of comma combined unary dereferenced indexed
     size_of_words assignment compound stepped condition conditional switch_value called called_through routine_words
     composite judged start reached reached_by reached_in element_number member_number number_behind part closed opened
-    with_literal with_value without typed_unit
+    with_literal with_value without first_not_constant typed_unit
 typedef_of_a_definition = refl
 
 -- int main(void){for(
@@ -614,7 +615,7 @@ unfolding balanced_type common_type fit is_signed mixed_type promoted rank size_
     union_of room is_valid_program constant_word binary assigned cast row_of comma combined unary dereferenced indexed
     size_of_words assignment compound stepped condition conditional switch_value called called_through routine_words
     composite judged start reached reached_by reached_in element_number member_number number_behind part closed opened
-    with_literal with_value without typed_unit
+    with_literal with_value without first_not_constant typed_unit
 static_in_a_for = refl
 
 -- int main(void){for(
@@ -632,5 +633,5 @@ unfolding balanced_type common_type fit is_signed mixed_type promoted rank size_
     union_of room is_valid_program constant_word binary assigned cast row_of comma combined unary dereferenced indexed
     size_of_words assignment compound stepped condition conditional switch_value called called_through routine_words
     composite judged start reached reached_by reached_in element_number member_number number_behind part closed opened
-    with_literal with_value without typed_unit
+    with_literal with_value without first_not_constant typed_unit
 function_in_a_for = refl

@@ -17,6 +17,7 @@ use Rattle.c_tree.specs.Extents.{extent_of}
 use Rattle.c_tree.specs.Layout.{array_size, member_offsets, structure_of, union_of}
 use Rattle.c_tree.specs.Room.{room}
 use Rattle.c_tree.specs.ValidProgram.{is_valid_program}
+use Rattle.c_const.specs.Initializers.{first_not_constant}
 use Rattle.c_const.specs.Integers.{constant_word}
 use Rattle.c_rules.specs.Binary.{binary}
 use Rattle.c_rules.specs.Conversions.{assigned, cast}
@@ -60,7 +61,7 @@ unfolding balanced_type common_type fit is_signed mixed_type promoted rank size_
     union_of room is_valid_program constant_word binary assigned cast row_of comma combined unary dereferenced indexed
     size_of_words assignment compound stepped condition conditional switch_value called called_through routine_words
     composite judged start reached reached_by reached_in element_number member_number number_behind part closed opened
-    with_literal with_value without typed_unit
+    with_literal with_value without first_not_constant typed_unit
 size_of_the_visible = refl
 
 -- int x;int x=3;int x;int main(void){return x;}
@@ -80,7 +81,7 @@ unfolding balanced_type common_type fit is_signed mixed_type promoted rank size_
     union_of room is_valid_program constant_word binary assigned cast row_of comma combined unary dereferenced indexed
     size_of_words assignment compound stepped condition conditional switch_value called called_through routine_words
     composite judged start reached reached_by reached_in element_number member_number number_behind part closed opened
-    with_literal with_value without typed_unit
+    with_literal with_value without first_not_constant typed_unit
 tentative = refl
 
 -- int a[];int main(void){return 0;}
@@ -97,7 +98,7 @@ unfolding balanced_type common_type fit is_signed mixed_type promoted rank size_
     union_of room is_valid_program constant_word binary assigned cast row_of comma combined unary dereferenced indexed
     size_of_words assignment compound stepped condition conditional switch_value called called_through routine_words
     composite judged start reached reached_by reached_in element_number member_number number_behind part closed opened
-    with_literal with_value without typed_unit
+    with_literal with_value without first_not_constant typed_unit
 one_element = refl
 
 -- struct S s;struct S{int a;int b;};int main(void){return 0;}
@@ -118,7 +119,7 @@ unfolding balanced_type common_type fit is_signed mixed_type promoted rank size_
     union_of room is_valid_program constant_word binary assigned cast row_of comma combined unary dereferenced indexed
     size_of_words assignment compound stepped condition conditional switch_value called called_through routine_words
     composite judged start reached reached_by reached_in element_number member_number number_behind part closed opened
-    with_literal with_value without typed_unit
+    with_literal with_value without first_not_constant typed_unit
 completed_later = refl
 
 -- typedef int T;typedef T U[2];T x=2;U a={1};int main(void){return 0;}
@@ -147,7 +148,7 @@ unfolding balanced_type common_type fit is_signed mixed_type promoted rank size_
     union_of room is_valid_program constant_word binary assigned cast row_of comma combined unary dereferenced indexed
     size_of_words assignment compound stepped condition conditional switch_value called called_through routine_words
     composite judged start reached reached_by reached_in element_number member_number number_behind part closed opened
-    with_literal with_value without typed_unit
+    with_literal with_value without first_not_constant typed_unit
 typedefs = refl
 
 -- int f(int);int f(int x){return x;}int main(void){return f(1);}
@@ -169,7 +170,7 @@ unfolding balanced_type common_type fit is_signed mixed_type promoted rank size_
     union_of room is_valid_program constant_word binary assigned cast row_of comma combined unary dereferenced indexed
     size_of_words assignment compound stepped condition conditional switch_value called called_through routine_words
     composite judged start reached reached_by reached_in element_number member_number number_behind part closed opened
-    with_literal with_value without typed_unit
+    with_literal with_value without first_not_constant typed_unit
 prototype = refl
 
 -- int f(void){static int n=5;return n++;}
@@ -192,7 +193,7 @@ unfolding balanced_type common_type fit is_signed mixed_type promoted rank size_
     union_of room is_valid_program constant_word binary assigned cast row_of comma combined unary dereferenced indexed
     size_of_words assignment compound stepped condition conditional switch_value called called_through routine_words
     composite judged start reached reached_by reached_in element_number member_number number_behind part closed opened
-    with_literal with_value without typed_unit
+    with_literal with_value without first_not_constant typed_unit
 of_one_type = refl
 
 -- int f(void){extern int x;return x;}int x=2;int main(void){return f();}
@@ -218,7 +219,7 @@ unfolding balanced_type common_type fit is_signed mixed_type promoted rank size_
     union_of room is_valid_program constant_word binary assigned cast row_of comma combined unary dereferenced indexed
     size_of_words assignment compound stepped condition conditional switch_value called called_through routine_words
     composite judged start reached reached_by reached_in element_number member_number number_behind part closed opened
-    with_literal with_value without typed_unit
+    with_literal with_value without first_not_constant typed_unit
 extern_in_a_block = refl
 
 -- char*p(void){static int k;return "ab";}int z;int main(void){return*p();}
@@ -241,7 +242,7 @@ unfolding balanced_type common_type fit is_signed mixed_type promoted rank size_
     union_of room is_valid_program constant_word binary assigned cast row_of comma combined unary dereferenced indexed
     size_of_words assignment compound stepped condition conditional switch_value called called_through routine_words
     composite judged start reached reached_by reached_in element_number member_number number_behind part closed opened
-    with_literal with_value without typed_unit
+    with_literal with_value without first_not_constant typed_unit
 in_order = refl
 
 -- int f(int a,int b){return*&b;}int main(void){int x=1;int*p=&x;return*p;}
@@ -272,7 +273,7 @@ unfolding balanced_type common_type fit is_signed mixed_type promoted rank size_
     union_of room is_valid_program constant_word binary assigned cast row_of comma combined unary dereferenced indexed
     size_of_words assignment compound stepped condition conditional switch_value called called_through routine_words
     composite judged start reached reached_by reached_in element_number member_number number_behind part closed opened
-    with_literal with_value without typed_unit
+    with_literal with_value without first_not_constant typed_unit
 address_taken = refl
 
 -- int main(void){int x=1;return sizeof&x;}
@@ -290,7 +291,7 @@ unfolding balanced_type common_type fit is_signed mixed_type promoted rank size_
     union_of room is_valid_program constant_word binary assigned cast row_of comma combined unary dereferenced indexed
     size_of_words assignment compound stepped condition conditional switch_value called called_through routine_words
     composite judged start reached reached_by reached_in element_number member_number number_behind part closed opened
-    with_literal with_value without typed_unit
+    with_literal with_value without first_not_constant typed_unit
 address_not_evaluated = refl
 
 -- int main(void){int x=1;{int x=2;x=3;}return x;}
@@ -312,7 +313,7 @@ unfolding balanced_type common_type fit is_signed mixed_type promoted rank size_
     union_of room is_valid_program constant_word binary assigned cast row_of comma combined unary dereferenced indexed
     size_of_words assignment compound stepped condition conditional switch_value called called_through routine_words
     composite judged start reached reached_by reached_in element_number member_number number_behind part closed opened
-    with_literal with_value without typed_unit
+    with_literal with_value without first_not_constant typed_unit
 inner_block = refl
 
 -- int g(int a){return a;}int main(void){int(*p)(int)=g;return p(2);}
@@ -336,7 +337,7 @@ unfolding balanced_type common_type fit is_signed mixed_type promoted rank size_
     union_of room is_valid_program constant_word binary assigned cast row_of comma combined unary dereferenced indexed
     size_of_words assignment compound stepped condition conditional switch_value called called_through routine_words
     composite judged start reached reached_by reached_in element_number member_number number_behind part closed opened
-    with_literal with_value without typed_unit
+    with_literal with_value without first_not_constant typed_unit
 through_a_pointer = refl
 
 -- int f(struct T{int a;}*p){struct T t;t.a=1;return t.a;}int main(void){return 0;}
@@ -362,7 +363,7 @@ unfolding balanced_type common_type fit is_signed mixed_type promoted rank size_
     union_of room is_valid_program constant_word binary assigned cast row_of comma combined unary dereferenced indexed
     size_of_words assignment compound stepped condition conditional switch_value called called_through routine_words
     composite judged start reached reached_by reached_in element_number member_number number_behind part closed opened
-    with_literal with_value without typed_unit
+    with_literal with_value without first_not_constant typed_unit
 tag_of_a_parameter = refl
 
 -- int main(void){enum{A,B=5,C};return C;}
@@ -380,7 +381,7 @@ unfolding balanced_type common_type fit is_signed mixed_type promoted rank size_
     union_of room is_valid_program constant_word binary assigned cast row_of comma combined unary dereferenced indexed
     size_of_words assignment compound stepped condition conditional switch_value called called_through routine_words
     composite judged start reached reached_by reached_in element_number member_number number_behind part closed opened
-    with_literal with_value without typed_unit
+    with_literal with_value without first_not_constant typed_unit
 enumerators = refl
 
 -- int a[];int f(void){return*a;}int a[3];int main(void){return 0;}
@@ -403,7 +404,7 @@ unfolding balanced_type common_type fit is_signed mixed_type promoted rank size_
     union_of room is_valid_program constant_word binary assigned cast row_of comma combined unary dereferenced indexed
     size_of_words assignment compound stepped condition conditional switch_value called called_through routine_words
     composite judged start reached reached_by reached_in element_number member_number number_behind part closed opened
-    with_literal with_value without typed_unit
+    with_literal with_value without first_not_constant typed_unit
 named_before_its_size = refl
 
 -- struct S s;struct S*f(void){return&s;}struct S{int a;};int main(void){return 0;}
@@ -427,7 +428,7 @@ unfolding balanced_type common_type fit is_signed mixed_type promoted rank size_
     union_of room is_valid_program constant_word binary assigned cast row_of comma combined unary dereferenced indexed
     size_of_words assignment compound stepped condition conditional switch_value called called_through routine_words
     composite judged start reached reached_by reached_in element_number member_number number_behind part closed opened
-    with_literal with_value without typed_unit
+    with_literal with_value without first_not_constant typed_unit
 named_before_its_members = refl
 
 -- int main(void){int a[]={(int)(long)a};return a[0];}
@@ -452,7 +453,7 @@ unfolding balanced_type common_type fit is_signed mixed_type promoted rank size_
     union_of room is_valid_program constant_word binary assigned cast row_of comma combined unary dereferenced indexed
     size_of_words assignment compound stepped condition conditional switch_value called called_through routine_words
     composite judged start reached reached_by reached_in element_number member_number number_behind part closed opened
-    with_literal with_value without typed_unit
+    with_literal with_value without first_not_constant typed_unit
 named_in_its_initializer = refl
 
 -- int main(void){putchar(65);return 0;}
@@ -469,7 +470,7 @@ unfolding balanced_type common_type fit is_signed mixed_type promoted rank size_
     union_of room is_valid_program constant_word binary assigned cast row_of comma combined unary dereferenced indexed
     size_of_words assignment compound stepped condition conditional switch_value called called_through routine_words
     composite judged start reached reached_by reached_in element_number member_number number_behind part closed opened
-    with_literal with_value without typed_unit
+    with_literal with_value without first_not_constant typed_unit
 of_the_library = refl
 
 -- int putchar(int);int main(void){return putchar(65);}
@@ -488,5 +489,5 @@ unfolding balanced_type common_type fit is_signed mixed_type promoted rank size_
     union_of room is_valid_program constant_word binary assigned cast row_of comma combined unary dereferenced indexed
     size_of_words assignment compound stepped condition conditional switch_value called called_through routine_words
     composite judged start reached reached_by reached_in element_number member_number number_behind part closed opened
-    with_literal with_value without typed_unit
+    with_literal with_value without first_not_constant typed_unit
 library_declared = refl

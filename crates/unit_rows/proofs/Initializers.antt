@@ -16,6 +16,7 @@ use Rattle.c_tree.specs.Extents.{extent_of}
 use Rattle.c_tree.specs.Layout.{array_size, member_offsets, structure_of, union_of}
 use Rattle.c_tree.specs.Room.{room}
 use Rattle.c_tree.specs.ValidProgram.{is_valid_program}
+use Rattle.c_const.specs.Initializers.{first_not_constant}
 use Rattle.c_const.specs.Integers.{constant_word}
 use Rattle.c_rules.specs.Binary.{binary}
 use Rattle.c_rules.specs.Conversions.{assigned, cast}
@@ -60,7 +61,7 @@ unfolding balanced_type common_type fit is_signed mixed_type promoted rank size_
     union_of room is_valid_program constant_word binary assigned cast row_of comma combined unary dereferenced indexed
     size_of_words assignment compound stepped condition conditional switch_value called called_through routine_words
     composite judged start reached reached_by reached_in element_number member_number number_behind part closed opened
-    with_literal with_value without typed_unit
+    with_literal with_value without first_not_constant typed_unit
 elided = refl
 
 -- struct{int a[2];char b;}s[2]={1,2,3,{{4},5}};int main(void){return 0;}
@@ -97,7 +98,7 @@ unfolding balanced_type common_type fit is_signed mixed_type promoted rank size_
     union_of room is_valid_program constant_word binary assigned cast row_of comma combined unary dereferenced indexed
     size_of_words assignment compound stepped condition conditional switch_value called called_through routine_words
     composite judged start reached reached_by reached_in element_number member_number number_behind part closed opened
-    with_literal with_value without typed_unit
+    with_literal with_value without first_not_constant typed_unit
 elided_within = refl
 
 -- int a[3]={[2]=7,[0]=1,2,[2]=3};int main(void){return 0;}
@@ -125,7 +126,7 @@ unfolding balanced_type common_type fit is_signed mixed_type promoted rank size_
     union_of room is_valid_program constant_word binary assigned cast row_of comma combined unary dereferenced indexed
     size_of_words assignment compound stepped condition conditional switch_value called called_through routine_words
     composite judged start reached reached_by reached_in element_number member_number number_behind part closed opened
-    with_literal with_value without typed_unit
+    with_literal with_value without first_not_constant typed_unit
 designated_twice = refl
 
 -- union{int i;char c[2];}u={.i=0x01020304,.c[0]=5};int main(void){return 0;}
@@ -153,7 +154,7 @@ unfolding balanced_type common_type fit is_signed mixed_type promoted rank size_
     union_of room is_valid_program constant_word binary assigned cast row_of comma combined unary dereferenced indexed
     size_of_words assignment compound stepped condition conditional switch_value called called_through routine_words
     composite judged start reached reached_by reached_in element_number member_number number_behind part closed opened
-    with_literal with_value without typed_unit
+    with_literal with_value without first_not_constant typed_unit
 another_member = refl
 
 -- struct{int a[4];int b;}s={1,2,3,4,5,.a={9}};int main(void){return 0;}
@@ -186,7 +187,7 @@ unfolding balanced_type common_type fit is_signed mixed_type promoted rank size_
     union_of room is_valid_program constant_word binary assigned cast row_of comma combined unary dereferenced indexed
     size_of_words assignment compound stepped condition conditional switch_value called called_through routine_words
     composite judged start reached reached_by reached_in element_number member_number number_behind part closed opened
-    with_literal with_value without typed_unit
+    with_literal with_value without first_not_constant typed_unit
 list_overrides = refl
 
 -- struct{int a[4];int b;}s={1,2,3,4,5,.a[0]=9};int main(void){return 0;}
@@ -225,7 +226,7 @@ unfolding balanced_type common_type fit is_signed mixed_type promoted rank size_
     union_of room is_valid_program constant_word binary assigned cast row_of comma combined unary dereferenced indexed
     size_of_words assignment compound stepped condition conditional switch_value called called_through routine_words
     composite judged start reached reached_by reached_in element_number member_number number_behind part closed opened
-    with_literal with_value without typed_unit
+    with_literal with_value without first_not_constant typed_unit
 first_overrides = refl
 
 -- struct{char c;struct{short h;int i;}n;int k;}s={.n.i=2,3};int main(void){return 0;}
@@ -257,7 +258,7 @@ unfolding balanced_type common_type fit is_signed mixed_type promoted rank size_
     union_of room is_valid_program constant_word binary assigned cast row_of comma combined unary dereferenced indexed
     size_of_words assignment compound stepped condition conditional switch_value called called_through routine_words
     composite judged start reached reached_by reached_in element_number member_number number_behind part closed opened
-    with_literal with_value without typed_unit
+    with_literal with_value without first_not_constant typed_unit
 member_behind = refl
 
 -- char s[]="abc";char t[3]="abc";char u[2]={"a"};char*p="x";int main(void){return 0;}
@@ -311,7 +312,7 @@ unfolding balanced_type common_type fit is_signed mixed_type promoted rank size_
     union_of room is_valid_program constant_word binary assigned cast row_of comma combined unary dereferenced indexed
     size_of_words assignment compound stepped condition conditional switch_value called called_through routine_words
     composite judged start reached reached_by reached_in element_number member_number number_behind part closed opened
-    with_literal with_value without typed_unit
+    with_literal with_value without first_not_constant typed_unit
 literals = refl
 
 -- int a[]={[3]=1,2};int main(void){return 0;}
@@ -337,7 +338,7 @@ unfolding balanced_type common_type fit is_signed mixed_type promoted rank size_
     union_of room is_valid_program constant_word binary assigned cast row_of comma combined unary dereferenced indexed
     size_of_words assignment compound stepped condition conditional switch_value called called_through routine_words
     composite judged start reached reached_by reached_in element_number member_number number_behind part closed opened
-    with_literal with_value without typed_unit
+    with_literal with_value without first_not_constant typed_unit
 counted = refl
 
 -- unsigned char c=257;long l=-1;int main(void){return 0;}
@@ -364,7 +365,7 @@ unfolding balanced_type common_type fit is_signed mixed_type promoted rank size_
     union_of room is_valid_program constant_word binary assigned cast row_of comma combined unary dereferenced indexed
     size_of_words assignment compound stepped condition conditional switch_value called called_through routine_words
     composite judged start reached reached_by reached_in element_number member_number number_behind part closed opened
-    with_literal with_value without typed_unit
+    with_literal with_value without first_not_constant typed_unit
 converted = refl
 
 -- int x={{1}};int main(void){return 0;}
@@ -386,7 +387,7 @@ unfolding balanced_type common_type fit is_signed mixed_type promoted rank size_
     union_of room is_valid_program constant_word binary assigned cast row_of comma combined unary dereferenced indexed
     size_of_words assignment compound stepped condition conditional switch_value called called_through routine_words
     composite judged start reached reached_by reached_in element_number member_number number_behind part closed opened
-    with_literal with_value without typed_unit
+    with_literal with_value without first_not_constant typed_unit
 braces_of_a_scalar = refl
 
 -- int main(void){int x={3};int a[]={1,2};int y=x;return a[0]+y;}
@@ -416,7 +417,7 @@ unfolding balanced_type common_type fit is_signed mixed_type promoted rank size_
     union_of room is_valid_program constant_word binary assigned cast row_of comma combined unary dereferenced indexed
     size_of_words assignment compound stepped condition conditional switch_value called called_through routine_words
     composite judged start reached reached_by reached_in element_number member_number number_behind part closed opened
-    with_literal with_value without typed_unit
+    with_literal with_value without first_not_constant typed_unit
 automatic = refl
 
 -- struct P{int a,b;};struct Q{struct P p;int c;};int main(void){struct P p={1,2};struct Q q={p,3};return q.c;}
@@ -455,5 +456,5 @@ unfolding balanced_type common_type fit is_signed mixed_type promoted rank size_
     union_of room is_valid_program constant_word binary assigned cast row_of comma combined unary dereferenced indexed
     size_of_words assignment compound stepped condition conditional switch_value called called_through routine_words
     composite judged start reached reached_by reached_in element_number member_number number_behind part closed opened
-    with_literal with_value without typed_unit
+    with_literal with_value without first_not_constant typed_unit
 whole_structure = refl

@@ -20,6 +20,7 @@ use Rattle.c_tree.specs.Extents.{extent_of}
 use Rattle.c_tree.specs.Layout.{array_size, member_offsets, structure_of, union_of}
 use Rattle.c_tree.specs.Room.{room}
 use Rattle.c_tree.specs.ValidProgram.{is_valid_program}
+use Rattle.c_const.specs.Initializers.{first_not_constant}
 use Rattle.c_const.specs.Integers.{constant_word}
 use Rattle.c_rules.specs.Binary.{binary}
 use Rattle.c_rules.specs.Conversions.{assigned, cast}
@@ -39,7 +40,7 @@ use Rattle.c_initializer_rules.specs.Initializing.{closed, opened, with_literal,
 use Rattle.c_initializer_rules.specs.Placed.{without}
 use Rattle.c_unit_typing.specs.Typed.{typed_unit}
 use Rattle.unit_rows.proofs.Sources.{accepted, at, declaration, declarators, function, init_declarator}
-use Rattle.unit_rows.proofs.Sources.{large, number, other, refused, source, spelled, word}
+use Rattle.unit_rows.proofs.Sources.{inconstant, large, number, refused, source, spelled, word}
 
 -- int x=
 -- y;
@@ -65,7 +66,7 @@ unfolding balanced_type common_type fit is_signed mixed_type promoted rank size_
     union_of room is_valid_program constant_word binary assigned cast row_of comma combined unary dereferenced indexed
     size_of_words assignment compound stepped condition conditional switch_value called called_through routine_words
     composite judged start reached reached_by reached_in element_number member_number number_behind part closed opened
-    with_literal with_value without typed_unit
+    with_literal with_value without first_not_constant typed_unit
 first_of_two = refl
 
 -- int x;char
@@ -86,7 +87,7 @@ unfolding balanced_type common_type fit is_signed mixed_type promoted rank size_
     union_of room is_valid_program constant_word binary assigned cast row_of comma combined unary dereferenced indexed
     size_of_words assignment compound stepped condition conditional switch_value called called_through routine_words
     composite judged start reached reached_by reached_in element_number member_number number_behind part closed opened
-    with_literal with_value without typed_unit
+    with_literal with_value without first_not_constant typed_unit
 name_before_initializer = refl
 
 -- int x;char
@@ -107,7 +108,7 @@ unfolding balanced_type common_type fit is_signed mixed_type promoted rank size_
     union_of room is_valid_program constant_word binary assigned cast row_of comma combined unary dereferenced indexed
     size_of_words assignment compound stepped condition conditional switch_value called called_through routine_words
     composite judged start reached reached_by reached_in element_number member_number number_behind part closed opened
-    with_literal with_value without typed_unit
+    with_literal with_value without first_not_constant typed_unit
 size_before_name = refl
 
 -- int x;
@@ -128,7 +129,7 @@ unfolding balanced_type common_type fit is_signed mixed_type promoted rank size_
     union_of room is_valid_program constant_word binary assigned cast row_of comma combined unary dereferenced indexed
     size_of_words assignment compound stepped condition conditional switch_value called called_through routine_words
     composite judged start reached reached_by reached_in element_number member_number number_behind part closed opened
-    with_literal with_value without typed_unit
+    with_literal with_value without first_not_constant typed_unit
 specifiers_before_name = refl
 
 -- int x;
@@ -147,7 +148,7 @@ unfolding balanced_type common_type fit is_signed mixed_type promoted rank size_
     union_of room is_valid_program constant_word binary assigned cast row_of comma combined unary dereferenced indexed
     size_of_words assignment compound stepped condition conditional switch_value called called_through routine_words
     composite judged start reached reached_by reached_in element_number member_number number_behind part closed opened
-    with_literal with_value without typed_unit
+    with_literal with_value without first_not_constant typed_unit
 lowest_at_a_name = refl
 
 -- struct S;
@@ -168,7 +169,7 @@ unfolding balanced_type common_type fit is_signed mixed_type promoted rank size_
     union_of room is_valid_program constant_word binary assigned cast row_of comma combined unary dereferenced indexed
     size_of_words assignment compound stepped condition conditional switch_value called called_through routine_words
     composite judged start reached reached_by reached_in element_number member_number number_behind part closed opened
-    with_literal with_value without typed_unit
+    with_literal with_value without first_not_constant typed_unit
 array_of_functions = refl
 
 -- int f(void){return
@@ -190,7 +191,7 @@ unfolding balanced_type common_type fit is_signed mixed_type promoted rank size_
     union_of room is_valid_program constant_word binary assigned cast row_of comma combined unary dereferenced indexed
     size_of_words assignment compound stepped condition conditional switch_value called called_through routine_words
     composite judged start reached reached_by reached_in element_number member_number number_behind part closed opened
-    with_literal with_value without typed_unit
+    with_literal with_value without first_not_constant typed_unit
 body_before_the_next = refl
 
 -- int f(void){return 0;}
@@ -212,7 +213,7 @@ unfolding balanced_type common_type fit is_signed mixed_type promoted rank size_
     union_of room is_valid_program constant_word binary assigned cast row_of comma combined unary dereferenced indexed
     size_of_words assignment compound stepped condition conditional switch_value called called_through routine_words
     composite judged start reached reached_by reached_in element_number member_number number_behind part closed opened
-    with_literal with_value without typed_unit
+    with_literal with_value without first_not_constant typed_unit
 declarator_before_body = refl
 
 -- int a[1]={1,
@@ -237,7 +238,7 @@ unfolding balanced_type common_type fit is_signed mixed_type promoted rank size_
     union_of room is_valid_program constant_word binary assigned cast row_of comma combined unary dereferenced indexed
     size_of_words assignment compound stepped condition conditional switch_value called called_through routine_words
     composite judged start reached reached_by reached_in element_number member_number number_behind part closed opened
-    with_literal with_value without typed_unit
+    with_literal with_value without first_not_constant typed_unit
 initializer_before_the_next = refl
 
 -- int f(void){return 0;}
@@ -253,7 +254,7 @@ unfolding balanced_type common_type fit is_signed mixed_type promoted rank size_
     union_of room is_valid_program constant_word binary assigned cast row_of comma combined unary dereferenced indexed
     size_of_words assignment compound stepped condition conditional switch_value called called_through routine_words
     composite judged start reached reached_by reached_in element_number member_number number_behind part closed opened
-    with_literal with_value without typed_unit
+    with_literal with_value without first_not_constant typed_unit
 no_main = refl
 
 -- void main(void){}
@@ -268,7 +269,7 @@ unfolding balanced_type common_type fit is_signed mixed_type promoted rank size_
     union_of room is_valid_program constant_word binary assigned cast row_of comma combined unary dereferenced indexed
     size_of_words assignment compound stepped condition conditional switch_value called called_through routine_words
     composite judged start reached reached_by reached_in element_number member_number number_behind part closed opened
-    with_literal with_value without typed_unit
+    with_literal with_value without first_not_constant typed_unit
 main_of_another_type = refl
 
 -- int main(void);
@@ -284,7 +285,7 @@ unfolding balanced_type common_type fit is_signed mixed_type promoted rank size_
     union_of room is_valid_program constant_word binary assigned cast row_of comma combined unary dereferenced indexed
     size_of_words assignment compound stepped condition conditional switch_value called called_through routine_words
     composite judged start reached reached_by reached_in element_number member_number number_behind part closed opened
-    with_literal with_value without typed_unit
+    with_literal with_value without first_not_constant typed_unit
 main_only_declared = refl
 
 -- int f(void);int g(void){return f();}
@@ -303,7 +304,7 @@ unfolding balanced_type common_type fit is_signed mixed_type promoted rank size_
     union_of room is_valid_program constant_word binary assigned cast row_of comma combined unary dereferenced indexed
     size_of_words assignment compound stepped condition conditional switch_value called called_through routine_words
     composite judged start reached reached_by reached_in element_number member_number number_behind part closed opened
-    with_literal with_value without typed_unit
+    with_literal with_value without first_not_constant typed_unit
 main_before_uses = refl
 
 -- int f(void);int g(void);int main(void){return
@@ -326,7 +327,7 @@ unfolding balanced_type common_type fit is_signed mixed_type promoted rank size_
     union_of room is_valid_program constant_word binary assigned cast row_of comma combined unary dereferenced indexed
     size_of_words assignment compound stepped condition conditional switch_value called called_through routine_words
     composite judged start reached reached_by reached_in element_number member_number number_behind part closed opened
-    with_literal with_value without typed_unit
+    with_literal with_value without first_not_constant typed_unit
 first_use = refl
 
 -- int f(void);int(*p)(void)=
@@ -347,7 +348,7 @@ unfolding balanced_type common_type fit is_signed mixed_type promoted rank size_
     union_of room is_valid_program constant_word binary assigned cast row_of comma combined unary dereferenced indexed
     size_of_words assignment compound stepped condition conditional switch_value called called_through routine_words
     composite judged start reached reached_by reached_in element_number member_number number_behind part closed opened
-    with_literal with_value without typed_unit
+    with_literal with_value without first_not_constant typed_unit
 use_in_an_initializer = refl
 
 -- int f(void);int main(void){return sizeof f();}
@@ -365,7 +366,7 @@ unfolding balanced_type common_type fit is_signed mixed_type promoted rank size_
     union_of room is_valid_program constant_word binary assigned cast row_of comma combined unary dereferenced indexed
     size_of_words assignment compound stepped condition conditional switch_value called called_through routine_words
     composite judged start reached reached_by reached_in element_number member_number number_behind part closed opened
-    with_literal with_value without typed_unit
+    with_literal with_value without first_not_constant typed_unit
 not_evaluated = refl
 
 -- char a[4194305];int main(void){return 0;}
@@ -382,7 +383,7 @@ unfolding balanced_type common_type fit is_signed mixed_type promoted rank size_
     union_of room is_valid_program constant_word binary assigned cast row_of comma combined unary dereferenced indexed
     size_of_words assignment compound stepped condition conditional switch_value called called_through routine_words
     composite judged start reached reached_by reached_in element_number member_number number_behind part closed opened
-    with_literal with_value without typed_unit
+    with_literal with_value without first_not_constant typed_unit
 globals = refl
 
 -- char a[4194304];int main(void){return 0;}
@@ -399,7 +400,7 @@ unfolding balanced_type common_type fit is_signed mixed_type promoted rank size_
     union_of room is_valid_program constant_word binary assigned cast row_of comma combined unary dereferenced indexed
     size_of_words assignment compound stepped condition conditional switch_value called called_through routine_words
     composite judged start reached reached_by reached_in element_number member_number number_behind part closed opened
-    with_literal with_value without typed_unit
+    with_literal with_value without first_not_constant typed_unit
 globals_that_fit = refl
 
 -- char a[4194289];char b;int main(void){return 0;}
@@ -418,7 +419,7 @@ unfolding balanced_type common_type fit is_signed mixed_type promoted rank size_
     union_of room is_valid_program constant_word binary assigned cast row_of comma combined unary dereferenced indexed
     size_of_words assignment compound stepped condition conditional switch_value called called_through routine_words
     composite judged start reached reached_by reached_in element_number member_number number_behind part closed opened
-    with_literal with_value without typed_unit
+    with_literal with_value without first_not_constant typed_unit
 rounded = refl
 
 -- char a[4194305];int f(void){return 1;}int x=f();int main(void){return 0;}
@@ -433,15 +434,14 @@ not_constant_first :
     [])) (at 1))) ∷ (s.definition (t.specifiers (word keyword.Int 1) t.no_specifiers) (t.function (t.named (spelled
     (codes "main") 1)) (at 1) (t.void_parameters (at 1)) (at 1)) (s.block (at 1) (s.items (s.inner (s.return (at 1)
     (Some (t.integer (spelled (codes "0") 1))) (at 1))) s.no_items) (at 1))) ∷ []) 1)
-    ≡ accepted true ((4194305, (None, [])) ∷ (4, (None, ((0, other) ∷ []))) ∷ []) (function 1 0 [] [] (number 1 ∷ [])
-    ∷ function 1 0 [] [] (number 0 ∷ []) ∷ [])
+    ≡ inconstant 1
 unfolding balanced_type common_type fit is_signed mixed_type promoted rank size_of unsigned_of binary_value
     shift_amount unary_value constant_in constant_of greatest_of suffix_of typed types_of bytes_of_literal
     character_value characters_of escaped literal_step next_character extent_of array_size member_offsets structure_of
     union_of room is_valid_program constant_word binary assigned cast row_of comma combined unary dereferenced indexed
     size_of_words assignment compound stepped condition conditional switch_value called called_through routine_words
     composite judged start reached reached_by reached_in element_number member_number number_behind part closed opened
-    with_literal with_value without typed_unit
+    with_literal with_value without first_not_constant typed_unit
 not_constant_first = refl
 
 -- int f(int,int,int,int,int,int,int,int,int,int,int,int,int,int,int,int,int,int,int,int,int,int,int,in ..
@@ -588,7 +588,7 @@ unfolding balanced_type common_type fit is_signed mixed_type promoted rank size_
     union_of room is_valid_program constant_word binary assigned cast row_of comma combined unary dereferenced indexed
     size_of_words assignment compound stepped condition conditional switch_value called called_through routine_words
     composite judged start reached reached_by reached_in element_number member_number number_behind part closed opened
-    with_literal with_value without typed_unit
+    with_literal with_value without first_not_constant typed_unit
 parameters = refl
 
 -- char a[4194305];int f(int,int,int,int,int,int,int,int,int,int,int,int,int,int,int,int,int,int,int,in ..
@@ -738,5 +738,5 @@ unfolding balanced_type common_type fit is_signed mixed_type promoted rank size_
     union_of room is_valid_program constant_word binary assigned cast row_of comma combined unary dereferenced indexed
     size_of_words assignment compound stepped condition conditional switch_value called called_through routine_words
     composite judged start reached reached_by reached_in element_number member_number number_behind part closed opened
-    with_literal with_value without typed_unit
+    with_literal with_value without first_not_constant typed_unit
 parameters_before_globals = refl

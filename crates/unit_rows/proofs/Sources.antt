@@ -15,7 +15,7 @@ use Rattle.c_tree.specs.ValidProgram.{is_valid_program}
 use Rattle.c_const.specs.Integers.{constant_word}
 use Rattle.c_faults.specs.declared.fault.Rule.{Rule}
 use Rattle.c_unit_typing.specs.declared.limits.Limited.{Limited}
-use Rattle.c_unit_typing.specs.Typed.{TypedUnit, a_fault, a_program, too_large, typed_unit}
+use Rattle.c_unit_typing.specs.Typed.{TypedUnit, a_fault, a_program, not_constant, too_large, typed_unit}
 
 abbrev pub at : (line : ℕ) → Position
 at line = record { at = 0; line = line }
@@ -77,11 +77,14 @@ pub data Shown : Type 0 where
   -- of a typed program: whether it is valid, its static objects and its functions
   accepted : (is_valid : Bool) → List Object → List ShownFunction → Shown
   refused : Rule → (line : ℕ) → Shown
+  -- the line of the first expression in an initializer that is not constant
+  inconstant : (line : ℕ) → Shown
   large : Limited → (count : ℕ) → Shown
 
 abbrev pub shown : TypedUnit → Shown
 shown (a_program p) = accepted (is_valid_program p) (map object_shown p.statics) (map function_shown p.functions)
 shown (a_fault f) = refused f.rule f.line
+shown (not_constant line) = inconstant line
 shown (too_large which n) = large which n
 
 abbrev pub source : List External → (end : ℕ) → Shown

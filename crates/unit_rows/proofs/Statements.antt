@@ -18,6 +18,7 @@ use Rattle.c_tree.specs.Extents.{extent_of}
 use Rattle.c_tree.specs.Layout.{array_size, member_offsets, structure_of, union_of}
 use Rattle.c_tree.specs.Room.{room}
 use Rattle.c_tree.specs.ValidProgram.{is_valid_program}
+use Rattle.c_const.specs.Initializers.{first_not_constant}
 use Rattle.c_const.specs.Integers.{constant_word}
 use Rattle.c_rules.specs.Binary.{binary}
 use Rattle.c_rules.specs.Conversions.{assigned, cast}
@@ -66,7 +67,7 @@ unfolding balanced_type common_type fit is_signed mixed_type promoted rank size_
     union_of room is_valid_program constant_word binary assigned cast row_of comma combined unary dereferenced indexed
     size_of_words assignment compound stepped condition conditional switch_value called called_through routine_words
     composite judged start reached reached_by reached_in element_number member_number number_behind part closed opened
-    with_literal with_value without typed_unit
+    with_literal with_value without first_not_constant typed_unit
 loops = refl
 
 -- int main(void){int x=2;switch(x){case 1:case 2:x=5;break;default:{int y=7;x=y;}}return x;}
@@ -93,7 +94,7 @@ unfolding balanced_type common_type fit is_signed mixed_type promoted rank size_
     union_of room is_valid_program constant_word binary assigned cast row_of comma combined unary dereferenced indexed
     size_of_words assignment compound stepped condition conditional switch_value called called_through routine_words
     composite judged start reached reached_by reached_in element_number member_number number_behind part closed opened
-    with_literal with_value without typed_unit
+    with_literal with_value without first_not_constant typed_unit
 labels = refl
 
 -- int main(void){int x=2;while(x){switch(x){case 1:continue;case 3:break;}x--;}return x;}
@@ -116,7 +117,7 @@ unfolding balanced_type common_type fit is_signed mixed_type promoted rank size_
     union_of room is_valid_program constant_word binary assigned cast row_of comma combined unary dereferenced indexed
     size_of_words assignment compound stepped condition conditional switch_value called called_through routine_words
     composite judged start reached reached_by reached_in element_number member_number number_behind part closed opened
-    with_literal with_value without typed_unit
+    with_literal with_value without first_not_constant typed_unit
 jumps_of_a_switch = refl
 
 -- void f(void){return;}char g(void){return 300;}int main(void){f();return g();}
@@ -138,7 +139,7 @@ unfolding balanced_type common_type fit is_signed mixed_type promoted rank size_
     union_of room is_valid_program constant_word binary assigned cast row_of comma combined unary dereferenced indexed
     size_of_words assignment compound stepped condition conditional switch_value called called_through routine_words
     composite judged start reached reached_by reached_in element_number member_number number_behind part closed opened
-    with_literal with_value without typed_unit
+    with_literal with_value without first_not_constant typed_unit
 results = refl
 
 -- int main(void){if(sizeof(enum{A})){}return
@@ -157,7 +158,7 @@ unfolding balanced_type common_type fit is_signed mixed_type promoted rank size_
     union_of room is_valid_program constant_word binary assigned cast row_of comma combined unary dereferenced indexed
     size_of_words assignment compound stepped condition conditional switch_value called called_through routine_words
     composite judged start reached reached_by reached_in element_number member_number number_behind part closed opened
-    with_literal with_value without typed_unit
+    with_literal with_value without first_not_constant typed_unit
 tags_of_a_branch = refl
 
 -- int main(void){do{int x;}while(
@@ -176,7 +177,7 @@ unfolding balanced_type common_type fit is_signed mixed_type promoted rank size_
     union_of room is_valid_program constant_word binary assigned cast row_of comma combined unary dereferenced indexed
     size_of_words assignment compound stepped condition conditional switch_value called called_through routine_words
     composite judged start reached reached_by reached_in element_number member_number number_behind part closed opened
-    with_literal with_value without typed_unit
+    with_literal with_value without first_not_constant typed_unit
 tags_of_a_body = refl
 
 -- struct S{int a;}s;int main(void){
@@ -198,7 +199,7 @@ unfolding balanced_type common_type fit is_signed mixed_type promoted rank size_
     union_of room is_valid_program constant_word binary assigned cast row_of comma combined unary dereferenced indexed
     size_of_words assignment compound stepped condition conditional switch_value called called_through routine_words
     composite judged start reached reached_by reached_in element_number member_number number_behind part closed opened
-    with_literal with_value without typed_unit
+    with_literal with_value without first_not_constant typed_unit
 condition_of_a_structure = refl
 
 -- void f(void){}int main(void){
@@ -218,7 +219,7 @@ unfolding balanced_type common_type fit is_signed mixed_type promoted rank size_
     union_of room is_valid_program constant_word binary assigned cast row_of comma combined unary dereferenced indexed
     size_of_words assignment compound stepped condition conditional switch_value called called_through routine_words
     composite judged start reached reached_by reached_in element_number member_number number_behind part closed opened
-    with_literal with_value without typed_unit
+    with_literal with_value without first_not_constant typed_unit
 void_condition = refl
 
 -- struct S{int a;}s;int main(void){
@@ -242,7 +243,7 @@ unfolding balanced_type common_type fit is_signed mixed_type promoted rank size_
     union_of room is_valid_program constant_word binary assigned cast row_of comma combined unary dereferenced indexed
     size_of_words assignment compound stepped condition conditional switch_value called called_through routine_words
     composite judged start reached reached_by reached_in element_number member_number number_behind part closed opened
-    with_literal with_value without typed_unit
+    with_literal with_value without first_not_constant typed_unit
 do_before_its_body = refl
 
 -- int main(void){do
@@ -261,7 +262,7 @@ unfolding balanced_type common_type fit is_signed mixed_type promoted rank size_
     union_of room is_valid_program constant_word binary assigned cast row_of comma combined unary dereferenced indexed
     size_of_words assignment compound stepped condition conditional switch_value called called_through routine_words
     composite judged start reached reached_by reached_in element_number member_number number_behind part closed opened
-    with_literal with_value without typed_unit
+    with_literal with_value without first_not_constant typed_unit
 body_before_the_condition = refl
 
 -- int main(void){int x=1;do
@@ -282,7 +283,7 @@ unfolding balanced_type common_type fit is_signed mixed_type promoted rank size_
     union_of room is_valid_program constant_word binary assigned cast row_of comma combined unary dereferenced indexed
     size_of_words assignment compound stepped condition conditional switch_value called called_through routine_words
     composite judged start reached reached_by reached_in element_number member_number number_behind part closed opened
-    with_literal with_value without typed_unit
+    with_literal with_value without first_not_constant typed_unit
 body_alone = refl
 
 -- int main(void){do{}
@@ -300,7 +301,7 @@ unfolding balanced_type common_type fit is_signed mixed_type promoted rank size_
     union_of room is_valid_program constant_word binary assigned cast row_of comma combined unary dereferenced indexed
     size_of_words assignment compound stepped condition conditional switch_value called called_through routine_words
     composite judged start reached reached_by reached_in element_number member_number number_behind part closed opened
-    with_literal with_value without typed_unit
+    with_literal with_value without first_not_constant typed_unit
 condition_alone = refl
 
 -- struct S{int a;}s;int main(void){
@@ -324,7 +325,7 @@ unfolding balanced_type common_type fit is_signed mixed_type promoted rank size_
     union_of room is_valid_program constant_word binary assigned cast row_of comma combined unary dereferenced indexed
     size_of_words assignment compound stepped condition conditional switch_value called called_through routine_words
     composite judged start reached reached_by reached_in element_number member_number number_behind part closed opened
-    with_literal with_value without typed_unit
+    with_literal with_value without first_not_constant typed_unit
 do_before_a_break = refl
 
 -- struct S{int a;}s;int main(void){
@@ -348,7 +349,7 @@ unfolding balanced_type common_type fit is_signed mixed_type promoted rank size_
     union_of room is_valid_program constant_word binary assigned cast row_of comma combined unary dereferenced indexed
     size_of_words assignment compound stepped condition conditional switch_value called called_through routine_words
     composite judged start reached reached_by reached_in element_number member_number number_behind part closed opened
-    with_literal with_value without typed_unit
+    with_literal with_value without first_not_constant typed_unit
 nested_do = refl
 
 -- struct S{int a;}s;int main(void){
@@ -372,7 +373,7 @@ unfolding balanced_type common_type fit is_signed mixed_type promoted rank size_
     union_of room is_valid_program constant_word binary assigned cast row_of comma combined unary dereferenced indexed
     size_of_words assignment compound stepped condition conditional switch_value called called_through routine_words
     composite judged start reached reached_by reached_in element_number member_number number_behind part closed opened
-    with_literal with_value without typed_unit
+    with_literal with_value without first_not_constant typed_unit
 for_before_its_body = refl
 
 -- struct S{int a;}s;int main(void){for(;s;
@@ -394,7 +395,7 @@ unfolding balanced_type common_type fit is_signed mixed_type promoted rank size_
     union_of room is_valid_program constant_word binary assigned cast row_of comma combined unary dereferenced indexed
     size_of_words assignment compound stepped condition conditional switch_value called called_through routine_words
     composite judged start reached reached_by reached_in element_number member_number number_behind part closed opened
-    with_literal with_value without typed_unit
+    with_literal with_value without first_not_constant typed_unit
 step_before_for = refl
 
 -- struct S{int a;}s;int main(void){for(int i=
@@ -420,7 +421,7 @@ unfolding balanced_type common_type fit is_signed mixed_type promoted rank size_
     union_of room is_valid_program constant_word binary assigned cast row_of comma combined unary dereferenced indexed
     size_of_words assignment compound stepped condition conditional switch_value called called_through routine_words
     composite judged start reached reached_by reached_in element_number member_number number_behind part closed opened
-    with_literal with_value without typed_unit
+    with_literal with_value without first_not_constant typed_unit
 declaration_before_for = refl
 
 -- int main(void){for(int i=0;i<1;i++);return
@@ -441,7 +442,7 @@ unfolding balanced_type common_type fit is_signed mixed_type promoted rank size_
     union_of room is_valid_program constant_word binary assigned cast row_of comma combined unary dereferenced indexed
     size_of_words assignment compound stepped condition conditional switch_value called called_through routine_words
     composite judged start reached reached_by reached_in element_number member_number number_behind part closed opened
-    with_literal with_value without typed_unit
+    with_literal with_value without first_not_constant typed_unit
 for_is_a_scope = refl
 
 -- int main(void){for(int i=0;i<1;i++){int i=2;i++;}return 0;}
@@ -465,7 +466,7 @@ unfolding balanced_type common_type fit is_signed mixed_type promoted rank size_
     union_of room is_valid_program constant_word binary assigned cast row_of comma combined unary dereferenced indexed
     size_of_words assignment compound stepped condition conditional switch_value called called_through routine_words
     composite judged start reached reached_by reached_in element_number member_number number_behind part closed opened
-    with_literal with_value without typed_unit
+    with_literal with_value without first_not_constant typed_unit
 body_of_for_is_a_scope = refl
 
 -- int main(void){int*p=0;
@@ -485,7 +486,7 @@ unfolding balanced_type common_type fit is_signed mixed_type promoted rank size_
     union_of room is_valid_program constant_word binary assigned cast row_of comma combined unary dereferenced indexed
     size_of_words assignment compound stepped condition conditional switch_value called called_through routine_words
     composite judged start reached reached_by reached_in element_number member_number number_behind part closed opened
-    with_literal with_value without typed_unit
+    with_literal with_value without first_not_constant typed_unit
 switch_of_a_pointer = refl
 
 -- int main(void){int x=0;switch(x){case 1:;
@@ -507,7 +508,7 @@ unfolding balanced_type common_type fit is_signed mixed_type promoted rank size_
     union_of room is_valid_program constant_word binary assigned cast row_of comma combined unary dereferenced indexed
     size_of_words assignment compound stepped condition conditional switch_value called called_through routine_words
     composite judged start reached reached_by reached_in element_number member_number number_behind part closed opened
-    with_literal with_value without typed_unit
+    with_literal with_value without first_not_constant typed_unit
 equal_labels = refl
 
 -- int main(void){int x=0;switch(x){case 0:;
@@ -528,7 +529,7 @@ unfolding balanced_type common_type fit is_signed mixed_type promoted rank size_
     union_of room is_valid_program constant_word binary assigned cast row_of comma combined unary dereferenced indexed
     size_of_words assignment compound stepped condition conditional switch_value called called_through routine_words
     composite judged start reached reached_by reached_in element_number member_number number_behind part closed opened
-    with_literal with_value without typed_unit
+    with_literal with_value without first_not_constant typed_unit
 equal_once_converted = refl
 
 -- int main(void){long x=0;switch(x){case 0:;case 4294967296:;}return 0;}
@@ -548,7 +549,7 @@ unfolding balanced_type common_type fit is_signed mixed_type promoted rank size_
     union_of room is_valid_program constant_word binary assigned cast row_of comma combined unary dereferenced indexed
     size_of_words assignment compound stepped condition conditional switch_value called called_through routine_words
     composite judged start reached reached_by reached_in element_number member_number number_behind part closed opened
-    with_literal with_value without typed_unit
+    with_literal with_value without first_not_constant typed_unit
 different_in_long = refl
 
 -- int main(void){int x=0;switch(x){default:;
@@ -569,7 +570,7 @@ unfolding balanced_type common_type fit is_signed mixed_type promoted rank size_
     union_of room is_valid_program constant_word binary assigned cast row_of comma combined unary dereferenced indexed
     size_of_words assignment compound stepped condition conditional switch_value called called_through routine_words
     composite judged start reached reached_by reached_in element_number member_number number_behind part closed opened
-    with_literal with_value without typed_unit
+    with_literal with_value without first_not_constant typed_unit
 two_defaults = refl
 
 -- int main(void){int x=0;switch(x){{
@@ -590,7 +591,7 @@ unfolding balanced_type common_type fit is_signed mixed_type promoted rank size_
     union_of room is_valid_program constant_word binary assigned cast row_of comma combined unary dereferenced indexed
     size_of_words assignment compound stepped condition conditional switch_value called called_through routine_words
     composite judged start reached reached_by reached_in element_number member_number number_behind part closed opened
-    with_literal with_value without typed_unit
+    with_literal with_value without first_not_constant typed_unit
 label_in_an_inner_block = refl
 
 -- int main(void){int x=0;switch(x){case 1:if(x)
@@ -611,7 +612,7 @@ unfolding balanced_type common_type fit is_signed mixed_type promoted rank size_
     union_of room is_valid_program constant_word binary assigned cast row_of comma combined unary dereferenced indexed
     size_of_words assignment compound stepped condition conditional switch_value called called_through routine_words
     composite judged start reached reached_by reached_in element_number member_number number_behind part closed opened
-    with_literal with_value without typed_unit
+    with_literal with_value without first_not_constant typed_unit
 label_in_a_branch = refl
 
 -- int main(void){
@@ -628,7 +629,7 @@ unfolding balanced_type common_type fit is_signed mixed_type promoted rank size_
     union_of room is_valid_program constant_word binary assigned cast row_of comma combined unary dereferenced indexed
     size_of_words assignment compound stepped condition conditional switch_value called called_through routine_words
     composite judged start reached reached_by reached_in element_number member_number number_behind part closed opened
-    with_literal with_value without typed_unit
+    with_literal with_value without first_not_constant typed_unit
 label_outside = refl
 
 -- int main(void){int x=0;switch(x){
@@ -649,7 +650,7 @@ unfolding balanced_type common_type fit is_signed mixed_type promoted rank size_
     union_of room is_valid_program constant_word binary assigned cast row_of comma combined unary dereferenced indexed
     size_of_words assignment compound stepped condition conditional switch_value called called_through routine_words
     composite judged start reached reached_by reached_in element_number member_number number_behind part closed opened
-    with_literal with_value without typed_unit
+    with_literal with_value without first_not_constant typed_unit
 label_no_constant = refl
 
 -- int main(void){int x=0;
@@ -668,7 +669,7 @@ unfolding balanced_type common_type fit is_signed mixed_type promoted rank size_
     union_of room is_valid_program constant_word binary assigned cast row_of comma combined unary dereferenced indexed
     size_of_words assignment compound stepped condition conditional switch_value called called_through routine_words
     composite judged start reached reached_by reached_in element_number member_number number_behind part closed opened
-    with_literal with_value without typed_unit
+    with_literal with_value without first_not_constant typed_unit
 label_of_two_rules = refl
 
 -- int main(void){case
@@ -685,7 +686,7 @@ unfolding balanced_type common_type fit is_signed mixed_type promoted rank size_
     union_of room is_valid_program constant_word binary assigned cast row_of comma combined unary dereferenced indexed
     size_of_words assignment compound stepped condition conditional switch_value called called_through routine_words
     composite judged start reached reached_by reached_in element_number member_number number_behind part closed opened
-    with_literal with_value without typed_unit
+    with_literal with_value without first_not_constant typed_unit
 label_undeclared = refl
 
 -- int main(void){
@@ -701,7 +702,7 @@ unfolding balanced_type common_type fit is_signed mixed_type promoted rank size_
     union_of room is_valid_program constant_word binary assigned cast row_of comma combined unary dereferenced indexed
     size_of_words assignment compound stepped condition conditional switch_value called called_through routine_words
     composite judged start reached reached_by reached_in element_number member_number number_behind part closed opened
-    with_literal with_value without typed_unit
+    with_literal with_value without first_not_constant typed_unit
 break_outside = refl
 
 -- int main(void){switch(1){case 1:
@@ -719,7 +720,7 @@ unfolding balanced_type common_type fit is_signed mixed_type promoted rank size_
     union_of room is_valid_program constant_word binary assigned cast row_of comma combined unary dereferenced indexed
     size_of_words assignment compound stepped condition conditional switch_value called called_through routine_words
     composite judged start reached reached_by reached_in element_number member_number number_behind part closed opened
-    with_literal with_value without typed_unit
+    with_literal with_value without first_not_constant typed_unit
 continue_in_a_switch = refl
 
 -- void f(void){
@@ -739,7 +740,7 @@ unfolding balanced_type common_type fit is_signed mixed_type promoted rank size_
     union_of room is_valid_program constant_word binary assigned cast row_of comma combined unary dereferenced indexed
     size_of_words assignment compound stepped condition conditional switch_value called called_through routine_words
     composite judged start reached reached_by reached_in element_number member_number number_behind part closed opened
-    with_literal with_value without typed_unit
+    with_literal with_value without first_not_constant typed_unit
 value_of_void = refl
 
 -- int f(void){
@@ -757,7 +758,7 @@ unfolding balanced_type common_type fit is_signed mixed_type promoted rank size_
     union_of room is_valid_program constant_word binary assigned cast row_of comma combined unary dereferenced indexed
     size_of_words assignment compound stepped condition conditional switch_value called called_through routine_words
     composite judged start reached reached_by reached_in element_number member_number number_behind part closed opened
-    with_literal with_value without typed_unit
+    with_literal with_value without first_not_constant typed_unit
 no_value = refl
 
 -- int*f(void){
@@ -777,5 +778,5 @@ unfolding balanced_type common_type fit is_signed mixed_type promoted rank size_
     union_of room is_valid_program constant_word binary assigned cast row_of comma combined unary dereferenced indexed
     size_of_words assignment compound stepped condition conditional switch_value called called_through routine_words
     composite judged start reached reached_by reached_in element_number member_number number_behind part closed opened
-    with_literal with_value without typed_unit
+    with_literal with_value without first_not_constant typed_unit
 no_result = refl

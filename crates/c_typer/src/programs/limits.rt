@@ -1,42 +1,26 @@
 //! What there is too much of in a program (C99 5.2.4.1 lets a translator set limits).
 
-ghost use Rattle.std.specs.Prelude.{◌≡◌, ◌+◌, ◌*◌, ◌≤◌, ◌^◌, ◌∷◌, [], length, map, replicate, IfOk};
+ghost use Rattle.std.specs.Prelude.{◌≡◌, ◌+◌, ◌≤◌, ◌^◌, ◌∷◌, [], map};
 ghost use Rattle.obj_memory.specs.Heap.{rounded_up};
 ghost use Rattle.c_syntax.specs.StatementsView as views;
 ghost use Rattle.c_tree.specs.Kinds.{size_of_kind};
 ghost use Rattle.c_tree.specs.View.{static_of};
-ghost use Rattle.c_const.specs.Addresses.{untagged};
 ghost use Rattle.c_counts.specs.Excess.{first_above};
 ghost use Rattle.c_unit_typing.specs.Typed.{end_behind};
-ghost use Rattle.c_typer.specs.Limits.{IsExcess, constant_among, first_large, large_or};
+ghost use Rattle.c_typer.specs.Limits.{IsExcess, first_large, large_or};
 ghost use Rattle.c_typer.specs.Outlines.{outline_of};
 
-use crate::programs::constants::are_constant;
 use crate::programs::outline::Outline;
-use c_const::Pointers;
 use c_counts::{Excess, excess_of};
 use c_syntax::Unit;
 use c_tree::{Kind, StaticObject};
 use c_unit_typing::limits::Limited;
-use obj_memory::{Tag, Value};
-use std::alloc::{AllocError, Global};
 
 /// The most functions of a program.
 const MOST_FUNCTIONS: u128 = 4096;
 
 /// The most bytes that static objects take.
 const MOST_BYTES: u128 = 4194304;
-
-// So many pointers that point to nothing.
-fn nowhere(alloc: Global, count: usize) -> Result<Vec<Value>, AllocError>
-    ensures { IfOk result (λ pointers. pointers.items ≡ replicate count (untagged 0)) }
-{
-    let value = Value {
-        word: 0,
-        tag: Tag::Untagged,
-    };
-    vec![in alloc; value; count]
-}
 
 fn size_of(kind: Kind) -> u64
     ensures { result ≡ size_of_kind kind }
@@ -103,38 +87,13 @@ fn first_large(functions: u128, lists: Excess, bytes: u128) -> Option<(Limited, 
     )
 }
 
-// Whether the initializers of all static objects are constant.
-#[tactic(auto, using(crate::proofs::Limiting::constants_are))]
-fn has_constants(alloc: Global, outline: &Outline) -> Result<bool, AllocError>
-    ensures { IfOk result
-        (λ all. all ≡ constant_among (outline_of outline.now) (length (outline_of outline.now).definitions)) }
+/// What there is too much of in the program of a file: the first of the limits that it violates, with how much there
+/// is.
+#[tactic(auto, using(crate::proofs::Limiting::is_excess))]
+pub(crate) fn excess(unit: &Unit, outline: &Outline) -> Option<(Limited, u128)>
+    ensures { IsExcess (views.externals_in unit.now.externals) (outline_of outline.now) result }
 {
-    let objects = nowhere(alloc, outline.statics.len())?;
-    let functions = nowhere(alloc, outline.definitions.len())?;
-    let pointers = Pointers {
-        statics: &objects,
-        functions: &functions,
-    };
-    Ok(are_constant(&pointers, &outline.statics))
-}
-
-/// What there is too much of in the program of a file, the first of the limits that it violates with how much there is,
-/// where the initializers of all its static objects are constant.
-#[tactic(auto, using(crate::proofs::Limiting::is_excess, crate::proofs::Limiting::not_constant))]
-pub(crate) fn excess(
-    alloc: Global,
-    unit: &Unit,
-    outline: &Outline,
-) -> Result<Option<(Limited, u128)>, AllocError>
-    ensures { IfOk result
-        (λ large. IsExcess (views.externals_in unit.now.externals) (outline_of outline.now) large) }
-{
-    let all_constant = has_constants(alloc, outline)?;
-    if all_constant {
-        let count = outline.definitions.len() as u128;
-        let bytes = global_bytes(&outline.statics);
-        Ok(first_large(count, excess_of(unit), bytes))
-    } else {
-        Ok(None)
-    }
+    let count = outline.definitions.len() as u128;
+    let bytes = global_bytes(&outline.statics);
+    first_large(count, excess_of(unit), bytes)
 }

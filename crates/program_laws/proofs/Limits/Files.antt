@@ -30,11 +30,11 @@ use Rattle.c_expression_typing.specs.Typed.{shape, specification}
 use Rattle.c_unit_typing.specs.Declarations.{declaration, stored_once}
 use Rattle.c_unit_typing.specs.Files.{Definition, File, in_state, ◌~>◌}
 use Rattle.c_unit_typing.specs.Programs.{functions_from, program_of, static_objects}
-use Rattle.c_unit_typing.specs.Typed.{a_program, are_constant, typed_as, typed_unit}
+use Rattle.c_unit_typing.specs.Typed.{a_program, typed_as, typed_unit}
 use Rattle.c_unit_typing.specs.Units.{all_defined, around_body, body, body_of, defined_as, defined_by, definition}
 use Rattle.c_unit_typing.specs.Units.{ended, entered, external, externals, file_before, file_in, file_with, is_main}
 use Rattle.c_unit_typing.specs.Units.{left, parameter_in, parameters_in, scope_or_none, with_body}
-use Rattle.c_unit_typing.proofs.Within.{constant_within}
+use Rattle.c_unit_typing.proofs.Within.{given_within}
 use Rattle.typing_laws.specs.Scopes.Variables.{variable_count, variables_among}
 use Rattle.program_laws.proofs.Limits.Counted.{AreWithin, external_within, specifiers_within}
 use Rattle.program_laws.proofs.Limits.Kept.{IfKept, Keeping, declaration_keeps, items_keep, state_keeps}
@@ -218,15 +218,15 @@ functions_bounded m f os n (d ∷ ds) h =
 
 typed_bounded : (xs : List t.External) (a : Answer File) (p : Program)
     → (AreWithin most_parameters (counts_of xs) → IfFile most_parameters a) → typed_as xs a ≡ a_program p
-    → are_constant p ≡ true → HasAtMost most_parameters p
-typed_bounded xs (Ok f) p bounded e is =
-    let within = constant_within xs (program_of f) p e is in
+    → HasAtMost most_parameters p
+typed_bounded xs (Ok f) p bounded e =
+    let within = given_within xs (program_of f) p e in
     subst (HasAtMost most_parameters) within.same
     (functions_bounded most_parameters f (static_objects f) 0 f.definitions (bounded within.parameters))
-typed_bounded xs (Err x) p bounded e is = absurd cc
+typed_bounded xs (Err x) p bounded e = absurd cc
 
-pub unit_bounded : (end : ℕ) (u : t.Unit) (p : Program) → typed_unit end u ≡ a_program p → are_constant p ≡ true
+pub unit_bounded : (end : ℕ) (u : t.Unit) (p : Program) → typed_unit end u ≡ a_program p
     → list_all (λ f. nat_le (length f.parameters) most_parameters) p.functions ≡ true
 unfolding typed_unit
-unit_bounded end u p e is =
-    typed_bounded u.externals (file_in end u.externals) p (file_bounded most_parameters end u.externals) e is
+unit_bounded end u p e =
+    typed_bounded u.externals (file_in end u.externals) p (file_bounded most_parameters end u.externals) e

@@ -9,6 +9,7 @@ use Rattle.c_tree.specs.declared.c_type.TypeWord.{TypeWord}
 use Rattle.c_tree.specs.Programs.{Program, StaticObject}
 use Rattle.c_tree.specs.Statements.{Part}
 use Rattle.c_faults.specs.Answer.{Answer}
+use Rattle.c_const.specs.Initializers.{first_not_constant}
 use Rattle.c_counts.specs.Counts.{Count, counts_of}
 use Rattle.c_counts.specs.Excess.{first_above, members_among, most_members, most_parameters, parameters_among}
 use Rattle.c_scope.specs.declared.meaning.Designated.{Designated}
@@ -21,8 +22,9 @@ use Rattle.c_unit_typing.specs.declared.limits.Limited.TheVariants as limited
 use Rattle.c_unit_typing.specs.Files.{Definition, File}
 use Rattle.c_unit_typing.specs.Programs.{functions_from, in_order, linked_object, linked_objects, literal_object}
 use Rattle.c_unit_typing.specs.Programs.{parts_of, program_of, static_objects, with_number}
-use Rattle.c_unit_typing.specs.Typed.{TypedUnit, a_fault, a_program, are_constant, global_bytes, limited_program}
-use Rattle.c_unit_typing.specs.Typed.{most_bytes, most_functions, too_large, typed_as, typed_unit, when_large}
+use Rattle.c_unit_typing.specs.Typed.{TypedUnit, a_fault, a_program, global_bytes, limited_program}
+use Rattle.c_unit_typing.specs.Typed.{most_bytes, most_functions, not_constant, too_large, typed_as, typed_unit}
+use Rattle.c_unit_typing.specs.Typed.{unless_not_constant, when_large}
 use Rattle.c_unit_typing.specs.Units.{file_in}
 use Rattle.program_laws.specs.TreeSizes.Nodes.{functions_nodes, nodes_of, parts_nodes, statics_nodes}
 use Rattle.program_laws.specs.TreeSizes.WordCounts.{words_in_externals, words_of}
@@ -172,6 +174,7 @@ file_program end xs f h = let low = (file_bound end xs).each f h in omega (arith
 abbrev IfProgram : ℕ → TypedUnit → Type 0
 IfProgram n (a_program p) = nodes_of p ≤ n
 IfProgram n (a_fault f) = Unit {0}
+IfProgram n (not_constant line) = Unit {0}
 IfProgram n (too_large which count) = Unit {0}
 
 large_by : (n : ℕ) (which : Limited) (count : Option ℕ) (other : TypedUnit) → IfProgram n other
@@ -190,15 +193,16 @@ limited_by n cs p h =
     (when_large limited.Parameters parameters formed) (large_by n limited.Parameters parameters formed
     (large_by n limited.Members members sized (large_by n limited.Globals bytes (a_program p) h)))
 
-constant_by : (b : Bool) (n : ℕ) (cs : List Count) (p : Program) → nodes_of p ≤ n
-    → IfProgram n (if b then limited_program cs p else a_program p)
-constant_by true n cs p h = limited_by n cs p h
-constant_by false n cs p h = h
+constant_by : (line : Option ℕ) (n : ℕ) (cs : List Count) (p : Program) → nodes_of p ≤ n
+    → IfProgram n (unless_not_constant line (limited_program cs p))
+constant_by None n cs p h = limited_by n cs p h
+constant_by (Some line) n cs p h = tt
 
 typed_by : (xs : List External) (n : ℕ) (a : Answer File) → ((f : File) → a ≡ Ok f → nodes_of (program_of f) ≤ n)
     → IfProgram n (typed_as xs a)
 typed_by xs n (Err e) h = tt
-typed_by xs n (Ok f) h = constant_by (are_constant (program_of f)) n (counts_of xs) (program_of f) (h f refl)
+typed_by xs n (Ok f) h =
+    constant_by (first_not_constant (program_of f)) n (counts_of xs) (program_of f) (h f refl)
 
 unit_by : (end : ℕ) (u : TextUnit) → IfProgram (3 * words_of u) (typed_unit end u)
 unfolding typed_unit

@@ -1,4 +1,4 @@
--- The programs of typed files are valid, where the initializers of their static objects are constant (C99 6.7.8, 6.9).
+-- The programs of typed files are valid (C99 6.7.8, 6.9).
 use Rattle.std.proofs.Common.{◌≡◌, ℕ, ◌≤◌, Bool, true, refl, subst, List, Option, Some, None}
 use Rattle.std.specs.Prelude.{Ok, Err}
 use Rattle.c_syntax.specs.Formed.{IsWellFormed}
@@ -9,10 +9,10 @@ use Rattle.c_faults.specs.Answer.{Answer, ◌>>=◌}
 use Rattle.c_counts.specs.Counts.{counts_of}
 use Rattle.c_unit_typing.specs.Files.{File}
 use Rattle.c_unit_typing.specs.Programs.{program_of}
-use Rattle.c_unit_typing.specs.Typed.{IsWithin, a_program, are_constant, global_bytes, most_bytes, typed_as}
+use Rattle.c_unit_typing.specs.Typed.{IsWithin, a_program, global_bytes, most_bytes, typed_as}
 use Rattle.c_unit_typing.specs.Typed.{typed_unit}
 use Rattle.c_unit_typing.specs.Units.{file_in, file_with}
-use Rattle.c_unit_typing.proofs.Within.{constant_within}
+use Rattle.c_unit_typing.proofs.Within.{given_within}
 use Rattle.program_laws.specs.Names.Linked.{HaveSizes}
 use Rattle.typing_laws.specs.Scopes.Defined.{define_functions}
 use Rattle.typing_laws.specs.Scopes.Regular.{are_regular_externals}
@@ -44,16 +44,14 @@ with_objects es end p (Ok g) f e h = record { objects = Some g.taken; file = f; 
 with_objects es end p (Err fault) f e h = absurd (cc e)
 
 file_by : (es : List External) (end : ℕ) (p : Program) (a : Answer File) → file_in end es ≡ a
-    → are_constant p ≡ true → typed_as es a ≡ a_program p → IsOfFile es end p
-file_by es end p (Ok f) is c e =
-    with_objects es end p (file_with None end es) f is
-    (constant_within es (program_of f) p e c)
-file_by es end p (Err fault) is c e = absurd (cc e)
+    → typed_as es a ≡ a_program p → IsOfFile es end p
+file_by es end p (Ok f) is e =
+    with_objects es end p (file_with None end es) f is (given_within es (program_of f) p e)
+file_by es end p (Err fault) is e = absurd (cc e)
 
-file_of : (end : ℕ) (u : TextUnit) (p : Program) → typed_unit end u ≡ a_program p → are_constant p ≡ true
-    → IsOfFile u.externals end p
+file_of : (end : ℕ) (u : TextUnit) (p : Program) → typed_unit end u ≡ a_program p → IsOfFile u.externals end p
 unfolding typed_unit
-file_of end u p e c = file_by u.externals end p (file_in end u.externals) refl c e
+file_of end u p e = file_by u.externals end p (file_in end u.externals) refl e
 
 -- what is known of each file that is accepted
 module _ (objects : Option (List (List Bool))) (end : ℕ) (es : List External) (f : File)
@@ -84,9 +82,9 @@ module _ (objects : Option (List (List Bool))) (end : ℕ) (es : List External) 
       program_valid objects end es f regular defined is sized (file_objects f (has_objects sized))
 
 pub unit_valid : (end : ℕ) (u : TextUnit) (p : Program) → IsWellFormed u → typed_unit end u ≡ a_program p
-    → are_constant p ≡ true → is_valid_program p ≡ true
-unit_valid end u p formed e c =
-    let f = file_of end u p e c in
+    → is_valid_program p ≡ true
+unit_valid end u p formed e =
+    let f = file_of end u p e in
     let regular = well_formed_regular u formed in
     let defined = well_formed_defines u formed in
     subst (λ z. is_valid_program z ≡ true) f.program.same

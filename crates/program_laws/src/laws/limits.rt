@@ -12,13 +12,12 @@ ghost use Rattle.c_syntax.specs.Tree.{Declarator};
 ghost use Rattle.c_tree.specs.Programs.{Program};
 ghost use Rattle.c_declarator_typing.specs.Declarators.{Shape};
 ghost use Rattle.c_typing_state.specs.State.{State};
-ghost use Rattle.c_unit_typing.specs.Typed.{a_program, are_constant, typed_unit};
+ghost use Rattle.c_unit_typing.specs.Typed.{a_program, typed_unit};
 ghost use Rattle.typing_laws.specs.Scopes.Variables.{variables_among};
 
-/// No function of a typed program that is within the limits has more parameters than the limit says (C99 5.2.4.1,
-/// 6.9.1).
+/// No function of a typed program has more parameters than the limit says (C99 5.2.4.1, 6.9.1).
 pub fn typed_functions_have_few_parameters()
-    ensures { (end : ℕ) (u : TextUnit) (p : Program) → typed_unit end u ≡ a_program p → are_constant p ≡ true
+    ensures { (end : ℕ) (u : TextUnit) (p : Program) → typed_unit end u ≡ a_program p
         → list_all (λ f. nat_le (length f.parameters) most_parameters) p.functions ≡ true }
 {}
 

@@ -7,7 +7,7 @@ ghost use Rattle.c_tree.specs.Programs.{Program};
 ghost use Rattle.c_tree.specs.ValidProgram.{is_valid_program};
 ghost use Rattle.c_unit_typing.specs.Files.{File};
 ghost use Rattle.c_unit_typing.specs.Programs.{program_of};
-ghost use Rattle.c_unit_typing.specs.Typed.{a_program, are_constant, global_bytes, most_bytes, typed_unit};
+ghost use Rattle.c_unit_typing.specs.Typed.{a_program, global_bytes, most_bytes, typed_unit};
 ghost use Rattle.c_unit_typing.specs.Units.{file_with};
 ghost use Rattle.typing_laws.specs.Scopes.Regular.{are_regular_externals};
 ghost use Rattle.typing_laws.specs.Scopes.Defined.{define_functions};
@@ -28,9 +28,8 @@ pub fn programs_are_valid()
         → HaveSizes f → is_valid_program (program_of f) ≡ true }
 {}
 
-/// The typed program of a well-formed file is valid, where the initializers of its static objects are constant (C99
-/// 6.7.8 paragraph 4). Where they are not it may have string literals that are too large for an object.
+/// The typed program of a well-formed file is valid (C99 6.7.8, 6.9).
 pub fn typed_files_are_valid()
     ensures { (end : ℕ) (u : Unit) (p : Program) → IsWellFormed u → typed_unit end u ≡ a_program p
-        → are_constant p ≡ true → is_valid_program p ≡ true }
+        → is_valid_program p ≡ true }
 {}

@@ -1,19 +1,18 @@
 //! Whole programs.
 
-ghost use Rattle.std.specs.Prelude.{◌≡◌, ◌≤◌, true, IfOk, map, length, get_or, Some};
+ghost use Rattle.std.specs.Prelude.{◌≡◌, ◌≤◌, true, IfOk, None, map, length, get_or};
 ghost use Rattle.std.specs.List.{list_all};
 ghost use Rattle.c_tree.specs.declared.expression.Kind.TheVariants.{Void};
 ghost use Rattle.c_tree.specs.View.{function_of, function_type_of, program_of, static_of};
 ghost use Rattle.c_tree.specs.ValidProgram.{is_valid_program};
+ghost use Rattle.c_const.specs.Initializers.{first_not_constant};
 ghost use Rattle.c_lower.specs.Programs.{IsLowered, literals_of};
 ghost use Rattle.source_meaning.specs.Meaning.{statics_end};
-ghost use Rattle.static_data.specs.Data.{first_fault, program_pointers, OnNotConstant};
 ghost use Rattle.program_lowering.specs.ProgramCode.Whole.{is_ready, AreFunctions, Holding, results_of, Assembles};
 ghost use Rattle.program_lowering.specs.ProgramCode.Weights.{IsWeighed, program_weight, instruction_count, each_one};
 ghost use Rattle.program_lowering.specs.ProgramCode.Checks.{AwaitsChecks};
 
 use crate::programs::function::lower_function;
-use c_const::contents::InitialFault;
 use c_tree::{Function, FunctionType, Kind, Program, StaticObject};
 use static_data::pointers::global_bytes;
 use static_data::static_data;
@@ -133,12 +132,12 @@ fn assembled(
     }
 }
 
-/// Lowers a valid program that has at most 4096 functions, where its static objects take at most 4 MiB. The text of the
-/// program says which instructions its code has, how many they are, and how many checks are to come. An error comes
-/// where there is no memory for its code, or with the line of the first expression in an initializer of a static object
-/// that is not constant.
-pub fn lower(alloc: Global, program: &Program) -> Result<Tac, InitialFault>
+/// Lowers a valid program that has at most 4096 functions, where its static objects take at most 4 MiB and their
+/// initializers are constant. The text of the program says which instructions its code has, how many they are, and how
+/// many checks are to come. An error comes where there is no memory for its code.
+pub fn lower(alloc: Global, program: &Program) -> Result<Tac, AllocError>
     requires valid { is_valid_program (program_of program.now) ≡ true }
+    requires constant { first_not_constant (program_of program.now) ≡ None }
     requires small { statics_end (program_of program.now).statics 0 ≤ 0x400000 }
     requires few { length (program_of program.now).functions ≤ 4096 }
     ensures code { IfOk result (λ t. IsLowered (program_of program.now) t) }
@@ -146,23 +145,15 @@ pub fn lower(alloc: Global, program: &Program) -> Result<Tac, InitialFault>
     ensures count { IfOk result
         (λ t. instruction_count t.functions ≡ program_weight (program_of program.now) each_one) }
     ensures checks { IfOk result (λ t. AwaitsChecks (program_of program.now) t) }
-    ensures fault { OnNotConstant result
-        (λ line. first_fault (program_pointers (program_of program.now)) (program_of program.now).statics ≡ Some line) }
 {
     let objects = program.statics.as_slice();
     let types = program.function_types.as_slice();
     let functions = program.functions.as_slice();
     let statics = static_data(alloc, program)?;
-    let Ok(results) = results(alloc, types) else {
-        return Err(InitialFault::Memory);
-    };
+    let results = results(alloc, types)?;
     let kinds = results.as_slice();
-    let Ok(literals) = literals(alloc, objects) else {
-        return Err(InitialFault::Memory);
-    };
-    let Ok(lowered) = lower_functions(alloc, functions, kinds, literals) else {
-        return Err(InitialFault::Memory);
-    };
+    let literals = literals(alloc, objects)?;
+    let lowered = lower_functions(alloc, functions, kinds, literals)?;
     let bytes = global_bytes(objects);
     Ok(assembled(program.main, bytes, statics, results, lowered))
 }

@@ -12,6 +12,7 @@ use Rattle.c_tree.specs.Statements.{Statements}
 use Rattle.c_faults.specs.declared.fault.Fault.{Fault}
 use Rattle.c_faults.specs.declared.fault.Rule.TheVariants.{NoMain}
 use Rattle.c_faults.specs.Answer.{Answer, violates, ◌>>=◌}
+use Rattle.c_const.specs.Initializers.{first_not_constant}
 use Rattle.c_counts.specs.Counts.{Count, counts_of}
 use Rattle.c_counts.specs.Excess.{first_above, members_among, most_members, most_parameters, parameters_among}
 use Rattle.c_facts.specs.Facts.{facts_in}
@@ -29,8 +30,8 @@ use Rattle.c_unit_typing.specs.Files.{File}
 use Rattle.c_unit_typing.specs.declared.limits.Limited.{Limited}
 use Rattle.c_unit_typing.specs.declared.limits.Limited.TheVariants as limited
 use Rattle.c_unit_typing.specs.Programs.{program_of}
-use Rattle.c_unit_typing.specs.Typed.{TypedUnit, a_program, are_constant, global_bytes, limited_program, most_bytes}
-use Rattle.c_unit_typing.specs.Typed.{most_functions, typed_as, typed_unit, when_large}
+use Rattle.c_unit_typing.specs.Typed.{TypedUnit, a_program, global_bytes, limited_program, most_bytes}
+use Rattle.c_unit_typing.specs.Typed.{most_functions, typed_as, typed_unit, unless_not_constant, when_large}
 use Rattle.c_unit_typing.specs.Units as typing
 use Rattle.c_unit_typing.specs.Units.{all_defined, around_body, defined_as, entered, file_before, is_main, left}
 use Rattle.c_unit_typing.specs.Units.{parameters_in, scope_or_none}
@@ -145,7 +146,7 @@ file_first end u =
     again end u.externals (file_with None end u.externals) (typing.file_with None end u.externals)
     (file_ends None end u.externals)
 
--- limits are no violations
+-- limits are no violations of rules, nor is an initializer that is not constant
 
 no_fault_when : (which : Limited) (count : Option ℕ) (u : TypedUnit) → fault_in u ≡ None
     → fault_in (when_large which count u) ≡ None
@@ -159,14 +160,14 @@ no_fault_limited counts p =
     (no_fault_when limited.Members (first_above most_members (members_among counts)) _
     (no_fault_when limited.Globals (first_above most_bytes (global_bytes p ∷ [])) (a_program p) refl)))
 
-no_fault_if : (b : Bool) (counts : List Count) (p : Program)
-    → fault_in (if b then limited_program counts p else a_program p) ≡ None
-no_fault_if true counts p = no_fault_limited counts p
-no_fault_if false counts p = refl
+no_fault_unless : (line : Option ℕ) (counts : List Count) (p : Program)
+    → fault_in (unless_not_constant line (limited_program counts p)) ≡ None
+no_fault_unless None counts p = no_fault_limited counts p
+no_fault_unless (Some line) counts p = refl
 
 fault_as : (es : List t.External) (x : Answer File) → fault_of x ≡ fault_in (typed_as es x)
 fault_as es (Err f) = refl
-fault_as es (Ok f) = sym (no_fault_if (are_constant (program_of f)) (counts_of es) (program_of f))
+fault_as es (Ok f) = sym (no_fault_unless (first_not_constant (program_of f)) (counts_of es) (program_of f))
 
 pub unit_first : (end : ℕ) (u : t.Unit) → first_in (violations end u) ≡ fault_in (typed_unit end u)
 unfolding typed_unit

@@ -7,7 +7,7 @@ use Rattle.c_typer.specs.FileState.{file_of}
 use Rattle.c_unit_typing.specs.Typed.{TypedUnit, a_program}
 use Rattle.c_unit_typing.specs.Units.{file_in}
 use Rattle.c_typer.specs.Refused.{IsCauseOf, UnlessMemory}
-use Rattle.c_typer.proofs.Causes.{cause_of, few_nodes, typed_is, valid_program}
+use Rattle.c_typer.proofs.Causes.{cause_of, constant_program, few_nodes, typed_is, valid_program}
 use Rattle.c_typer.proofs.unit.type_unit.Goals as goal
 
 pub returns-in-Ok-clause-typed : goal.returns-in-Ok-clause-typed
@@ -27,6 +27,13 @@ pub returns-in-Ok-clause-valid : goal.returns-in-Ok-clause-valid
 returns-in-Ok-clause-valid c =
     let typed = ap (λ z. file_in c.args.end (externals_in z)) (sym c.as_slice.ensures) ∙ c.in-Ok.ensures in
     valid_program c.args.end (unit_of c.args.unit.now) c.program_in.result
+    (subst (λ (z : TypedUnit). IfOk c.program_in.result (λ program. z ≡ a_program (view.program_of program)))
+    (sym (typed_is c.args.end (unit_of c.args.unit.now) (file_of c.in-Ok.file) typed)) c.program_in.ensures.typed)
+
+pub returns-in-Ok-clause-constant : goal.returns-in-Ok-clause-constant
+returns-in-Ok-clause-constant c =
+    let typed = ap (λ z. file_in c.args.end (externals_in z)) (sym c.as_slice.ensures) ∙ c.in-Ok.ensures in
+    constant_program c.args.end (unit_of c.args.unit.now) c.program_in.result
     (subst (λ (z : TypedUnit). IfOk c.program_in.result (λ program. z ≡ a_program (view.program_of program)))
     (sym (typed_is c.args.end (unit_of c.args.unit.now) (file_of c.in-Ok.file) typed)) c.program_in.ensures.typed)
 

@@ -1,12 +1,17 @@
-use Rattle.std.proofs.Common.{subst}
+use Rattle.std.proofs.Common.{arith, subst}
 use Rattle.sb_base.specs.Budgets.{AreInRange}
 use Rattle.addr_map.specs.Places.{MapSizes, AreMapped}
 use Rattle.c_tree.specs.View.{program_of}
 use Rattle.check_insert.proofs.SameButChecks.{inserted_is_same}
 use Rattle.image_laws.specs.Images.Images.{sizes_of}
+use Rattle.image_laws.proofs.Images.Images.{no_bytes}
 use Rattle.image_compiler.proofs.Compiled.{sizes_are, expandable, built_result, refused_result, does_result}
 use Rattle.image_compiler.proofs.Compiled.{checks_result, nodes_result}
 use Rattle.image_compiler.proofs.compiler.compile.Goals as goal
+
+pub lower-requires-clause-small : goal.lower-requires-clause-small
+lower-requires-clause-small c =
+    let none = no_bytes (program_of c.args.program.now) c.requires.integers in omega (arith, none)
 
 pub built_of-requires-clause-expandable : goal.built_of-requires-clause-expandable
 built_of-requires-clause-expandable c =

@@ -5,7 +5,8 @@ use Rattle.sbcets_core.proofs.commands.go.Goals as goal
 pub returns-in-Ok-run_image-clause-goes : goal.returns-in-Ok-run_image-clause-goes
 returns-in-Ok-run_image-clause-goes g c =
     let ran = rw c.deref.ensures.value at c.in-Ok-run_image.ensures.ran in
-    let goes = went_goes c.args.name.now c.args.budgets c.args.limit c.in-Ok.built c.in-Ok-run_image.stop
+    let goes = went_goes c.args.name.now c.args.limits.now.budgets c.args.limits.now.instructions c.in-Ok.built
+    c.in-Ok-run_image.stop
     (outside_of (g.F.Files.held c.args.files.now) (g.F.Files.writes c.args.files.now) (g.I.Source.rest c.args.input.now)
     (g.O.Sink.taken c.args.output.now) (g.E.Sink.taken c.args.errors.now))
     (outside_of (g.F.Files.held c.built_of.new.files) (g.F.Files.writes c.built_of.new.files)

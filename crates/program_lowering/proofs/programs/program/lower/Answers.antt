@@ -17,24 +17,23 @@ lower_functions-requires c =
 pub returns : goal.returns
 returns c =
     let p = program_of c.args.program.now in
-    let told = c.in-Ok-literals.ensures ∙ ap (λ os. literals_of (map static_of os)) c.as_slice-objects.ensures in
-    let named = subst (λ ls. AreFunctions c.in-Ok-lower_functions.lowered.texts.items ls c.as_slice-kinds.result.now
-    (map function_of c.as_slice-functions.result.now) c.in-Ok-lower_functions.lowered.functions.items) told
-    c.in-Ok-lower_functions.ensures in
-    let kinds = subst (λ ks. AreFunctions c.in-Ok-lower_functions.lowered.texts.items (literals_of p.statics) ks
-    (map function_of c.as_slice-functions.result.now) c.in-Ok-lower_functions.lowered.functions.items)
+    let told = c.in_ok-literals.ensures ∙ ap (λ os. literals_of (map static_of os)) c.as_slice-objects.ensures in
+    let named = subst (λ ls. AreFunctions c.in_ok-lowered.lowered.texts.items ls c.as_slice-kinds.result.now
+    (map function_of c.as_slice-functions.result.now) c.in_ok-lowered.lowered.functions.items) told
+    c.in_ok-lowered.ensures in
+    let kinds = subst (λ ks. AreFunctions c.in_ok-lowered.lowered.texts.items (literals_of p.statics) ks
+    (map function_of c.as_slice-functions.result.now) c.in_ok-lowered.lowered.functions.items)
     c.as_slice-kinds.ensures.value named in
-    let all = subst (λ fs. AreFunctions c.in-Ok-lower_functions.lowered.texts.items (literals_of p.statics)
-    c.in-Ok.results.items (map function_of fs) c.in-Ok-lower_functions.lowered.functions.items)
+    let all = subst (λ fs. AreFunctions c.in_ok-lowered.lowered.texts.items (literals_of p.statics)
+    c.in_ok-results.results.items (map function_of fs) c.in_ok-lowered.lowered.functions.items)
     c.as_slice-functions.ensures kinds in
     let bytes = c.global_bytes-bytes.ensures
     ∙ ap (λ os. statics_end (map static_of os) 0) c.as_slice-objects.ensures in
-    let results = c.in-Ok.ensures ∙ ap (λ ts. results_of (map function_type_of ts)) c.as_slice-types.ensures in
+    let results = c.in_ok-results.ensures ∙ ap (λ ts. results_of (map function_type_of ts)) c.as_slice-types.ensures in
     let weighs = weighed_from p c.assembled.ensures results all in
     record {
-      code = program_from p c.assembled.ensures refl bytes c.in_ok-statics.ensures.data results all;
+      code = program_from p c.assembled.ensures refl bytes c.in_ok-statics.ensures results all;
       weighed = weighs;
       count = counted_by p c.assembled.result weighs;
       checks = awaits p c.assembled.result weighs;
-      fault = tt;
     }

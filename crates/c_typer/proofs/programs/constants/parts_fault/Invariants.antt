@@ -1,8 +1,8 @@
 use Rattle.std.proofs.Common.{◌≡◌, map, drop}
 use Rattle.c_tree.specs.View.{part_of}
 use Rattle.c_const.specs.View.{pointers_of}
-use Rattle.sbcets_core.specs.Programs.{parts_fault}
-use Rattle.sbcets_core.proofs.typed_program.parts_fault.Given as goal
+use Rattle.c_const.specs.Initializers.{parts_fault}
+use Rattle.c_typer.proofs.programs.constants.parts_fault.Given as goal
 
 abbrev pub invariant-loop-part : goal.invariant-loop-part
 invariant-loop-part l =

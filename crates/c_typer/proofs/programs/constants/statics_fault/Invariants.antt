@@ -1,8 +1,8 @@
 use Rattle.std.proofs.Common.{◌≡◌, map, drop}
 use Rattle.c_tree.specs.View.{static_of}
 use Rattle.c_const.specs.View.{pointers_of}
-use Rattle.sbcets_core.specs.Programs.{statics_fault}
-use Rattle.sbcets_core.proofs.typed_program.statics_fault.Given as goal
+use Rattle.c_const.specs.Initializers.{statics_fault}
+use Rattle.c_typer.proofs.programs.constants.statics_fault.Given as goal
 
 abbrev pub invariant-loop-object : goal.invariant-loop-object
 invariant-loop-object l =

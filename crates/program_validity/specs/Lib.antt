@@ -1,3 +1,0 @@
-pub mod Numbering
-pub mod Printing
-pub mod View

@@ -1,9 +1,8 @@
 -- What instructions are given fits them: in good states values are of their kinds, and what is named is there.
-use Rattle.std.proofs.Common.{◌≡◌, ℕ, zero, suc, ◌+◌, ◌<◌, ◌≤◌, ◌^◌, List, [], ◌∷◌, Option, Some, None, Bool, true}
+use Rattle.std.proofs.Common.{◌≡◌, ℕ, zero, suc, ◌<◌, ◌≤◌, ◌^◌, List, [], ◌∷◌, Option, Some, None, Bool, true}
 use Rattle.std.proofs.Common.{false}
-use Rattle.std.proofs.Common.{refl, sym, ap, ◌∙◌, subst, arith, eq-eqb, eqb-true, le-leb, lt-ltb}
-use Rattle.std.specs.Prelude.{if◌then◌else◌, ◌&&◌, ◌||◌, ◌==◌, not, length, map, slice_get}
-use Rattle.std.specs.List.{list_all}
+use Rattle.std.proofs.Common.{refl, ap, ◌∙◌, subst, arith, eq-eqb, eqb-true, le-leb, lt-ltb}
+use Rattle.std.specs.Prelude.{◌&&◌, ◌||◌, ◌==◌, not, length, slice_get}
 use Rattle.addr_map.specs.Places.{function_address}
 use Rattle.obj_memory.specs.declared.int_type.IntType.{IntType}
 use Rattle.obj_memory.specs.declared.int_type.IntType.TheVariants.{Int, UnsignedInt, UnsignedLong}
@@ -11,7 +10,7 @@ use Rattle.obj_memory.specs.declared.value.Scalar.{Scalar}
 use Rattle.obj_memory.specs.declared.value.Scalar.TheVariants.{Integer, Pointer}
 use Rattle.obj_memory.specs.declared.value.Value.{Value}
 use Rattle.obj_memory.specs.Integers.{fit}
-use Rattle.obj_memory.specs.Objects.{ObjectState, Objects, object_at}
+use Rattle.obj_memory.specs.Objects.{ObjectState, Objects}
 use Rattle.obj_memory.proofs.Words.{fit_below}
 use Rattle.c_tree.specs.declared.expression.Kind.{Kind}
 use Rattle.c_tree.specs.declared.expression.Kind.TheVariants.{Void, Scalar as OfScalar, Structure, Array}
@@ -20,23 +19,21 @@ use Rattle.c_tree.specs.declared.expression.Update.TheVariants.{Arithmetic, Forw
 use Rattle.c_tree.specs.declared.format.Directive.{Directive}
 use Rattle.c_tree.specs.declared.format.Directive.TheVariants as directive
 use Rattle.c_tree.specs.declared.format.Piece.{Piece}
-use Rattle.c_tree.specs.declared.program.Variable.{Variable}
 use Rattle.c_tree.specs.Format.{directives}
-use Rattle.c_tree.specs.Kinds.{Signature, integer, pointer, is_kind, is_integer, size_of_kind, fits_directive}
+use Rattle.c_tree.specs.Kinds.{Signature, integer, pointer, is_kind, is_integer, fits_directive}
 use Rattle.c_tree.specs.Kinds.{fit_directives}
-use Rattle.c_tree.specs.Valid.{at_number, are_printed as are_printed_kinds}
-use Rattle.source_meaning.specs.State.{State, Rvalue, Header, Setting, Home, NoObject, InObject}
-use Rattle.source_meaning.specs.Good.{Context, function_count, object_kind, plain_type, IsGood, HasHome, Updates}
-use Rattle.source_meaning.specs.Good.{IsWord, IsOfType, IsOfKind, OfKind, TakenIs, ValueIs, ArgumentIs, ArgumentsAre}
+use Rattle.c_tree.specs.Valid.{are_printed as are_printed_kinds}
+use Rattle.source_meaning.specs.State.{Rvalue, Header, Setting}
+use Rattle.source_meaning.specs.Good.{Context, function_count, object_kind, Updates}
+use Rattle.source_meaning.specs.Good.{IsWord, IsOfType, TakenIs, ValueIs, ArgumentIs, ArgumentsAre}
 use Rattle.source_meaning.specs.Good.{signature_in, taking}
-use Rattle.source_meaning.specs.Calls.{result_of}
 use Rattle.source_meaning.proofs.ValidNames.{both, same_kind}
 use Rattle.source_meaning.proofs.Naming.{IsConstantOf, UpdatesKind}
 use Rattle.source_meaning.specs.Actions.{scalar_of}
 use Rattle.tac_ir.specs.declared.function.CodeFunction.{CodeFunction}
 use Rattle.tac_ir.specs.declared.function.StaticData.{StaticData}
 use Rattle.tac_ir.specs.declared.function.Tac.{Tac}
-use Rattle.tac_ir.specs.Accesses.{is_place, is_home}
+use Rattle.tac_ir.specs.Accesses.{is_place}
 use Rattle.tac_ir.specs.Fitting.{is_word, has_no_tag, is_of_type, is_scalar_of, is_plain_word, has_bytes, is_passed}
 use Rattle.tac_ir.specs.Fitting.{are_passed, is_written, is_in_place, is_held, is_update_of, is_type, taken_by}
 use Rattle.tac_ir.specs.Fitting.{fit_type}

@@ -1,7 +1,7 @@
 -- The object that a key begins with is named where its lvalue is valid, and so it is there in a good state.
 use Rattle.std.proofs.Common.{◌≡◌, ℕ, zero, suc, ◌<◌, List, [], ◌∷◌, Option, Some, None, Bool, true, false, refl, sym}
 use Rattle.std.proofs.Common.{ap, ◌∙◌, arith, eq-eqb}
-use Rattle.std.specs.Prelude.{◌&&◌, map, length, get_or, slice_get, nat_lt, if◌then◌else◌}
+use Rattle.std.specs.Prelude.{◌&&◌, length, get_or, slice_get, nat_lt, if◌then◌else◌}
 use Rattle.std.proofs.lemmas.Bool.{ltb-true}
 use Rattle.obj_memory.specs.declared.value.Scalar.TheVariants.{Integer, Pointer}
 use Rattle.obj_memory.specs.Objects.{ObjectState, object_at}

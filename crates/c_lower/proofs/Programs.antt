@@ -62,7 +62,7 @@ use Rattle.tac_ir.specs.declared.function.CodeFunction.{CodeFunction}
 use Rattle.tac_ir.specs.declared.function.StaticData.{StaticData}
 use Rattle.tac_ir.specs.declared.function.Tac.{Tac}
 use Rattle.tac_ir.specs.Fitting.{is_passed, taken_by}
-use Rattle.tac_ir.specs.Meaning.{type_of, placed_data}
+use Rattle.tac_ir.specs.Meaning.{loops_of, type_of, placed_data}
 use Rattle.tac_ir.proofs.Fits.{only_opens}
 use Rattle.source_meaning.proofs.LimitLaw.{is_source}
 use Rattle.tac_ir.proofs.Turns.{follower_never_stuck}
@@ -74,7 +74,7 @@ use Rattle.c_lower.specs.Programs.{literals_of, function_exits, LowersBody, Lowe
 use Rattle.c_lower.specs.Programs.{LowersAt}
 use Rattle.c_lower.specs.Programs.{IsLowered}
 use Rattle.c_lower.proofs.Comes.{Reached, reached_for}
-use Rattle.c_lower.proofs.Temporaries.{loops_in, placed, put_same}
+use Rattle.c_lower.proofs.Temporaries.{placed, put_same}
 use Rattle.c_lower.proofs.Values.{Called, Calls, CallsRun}
 use Rattle.c_lower.proofs.KeyNames.{HaveSizes}
 use Rattle.c_lower.proofs.Fitting.{passed_fits, AreDeclared}
@@ -404,7 +404,7 @@ module _ (p : Program) (budgets : BudgetSizes) (mapped : AreMapped (setting_of p
         code = code_of o;
         keys = keys_of o;
         blocks = blocks_in o;
-        loops = loops_in o;
+        loops = loops_of o;
         texts = t.texts;
         literals = literals_of p.statics;
         variables = all_of fn;

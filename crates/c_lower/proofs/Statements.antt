@@ -54,7 +54,7 @@ use Rattle.tac_ir.specs.Stage.{Temps, Frame, Stage, Stands, came}
 use Rattle.tac_ir.specs.Accesses.{only_if, is_live_at, moved_from, is_home}
 use Rattle.tac_ir.specs.Fitting.{is_written}
 use Rattle.tac_ir.specs.Costs.{parts_of, handed_bytes, fourfold, heavier}
-use Rattle.tac_ir.specs.Meaning.{variables_in, function_in, act_at}
+use Rattle.tac_ir.specs.Meaning.{act_at}
 use Rattle.c_lower.specs.Placed.{Placed}
 use Rattle.c_lower.specs.Values.{LowersExpression, LowersArgument}
 use Rattle.c_lower.specs.Statements.{Exits, LowersContent, LowersParts, LowersInitializer, LowersDeclared}

@@ -1,19 +1,13 @@
 -- The code of a function as its code is said to be placed, and what temporaries hold.
-use Rattle.std.proofs.Common.{◌≡◌, ◌≢◌, ℕ, ◌<◌, Bool, List, [], Option, Some, None, refl, ap, ◌∙◌, arith, eq-eqb}
+use Rattle.std.proofs.Common.{◌≡◌, ◌≢◌, ℕ, ◌<◌, Bool, List, refl, ap, ◌∙◌, arith, eq-eqb}
 use Rattle.std.proofs.Common.{ne_eqb}
 use Rattle.std.specs.Prelude.{if◌then◌else◌}
 use Rattle.c_tree.specs.declared.program.Variable.{Variable}
 use Rattle.source_meaning.specs.State.{State, Rvalue}
-use Rattle.tac_ir.specs.declared.function.CodeFunction.{CodeFunction}
-use Rattle.tac_ir.specs.declared.function.CountedLoop.{CountedLoop}
 use Rattle.tac_ir.specs.declared.function.Tac.{Tac}
 use Rattle.tac_ir.specs.Stage.{Temps, with_temp, gathered}
-use Rattle.tac_ir.specs.Meaning.{code_of, keys_of, blocks_in, function_in}
+use Rattle.tac_ir.specs.Meaning.{code_of, keys_of, blocks_in, loops_of, function_in}
 use Rattle.c_lower.specs.Placed.{Placed}
-
-abbrev pub loops_in : Option CodeFunction → List CountedLoop
-loops_in None = []
-loops_in (Some c) = c.loops
 
 -- the code of a function, by its number, over variables, where some static objects are string literals
 abbrev pub placed : Tac → (function : ℕ) → (literals : List Bool) → List Variable → Placed
@@ -21,7 +15,7 @@ placed t u literals variables = record {
   code = code_of (function_in t u);
   keys = keys_of (function_in t u);
   blocks = blocks_in (function_in t u);
-  loops = loops_in (function_in t u);
+  loops = loops_of (function_in t u);
   texts = t.texts;
   literals = literals;
   variables = variables;

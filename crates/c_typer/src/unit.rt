@@ -114,7 +114,8 @@ fn program_in(alloc: Global, unit: &Unit, file: FileTyper) -> Result<Program, Un
 /// The typed program of a file whose text ends on a line (C99 6.9), or why there is none: a rule that it violates, else
 /// that an initializer of a static object is not constant (6.7.8 paragraph 4), else that it has too much of something,
 /// else that calls of a function take too much; or that there is no memory. The program has at most 3 nodes for each
-/// word of the file, the bytes of its literals aside. Its initializers are constant, and that of a well-formed file is valid.
+/// word of the file, the bytes of its literals aside. Its initializers are constant, and that of a well-formed file is
+/// valid.
 pub fn type_unit(alloc: Global, end: Line, unit: &Unit) -> Result<Program, UnitRefusal>
     ensures typed { IfOk result
         (λ program. typed_unit end (unit_of unit.now) ≡ a_program (view.program_of program)) }

@@ -74,9 +74,10 @@ fn map_of(budgets: &Budgets) -> AddrMap
 }
 
 /// What is built of a valid program of integers, whose initializers are constant and which has at most 4096 functions
-/// of at most 127 parameters each, with some budgets; or why nothing is. The image does what the program means, with at most 1008 instructions for each unit
-/// of its work; its checks are those of the text, of more than 2^64 - 1 so many. Want of memory is the one answer that
-/// may come without a cause; the code is too large only of a text with more than 8192 nodes.
+/// of at most 127 parameters each, with some budgets; or why nothing is. The image does what the program means, with at
+/// most 1008 instructions for each unit of its work; its checks are those of the text, of more than 2^64 - 1 so many.
+/// Want of memory is the one answer that may come without a cause; the code is too large only of a text with more than
+/// 8192 nodes.
 pub fn compile(alloc: Global, budgets: &Budgets, program: &Program) -> Result<Built, CompileError>
     requires valid { is_valid_program (program_of program.now) ≡ true }
     requires integers { is_integer_program (program_of program.now) ≡ true }

@@ -22,10 +22,10 @@ use Rattle.c_tree.specs.Tree.{index, member, arrow, parenthesized_lvalue, kind_o
 use Rattle.c_tree.specs.View.{program_of, static_of}
 use Rattle.c_const.specs.Addresses.{Pointers, address_of, back, designated, forward, node_address, node_designated}
 use Rattle.c_const.specs.Addresses.{node_place, place_of, to_pointer, untagged}
-use Rattle.c_const.specs.Contents.{Contents, constant_in, initial_contents, on_ok, with_constant, with_content, with_parts}
-use Rattle.c_const.specs.Contents.{zero_contents}
-use Rattle.c_const.specs.Initializers.{any_pointers, content_fault, first_not_constant, line_unless, or_later, parts_fault}
-use Rattle.c_const.specs.Initializers.{statics_fault}
+use Rattle.c_const.specs.Contents.{Contents, constant_in, initial_contents, on_ok, with_constant, with_content}
+use Rattle.c_const.specs.Contents.{with_parts, zero_contents}
+use Rattle.c_const.specs.Initializers.{any_pointers, content_fault, first_not_constant, line_unless, or_later}
+use Rattle.c_const.specs.Initializers.{parts_fault, statics_fault}
 use Rattle.c_const.specs.Integers.{constant_word}
 use Rattle.static_data.specs.Data.{function_pointers, program_pointers, static_pointers}
 

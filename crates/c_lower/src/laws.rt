@@ -23,8 +23,8 @@ ghost use Rattle.c_lower.specs.Programs.{IsLowered};
 
 pub mod liveness;
 
-/// The code of a valid program of at most 4096 functions shows what the program shows, at each moment, for each budget and input, with at most 8
-/// units of work for each of the program's.
+/// The code of a valid program of at most 4096 functions shows what the program shows, at each moment, for each budget
+/// and input, with at most 8 units of work for each of the program's.
 pub fn lowered_code_follows_its_program()
     ensures { (p : Program) (t : Tac) → IsLowered p t → is_valid_program p ≡ true → length p.functions ≤ 4096
         → (budgets : BudgetSizes)

@@ -15,7 +15,8 @@ ghost use Rattle.tac_ir.specs.Keys.{gives};
 ghost use Rattle.tac_ir.specs.Later.{ComesLater};
 ghost use Rattle.tac_ir.specs.declared.function.Tac.{Tac};
 ghost use Rattle.tac_ir.specs.Stage.{Temps, Frame, Stage, Stuck, seen};
-ghost use Rattle.tac_ir.specs.Meaning.{fits, effect, act, function_in, keys_of, setting_of_code, step, first_stage, tac_meaning};
+ghost use Rattle.tac_ir.specs.Meaning.{fits, effect, act, function_in, keys_of, setting_of_code, step, first_stage};
+ghost use Rattle.tac_ir.specs.Meaning.{tac_meaning};
 
 pub mod plain_variables;
 pub mod same_tables;

@@ -63,9 +63,9 @@ pub fn runtimes_have_room()
         → functions_begin + table_bytes map (program_of operators map r homes) plans ≤ code_begin }
 {}
 
-/// An image of a valid program of integers of at most 4096 functions, made of its flat code under accepted plans, with no
-/// data at the start, does what the program means: it shows just what the program does, with at most 1008 instructions for each unit of the
-/// program's work.
+/// An image of a valid program of integers of at most 4096 functions, made of its flat code under accepted plans, with
+/// no data at the start, does what the program means: it shows just what the program does, with at most 1008
+/// instructions for each unit of the program's work.
 pub fn images_do_what_is_meant()
     ensures { (p : Program) (budgets : BudgetSizes) → is_valid_program p ≡ true → is_integer_program p ≡ true
         → HaveFewParameters p → length p.functions ≤ 4096 → AreInRange budgets → (code : FlatProgram)

@@ -2,7 +2,8 @@
 
 ghost use Rattle.std.specs.Prelude.{◌≡◌, option_map};
 ghost use Rattle.c_tree.specs.View.{expression_of, first_of, initializer_of, statement_of};
-ghost use Rattle.c_lower.specs.Counted.{int_constant, is_one, int_variable, bare_name, is_variable, set_to, set_by_name};
+ghost use Rattle.c_lower.specs.Counted.{int_constant, is_one, int_variable, bare_name, is_variable, set_to};
+ghost use Rattle.c_lower.specs.Counted.{set_by_name};
 ghost use Rattle.c_lower.specs.Counted.{set_by, set_first, compared_with, counts_up, counted_by, counted_parts};
 ghost use Rattle.program_lowering.specs.StatementParts.Counting.{setting_with, parts_with};
 

@@ -18,7 +18,6 @@ use crate::initializers::values::value;
 use crate::statements::lists::put;
 use c_const::constant_word;
 use c_faults::{Fault, Refusal, Rule};
-use c_room::SwitchLabels;
 use c_rules::TypedValue;
 use c_syntax::Expression;
 use c_tree::CaseLabel;
@@ -33,7 +32,7 @@ pub struct Labels<'l> {
     /// The type of the value of the switch, where it is one.
     pub switch: Option<IntType>,
     /// The labels of the items before it.
-    pub earlier: &'l SwitchLabels,
+    pub earlier: &'l [CaseLabel],
 }
 
 // Whether two labels stand for one value.
@@ -47,7 +46,7 @@ fn same_label(left: CaseLabel, right: CaseLabel) -> bool
     }
 }
 
-// Whether a label is among others of its item, which are as few as statements nest.
+// Whether a label is among others.
 fn is_among(label: CaseLabel, labels: &[CaseLabel]) -> bool
     ensures { result ≡ list_any (valid.same_label label) labels.now }
 {
@@ -68,7 +67,7 @@ impl Labels<'_> {
         ensures { Gives (λ done. labels_of self.entry own.new.items) result
             (constructs.added line label (labels_of self.entry own.old.items)) }
     {
-        if self.earlier.has(label) || is_among(label, own) {
+        if is_among(label, self.earlier) || is_among(label, own) {
             return Err(misplaced(line));
         }
         put(own, label)?;

@@ -227,6 +227,8 @@ def line_of(expected):
         return "typed"
     if kind[0] == "refused":
         return f"rule {NAMES.index(kind[1].split('.')[1])} line {kind[2]}"
+    if kind[0] == "inconstant":
+        return f"not constant line {kind[1]}"
     return f"{kind[1].split('.')[1].lower()} {kind[2]}"
 
 

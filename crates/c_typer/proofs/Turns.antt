@@ -1,6 +1,6 @@
 -- A turn of the loops over the items of blocks and switches.
-use Rattle.std.proofs.Common.{◌≡◌, ◌+◌, ◌<◌, ◌≤◌, ℕ, List, [], ◌∷◌, ◌++◌, Result, Ok, length, map, drop, get_or, refl}
-use Rattle.std.proofs.Common.{sym, ap, ◌∙◌, subst, rules, arith}
+use Rattle.std.proofs.Common.{◌≡◌, ◌+◌, ◌<◌, ◌≤◌, ℕ, List, [], ◌∷◌, ◌++◌, Result, Ok, Err, length, map, drop, get_or}
+use Rattle.std.proofs.Common.{refl, sym, ap, ◌∙◌, subst, rules, arith}
 use Rattle.std.proofs.lemmas.List.{drop_more}
 use Rattle.std.proofs.lemmas.Grind.{common_steps}
 use Rattle.obj_memory.specs.declared.int_type.IntType.{IntType}
@@ -102,3 +102,16 @@ pub switch_done : (a : Around) (type : IntType) (xs : List rk.BlockItem) (i : �
 switch_done a type xs i earlier b f all le before =
     sym before ∙ ap (λ z. switch_items_behind a type earlier (map item_of b) (items_in z) f) (none_left xs i le)
     ∙ no_more_in_switch a type earlier (map item_of b) f
+
+-- an item is refused, and so is the switch
+pub switch_refused : {A I : Type 0} (view : A → SwitchItems) (item : I → Labelled) (a : Around) (type : IntType)
+    (xs : List rk.BlockItem) (i : ℕ) (x : rk.BlockItem) (earlier : List CaseLabel) (b : List code_item.SwitchItem)
+    (f new : File) (all : Answer (File × SwitchItems)) (r : Result A Refusal) (o : Result I Refusal) (e : Refusal)
+    → i < length xs → x ≡ get_or xs i x
+    → FileTypes item new o (switch_item a (labels_on type earlier) (block_item_of x) f) → o ≡ Err e → r ≡ Err e
+    → switch_items_behind a type earlier (map item_of b) (items_in (drop i xs)) f ≡ all → FileTypes view new r all
+switch_refused view item a type xs i x earlier b f new all r o e low is typed refused given before =
+    subst (λ z. FileTypes view new z all) (sym given)
+    (switch_fails a type xs i x earlier b f all e low is
+    (subst (λ z. FileTypes item new z (switch_item a (labels_on type earlier) (block_item_of x) f)) refused typed)
+    before)

@@ -18,6 +18,7 @@ use crate::initializers::values::value;
 use crate::statements::lists::put;
 use c_const::constant_word;
 use c_faults::{Fault, Refusal, Rule};
+use c_room::SwitchLabels;
 use c_rules::TypedValue;
 use c_syntax::Expression;
 use c_tree::CaseLabel;
@@ -32,7 +33,7 @@ pub struct Labels<'l> {
     /// The type of the value of the switch, where it is one.
     pub switch: Option<IntType>,
     /// The labels of the items before it.
-    pub earlier: &'l [CaseLabel],
+    pub earlier: &'l SwitchLabels,
 }
 
 // Whether two labels stand for one value.
@@ -46,7 +47,7 @@ fn same_label(left: CaseLabel, right: CaseLabel) -> bool
     }
 }
 
-// Whether a label is among others.
+// Whether a label is among others of its item, which are as few as statements nest.
 fn is_among(label: CaseLabel, labels: &[CaseLabel]) -> bool
     ensures { result ≡ list_any (valid.same_label label) labels.now }
 {
@@ -67,7 +68,7 @@ impl Labels<'_> {
         ensures { Gives (λ done. labels_of self.entry own.new.items) result
             (constructs.added line label (labels_of self.entry own.old.items)) }
     {
-        if is_among(label, self.earlier) || is_among(label, own) {
+        if self.earlier.has(label) || is_among(label, own) {
             return Err(misplaced(line));
         }
         put(own, label)?;

@@ -13,14 +13,6 @@ pub(crate) fn put<T: Drop>(items: &mut Vec<T>, item: T) -> Result<(), AllocError
     Ok(())
 }
 
-/// Puts items behind the others.
-pub(crate) fn followed<T: Copy + Drop>(items: &mut Vec<T>, more: &[T]) -> Result<(), AllocError>
-    ensures { OnOk result (items.new.items ≡ items.old.items ++ more.now) }
-{
-    items.extend_from_slice(more)?;
-    Ok(())
-}
-
 /// The items and one more.
 pub(crate) fn with_item<T: Drop>(items: Vec<T>, item: T) -> Result<Vec<T>, AllocError>
     ensures { IfOk result (λ more. more.items ≡ items.items ++ item ∷ []) }

@@ -28,9 +28,10 @@ use crate::statements::controlling::{controlling, expression_statement, switchin
 use crate::statements::heads::head_typed;
 use crate::statements::labels::{Labels, case_label};
 use crate::statements::leaving::{break_at, continue_at, returned};
-use crate::statements::lists::{followed, with_item};
+use crate::statements::lists::with_item;
 use crate::statements::repeating::do_behind;
 use c_faults::Refusal;
+use c_room::SwitchLabels;
 use c_rules::TypedValue;
 use c_rules::holding::beside;
 use c_syntax::{
@@ -163,9 +164,10 @@ fn unlabelled<'a>(
     ensures { FileTypes statement_of (file_of file.new) result (constructs.without_labels (statements.statement
         (around_of around.entry) constructs.no_labels (views.statement_of tree.now)) (file_of file.old)) }
 {
+    let earlier = SwitchLabels::new(file.typer.alloc);
     let labels = Labels {
         switch: None,
-        earlier: &[],
+        earlier: &earlier,
     };
     let mut own = Vec::new(file.typer.alloc);
     statement(file, around, labels, &mut own, tree)
@@ -420,16 +422,16 @@ fn scope_of_switch<'a>(
 
 // An item behind others of a switch, whose labels are earlier ones from now on.
 fn with_switch_item(
-    earlier: &mut Vec<CaseLabel>,
+    earlier: &mut SwitchLabels,
     typed: Vec<SwitchItem>,
     item: (Vec<CaseLabel>, Allocated<Statement>),
 ) -> Result<Vec<SwitchItem>, AllocError>
     ensures items { IfOk result (λ is. map item_of is.items
         ≡ map item_of typed.items ++ (item.0.items, statement_of item.1) ∷ []) }
-    ensures labels { IfOk result (λ is. earlier.new.items ≡ earlier.old.items ++ item.0.items) }
+    ensures labels { IfOk result (λ is. earlier.new ≡ earlier.old ++ item.0.items) }
 {
     let (labels, statement) = item;
-    let followed = followed(earlier, &labels);
+    let followed = earlier.extend_from_slice(&labels);
     let (parts, _) = beside((typed, (labels, statement)), followed)?;
     let (typed, (labels, statement)) = parts;
     with_item(typed, switch_item(labels, statement))
@@ -446,7 +448,7 @@ fn switch_items<'a>(
     ensures { FileTypes (λ is. built.items_in (map item_of is.items)) (file_of file.new) result
         (statements.switch_items (around_of around.entry) value_type [] (views.items_in items.now) (file_of file.old)) }
 {
-    let mut earlier = Vec::new(file.typer.alloc);
+    let mut earlier = SwitchLabels::new(file.typer.alloc);
     let mut typed = Vec::new(file.typer.alloc);
     for item in items {
         let labels = Labels {

@@ -1,4 +1,4 @@
-use Rattle.std.proofs.Common.{◌≡◌, ◌∙◌, Ok, [], map, ap, subst, sym}
+use Rattle.std.proofs.Common.{◌≡◌, ◌∙◌, Ok, [], map, ap, refl, rules, sym}
 use Rattle.c_syntax.specs.StatementsView.{block_item_of, items_in, statement_of}
 use Rattle.c_syntax.specs.View.{expression_of}
 use Rattle.c_tree.specs.Statements.{statements_in}
@@ -12,7 +12,8 @@ use Rattle.c_typer.proofs.Arms.{block_arm, break_arm, case_arm, continue_arm, de
 use Rattle.c_typer.proofs.Arms.{expression_arm, for_arm, if_arm, if_else_arm, return_arm, switch_arm}
 use Rattle.c_typer.proofs.Arms.{while_arm}
 use Rattle.c_typer.proofs.Otherwise.{steps_typed}
-use Rattle.c_typer.proofs.Turns.{block_done, block_turn, grown, result_typed, switch_done, switch_turn}
+use Rattle.c_typer.proofs.Turns.{block_done, block_turn, grown, result_typed, switch_done, switch_refused}
+use Rattle.c_typer.proofs.Turns.{switch_turn}
 use Rattle.c_typer.proofs.statements.statement.+statements.Goals as goal
 
 pub statement-returns-in-Block : goal.statement-returns-in-Block
@@ -143,15 +144,13 @@ switch_items-loop-item-preserved t c =
     let new = file_of c.labelled_item.new.file in
     let i = c.in_ok-before.item in
     let type = c.args.value_type in
-    switch_turn a type c.args.items.now c.loop-item.item-index x c.loop-item.earlier.items
-    c.with_switch_item.new.earlier.items c.loop-item.typed.items c.in_ok-typed.typed.items
+    switch_turn a type c.args.items.now c.loop-item.item-index x c.loop-item.earlier
+    c.with_switch_item.new.earlier c.loop-item.typed.items c.in_ok-typed.typed.items
     (labelled_of i.0.items i.1) f new
     (switch_items a type [] (items_in c.args.items.now) (file_of c.args.file.now)) c.loop-item-test.true c.item-item.is
-    (subst (λ ls. switch_item a (labels_on type ls) (block_item_of x) f ≡ Ok (new, labelled_of i.0.items i.1))
-    c.deref.ensures.value
     (result_typed i c.labelled_item.result (λ item. labelled_of item.0.items item.1) new
-    (switch_item a (labels_on type c.deref.result.now) (block_item_of x) f) c.in_ok-before.ensures.ok.1
-    c.labelled_item.ensures))
+    (switch_item a (labels_on type c.loop-item.earlier) (block_item_of x) f) c.in_ok-before.ensures.ok.1
+    c.labelled_item.ensures)
     c.in_ok-typed.ensures.labels
     (grown c.in_ok-before.before c.loop-item.typed c.in_ok-typed.typed (λ v. map item_of v.items)
     (i.0.items, tree.statement_of i.1) c.in_ok-before.ensures.ok.0 c.in_ok-typed.ensures.items)
@@ -160,7 +159,19 @@ switch_items-loop-item-preserved t c =
 pub switch_items-returns : goal.switch_items-returns
 switch_items-returns t c =
     let a = around_of c.args.around in
-    switch_done a c.args.value_type c.args.items.now c.loop-item.item-index c.loop-item.earlier.items
+    switch_done a c.args.value_type c.args.items.now c.loop-item.item-index c.loop-item.earlier
     c.loop-item.typed.items (file_of c.loop-item.file)
     (switch_items a c.args.value_type [] (items_in c.args.items.now) (file_of c.args.file.now)) c.loop-item-test.false
+    c.loop-item.invariant
+
+pub switch_items-returns-in_err-before : goal.switch_items-returns-in_err-before
+switch_items-returns-in_err-before t c =
+    let a = around_of c.args.around in
+    let i = c.labelled_item.result in
+    switch_refused _ (λ item. labelled_of item.0.items item.1) a c.args.value_type c.args.items.now
+    c.loop-item.item-index c.item-item.result c.loop-item.earlier c.loop-item.typed.items (file_of c.loop-item.file)
+    (file_of c.labelled_item.new.file)
+    (switch_items a c.args.value_type [] (items_in c.args.items.now) (file_of c.args.file.now))
+    c.from_residual.result i c.in_err-before.field-0.0 c.loop-item-test.true c.item-item.is c.labelled_item.ensures
+    (c.in_err-before.ensures.err _ refl) (search rules)
     c.loop-item.invariant

@@ -15,6 +15,6 @@ invariant-block_items-loop-item l =
 
 abbrev pub invariant-switch_items-loop-item : goal.invariant-switch_items-loop-item
 invariant-switch_items-loop-item l =
-    switch_items_behind (around_of l.around) l.value_type l.earlier.items (map item_of l.typed.items)
+    switch_items_behind (around_of l.around) l.value_type l.earlier (map item_of l.typed.items)
     (items_in (drop l.item-index l.items)) (file_of l.file)
     ≡ switch_items (around_of l.around) l.value_type [] (items_in l.items) (file_of l.fn.file)

@@ -6,7 +6,7 @@ use Rattle.std.proofs.lemmas.Bool.{cases_lt}
 use Rattle.flat_meaning.specs.declared.instruction.FlatInstruction.{FlatInstruction}
 use Rattle.flat_meaning.specs.declared.function.FlatFunction.{FlatFunction}
 use Rattle.flat_meaning.specs.declared.function.FlatProgram.{FlatProgram}
-use Rattle.reg_plan.specs.declared.plan.TheConstants.{REGISTERS}
+use Rattle.reg_plan.specs.Registers.{registers_given_out}
 use Rattle.reg_plan.specs.declared.plan.Place.{Place}
 use Rattle.reg_plan.specs.declared.plan.FunctionPlan.{FunctionPlan}
 use Rattle.reg_plan.specs.Needs.{IsNeeded, Read, Made, Before}
@@ -29,7 +29,7 @@ some_place (x ∷ xs) zero lt = (x, refl)
 some_place (x ∷ xs) (suc y) lt = some_place xs y (omega arith)
 
 -- live ranges that are least, with places by colouring
-pub least_plan : (p : FlatProgram) (number : ℕ) (f : FlatFunction) (plan : FunctionPlan) (count : ℕ) → count ≤ REGISTERS
+pub least_plan : (p : FlatProgram) (number : ℕ) (f : FlatFunction) (plan : FunctionPlan) (count : ℕ) → count ≤ registers_given_out
     → IsPlannable p number f → ((pc y : ℕ) → y < length f.homes → IsNeeded p number f.body pc y → IsLive plan pc y)
     → ((pc y : ℕ) → IsLive plan pc y → IsNeeded p number f.body pc y) → length plan.places.items ≡ length f.homes
     → IsColoured plan.live.items plan.places.items count → IsLeastPlan p number f plan
@@ -81,7 +81,7 @@ planned_more p plans n P f plan a here q = record {
 
 -- the same where the body and the number of homes go by other names
 pub least_plan_of : (p : FlatProgram) (number : ℕ) (f : FlatFunction) (plan : FunctionPlan) (count : ℕ)
-    (body : List FlatInstruction) (n : ℕ) → count ≤ REGISTERS → IsPlannable p number f → body ≡ f.body
+    (body : List FlatInstruction) (n : ℕ) → count ≤ registers_given_out → IsPlannable p number f → body ≡ f.body
     → n ≡ length f.homes → ((pc y : ℕ) → y < n → IsNeeded p number body pc y → IsLive plan pc y)
     → ((pc y : ℕ) → IsLive plan pc y → IsNeeded p number body pc y) → length plan.places.items ≡ n
     → IsColoured plan.live.items plan.places.items count → IsLeastPlan p number f plan

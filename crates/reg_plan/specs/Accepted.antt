@@ -6,7 +6,7 @@ use Rattle.std.specs.Global.{Global}
 use Rattle.flat_meaning.specs.declared.instruction.FlatInstruction.{FlatInstruction}
 use Rattle.flat_meaning.specs.declared.function.FlatFunction.{FlatFunction}
 use Rattle.flat_meaning.specs.declared.function.FlatProgram.{FlatProgram}
-use Rattle.reg_plan.specs.declared.plan.TheConstants.{REGISTERS}
+use Rattle.reg_plan.specs.Registers.{registers_given_out}
 use Rattle.reg_plan.specs.declared.plan.LiveInterval.{LiveInterval}
 use Rattle.reg_plan.specs.declared.plan.Place.{Place}
 use Rattle.reg_plan.specs.declared.plan.Place.TheVariants.{Register}
@@ -60,5 +60,5 @@ pub record IsAccepted (program : FlatProgram) (number : ℕ) (function : FlatFun
       → (place : Place) × (slice_get plan.places.items y ≡ Some place)
   pub given : (pc y r : ℕ) → pc < length function.body → IsLive plan pc y
       → slice_get plan.places.items y ≡ Some (Register r)
-      → r < REGISTERS
+      → r < registers_given_out
   pub entry : (y : ℕ) → 0 < length function.body → IsLive plan 0 y → y < function.parameters

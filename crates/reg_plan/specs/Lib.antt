@@ -1,5 +1,6 @@
 pub mod Effects
 pub mod Needs
+pub mod Registers
 pub mod Flow
 pub mod Accepted
 pub mod Colours

@@ -3,7 +3,7 @@
 use Rattle.std.specs.Prelude.{◌≡◌, ℕ, ◌^◌, ◌<◌, List, length, Some, slice_get}
 use Rattle.flat_meaning.specs.declared.function.FlatFunction.{FlatFunction}
 use Rattle.flat_meaning.specs.declared.function.FlatProgram.{FlatProgram}
-use Rattle.reg_plan.specs.declared.plan.TheConstants.{REGISTERS}
+use Rattle.reg_plan.specs.Registers.{registers_given_out}
 use Rattle.reg_plan.specs.declared.plan.Place.{Place}
 use Rattle.reg_plan.specs.declared.plan.Place.TheVariants.{Home}
 use Rattle.reg_plan.specs.declared.plan.FunctionPlan.{FunctionPlan}
@@ -43,7 +43,7 @@ pub record IsPlanOfSlots (program : FlatProgram) (number : ℕ) (function : Flat
 pub record IsPlanOfRegisters (program : FlatProgram) (number : ℕ) (function : FlatFunction)
     (plan : FunctionPlan) : Type 0 where
   pub least : IsLeastPlan program number function plan
-  pub full : (y r : ℕ) → slice_get plan.places.items y ≡ Some Home → r < REGISTERS
+  pub full : (y r : ℕ) → slice_get plan.places.items y ≡ Some Home → r < registers_given_out
       → IsTaken plan.live.items plan.places.items r y
 
 -- the first functions, so many, have plans of which something holds

@@ -4,7 +4,7 @@ use Rattle.flat_meaning.specs.declared.instruction.FlatInstruction.{FlatInstruct
 use Rattle.flat_meaning.specs.declared.function.FlatFunction.{FlatFunction}
 use Rattle.flat_meaning.specs.declared.function.FlatProgram.{FlatProgram}
 use Rattle.reg_plan.specs.declared.effects.Span.{Span}
-use Rattle.reg_plan.specs.declared.plan.TheConstants.{REGISTERS}
+use Rattle.reg_plan.specs.Registers.{registers_given_out}
 use Rattle.reg_plan.specs.declared.plan.LiveInterval.{LiveInterval}
 use Rattle.reg_plan.specs.declared.plan.Place.{Place}
 use Rattle.reg_plan.specs.declared.plan.Place.TheVariants.{Register}
@@ -46,7 +46,7 @@ pub record IsPlaced (function : FlatFunction) (plan : FunctionPlan) (y : ℕ) : 
   pub home : HasHome function y
   pub place : Place
   pub is : slice_get plan.places.items y ≡ Some place
-  pub given : (r : ℕ) → slice_get plan.places.items y ≡ Some (Register r) → r < REGISTERS
+  pub given : (r : ℕ) → slice_get plan.places.items y ≡ Some (Register r) → r < registers_given_out
 
 -- what the plan says of a virtual register: where it is live it has a home and a place; it is live at the entry only
 -- if it is a parameter; and it is kept apart from those before it

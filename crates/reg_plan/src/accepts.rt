@@ -8,6 +8,7 @@ ghost use Rattle.reg_plan.specs.declared.plan.Place.{Place};
 ghost use Rattle.reg_plan.specs.declared.plan.Place.TheVariants.{Register};
 ghost use Rattle.reg_plan.specs.Accepted.{covers, is_live, IsLive, HasHome, IsAccepted};
 ghost use Rattle.reg_plan.specs.Colours.{range_of};
+ghost use Rattle.reg_plan.specs.Registers.{registers_given_out};
 ghost use Rattle.reg_plan.specs.Tests.{Meet, AreApart, IsPlaced, IsKept, AreAccepted};
 
 use crate::apart::{are_kept_apart, home_of, overlap, place_of, range_of};
@@ -43,9 +44,9 @@ fn has_home(function: &FlatFunction, register: usize) -> bool
 fn has_place(plan: &FunctionPlan, register: usize) -> bool
     ensures place { result ≡ true → (place : Place) × (slice_get plan.now.places.items register ≡ Some place) }
     ensures given { result ≡ true → (r : ℕ) → slice_get plan.now.places.items register ≡ Some (Register r)
-        → r < REGISTERS }
+        → r < registers_given_out }
     ensures no { (place : Place) → slice_get plan.now.places.items register ≡ Some place
-        → ((r : ℕ) → slice_get plan.now.places.items register ≡ Some (Register r) → r < REGISTERS) → result ≡ true }
+        → ((r : ℕ) → slice_get plan.now.places.items register ≡ Some (Register r) → r < registers_given_out) → result ≡ true }
 {
     match place_of(plan, register) {
         Some(Place::Home) => true,

@@ -8,7 +8,7 @@ ghost use Rattle.reg_plan.specs.Accepted.{holds, covers, is_live, IsLive, interv
 ghost use Rattle.reg_plan.specs.Colours.{range_of};
 ghost use Rattle.reg_plan.specs.Tests.{Meet, AreApart, IsPlaced};
 
-use crate::plan::{FunctionPlan, LiveInterval, Place, REGISTERS};
+use crate::plan::{FunctionPlan, LiveInterval, Place};
 use flat_meaning::FlatFunction;
 
 // Whether two intervals have an instruction in common, one of the first so many.

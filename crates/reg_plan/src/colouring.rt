@@ -8,6 +8,7 @@ ghost use Rattle.reg_plan.specs.Accepted.{holds, covers, intervals_of};
 ghost use Rattle.reg_plan.specs.declared.plan.Place.{Place};
 ghost use Rattle.reg_plan.specs.declared.plan.Place.TheVariants.{Home};
 ghost use Rattle.reg_plan.specs.Colours.{IsColoured, IsColouring, AreWithin, is_at_home};
+ghost use Rattle.reg_plan.specs.Registers.{registers_given_out};
 
 use crate::plan::{LiveInterval, Place, REGISTERS};
 use data_flow::NodeSet;
@@ -131,7 +132,7 @@ pub fn coloured(
     instructions: usize,
 ) -> Result<Vec<Place>, AllocError>
     requires { AreWithin ranges.now instructions }
-    ensures coloured { IfOk result (λ places. IsColoured ranges.now places.items REGISTERS) }
+    ensures coloured { IfOk result (λ places. IsColoured ranges.now places.items registers_given_out) }
     ensures size { IfOk result (λ places. length places.items ≡ length ranges.now) }
 {
     let mut used = NodeSet::new(alloc, instructions)?;

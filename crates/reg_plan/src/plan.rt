@@ -7,7 +7,8 @@ pub struct LiveInterval {
     pub end: u32,
 }
 
-/// How many registers are given out: the saved registers s0 to s10, which are x8, x9 and x18 to x26 (RISC-V psABI).
+/// How many registers are given out: the saved registers s0 to s10, which are x8, x9 and x18 to x26 (RISC-V psABI). The
+/// number is that of the definition (`specs/Registers`), by the contracts of `registers` and `accepts`.
 pub const REGISTERS: u32 = 11;
 
 /// Where the value of a virtual register is kept.

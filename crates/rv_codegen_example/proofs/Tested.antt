@@ -9,7 +9,7 @@ use Rattle.flat_meaning.specs.declared.function.FlatFunction.{FlatFunction}
 use Rattle.flat_meaning.specs.declared.function.FlatProgram.{FlatProgram}
 use Rattle.reg_plan.specs.declared.effects.Span.{Span}
 use Rattle.reg_plan.specs.declared.effects.Reads.{Reads}
-use Rattle.reg_plan.specs.declared.plan.TheConstants.{REGISTERS}
+use Rattle.reg_plan.specs.Registers.{registers_given_out}
 use Rattle.reg_plan.specs.declared.plan.LiveInterval.{LiveInterval}
 use Rattle.reg_plan.specs.declared.plan.Place.{Place}
 use Rattle.reg_plan.specs.declared.plan.Place.TheVariants.{Home, Register}
@@ -118,7 +118,7 @@ module _ (p : FlatProgram) (f : ℕ) (g : FlatFunction) (plan : FunctionPlan) wh
   abbrev place_ok : Option Place → Bool
   place_ok None = false
   place_ok (Some Home) = true
-  place_ok (Some (Register r)) = nat_lt r REGISTERS
+  place_ok (Some (Register r)) = nat_lt r registers_given_out
 
   abbrev value_ok : ℕ → Bool
   value_ok y =
@@ -149,9 +149,9 @@ module _ (p : FlatProgram) (f : ℕ) (g : FlatFunction) (plan : FunctionPlan) wh
   place_of_ok y (Some place) e h = (place, e)
 
   register_of_ok : (y r : ℕ) → slice_get plan.places.items y ≡ Some (Register r)
-      → place_ok (slice_get plan.places.items y) ≡ true → r < REGISTERS
+      → place_ok (slice_get plan.places.items y) ≡ true → r < registers_given_out
   register_of_ok y r e h =
-      let t : place_ok (Some (Register r)) ≡ true = ap place_ok (sym e) ∙ h in ltb-true r REGISTERS t
+      let t : place_ok (Some (Register r)) ≡ true = ap place_ok (sym e) ∙ h in ltb-true r registers_given_out t
 
   other_words : (x y w : ℕ) → pair_ok x y ≡ true → slice_get g.homes x ≡ Some w → slice_get g.homes y ≡ Some w
       → x ≡ y

@@ -8,10 +8,12 @@
 pub mod judging;
 pub mod laws;
 pub mod lists;
+pub mod narrowing;
 pub mod testing;
 
 pub use crate::judging::{judge, judge_instructions};
 pub use crate::lists::{give_instructions, guarded, joined, unless, until};
+pub use crate::narrowing::narrow;
 pub use crate::testing::{
     spatial_check, spatial_instructions, temporal_check, temporal_instructions,
 };

@@ -2,3 +2,4 @@ pub mod Sets
 pub mod Values
 pub mod Operators
 pub mod Division
+mod PointerCode

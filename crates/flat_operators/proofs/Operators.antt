@@ -37,7 +37,7 @@ use Rattle.flat_operators.proofs.Values.{masked, other_by, zero_by, equal_by, am
 use Rattle.flat_operators.proofs.Values.{amount_of_word, whole_shift, word_shift_fits, negated_by, complement_by}
 
 -- code that may be done, behind code that may
-both_all : (c : Context) (is js : List FlatInstruction) (s : State) → AreAllowed c is s
+pub both_all : (c : Context) (is js : List FlatInstruction) (s : State) → AreAllowed c is s
     → AreAllowed c js (effects c is s) → AreAllowed c (is ++ js) s
 both_all c [] js s a b = b
 both_all c (i ∷ is) js s a b = (a.0, both_all c is js (effect c i s) a.1 b)
@@ -88,7 +88,7 @@ module _ (c : Context) (d n : ℕ) where
       )
 
   -- two lists one behind the other
-  both_give : (is js : List FlatInstruction) (u v : ℕ) (s : State) → Gives is s u → Gives js (effects c is s) v
+  pub both_give : (is js : List FlatInstruction) (u v : ℕ) (s : State) → Gives is s u → Gives js (effects c is s) v
       → Gives (is ++ js) s v
   both_give is js u v s g h = (
     both_all c is js s g.0 h.0,

@@ -32,7 +32,7 @@ pub struct Registers {
 }
 
 // Puts an operator of the machine on two registers behind a list.
-fn put_operator(
+pub(crate) fn put_operator(
     code: &mut Vec<FlatInstruction>,
     op: RegOp,
     into: u32,

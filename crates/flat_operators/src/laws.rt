@@ -1,6 +1,7 @@
 //! Laws of the lists, each as the contract of a function that does nothing.
 
-ghost use Rattle.std.specs.Prelude.{ℕ, ◌^◌, ◌<◌, Some};
+ghost use Rattle.std.specs.Prelude.{ℕ, ◌^◌, ◌<◌, ◌≤◌, Some};
+ghost use Rattle.rv_isa.specs.declared.instruction.RegOp.TheVariants as op;
 ghost use Rattle.obj_memory.specs.declared.int_type.IntType.{IntType};
 ghost use Rattle.obj_memory.specs.declared.operator.UnaryOperator.{UnaryOperator};
 ghost use Rattle.obj_memory.specs.declared.operator.BinaryOperator.{BinaryOperator};
@@ -9,6 +10,8 @@ ghost use Rattle.obj_memory.specs.Operators.{unary_value, binary_value};
 ghost use Rattle.flat_meaning.specs.Meaning.{Context};
 ghost use Rattle.flat_routines.specs.Routine.{Does};
 ghost use Rattle.flat_operators.specs.Operators.{constant_code, conversion_code, unary_code, binary_code};
+ghost use Rattle.flat_operators.specs.Pointers.{address_back, address_forward, difference_code, elements_between};
+ghost use Rattle.flat_operators.specs.Pointers.{offset_code};
 ghost use Rattle.flat_operators.specs.Results.{AreOperands, Anywhere, IsResult};
 
 /// A word gets into a register within five steps.
@@ -35,4 +38,21 @@ pub fn binary_operators_give_their_values()
     ensures { (c : Context) (op : BinaryOperator) (t : IntType) (line d a b n : ℕ) → AreOperands d a b n
         → Does c (binary_code op t line d a b n) Anywhere (λ s. 4)
         (λ s. IsResult (binary_value op t (s.values a) (s.values b)) line d n s) }
+{}
+
+/// A pointer moves on, or back, by elements of any size (6.5.6 paragraph 8), within seven steps.
+pub fn pointers_move_by_elements()
+    ensures forward { (c : Context) (line d a i n size : ℕ) → size < 2 ^ 64 → AreOperands d a i n
+        → Does c (offset_code op.Add size d a i n) Anywhere (λ s. 7)
+        (λ s. IsResult (Some (address_forward size (s.values a) (s.values i))) line d n s) }
+    ensures back { (c : Context) (line d a i n size : ℕ) → size < 2 ^ 64 → AreOperands d a i n
+        → Does c (offset_code op.Sub size d a i n) Anywhere (λ s. 7)
+        (λ s. IsResult (Some (address_back size (s.values a) (s.values i))) line d n s) }
+{}
+
+/// The difference of two pointers is that of their elements (6.5.6 paragraph 9), within seven steps.
+pub fn differences_are_in_elements()
+    ensures { (c : Context) (line d a b n size : ℕ) → size < 2 ^ 64 → 1 ≤ size → AreOperands d a b n
+        → Does c (difference_code size d a b n) Anywhere (λ s. 7)
+        (λ s. IsResult (Some (elements_between size (s.values a) (s.values b))) line d n s) }
 {}

@@ -35,3 +35,4 @@ pub mod Living
 pub mod JudgingTests
 pub mod StaysFlow
 pub mod Constants
+pub mod Updating

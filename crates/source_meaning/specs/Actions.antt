@@ -184,6 +184,14 @@ update k is_judged p line new_of f = do
   write_scalar k p.word place new
   done (given f old new)
 
+-- the same as a read and a write, each through the pointer
+abbrev pub update_in_parts : Scalar → Value → (line : ℕ) → (Value → Run Value) → Fixity → Run Value
+update_in_parts k p line new_of f = do
+  old ← load k false p line
+  new ← new_of old
+  store k false p line new
+  done (given f old new)
+
 -- a structure read: the value is the pointer
 abbrev pub load_structure : (size : ℕ) → (is_judged : Bool) → Value → (line : ℕ) → Run Value
 load_structure size is_judged p line = do

@@ -29,12 +29,13 @@ ghost use Rattle.c_tree.specs.ValidProgram.{are_declared, function_scope, Inside
 ghost use Rattle.c_tree.specs.ValidProgram.{is_valid_program};
 ghost use Rattle.source_meaning.specs.State.{Env, State, Rvalue, Gives, Run, Header, Setting, change};
 ghost use Rattle.source_meaning.specs.Actions.{located, read_lvalue, write_lvalue, read_scalar, write_scalar, updated};
-ghost use Rattle.source_meaning.specs.Actions.{update, update_plain, set_plain, move_bytes, make_object, put_bytes};
+ghost use Rattle.source_meaning.specs.Actions.{update, update_in_parts, update_plain, set_plain, move_bytes};
+ghost use Rattle.source_meaning.specs.Actions.{make_object, put_bytes};
 ghost use Rattle.source_meaning.specs.Actions.{take_key, each_value, operate, load, store};
 ghost use Rattle.source_meaning.specs.Structures.{make_zero, moved_into, put_range, read_rvalue, take_value};
 ghost use Rattle.source_meaning.specs.Structures.{write_rvalue};
 ghost use Rattle.obj_memory.specs.Objects.{ObjectState, Objects, object_at};
-ghost use Rattle.obj_memory.specs.Access.{move_range};
+ghost use Rattle.obj_memory.specs.Access.{move_range, scalar_size};
 ghost use Rattle.obj_memory.specs.Integers.{fit};
 ghost use Rattle.obj_memory.specs.Operators.{binary_value, unary_value};
 ghost use Rattle.obj_memory.specs.declared.operator.UnaryOperator.{UnaryOperator};
@@ -103,6 +104,13 @@ pub fn accesses_are_of_live_objects()
         → located true size p line s ≡ Gives place s' → IsAllowed s.objects p size place }
     ensures named { (size : ℕ) (p : Value) (line : ℕ) (s s' : State) (place : Place) → IsDirect s.objects p size
         → located false size p line s ≡ Gives place s' → IsAllowed s.objects p size place }
+{}
+
+/// An update through a pointer to a live object is a read, the new value and a write through that pointer.
+pub fn updates_are_reads_and_writes()
+    ensures { (u : Update) (k : Scalar) (p : Value) (line : ℕ) (right : Value) (at : ℕ) (f : Fixity) (s : State)
+        → IsDirect s.objects p (scalar_size k)
+        → update k false p line (updated u k right at) f s ≡ update_in_parts k p line (updated u k right at) f s }
 {}
 
 /// Accesses and changes of variables begin no turn, do the same at any count of work, and add to it.

@@ -1,11 +1,12 @@
 #!/usr/bin/env python3
 """Counts the instructions that images of programs of integers make on the simulator, over those of the same programs by
-riscv64-linux-gnu-gcc -O0 (Debian's gcc-riscv64-linux-gnu), whose `putchar`, `getchar` and `exit` make the same environment
-calls.
+riscv64-linux-gnu-gcc -O0 and -O1 (Debian's gcc-riscv64-linux-gnu), whose `putchar`, `getchar` and `exit` make the same
+environment calls, and the geometric means of both ratios.
 
 usage: python3 bench/instructions.py [NAME ..]     programs of crates/sbcets_tests/programs
 """
 
+import math
 import os
 import subprocess
 import sys
@@ -13,8 +14,10 @@ import tempfile
 
 TOP = os.path.join(os.path.dirname(os.path.realpath(__file__)), "..")
 PROGRAMS = f"{TOP}/crates/sbcets_tests/programs"
-TEN = ["ackermann", "calculator", "crc32", "hanoi", "life", "mandelbrot", "partitions", "powers", "queens", "wide_product"]
-GCC = ["riscv64-linux-gnu-gcc", "-std=c99", "-O0", "-fwrapv", "-funsigned-char", "-march=rv64im", "-mabi=lp64", "-nostdlib", "-static", "-w",
+FIFTEEN = ["ackermann", "calculator", "collatz", "conversions", "crc32", "hanoi", "life", "mandelbrot", "partitions", "powers",
+           "queens", "run_lengths", "small_machine", "sorting_network", "wide_product"]
+LEVELS = ("-O0", "-O1")
+GCC = ["riscv64-linux-gnu-gcc", "-std=c99", "-fwrapv", "-funsigned-char", "-march=rv64im", "-mabi=lp64", "-nostdlib", "-static", "-w",
        "-fno-builtin", "-fno-pic", "-no-pie", "-nostdinc"]
 HEADER = "#define EOF (-1)\nint putchar(int);\nint getchar(void);\nvoid exit(int);\nvoid abort(void);\n"
 RUNTIME = r"""
@@ -49,6 +52,26 @@ def counted(image, given):
     return high
 
 
+def input_of(name):
+    if not os.path.exists(f"{PROGRAMS}/{name}.in"):
+        return b""
+    with open(f"{PROGRAMS}/{name}.in", "rb") as it:
+        return it.read()
+
+
+def ratios(name, folder):
+    """The instructions of our image over those of gcc's at each level; prints them."""
+    source, ours, theirs = f"{PROGRAMS}/{name}.c", f"{folder}/ours", f"{folder}/theirs"
+    subprocess.run([f"{TOP}/bin/sbcets", "build", source, ours], check=True, stdout=subprocess.DEVNULL)
+    given = input_of(name)
+    own, found = counted(ours, given), []
+    for level in LEVELS:
+        subprocess.run([*GCC, level, f"-I{folder}", "-o", theirs, source, f"{folder}/runtime.c"], check=True)
+        found.append(own / counted(theirs, given))
+    print(f"{name:16} {own:10}", *[f"{it:6.2f}" for it in found], flush=True)
+    return found
+
+
 def main(names):
     with tempfile.TemporaryDirectory() as folder:
         with open(f"{folder}/runtime.c", "w") as out:
@@ -56,16 +79,9 @@ def main(names):
         for header in ("stdio.h", "stdlib.h"):
             with open(f"{folder}/{header}", "w") as out:
                 out.write(HEADER)
-        for name in names:
-            source, ours, theirs = f"{PROGRAMS}/{name}.c", f"{folder}/ours", f"{folder}/theirs"
-            subprocess.run([f"{TOP}/bin/sbcets", "build", source, ours], check=True, stdout=subprocess.DEVNULL)
-            subprocess.run([*GCC, f"-I{folder}", "-o", theirs, source, f"{folder}/runtime.c"], check=True)
-            given = b""
-            if os.path.exists(f"{PROGRAMS}/{name}.in"):
-                with open(f"{PROGRAMS}/{name}.in", "rb") as it:
-                    given = it.read()
-            own, other = counted(ours, given), counted(theirs, given)
-            print(f"{name:16} {own:10} {other:10} {own / other:6.2f}", flush=True)
+        found = [ratios(name, folder) for name in names]
+    means = [math.exp(sum(map(math.log, column)) / len(column)) for column in zip(*found)]
+    print(f"{'geometric mean':27}", *[f"{it:6.2f}" for it in means])
 
 
-main(sys.argv[1:] or TEN)
+main(sys.argv[1:] or FIFTEEN)

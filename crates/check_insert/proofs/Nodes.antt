@@ -20,6 +20,7 @@ use Rattle.tac_ir.specs.declared.function.StaticData.{StaticData}
 use Rattle.tac_ir.specs.declared.function.Tac.{Tac}
 use Rattle.tac_ir.specs.Meaning.{header_of_code}
 use Rattle.tac_ir.specs.SameTables.{SameAt}
+use Rattle.tac_ir.specs.Structures.{structure_put}
 use Rattle.tac_ir.specs.Temporaries.{temporaries}
 use Rattle.check_insert.specs.declared.access.Access.{Access}
 use Rattle.check_insert.specs.Counting.{is_check, checks_needed, sum_over, sum_of_functions}
@@ -216,10 +217,11 @@ backs_length next (i ∷ is) =
     let a = length-append (back next (access_of i)) (backs (behind next (access_of i)) is) in
     omega (arith, a, back_length next i, backs_length (behind next (access_of i)) is)
 
--- neither the checks nor the access behind them needs more temporaries
+-- neither the checks nor the access behind them needs more temporaries, and no access puts a structure into one
 abbrev FewIn : Option Access → (most : ℕ) → Type 0
 FewIn None n = Unit {0}
-FewIn (Some a) n = (suc a.pointer ≤ n) × (temporaries a.judged ≤ n)
+FewIn (Some a) n =
+    (suc a.pointer ≤ n) × (temporaries a.judged ≤ n) × ((t : Tac) (k : ℕ) → structure_put t a.judged k ≡ 0)
 
 few : (i : Instruction) → FewIn (access_of i) (temporaries i)
 few Reserved = tt
@@ -242,17 +244,17 @@ few (Take kind line d a m) = tt
 few (Read kind Named line key d a m) = tt
 few (Read kind Judged line key d a m) = tt
 few (Read Void Unchecked line key d a m) = tt
-few (Read (OfScalar k) Unchecked line key d a m) = (omega arith, omega arith)
-few (Read (Structure n) Unchecked line key d a m) = (omega arith, omega arith)
+few (Read (OfScalar k) Unchecked line key d a m) = (omega arith, omega arith, λ t k. refl)
+few (Read (Structure n) Unchecked line key d a m) = (omega arith, omega arith, λ t k. refl)
 few (Read (Array n) Unchecked line key d a m) = tt
 few (Write kind Named line key d a b m) = tt
 few (Write kind Judged line key d a b m) = tt
 few (Write Void Unchecked line key d a b m) = tt
-few (Write (OfScalar k) Unchecked line key d a b m) = (omega arith, omega arith)
-few (Write (Structure n) Unchecked line key d a b m) = (omega arith, omega arith)
+few (Write (OfScalar k) Unchecked line key d a b m) = (omega arith, omega arith, λ t k. refl)
+few (Write (Structure n) Unchecked line key d a b m) = (omega arith, omega arith, λ t k. refl)
 few (Write (Array n) Unchecked line key d a b m) = tt
 few (Update u k f Named line at key d a b m) = tt
-few (Update u k f Unchecked line at key d a b m) = (omega arith, omega arith)
+few (Update u k f Unchecked line at key d a b m) = (omega arith, omega arith, λ t k. refl)
 few (Update u k f Judged line at key d a b m) = tt
 few (Judge test size line key a m) = tt
 few (Zero x m) = tt
@@ -350,14 +352,31 @@ each_and P (x ∷ xs) ys h g = (h.0, each_and P xs ys h.1 g)
 
 need_front : (code : List Instruction) (n next : ℕ) (a : Option Access) (i : Instruction) → Has code n i
     → FewIn a (temporaries i) → NeedsNoMore code (front next a i)
-need_front code n next None i h f = record { node = n; other = i; has = h; most = omega arith }
-need_front code n next (Some a) i h f = record { node = n; other = i; has = h; most = f.0 }
+need_front code n next None i h f = record {
+  node = n;
+  other = i;
+  has = h;
+  most = omega arith;
+  structures = λ t k. omega arith;
+}
+need_front code n next (Some a) i h f = record {
+  node = n;
+  other = i;
+  has = h;
+  most = f.0;
+  structures = λ t k. omega arith;
+}
 
 need_back : (code : List Instruction) (n next : ℕ) (a : Option Access) (i : Instruction) → Has code n i
     → FewIn a (temporaries i) → Each (NeedsNoMore code) (back next a)
 need_back code n next None i h f = tt
-need_back code n next (Some a) i h f =
-    (record { node = n; other = i; has = h; most = f.0 }, (record { node = n; other = i; has = h; most = f.1 }, tt))
+need_back code n next (Some a) i h f = (
+  record { node = n; other = i; has = h; most = f.0; structures = λ t k. omega arith },
+  (
+    record { node = n; other = i; has = h; most = f.1; structures = λ t k. omega (arith, f.2 t k) },
+    tt,
+  ),
+)
 
 need_fronts : (code : List Instruction) (n next : ℕ) (is : List Instruction) → From code n is
     → Each (NeedsNoMore code) (fronts next is)

@@ -12,6 +12,7 @@ use Rattle.tac_ir.specs.declared.instruction.Instruction.TheVariants.{Read, Writ
 use Rattle.tac_ir.specs.declared.function.CodeFunction.{CodeFunction}
 use Rattle.tac_ir.specs.declared.function.Tac.{Tac}
 use Rattle.tac_ir.specs.SameTables.{SameTables}
+use Rattle.tac_ir.specs.Structures.{structure_put}
 use Rattle.tac_ir.specs.Temporaries.{temporaries}
 use Rattle.check_insert.specs.Counting.{checks, checks_needed, checks_to_insert, sum_over}
 
@@ -53,14 +54,17 @@ StandsFor code n (Update u k f Unchecked line at key d a b m) = Checked code n (
     (Update u k f Judged line at key d a b m)
 StandsFor code n i = Has code n i
 
--- an instruction of the code with checks, and one of the code without that needs no fewer temporaries
+-- an instruction of the code with checks, and one of the code without that needs no fewer temporaries, and puts no
+-- smaller structure into any of them
 pub record NeedsNoMore (code : List Instruction) (instruction : Instruction) : Type 0 where
   pub node : ℕ
   pub other : Instruction
   pub has : Has code node other
   pub most : temporaries instruction ≤ temporaries other
+  pub structures : (t : Tac) (temporary : ℕ) → structure_put t instruction temporary ≤ structure_put t other temporary
 
--- for each check there is a node more, and no instruction needs more temporaries than there were
+-- for each check there is a node more, and no instruction needs more temporaries than there were, or a larger structure
+-- in one
 pub record FunctionIn (before after : CodeFunction) : Type 0 where
   pub size : length after.code ≡ length before.code + sum_over checks_needed before.code
   pub code : (n : ℕ) (i : Instruction) → Has before.code n i → StandsFor after.code n i

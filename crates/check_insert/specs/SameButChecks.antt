@@ -15,7 +15,7 @@ pub record HasNoChecks (instruction : Instruction) : Type 0 where
   pub own : is_check instruction ≡ 0
 
 -- it stays at its node; for each check that was put in there is a node more, and no instruction needs more temporaries
--- than there were
+-- than there were, or a larger structure in one
 pub record SameButChecksIn (before after : CodeFunction) : Type 0 where
   pub size : length after.code ≡ length before.code + sum_over checks_needed before.code
   pub code : (n : ℕ) (i : Instruction) → Has before.code n i → HasNoChecks i → Has after.code n i

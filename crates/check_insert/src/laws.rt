@@ -6,6 +6,7 @@ ghost use Rattle.behaviours.specs.Steps.{run};
 ghost use Rattle.sb_base.specs.Budgets.{BudgetSizes};
 ghost use Rattle.tac_ir.specs.declared.function.Tac.{Tac};
 ghost use Rattle.tac_ir.specs.Stage.{Stuck};
+ghost use Rattle.tac_ir.specs.Structures.{AreasFit};
 ghost use Rattle.tac_ir.specs.Meaning.{setting_of_code, step, first_stage, tac_meaning};
 ghost use Rattle.check_insert.specs.Inserted.{Inserted};
 ghost use Rattle.check_insert.specs.SameButChecks.{SameButChecks};
@@ -33,4 +34,9 @@ pub fn checked_code_is_never_stuck()
 /// that gets checks stays at its node, and no instruction needs more temporaries.
 pub fn checked_code_is_the_same_but_for_checks()
     ensures { (t : Tac) (r : Tac) → Inserted t r → SameButChecks t r }
+{}
+
+/// In code that is another but for its checks the structures of temporaries take no larger areas.
+pub fn checks_need_no_area()
+    ensures { (t : Tac) (r : Tac) → SameButChecks t r → (bytes : ℕ → ℕ) → AreasFit t bytes → AreasFit r bytes }
 {}

@@ -6,6 +6,7 @@ pub mod Costs
 pub mod Meaning
 pub mod Edges
 pub mod Temporaries
+pub mod Structures
 pub mod Changes
 pub mod Later
 pub mod SameTables

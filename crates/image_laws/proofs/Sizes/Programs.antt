@@ -30,7 +30,7 @@ use Rattle.reg_plan.specs.declared.plan.FunctionPlan.{FunctionPlan}
 use Rattle.machine_laws.specs.Segments.Segments.{code_bytes}
 use Rattle.image_laws.specs.CodeSizes.Sizes.{most_below}
 use Rattle.image_laws.specs.Sizes.Nodes.{function_nodes, functions_nodes, program_nodes}
-use Rattle.image_laws.proofs.Sizes.Words.{words, frame_words}
+use Rattle.image_laws.proofs.Sizes.Words.{even_words, words, frame_words}
 use Rattle.image_laws.proofs.Sizes.Statements.{no_block, each_light}
 use Rattle.image_laws.proofs.Sizes.Checked.{weighs_the_same}
 use Rattle.image_laws.proofs.Sizes.Functions.{program_words, frames}
@@ -108,10 +108,10 @@ bytes_of_nodes p t r m v i low weighed ins integers few functions small plans by
     let count : length r.functions ≤ 4096 = omega (arith, as_many, functions) in
     let most = 256 * functions_nodes p.functions in
     let all = program_light p (suc most) v i in
-    let limit = weighed.by (words (suc most)) in
+    let limit = weighed.by (words (suc most)) (even_words (suc most)) in
     let same = weighs_the_same t.texts most 60 t r ins (omega (arith, all, limit)) in
     let own = program_light p 60 v i in
-    let text = weighed.by (words 60) in
+    let text = weighed.by (words 60) (even_words 60) in
     let total = program_words m r few count integers small t.texts in
     let frame = same_frames m r few count integers small r.functions p.functions headers in
     omega (arith, bytes, same, own, text, total, frame)

@@ -1,8 +1,8 @@
 -- How many words of machine code stand for each kind of instruction of three-address code at most, with its jumps,
 -- where the program has integers alone.
-use Rattle.std.specs.Prelude.{ℕ, ◌+◌, ◌*◌, List, length}
+use Rattle.std.proofs.Common.{ℕ, ◌+◌, ◌*◌, List, length, refl}
 use Rattle.c_tree.specs.declared.program.Variable.{Variable}
-use Rattle.program_lowering.specs.ExpressionCode.Weights.{Weights}
+use Rattle.program_lowering.specs.ExpressionCode.Weights.{Weights, IsEven}
 
 -- A node of the text may have 256. A call reports where its activation record does not fit, and saves registers; a
 -- division reports a zero divisor; a node that is reserved for a turn and not filled reports too.
@@ -25,6 +25,7 @@ words other = record {
   narrow = other;
   member = other;
   take = λ kind. other;
+  take_first = λ kind. other;
   read = λ kind mode. other;
   write = λ kind mode. other;
   update = λ k mode. other;
@@ -37,12 +38,15 @@ words other = record {
   turn = 60;
   library = λ r. 76;
   print = λ format. other;
-  call = λ n. 219 + 13 * n;
-  call_through = λ n. other;
+  call = λ f n. 219 + 13 * n;
+  call_through = λ type n. other;
   enter_block = other;
   leave_block = other;
   return = 8;
 }
+
+pub even_words : (other : ℕ) → IsEven (words other)
+even_words other = record { by = λ kind. refl }
 
 -- and for a function beside its instructions: its return address is kept, its first instruction is jumped to, and a
 -- word stands at its end; each parameter is taken, and each other variable is 0 at first

@@ -9,7 +9,8 @@ use Rattle.tac_ir.specs.declared.key.Key.{Key}
 use Rattle.tac_ir.specs.Temporaries.{temporaries}
 use Rattle.c_lower.specs.Placed.{Placed, Holds, HasAt}
 use Rattle.program_lowering.specs.declared.expressions.emitter.Emitter.{Emitter}
-use Rattle.program_lowering.specs.ExpressionCode.Weights.{Weights, weight_of, code_weight, no_weight}
+use Rattle.program_lowering.specs.ExpressionCode.Weights.{Weights, Weighs, weight_of, code_weight, no_weight}
+use Rattle.program_lowering.specs.ExpressionCode.Weights.{taken_into, taking_weight, returning_weight}
 use Rattle.program_lowering.specs.ExpressionCode.Emitted.{Has, Added, Stays, Keeps, IsReal, Fills, Emits}
 use Rattle.program_lowering.specs.ExpressionCode.Last.{KeyAdded, TextAdded, TakingCode, Outcomes}
 
@@ -48,6 +49,36 @@ weight_more : (texts : List (List ℕ)) (is : List Instruction) (i : Instruction
     → code_weight texts (is ++ i ∷ []) w ≡ code_weight texts is w + weight_of texts i w
 weight_more texts [] i w = omega arith
 weight_more texts (j ∷ is) i w = omega (arith, weight_more texts is i w)
+
+-- weights
+
+pub weighs_same : {w : Weights} {m n : ℕ} → m ≡ n → Weighs w m n
+weighs_same e = record { exactly = λ even. e; at_most = λ spares. omega (arith, e) }
+
+pub weighs_from : {w : Weights} {m n k : ℕ} → m ≡ n → Weighs w n k → Weighs w m k
+weighs_from e h = record {
+  exactly = λ even. e ∙ h.exactly even;
+  at_most = λ spares. omega (arith, e, h.at_most spares);
+}
+
+pub weighs_into : {w : Weights} {m n k : ℕ} → Weighs w m n → n ≡ k → Weighs w m k
+weighs_into h e = record {
+  exactly = λ even. h.exactly even ∙ e;
+  at_most = λ spares. omega (arith, e, h.at_most spares);
+}
+
+pub weighs_then : {w : Weights} {b c n : ℕ} (a k j : ℕ) → Weighs w b (a + k) → Weighs w c (b + j) → k + j ≡ n
+    → Weighs w c (a + n)
+weighs_then a k j h g e = record {
+  exactly = λ even. omega (arith, h.exactly even, g.exactly even, e);
+  at_most = λ spares. omega (arith, h.at_most spares, g.at_most spares, e);
+}
+
+weighs_behind : {w : Weights} {c k n : ℕ} (a : ℕ) → c ≡ a + k → Weighs w k n → Weighs w c (a + n)
+weighs_behind a e h = record {
+  exactly = λ even. omega (arith, e, h.exactly even);
+  at_most = λ spares. omega (arith, e, h.at_most spares);
+}
 
 -- emitters
 
@@ -88,7 +119,7 @@ pub emits_none : {a : Emitter} {k : Weights → ℕ} (m : ℕ) → ((w : Weights
 emits_none m none = record {
   kept = keeps_all;
   fits = λ limit le f. f;
-  grown = λ w texts s. omega (arith, none w);
+  grown = λ w texts s. weighs_same (omega (arith, none w));
 }
 
 pub emits_then : {a b c : Emitter} {m n : ℕ} {k j : Weights → ℕ} (most : ℕ) (weight : Weights → ℕ) → Emits a b m k
@@ -97,7 +128,7 @@ emits_then most weight e f lm ln lk = record {
   kept = keeps_on e.kept f.kept;
   fits = λ limit le h. f.fits limit (omega (arith, le, ln)) (e.fits limit (omega (arith, le, lm)) h);
   grown = λ w texts s.
-      omega (arith, e.grown w texts (λ n x h. s n x (f.kept.texts n x h)), f.grown w texts s, lk w);
+      weighs_then _ _ _ (e.grown w texts (λ n x h. s n x (f.kept.texts n x h))) (f.grown w texts s) (lk w);
 }
 
 pub emits_within : {a b : Emitter} {m : ℕ} {k : Weights → ℕ} (most : ℕ) (weight : Weights → ℕ) → Emits a b m k
@@ -105,15 +136,15 @@ pub emits_within : {a b : Emitter} {m : ℕ} {k : Weights → ℕ} (most : ℕ) 
 emits_within most weight e lm lk = record {
   kept = e.kept;
   fits = λ limit le h. e.fits limit (omega (arith, le, lm)) h;
-  grown = λ w texts s. omega (arith, e.grown w texts s, lk w);
+  grown = λ w texts s. weighs_into (e.grown w texts s) (omega (arith, lk w));
 }
 
--- an instruction of such a weight in whatever texts come later
-pub added_by : {a b : Emitter} {n : ℕ} {i : Instruction} (m : ℕ) (weight : Weights → ℕ) → Added a b n i
+-- an instruction that weighs so much in whatever texts come later
+added_as : {a b : Emitter} {n : ℕ} {i : Instruction} (m : ℕ) (weight : Weights → ℕ) → Added a b n i
     → temporaries i ≤ m
-    → ((w : Weights) (texts : List (List ℕ)) → Stays b.texts.items texts → weight_of texts i w ≡ weight w)
+    → ((w : Weights) (texts : List (List ℕ)) → Stays b.texts.items texts → Weighs w (weight_of texts i w) (weight w))
     → Emits a b m weight
-added_by {a} {b} {n} {i} m weight h le of = record {
+added_as {a} {b} {n} {i} m weight h le of = record {
   kept = record {
     code = one_more a.code.items b.code.items i h.code;
     keys = stays_by a.keys.items b.keys.items h.keys;
@@ -127,8 +158,16 @@ added_by {a} {b} {n} {i} m weight h le of = record {
         (subst (λ l. HasAt l k x) h.code g);
   };
   grown = λ w texts s.
-      omega (arith, ap (λ is. code_weight texts is w) h.code, weight_more texts a.code.items i w, of w texts s);
+      weighs_behind (code_weight texts a.code.items w)
+      (ap (λ is. code_weight texts is w) h.code ∙ weight_more texts a.code.items i w) (of w texts s);
 }
+
+-- just so much
+pub added_by : {a b : Emitter} {n : ℕ} {i : Instruction} (m : ℕ) (weight : Weights → ℕ) → Added a b n i
+    → temporaries i ≤ m
+    → ((w : Weights) (texts : List (List ℕ)) → Stays b.texts.items texts → weight_of texts i w ≡ weight w)
+    → Emits a b m weight
+added_by m weight h le of = added_as m weight h le (λ w texts s. weighs_same (of w texts s))
 
 -- one without a text
 pub added_emits : {a b : Emitter} {n : ℕ} {i : Instruction} (m : ℕ) → Added a b n i → temporaries i ≤ m
@@ -159,7 +198,7 @@ same_emits a b code keys blocks loops texts literals = record {
     literals = literals;
   };
   fits = λ limit le f. record { by = λ n i h. f.by n i (subst (λ l. HasAt l n i) code h) };
-  grown = λ w ts s. omega (arith, ap (λ is. code_weight ts is w) code);
+  grown = λ w ts s. weighs_same (omega (arith, ap (λ is. code_weight ts is w) code));
 }
 
 pub no_key : (a : Emitter) → KeyAdded a a None None
@@ -188,22 +227,45 @@ text_added a b text n code keys blocks loops texts literals at = record {
 
 -- contents taken, and the ways of `&&` and `||`
 
+taken_as_argument : (d size : ℕ) (w : Weights)
+    → Weighs w (taken_into d (Structure size) w) (taking_weight (Structure size) w)
+taken_as_argument zero size w = record {
+  exactly = λ even. even.by (Structure size);
+  at_most = λ spares. spares.by (Structure size);
+}
+taken_as_argument (suc d) size w = weighs_same refl
+
 pub take_structure : {a b : Emitter} {size line d n next : ℕ}
     → Added a b n (tac.Take (Structure size) line d d next)
     → TakingCode a b (Structure size) line d n next
-take_structure {d = d} h = record {
-  emits = added_emits (d + 1) h (omega arith) (λ ts w. refl);
+take_structure {size = size} {d = d} h = record {
+  emits = added_as (d + 1) (taking_weight (Structure size)) h (omega arith) (λ w ts s. taken_as_argument d size w);
+  returns = λ e.
+      added_by (d + 1) (returning_weight (Structure size)) h (omega arith)
+      (λ w ts s. ap (λ k. taken_into k (Structure size) w) e);
   stands = λ c f. added_holds h tt f;
 }
 
 pub take_void : {a : Emitter} {line d next : ℕ} → TakingCode a a Void line d next next
-take_void {d = d} = record { emits = emits_none (d + 1) (λ w. refl); stands = λ c f. refl }
+take_void {d = d} = record {
+  emits = emits_none (d + 1) (λ w. refl);
+  returns = λ e. emits_none (d + 1) (λ w. refl);
+  stands = λ c f. refl;
+}
 
 pub take_scalar : {a : Emitter} {k : _} {line d next : ℕ} → TakingCode a a (OfScalar k) line d next next
-take_scalar {d = d} = record { emits = emits_none (d + 1) (λ w. refl); stands = λ c f. refl }
+take_scalar {d = d} = record {
+  emits = emits_none (d + 1) (λ w. refl);
+  returns = λ e. emits_none (d + 1) (λ w. refl);
+  stands = λ c f. refl;
+}
 
 pub take_array : {a : Emitter} {size line d next : ℕ} → TakingCode a a (Array size) line d next next
-take_array {d = d} = record { emits = emits_none (d + 1) (λ w. refl); stands = λ c f. refl }
+take_array {d = d} = record {
+  emits = emits_none (d + 1) (λ w. refl);
+  returns = λ e. emits_none (d + 1) (λ w. refl);
+  stands = λ c f. refl;
+}
 
 pub three_ways : {a b c e : Emitter} {d zero one test next : ℕ} → Added a b zero (tac.Constant d 0 next)
     → Added b c one (tac.Constant d 1 next)

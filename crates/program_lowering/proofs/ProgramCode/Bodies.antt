@@ -16,6 +16,7 @@ use Rattle.program_lowering.specs.declared.expressions.emitter.Emitter.{Emitter}
 use Rattle.program_lowering.specs.ExpressionCode.Weights.{code_weight}
 use Rattle.program_lowering.specs.ExpressionCode.Emitted.{Added, Fills}
 use Rattle.program_lowering.proofs.ExpressionCode.Growing.{added_emits, added_holds, emits_then, fills_before}
+use Rattle.program_lowering.proofs.ExpressionCode.Growing.{weighs_from, weighs_into}
 use Rattle.program_lowering.specs.declared.parts.exits.Exits.{Exits}
 use Rattle.program_lowering.specs.StatementParts.Leaving.{exits_of}
 use Rattle.program_lowering.specs.StatementCode.Code.{StatementsCode}
@@ -48,7 +49,7 @@ body_code {vs = vs} {ss = ss} {result = result} {texts = texts} {a = a} {returns
       literals_same = whole.kept.literals ∙ told;
       homes = whole.fits most (omega arith)
           (record { by = λ n i k. absurd (none_has a.code.items n i none k) });
-      weight = λ w ts s. omega (arith, whole.grown w ts s, ap (λ is. code_weight ts is w) none);
+      weight = λ w ts s. weighs_into (whole.grown w ts s) (omega (arith, ap (λ is. code_weight ts is w) none));
       stands = λ p v f.
           let fz = fills_before h.emits f in (
             end,
@@ -87,7 +88,7 @@ function_code {texts = texts} {literals = literals} {result = result} {b = b} {l
             header = headers f l.function w.line_is w.type_is (w.parameters_are ∙ ep) (w.variables_are ∙ ev)
                 (w.entered_are ∙ ee) w.room_is;
             homes = λ n i k. h.homes.by n i (subst (λ is. HasAt is n i) w.code_is k);
-            weight = λ v. omega (arith, h.weight v ts fills.texts, ap (λ is. code_weight ts is v) w.code_is);
+            weight = λ v. weighs_from (ap (λ is. code_weight ts is v) w.code_is) (h.weight v ts fills.texts);
             body = subst (λ n. LowersBody (placed_in ts literals f l.function) result n f.body) (sym w.entry_is)
                 (h.stands (placed_in ts literals f l.function) refl fills);
           };

@@ -1,5 +1,6 @@
 -- How many instructions the code of a program has, and how many checks are to come.
-use Rattle.std.proofs.Common.{◌≡◌, ℕ, ◌+◌, Bool, true, false, List, [], ◌∷◌, ◌++◌, length, map, Option, Some, None}
+use Rattle.std.proofs.Common.{◌≡◌, ℕ, zero, suc, ◌+◌, Bool, true, false, List, [], ◌∷◌, ◌++◌, length, map, Option, Some}
+use Rattle.std.proofs.Common.{None}
 use Rattle.std.proofs.Common.{refl, sym, ap, ◌∙◌, arith}
 use Rattle.source_meaning.specs.Blocks.{has_objects}
 use Rattle.source_meaning.specs.Expressions.{is_judged}
@@ -33,7 +34,7 @@ use Rattle.c_lower.specs.Values.{mode_for}
 use Rattle.check_insert.specs.Counting.{checks_for, checks_for_kind, checks_needed, is_check}
 use Rattle.check_insert.specs.Counting.{sum_over, sum_of_functions}
 use Rattle.program_lowering.specs.ExpressionCode.Weights.{Weights, weight_of, code_weight, taking_weight}
-use Rattle.program_lowering.specs.ExpressionCode.Weights.{takings_weight, weight_made}
+use Rattle.program_lowering.specs.ExpressionCode.Weights.{takings_weight, returning_weight, weight_made}
 use Rattle.program_lowering.specs.StatementParts.Weights.{content_weight, parts_weight, initializer_weight}
 use Rattle.program_lowering.specs.StatementParts.Weights.{declared_weight, first_weight, condition_weight, part_weight}
 use Rattle.program_lowering.specs.StatementParts.Weights.{weight_where, block_weight}
@@ -64,7 +65,8 @@ one_each ts (tac.Offset form size d a e m) = refl
 one_each ts (tac.Difference size d a e m) = refl
 one_each ts (tac.Narrow offset size d a m) = refl
 one_each ts (tac.Member offset size d a m) = refl
-one_each ts (tac.Take kind line d a m) = refl
+one_each ts (tac.Take kind line zero a m) = refl
+one_each ts (tac.Take kind line (suc d) a m) = refl
 one_each ts (tac.Read kind mode line key d a m) = refl
 one_each ts (tac.Write kind mode line key d a e m) = refl
 one_each ts (tac.Update u k f mode line at key d a right m) = refl
@@ -92,7 +94,7 @@ as_many ts [] = refl
 as_many ts (c ∷ cs) = omega (arith, as_long ts c.code, as_many ts cs)
 
 pub counted_by : (p : Program) (t : Tac) → IsWeighed p t → instruction_count t.functions ≡ program_weight p each_one
-counted_by p t h = sym (as_many t.texts t.functions) ∙ h.by each_one
+counted_by p t h = sym (as_many t.texts t.functions) ∙ h.by each_one (record { by = λ kind. refl })
 
 -- ---- checks: an instruction weighs as many as it needs, and one that is a check weighs something or nothing
 
@@ -119,6 +121,7 @@ counting b = record {
   narrow = 0;
   member = 0;
   take = λ kind. 0;
+  take_first = λ kind. 0;
   read = λ kind mode. checks_for_kind kind mode;
   write = λ kind mode. checks_for_kind kind mode;
   update = λ k mode. checks_for mode;
@@ -131,8 +134,8 @@ counting b = record {
   turn = 0;
   library = λ r. 0;
   print = λ format. 0;
-  call = λ n. 0;
-  call_through = λ n. 0;
+  call = λ f n. 0;
+  call_through = λ type n. 0;
   enter_block = 0;
   leave_block = 0;
   return = 0;
@@ -156,7 +159,8 @@ needs ts (tac.Offset form size d a e m) = refl
 needs ts (tac.Difference size d a e m) = refl
 needs ts (tac.Narrow offset size d a m) = refl
 needs ts (tac.Member offset size d a m) = refl
-needs ts (tac.Take kind line d a m) = refl
+needs ts (tac.Take kind line zero a m) = refl
+needs ts (tac.Take kind line (suc d) a m) = refl
 needs ts (tac.Read kind mode line key d a m) = refl
 needs ts (tac.Write kind mode line key d a e m) = refl
 needs ts (tac.Update u k f mode line at key d a right m) = refl
@@ -193,7 +197,8 @@ has ts (tac.Offset form size d a e m) = omega arith
 has ts (tac.Difference size d a e m) = omega arith
 has ts (tac.Narrow offset size d a m) = omega arith
 has ts (tac.Member offset size d a m) = omega arith
-has ts (tac.Take kind line d a m) = omega arith
+has ts (tac.Take kind line zero a m) = omega arith
+has ts (tac.Take kind line (suc d) a m) = omega arith
 has ts (tac.Read kind mode line key d a m) = omega arith
 has ts (tac.Write kind mode line key d a e m) = omega arith
 has ts (tac.Update u k f mode line at key d a right m) = omega arith
@@ -249,6 +254,12 @@ none_taken b Void = refl
 none_taken b (OfScalar k) = refl
 none_taken b (Structure size) = refl
 none_taken b (Array size) = refl
+
+none_returned : (b : Bool) (kind : Kind) → returning_weight kind (counting b) ≡ 0
+none_returned b Void = refl
+none_returned b (OfScalar k) = refl
+none_returned b (Structure size) = refl
+none_returned b (Array size) = refl
 
 none_of_all : (b : Bool) (es : Expressions) → takings_weight es (counting b) ≡ 0
 none_of_all b no_expressions = refl
@@ -459,7 +470,7 @@ mutual
   statement_has b vs break = refl
   statement_has b vs continue = refl
   statement_has b vs (return None) = refl
-  statement_has b vs (return (Some e)) = omega (arith, expression_has b e, none_taken b (kind_of e))
+  statement_has b vs (return (Some e)) = omega (arith, expression_has b e, none_returned b (kind_of e))
 
   statements_have : (b : Bool) (vs : List Variable) (ss : Statements)
       → each_weight vs ss (counting b) ≡ contents_checks (each_contents ss)
@@ -498,8 +509,8 @@ pub awaits : (p : Program) (t : Tac) → IsWeighed p t → AwaitsChecks p t
 awaits p t h =
     let needed = codes_need t.texts t.functions in
     let both = codes_have t.texts t.functions in
-    let without = h.by (counting false) in
-    let with_them = h.by (counting true) in
+    let without = h.by (counting false) (record { by = λ kind. refl }) in
+    let with_them = h.by (counting true) (record { by = λ kind. refl }) in
     let text = text_has false p in
     let same = text_has true p in
     record {

@@ -17,7 +17,7 @@ use Rattle.tac_ir.specs.declared.function.Tac.{Tac}
 use Rattle.tac_ir.specs.Meaning.{header_of_code}
 use Rattle.c_lower.specs.Placed.{HasAt}
 use Rattle.c_lower.specs.Programs.{literals_of, LowersAt, LowersFunction, IsLowered, result_in, height_in}
-use Rattle.program_lowering.specs.ExpressionCode.Weights.{Weights}
+use Rattle.program_lowering.specs.ExpressionCode.Weights.{Weights, IsEven}
 use Rattle.program_lowering.specs.ExpressionCode.Emitted.{Stays}
 use Rattle.program_lowering.proofs.ExpressionCode.Growing.{stays_all}
 use Rattle.program_lowering.proofs.ExpressionCode.Views.{drop_from}
@@ -140,15 +140,17 @@ lowered_from p t s h results main bytes = record {
 }
 
 pub weighed : (ts : List (List ℕ)) (literals : List Bool) (results : List Kind) (fs : List Function)
-    (cs : List CodeFunction) (w : Weights)
+    (cs : List CodeFunction) (w : Weights) → IsEven w
     → AreFunctions ts literals results fs cs → codes_weight ts cs w ≡ functions_weight results fs w
-weighed ts literals results [] [] w h = omega arith
-weighed ts literals results [] (c ∷ cs) w h = absurd h
-weighed ts literals results (f ∷ fs) [] w h = absurd h
-weighed ts literals results (f ∷ fs) (c ∷ cs) w h = omega (arith, h.0.weight w, weighed ts literals results fs cs w h.1)
+weighed ts literals results [] [] w even h = omega arith
+weighed ts literals results [] (c ∷ cs) w even h = absurd h
+weighed ts literals results (f ∷ fs) [] w even h = absurd h
+weighed ts literals results (f ∷ fs) (c ∷ cs) w even h =
+    let own = h.0.weight w in
+    omega (arith, own.exactly even, weighed ts literals results fs cs w even h.1)
 
 -- the functions as the program has them
-whole_in : {statics : List StaticData} {results : List Kind} {l : Lowering} {main bytes : ℕ} {t : Tac} (p : Program)
+pub whole_in : {statics : List StaticData} {results : List Kind} {l : Lowering} {main bytes : ℕ} {t : Tac} (p : Program)
     → Assembles main bytes statics results l t
     → AreFunctions l.texts.items (literals_of p.statics) results p.functions l.functions.items
     → AreFunctions t.texts (literals_of p.statics) t.results p.functions t.functions
@@ -172,7 +174,7 @@ pub weighed_from : {statics : List StaticData} {results : List Kind} {l : Loweri
     → Assembles main bytes statics results l t → results ≡ results_of p.function_types
     → AreFunctions l.texts.items (literals_of p.statics) results p.functions l.functions.items → IsWeighed p t
 weighed_from {t = t} p a er h = record {
-  by = λ w.
-      weighed t.texts (literals_of p.statics) t.results p.functions t.functions w (whole_in p a h)
+  by = λ w even.
+      weighed t.texts (literals_of p.statics) t.results p.functions t.functions w even (whole_in p a h)
       ∙ ap (λ ks. functions_weight ks p.functions w) (a.results_are ∙ er);
 }

@@ -128,7 +128,7 @@ below_room statics n f = omega (arith, height_of_each f.body)
 le_true : (a b : ℕ) → a ≤ b → nat_le a b ≡ true
 le_true a b h = grind (arith, nat_tests)
 
-abbrev outside : Inside
+abbrev pub outside : Inside
 outside = record { may_break = false; may_continue = false }
 
 is_ready_by : (p : Program) (n : ℕ) (f : Function) → is_function p n f ≡ true → is_ready f ≡ true

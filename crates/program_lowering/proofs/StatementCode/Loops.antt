@@ -14,7 +14,7 @@ use Rattle.c_lower.specs.Statements.{in_loop, LowersStatement, HasNumber, has_ob
 use Rattle.program_lowering.specs.declared.expressions.emitter.Emitter.{Emitter}
 use Rattle.program_lowering.specs.ExpressionCode.Weights.{Weights, weight_of}
 use Rattle.program_lowering.specs.ExpressionCode.Emitted.{Has, Stays, Emits}
-use Rattle.program_lowering.proofs.ExpressionCode.Growing.{fills_before, keeps_on}
+use Rattle.program_lowering.proofs.ExpressionCode.Growing.{fills_before, keeps_on, weighs_from, weighs_then}
 use Rattle.program_lowering.specs.declared.parts.exits.Exits.{Exits}
 use Rattle.program_lowering.specs.declared.parts.loops.ForHead.{ForHead}
 use Rattle.program_lowering.specs.StatementParts.Leaving.{exits_of}
@@ -47,13 +47,8 @@ filled_emits most weight e fresh g f still li turning lm ln lk = record {
       (g.fits limit (omega (arith, ln, le)) (e.fits limit (omega (arith, lm, le)) h));
   grown = λ w ts s.
       let sg = filled_texts ts f s in
-      omega (
-        arith,
-        filled_weight f still ts w (turning ts w),
-        e.grown w ts (λ n x h. sg n x (g.kept.texts n x h)),
-        g.grown w ts sg,
-        lk w,
-      );
+      weighs_from (filled_weight f still ts w (turning ts w))
+      (weighs_then _ _ _ (e.grown w ts (λ n x h. sg n x (g.kept.texts n x h))) (g.grown w ts sg) (lk w));
 }
 
 pub while_code : {vs : List Variable} {a b c d : Emitter} {e : Expression} {s : Statement} {turn start n : ℕ} {x y :
@@ -102,7 +97,7 @@ pub for_code : {vs : List Variable} {a b c d : Emitter} {numbers : List ℕ} {li
     → exits_of y ≡ in_loop (exits_of h.inside.exits) h.step → StatementCode vs b c s body y
     → parts ≡ counted_parts first test step s → ForTailCode c d line first parts h body n
     → StatementCode vs a d (for line first test step s) n x
-for_code {vs = vs} {c = c} {line = line} {first = first} {test = test} {step = step} {s = s} {h = h} {n = n}
+for_code {vs = vs} {b = b} {c = c} {line = line} {first = first} {test = test} {step = step} {s = s} {h = h} {n = n}
     {body = body} {x = x} same k q g ranged t = record {
       emits = record {
         kept = t.grows.keeps _ (keeps_on k.emits.kept g.emits.kept) k.fresh;
@@ -111,14 +106,10 @@ for_code {vs = vs} {c = c} {line = line} {first = first} {test = test} {step = s
             (g.emits.fits limit (omega (arith, le)) (k.emits.fits limit (omega (arith, le)) f));
         grown = λ w ts later.
             let sg : Stays c.texts.items ts = λ n x j. later n x (t.grows.texts_stay n x j) in
-            omega (
-              arith,
-              t.grows.grown w ts later,
-              g.emits.grown w ts sg,
-              k.emits.grown w ts (λ n x j. sg n x (g.emits.kept.texts n x j)),
-              ap (λ ns. block_weight vs ns w) same,
-              k.weighs w,
-            );
+            let sk : Stays b.texts.items ts = λ n x j. sg n x (g.emits.kept.texts n x j) in
+            weighs_then _ _ _ (weighs_then _ _ _ (k.emits.grown w ts sk) (g.emits.grown w ts sg) refl)
+            (t.grows.grown w ts later)
+            (omega (arith, ap (λ ns. block_weight vs ns w) same, k.weighs w));
       };
       stands = λ p v f.
           let fg = t.grows.fills p f in

@@ -11,7 +11,7 @@ use Rattle.c_tree.specs.Room.{height}
 use Rattle.tac_ir.specs.declared.instruction.Instruction.TheVariants as tac
 use Rattle.c_lower.specs.Values.{LowersTaking}
 use Rattle.program_lowering.specs.declared.expressions.emitter.Emitter.{Emitter}
-use Rattle.program_lowering.specs.ExpressionCode.Weights.{taking_weight}
+use Rattle.program_lowering.specs.ExpressionCode.Weights.{returning_weight}
 use Rattle.program_lowering.specs.ExpressionCode.Emitted.{Added, ExpressionCode}
 use Rattle.program_lowering.specs.ExpressionCode.Last.{TakingCode}
 use Rattle.program_lowering.proofs.ExpressionCode.Growing.{emits_none, emits_then, emits_within, added_emits}
@@ -52,8 +52,8 @@ result_code {k = k} {m = m} e t h =
     let view = of_expression e in
     let value = evaluated_emits (expression_of e) top h (omega arith) in
     record {
-      emits = emits_then top (result_weight (expression_of e)) t.emits value (omega arith) (omega arith)
-          (λ w. omega (arith, ap (λ k. taking_weight (kind_of k) w) view));
+      emits = emits_then top (result_weight (expression_of e)) (t.returns refl) value (omega arith) (omega arith)
+          (λ w. omega (arith, ap (λ k. returning_weight (kind_of k) w) view));
       stands = λ p f.
           let taken = t.stands p (fills_before h.emits f) in (
             k,

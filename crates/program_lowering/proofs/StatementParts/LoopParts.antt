@@ -17,6 +17,7 @@ use Rattle.c_lower.specs.Placed.{Placed, Holds, HasAt}
 use Rattle.program_lowering.specs.declared.expressions.emitter.Emitter.{Emitter}
 use Rattle.program_lowering.specs.ExpressionCode.Weights.{Weights, weight_of, code_weight, expression_weight}
 use Rattle.program_lowering.specs.ExpressionCode.Emitted.{Has, Added, Stays, Keeps, IsReal, Fills, Fits, ExpressionCode}
+use Rattle.program_lowering.proofs.ExpressionCode.Growing.{weighs_from, weighs_then}
 use Rattle.program_lowering.proofs.ExpressionCode.Growing.{emits_none, emits_then, added_emits, added_has, added_holds}
 use Rattle.program_lowering.proofs.ExpressionCode.Growing.{fills_before, keeps_on, same_emits, stays_by, one_more}
 use Rattle.program_lowering.proofs.ExpressionCode.Growing.{has_last}
@@ -219,12 +220,8 @@ for_tail_code {a = a} {d = d} {setting = setting} {first = first} {h = h} {count
             y.emits.kept.texts n x (subst (λ us. HasAt us n x) (sym f.texts) (grown.kept.texts n x g));
         grown = λ w ts t.
             let sy : Stays d.texts.items ts = λ n x g. t n x (y.emits.kept.texts n x g) in
-            omega (
-              arith,
-              y.emits.grown w ts t,
-              filled_weight f still ts w refl,
-              grown.grown w ts (filled_texts ts f sy),
-            );
+            weighs_then _ _ _ (weighs_from (filled_weight f still ts w refl) (grown.grown w ts (filled_texts ts f sy)))
+            (y.emits.grown w ts t) (omega arith);
       };
       setting = setting;
       counted = counted;

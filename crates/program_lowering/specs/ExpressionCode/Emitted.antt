@@ -8,7 +8,8 @@ use Rattle.c_lower.specs.Homes.{used, used_by_lvalue}
 use Rattle.c_lower.specs.Placed.{Placed, Holds, HasAt}
 use Rattle.c_lower.specs.Values.{LowersExpression, LowersLvalue, LowersArguments}
 use Rattle.program_lowering.specs.declared.expressions.emitter.Emitter.{Emitter}
-use Rattle.program_lowering.specs.ExpressionCode.Weights.{Weights, code_weight, expression_weight, lvalue_weight}
+use Rattle.program_lowering.specs.ExpressionCode.Weights.{Weights, Weighs, code_weight, expression_weight}
+use Rattle.program_lowering.specs.ExpressionCode.Weights.{lvalue_weight}
 use Rattle.program_lowering.specs.ExpressionCode.Weights.{arguments_weight}
 
 abbrev pub Has : Emitter → (node : ℕ) → Instruction → Type 0
@@ -59,7 +60,7 @@ pub record Emits (before after : Emitter) (most : ℕ) (weight : Weights → ℕ
   pub kept : Keeps before after
   pub fits : (limit : ℕ) → most ≤ limit → Fits limit before → Fits limit after
   pub grown : (w : Weights) (texts : List (List ℕ)) → Stays after.texts.items texts
-      → code_weight texts after.code.items w ≡ code_weight texts before.code.items w + weight w
+      → Weighs w (code_weight texts after.code.items w) (code_weight texts before.code.items w + weight w)
 
 -- how many temporaries arguments need from the first on
 abbrev pub arguments_used : Expressions → ℕ

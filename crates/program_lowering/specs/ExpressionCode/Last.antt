@@ -1,5 +1,5 @@
 -- What an expression or an lvalue itself does, once its operands are there: one instruction, or none.
-use Rattle.std.specs.Prelude.{ℕ, ◌+◌, ◌*◌, Bool, List, Option, Some, None}
+use Rattle.std.specs.Prelude.{◌≡◌, ℕ, ◌+◌, ◌*◌, Bool, List, Option, Some, None}
 use Rattle.c_tree.specs.declared.expression.Kind.{Kind}
 use Rattle.c_tree.specs.declared.expression.Fixity.TheVariants.{Prefix}
 use Rattle.c_tree.specs.Tree.{Node, constant, function, plain, read}
@@ -18,7 +18,7 @@ use Rattle.c_lower.specs.Keys.{read_key, write_key}
 use Rattle.c_lower.specs.Placed.{Placed, HasAt}
 use Rattle.c_lower.specs.Values.{KeyIs, LowersTaking, mode_for, count}
 use Rattle.program_lowering.specs.declared.expressions.emitter.Emitter.{Emitter}
-use Rattle.program_lowering.specs.ExpressionCode.Weights.{no_weight, taking_weight}
+use Rattle.program_lowering.specs.ExpressionCode.Weights.{no_weight, taking_weight, returning_weight}
 use Rattle.program_lowering.specs.ExpressionCode.Emitted.{Stays, Fills, Emits}
 
 -- the key of its access
@@ -98,9 +98,10 @@ pub record FormatAdded (before after : Emitter) (node : Node) (number : ℕ) : T
   pub emits : Emits before after 0 no_weight
   pub is : (texts : List (List ℕ)) → Stays after.texts.items texts → TextIs texts node number
 
--- the contents of a structure are taken
+-- the contents of a structure are taken, as those of a value that a function returns are into the first temporary
 pub record TakingCode (before after : Emitter) (kind : Kind) (line d n0 n1 : ℕ) : Type 0 where
   pub emits : Emits before after (d + 1) (taking_weight kind)
+  pub returns : d ≡ 0 → Emits before after (d + 1) (returning_weight kind)
   pub stands : (c : Placed) → Fills after c → LowersTaking c kind line d n0 n1
 
 -- where both operands of `&&` or `||` lead: its values, and the test of the second operand

@@ -1,6 +1,6 @@
 -- What code weighs, where each kind of instruction has a weight of its own: with 1 for each kind, how many instructions
 -- there are.
-use Rattle.std.specs.Prelude.{ℕ, ◌+◌, ◌*◌, List, [], ◌∷◌, Option, Some, None, slice_get}
+use Rattle.std.specs.Prelude.{◌≡◌, ◌≤◌, ℕ, zero, suc, ◌+◌, ◌*◌, List, [], ◌∷◌, Option, Some, None, slice_get}
 use Rattle.obj_memory.specs.declared.value.Scalar.{Scalar}
 use Rattle.c_tree.specs.declared.expression.Kind.{Kind}
 use Rattle.c_tree.specs.declared.expression.Kind.TheVariants.{Void, Scalar as OfScalar, Structure, Array}
@@ -21,7 +21,9 @@ use Rattle.tac_ir.specs.declared.instruction.Instruction.TheVariants as tac
 use Rattle.c_lower.specs.Values.{count, mode_for}
 
 -- The weight of each kind of instruction: that of an access by what it reads, writes or updates, and how it finds its
--- place; that of a call by the number of its arguments; that of what names a text by the text, where there is one.
+-- place; that of a call by the function, or its type, and the number of its arguments; that of what names a text by the
+-- text, where there is one. The contents of a structure weigh by themselves where they are taken into the first
+-- temporary, which values that functions return are.
 pub record Weights : Type 0 where
   pub skip : ℕ
   pub constant : ℕ
@@ -40,6 +42,7 @@ pub record Weights : Type 0 where
   pub narrow : ℕ
   pub member : ℕ
   pub take : Kind → ℕ
+  pub take_first : Kind → ℕ
   pub read : Kind → Mode → ℕ
   pub write : Kind → Mode → ℕ
   pub update : Scalar → Mode → ℕ
@@ -52,11 +55,15 @@ pub record Weights : Type 0 where
   pub turn : ℕ
   pub library : Routine → ℕ
   pub print : (format : Option (List ℕ)) → ℕ
-  pub call : (arguments : ℕ) → ℕ
-  pub call_through : (arguments : ℕ) → ℕ
+  pub call : (function arguments : ℕ) → ℕ
+  pub call_through : (type_number arguments : ℕ) → ℕ
   pub enter_block : ℕ
   pub leave_block : ℕ
   pub return : ℕ
+
+abbrev pub taken_into : (temporary : ℕ) → Kind → Weights → ℕ
+taken_into zero kind w = w.take_first kind
+taken_into (suc d) kind w = w.take kind
 
 -- in a program with these texts; a node that waits will be that of a turn
 abbrev pub weight_of : (texts : List (List ℕ)) → Instruction → Weights → ℕ
@@ -77,7 +84,7 @@ weight_of texts (tac.Offset form size d a b next) w = w.offset
 weight_of texts (tac.Difference size d a b next) w = w.difference
 weight_of texts (tac.Narrow offset size d a next) w = w.narrow
 weight_of texts (tac.Member offset size d a next) w = w.member
-weight_of texts (tac.Take kind line d a next) w = w.take kind
+weight_of texts (tac.Take kind line d a next) w = taken_into d kind w
 weight_of texts (tac.Read kind mode line key d a next) w = w.read kind mode
 weight_of texts (tac.Write kind mode line key d a b next) w = w.write kind mode
 weight_of texts (tac.Update u k f mode line at key d a right next) w = w.update k mode
@@ -90,8 +97,8 @@ weight_of texts (tac.Case a n x y) w = w.case
 weight_of texts (tac.Turn counted next) w = w.turn
 weight_of texts (tac.Library r line d n next) w = w.library r
 weight_of texts (tac.Print t line d n next) w = w.print (slice_get texts t)
-weight_of texts (tac.Call f line d n next) w = w.call n
-weight_of texts (tac.CallThrough type line d n next) w = w.call_through n
+weight_of texts (tac.Call f line d n next) w = w.call f n
+weight_of texts (tac.CallThrough type line d n next) w = w.call_through type n
 weight_of texts (tac.EnterBlock block line next) w = w.enter_block
 weight_of texts (tac.LeaveBlock block next) w = w.leave_block
 weight_of texts (tac.Return a) w = w.return
@@ -107,14 +114,34 @@ weight_if texts (Some i) w = weight_of texts i w
 abbrev pub no_weight : Weights → ℕ
 no_weight w = 0
 
+-- contents weigh as much in the first temporary as in any other, or no more
+pub record IsEven (w : Weights) : Type 0 where
+  pub by : (kind : Kind) → w.take_first kind ≡ w.take kind
+
+pub record SparesFirst (w : Weights) : Type 0 where
+  pub by : (kind : Kind) → w.take_first kind ≤ w.take kind
+
+-- Code weighs as much as its text where contents do so in any temporary. A text does not say into which its arguments
+-- are taken, and code weighs no more than it where they weigh no more in the first.
+pub record Weighs (w : Weights) (code text : ℕ) : Type 0 where
+  pub exactly : IsEven w → code ≡ text
+  pub at_most : SparesFirst w → code ≤ text
+
 -- what the instructions of expressions weigh together
 
--- the contents of a structure are taken by an instruction
+-- the contents of a structure that is an argument are taken by an instruction
 abbrev pub taking_weight : Kind → Weights → ℕ
 taking_weight Void w = 0
 taking_weight (OfScalar k) w = 0
 taking_weight (Structure size) w = w.take (Structure size)
 taking_weight (Array size) w = 0
+
+-- those of one that a function returns, into the first temporary
+abbrev pub returning_weight : Kind → Weights → ℕ
+returning_weight Void w = 0
+returning_weight (OfScalar k) w = 0
+returning_weight (Structure size) w = w.take_first (Structure size)
+returning_weight (Array size) w = 0
 
 abbrev pub takings_weight : Expressions → Weights → ℕ
 takings_weight no_expressions w = 0
@@ -148,8 +175,8 @@ own_weight kind (compound u p a) w = w.update (scalar_of (lvalue_kind p)) (mode_
 own_weight kind (change_plain u x a) w = w.update_plain (scalar_of kind)
 own_weight kind (step u fixity p) w = w.update (scalar_of (lvalue_kind p)) (mode_for (is_judged p))
 own_weight kind (step_plain u fixity x) w = w.update_plain (scalar_of kind)
-own_weight kind (call f es) w = w.call (count es) + takings_weight es w
-own_weight kind (call_through type a es) w = w.call_through (count es) + takings_weight es w
+own_weight kind (call f es) w = w.call f (count es) + takings_weight es w
+own_weight kind (call_through type a es) w = w.call_through type (count es) + takings_weight es w
 own_weight kind (library routine es) w = w.library routine + takings_weight es w
 own_weight kind (printf format es) w = w.print (Some format) + takings_weight es w
 

@@ -12,7 +12,7 @@ use Rattle.tac_ir.specs.Meaning.{header_of_code}
 use Rattle.c_lower.specs.Placed.{Placed}
 use Rattle.c_lower.specs.Programs.{LowersBody, placed_in}
 use Rattle.program_lowering.specs.declared.expressions.emitter.Emitter.{Emitter}
-use Rattle.program_lowering.specs.ExpressionCode.Weights.{Weights, code_weight}
+use Rattle.program_lowering.specs.ExpressionCode.Weights.{Weights, Weighs, code_weight}
 use Rattle.program_lowering.specs.ExpressionCode.Emitted.{Fills, Fits, Stays}
 use Rattle.program_lowering.specs.StatementCode.Sizes.{each_height}
 use Rattle.program_lowering.specs.declared.programs.body.Body.{Body}
@@ -27,7 +27,7 @@ pub record BodyCode (vs : List Variable) (ss : Statements) (result : Kind) (text
   pub literals_same : emitter.literals.items ≡ literals
   pub homes : Fits (each_height ss) emitter
   pub weight : (w : Weights) (later : List (List ℕ)) → Stays emitter.texts.items later
-      → code_weight later emitter.code.items w ≡ body_weight vs result ss w
+      → Weighs w (code_weight later emitter.code.items w) (body_weight vs result ss w)
   pub stands : (c : Placed) → c.variables ≡ vs → Fills emitter c → LowersBody c result entry ss
 
 -- a function has the parts of a body
@@ -53,7 +53,7 @@ pub record IsFunction (texts : List (List ℕ)) (literals : List Bool) (result :
     (c : CodeFunction) : Type 0 where
   pub header : header_of_code c ≡ header_of function
   pub homes : (n : ℕ) (i : Instruction) → slice_get c.code n ≡ Some i → temporaries i ≤ each_height function.body
-  pub weight : (w : Weights) → code_weight texts c.code w ≡ function_weight result function w
+  pub weight : (w : Weights) → Weighs w (code_weight texts c.code w) (function_weight result function w)
   pub body : LowersBody (placed_in texts literals function c) result c.entry function.body
 
 -- whatever texts come later

@@ -8,7 +8,7 @@ use Rattle.c_tree.specs.Programs.{Function, FunctionType, Program}
 use Rattle.c_tree.specs.Statements.{Statements}
 use Rattle.tac_ir.specs.declared.function.CodeFunction.{CodeFunction}
 use Rattle.tac_ir.specs.declared.function.Tac.{Tac}
-use Rattle.program_lowering.specs.ExpressionCode.Weights.{Weights, code_weight}
+use Rattle.program_lowering.specs.ExpressionCode.Weights.{Weights, code_weight, IsEven}
 use Rattle.program_lowering.specs.StatementCode.Weights.{each_weight}
 
 -- a body that gives a value of this kind gives 0 at its end, and has one return
@@ -58,6 +58,7 @@ each_one = record {
   narrow = 1;
   member = 1;
   take = λ kind. 1;
+  take_first = λ kind. 1;
   read = λ kind mode. 1;
   write = λ kind mode. 1;
   update = λ k mode. 1;
@@ -70,8 +71,8 @@ each_one = record {
   turn = 1;
   library = λ r. 1;
   print = λ format. 1;
-  call = λ n. 1;
-  call_through = λ n. 1;
+  call = λ f n. 1;
+  call_through = λ type n. 1;
   enter_block = 1;
   leave_block = 1;
   return = 1;
@@ -79,4 +80,4 @@ each_one = record {
 
 -- The code of a program weighs just what its text does, whatever each kind of instruction weighs.
 pub record IsWeighed (program : Program) (code : Tac) : Type 0 where
-  pub by : (w : Weights) → codes_weight code.texts code.functions w ≡ program_weight program w
+  pub by : (w : Weights) → IsEven w → codes_weight code.texts code.functions w ≡ program_weight program w

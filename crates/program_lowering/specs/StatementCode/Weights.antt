@@ -8,7 +8,7 @@ use Rattle.c_tree.specs.Blocks.{block_variables, switch_variables, first_variabl
 use Rattle.c_tree.specs.Statements.{Statement, expression_statement, empty, declaration, block, if_then, if_else}
 use Rattle.c_tree.specs.Statements.{while_do, do_while, for, switch, break, continue, return, Statements, no_statements}
 use Rattle.c_tree.specs.Statements.{statements, SwitchItems, no_items, items}
-use Rattle.program_lowering.specs.ExpressionCode.Weights.{Weights, expression_weight, taking_weight}
+use Rattle.program_lowering.specs.ExpressionCode.Weights.{Weights, expression_weight, returning_weight}
 use Rattle.program_lowering.specs.StatementParts.Weights.{declared_weight, first_weight, condition_weight, part_weight}
 use Rattle.program_lowering.specs.StatementParts.Weights.{block_weight}
 
@@ -23,7 +23,7 @@ labels_weight (l ∷ ls) w = label_weight l w + labels_weight ls w
 
 -- a value that a function returns
 abbrev pub result_weight : Expression → Weights → ℕ
-result_weight e w = expression_weight e w + taking_weight (kind_of e) w
+result_weight e w = expression_weight e w + returning_weight (kind_of e) w
 
 -- a block with objects is entered, and left in four ways
 abbrev mutual

@@ -12,7 +12,7 @@ use Rattle.c_lower.specs.Placed.{Placed, Holds}
 use Rattle.c_lower.specs.Statements.{LowersCondition, LowersPart, LowersFirst, HasNumber, LowersEntry, LowersLeaving}
 use Rattle.c_lower.specs.Statements.{CountedIs, has_objects_of}
 use Rattle.program_lowering.specs.declared.expressions.emitter.Emitter.{Emitter}
-use Rattle.program_lowering.specs.ExpressionCode.Weights.{Weights, code_weight, no_weight, expression_weight}
+use Rattle.program_lowering.specs.ExpressionCode.Weights.{Weights, Weighs, code_weight, no_weight, expression_weight}
 use Rattle.program_lowering.specs.ExpressionCode.Emitted.{Has, Stays, Keeps, Fills, Fits, Emits}
 use Rattle.program_lowering.specs.declared.parts.exits.Exits.{Exits}
 use Rattle.program_lowering.specs.declared.parts.loops.ForHead.{ForHead}
@@ -71,7 +71,7 @@ pub record FillsIn (before after : Emitter) (node most : ℕ) (weight : Weights 
   pub fits : (limit : ℕ) → most ≤ limit → Fits limit before → Fits limit after
   pub texts_stay : Stays before.texts.items after.texts.items
   pub grown : (w : Weights) (texts : List (List ℕ)) → Stays after.texts.items texts
-      → code_weight texts after.code.items w ≡ code_weight texts before.code.items w + weight w
+      → Weighs w (code_weight texts after.code.items w) (code_weight texts before.code.items w + weight w)
 
 -- the rest of a `for`, behind its body
 pub record ForTailCode (before after : Emitter) (line : ℕ) (first : First) (parts : Option CountedParts)

@@ -1,2 +1,3 @@
 mod BlockEntered
+mod StructureAreas
 mod StuckCode

@@ -6,6 +6,7 @@ pub mod Renamed
 pub mod Wrapped
 pub mod Distinct
 pub mod Lifted
+pub mod ExitStubs
 pub mod Regions
 pub mod Words
 pub mod Branches

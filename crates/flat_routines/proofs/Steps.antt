@@ -24,7 +24,7 @@ has_back code pc (i ∷ a) b h =
     let e : pc + 1 + length a ≡ pc + length (i ∷ a) = omega arith in
     subst (λ n. HasAt code n b) e (has_back code (pc + 1) a b h.1)
 
-has_all : (is pre : List FlatInstruction) → HasAt (pre ++ is) (length pre) is
+pub has_all : (is pre : List FlatInstruction) → HasAt (pre ++ is) (length pre) is
 has_all [] pre = tt
 has_all (i ∷ is) pre =
     let within : length pre < length (pre ++ i ∷ is) = omega (arith, length-append pre (i ∷ is)) in

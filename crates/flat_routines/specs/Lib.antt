@@ -5,6 +5,8 @@ pub mod Registers
 pub mod Renaming
 pub mod Lifted
 pub mod Laws
+pub mod InputOutput
+pub mod ExitStubs
 pub mod Metadata
 pub mod Objects
 pub mod Spaces

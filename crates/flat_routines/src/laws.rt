@@ -1,7 +1,8 @@
 //! Laws of routines, each as the contract of a function that does nothing: crates above rest on them. Those that speak
 //! of any condition and any result are public lemmas of `proofs/Rules`, `proofs/Renamed` and `proofs/Wrapped`.
 
-ghost use Rattle.std.specs.Prelude.{◌≡◌, ◌+◌, ◌*◌, ◌≤◌, ℕ, List, Bool, true, map, length};
+ghost use Rattle.std.specs.Prelude.{◌≡◌, ◌+◌, ◌*◌, ◌≤◌, ℕ, List, Bool, true, false, map, length};
+ghost use Rattle.sb_base.specs.declared.ending.Ending.{Ending};
 ghost use Rattle.behaviours.specs.Steps.{run};
 ghost use Rattle.addr_map.specs.Places.{MapSizes};
 ghost use Rattle.flat_meaning.specs.declared.instruction.FlatInstruction.{FlatInstruction};
@@ -15,6 +16,8 @@ ghost use Rattle.flat_routines.specs.Effects.{effects, AreAllowed};
 ghost use Rattle.flat_routines.specs.Renaming.{rename, all_fit, IsRenaming, through};
 ghost use Rattle.flat_routines.specs.Lifted.{stage_of};
 ghost use Rattle.flat_routines.specs.Laws.{Arrives, work_of, report_length};
+ghost use Rattle.flat_routines.specs.InputOutput.{has_input_output};
+ghost use Rattle.flat_routines.specs.ExitStubs.{HasExitStubs, DoesWithStubs};
 
 pub mod objects;
 pub mod spaces;
@@ -48,4 +51,20 @@ pub fn runs_do_little_work()
     ensures { (c : Context) (code : List FlatInstruction) (n pc : ℕ) (s : State) (place : ℕ) (x : Outcome)
         → local_run c code n (Goes pc s) ≡ left_at place x
         → work_of x ≤ s.work + c.weight * (2 * n + report_length x) }
+{}
+
+/// In code that takes no input and puts no output they do at most their weight, and once more for each byte of a
+/// report.
+pub fn runs_without_input_and_output_do_less_work()
+    ensures { (c : Context) (code : List FlatInstruction) → has_input_output code ≡ false
+        → (n pc : ℕ) (s : State) (place : ℕ) (x : Outcome) → local_run c code n (Goes pc s) ≡ left_at place x
+        → work_of x ≤ s.work + c.weight * (n + report_length x) }
+{}
+
+/// Where a routine's endings are jumps to exit stubs, the code does what the routine does, and where that ends the run
+/// it comes to the stub of the ending in the same state but for work, which is less.
+pub fn endings_may_be_exit_stubs()
+    ensures { (c : Context) (stub : Ending → ℕ) (routine code : List FlatInstruction) (from : ℕ)
+        → HasExitStubs stub routine code from → (n q : ℕ) (s : State)
+        → DoesWithStubs c code from stub n (Goes (from + q) s) (local_run c routine n (Goes q s)) }
 {}

@@ -178,7 +178,7 @@ def load(scene, scalar, p, is_judged, line=LINE):
         v = model.load(s, scalar, is_judged, p, line)
         return pointer(v) if scalar == POINTER else word(v.word)
 
-    steps = (36 if scalar == POINTER else 1) + (8 if is_judged else 0)
+    steps = (21 if scalar == POINTER else 1) + (8 if is_judged else 0)
     scene.perform("checked_load" if is_judged else "load", line, lambda work: steps, of(scalar) + [p], run,
                   is_of_program=True)
 
@@ -188,7 +188,7 @@ def store(scene, scalar, p, v, is_judged, line=LINE, is_kept=False):
         model.store(s, scalar, is_judged, p, line, v)
         return NOTHING
 
-    steps = (35 if scalar == POINTER else 1) + (8 if is_judged else 0)
+    steps = (27 if scalar == POINTER else 1) + (8 if is_judged else 0)
     value = v if scalar == POINTER else Number(v.word)
     scene.perform("checked_store" if is_judged else "store", line, lambda work: steps, of(scalar) + [p, value], run,
                   is_of_program=True, is_kept=is_kept)
@@ -259,7 +259,7 @@ def leave(scene, numbers, top, is_kept=False):
 
 def zero(scene, n):
     o = scene.state.objects[n]
-    of_range(scene, "zero", 42, 5, o.size, [Number(o.address), Number(o.size)], lambda s: model.with_zeroed(s, n))
+    of_range(scene, "zero", 16, 4, o.size, [Number(o.address), Number(o.size)], lambda s: model.with_zeroed(s, n))
 
 
 # ---- what the scenes begin with

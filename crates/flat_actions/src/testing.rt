@@ -3,6 +3,7 @@
 ghost use Rattle.std.specs.Prelude.{◌≡◌, ◌≤◌, ◌^◌, IfOk};
 ghost use Rattle.flat_routines.specs.Registers.{AreBelow};
 ghost use Rattle.flat_routines.specs.Metadata.{held_registers};
+ghost use Rattle.flat_routines.specs.InputOutput.{IsWithoutInputOutput};
 ghost use Rattle.flat_actions.specs.Judgement.Testing.{IsBelow, IsSpatialRoutine, IsTemporalRoutine};
 ghost use Rattle.flat_actions.specs.Judgement.Code.{spatial_code};
 ghost use Rattle.flat_actions.specs.Judgement.Code.{temporal_code};
@@ -15,7 +16,8 @@ use std::alloc::{AllocError, Global};
 
 /// Tests the bounds of an access of `size` bytes, at least one, through the pointer in `pointer`: the run ends with a
 /// spatial violation at `line` just where the bytes do not lie within the bounds, and else goes on. It may write the
-/// registers from `scratch` on, and shows nothing else. The only refusal is that memory fails.
+/// registers from `scratch` on, and shows nothing else: it takes no input and puts no output. The only refusal is that
+/// memory fails.
 pub fn spatial_check(
     alloc: Global,
     pointer: Held,
@@ -26,14 +28,15 @@ pub fn spatial_check(
     requires below { AreBelow scratch (held_registers pointer) }
     requires size { IsBelow scratch size }
     requires room { scratch ≤ 2 ^ 31 }
-    ensures { IfOk result (λ r. IsSpatialRoutine pointer size line scratch r.items) }
+    ensures does { IfOk result (λ r. IsSpatialRoutine pointer size line scratch r.items) }
+    ensures computes { IfOk result (λ r. IsWithoutInputOutput r.items) }
 {
     spatial_instructions(alloc, pointer, size, line, scratch)
 }
 
 /// Tests the life of the object to which the pointer in `pointer` points, whose bounds passed their test: the run ends
 /// with a temporal violation at `line` just where the object is dead, and else goes on. It may write the registers from
-/// `scratch` on, and shows nothing else. The only refusal is that memory fails.
+/// `scratch` on, and shows nothing else: it takes no input and puts no output. The only refusal is that memory fails.
 pub fn temporal_check(
     alloc: Global,
     pointer: Held,
@@ -42,7 +45,8 @@ pub fn temporal_check(
 ) -> Result<Vec<FlatInstruction>, AllocError>
     requires below { AreBelow scratch (held_registers pointer) }
     requires room { scratch ≤ 2 ^ 31 }
-    ensures { IfOk result (λ r. IsTemporalRoutine pointer line scratch r.items) }
+    ensures does { IfOk result (λ r. IsTemporalRoutine pointer line scratch r.items) }
+    ensures computes { IfOk result (λ r. IsWithoutInputOutput r.items) }
 {
     temporal_instructions(alloc, pointer, line, scratch)
 }

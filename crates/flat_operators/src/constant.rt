@@ -39,8 +39,9 @@ fn put_appended(code: &mut Vec<FlatInstruction>, into: u32, bits: u64) -> Result
     )
 }
 
-// Puts a word in three parts behind a list.
-fn put_wide(code: &mut Vec<FlatInstruction>, into: u32, word: u64) -> Result<(), AllocError>
+/// Puts what gets a word into a register behind a list, in three parts, whatever the word. It fails only for want of
+/// memory.
+pub fn put_wide(code: &mut Vec<FlatInstruction>, into: u32, word: u64) -> Result<(), AllocError>
     ensures { OnOk result (code.new.items ≡ code.old.items ++ wide_code into word) }
 {
     put(

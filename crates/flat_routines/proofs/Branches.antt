@@ -1,9 +1,9 @@
 -- What a branch that is taken, or not, says of its operands, and which operands have it taken.
-use Rattle.std.proofs.Common.{◌≡◌, ◌≢◌, ℕ, ◌<◌, ◌≤◌, true, false, not, ap}
+use Rattle.std.proofs.Common.{◌≡◌, ◌≢◌, ℕ, ◌+◌, ◌%◌, ◌^◌, ◌<◌, ◌≤◌, true, false, not, ap, arith}
 use Rattle.std.specs.Prelude.{◌==◌, nat_lt}
 use Rattle.std.proofs.lemmas.Bool.{not-true, not-false, eq-eqb, ne_eqb, eqb-true, eqb-false, lt-ltb, le-ltb}
 use Rattle.std.proofs.lemmas.Bool.{ltb-true, ltb-false}
-use Rattle.rv_isa.specs.declared.instruction.BranchOp.TheVariants.{Beq, Bne, Bltu, Bgeu}
+use Rattle.rv_isa.specs.declared.instruction.BranchOp.TheVariants.{Beq, Bne, Bge, Bltu, Bgeu}
 use Rattle.rv_isa.specs.Results.{branch_taken}
 
 -- ---- Beq
@@ -51,6 +51,21 @@ differ a b ne = ap not (ne_eqb a b ne)
 pub do_not_differ : (a b : ℕ) → a ≡ b → branch_taken Bne a b ≡ false
 unfolding branch_taken
 do_not_differ a b e = ap not (eq-eqb a b e)
+
+-- ---- Bge, with 0
+
+-- what it says of a word: whether it has no sign
+pub if_not_negative : (a : ℕ) → a < 2 ^ 64 → branch_taken Bge a 0 ≡ true → a < 2 ^ 63
+unfolding branch_taken
+if_not_negative a l e =
+    let h = ltb-false ((a + 2 ^ 63) % 2 ^ 64) ((0 + 2 ^ 63) % 2 ^ 64)
+    (not-true (nat_lt ((a + 2 ^ 63) % 2 ^ 64) ((0 + 2 ^ 63) % 2 ^ 64)) e) in omega arith
+
+pub if_negative : (a : ℕ) → a < 2 ^ 64 → branch_taken Bge a 0 ≡ false → 2 ^ 63 ≤ a
+unfolding branch_taken
+if_negative a l e =
+    let h = ltb-true ((a + 2 ^ 63) % 2 ^ 64) ((0 + 2 ^ 63) % 2 ^ 64)
+    (not-false (nat_lt ((a + 2 ^ 63) % 2 ^ 64) ((0 + 2 ^ 63) % 2 ^ 64)) e) in omega arith
 
 -- ---- Bltu
 

@@ -1,9 +1,9 @@
 -- Code with exit stubs does what the routine does, up to where that ends the run.
-use Rattle.std.proofs.Common.{◌≡◌, ℕ, zero, suc, ◌+◌, ◌-◌, ◌*◌, ◌<◌, ◌≤◌, List, Option, Some, None, Bool, true, false}
+use Rattle.std.proofs.Common.{◌≡◌, ℕ, zero, suc, ◌+◌, ◌-◌, ◌<◌, List, Option, Some, None, Bool, true, false}
 use Rattle.std.proofs.Common.{refl, sym, ap, ◌∙◌, subst, arith, length, if◌then◌else◌}
-use Rattle.std.specs.Prelude.{slice_get, nat_le}
-use Rattle.std.proofs.Math.Nat.{le-mul_of_pos_right}
-use Rattle.std.proofs.lemmas.Bool.{leb-true}
+use Rattle.std.specs.Prelude.{slice_get, nat_le, ◌==◌, ◌||◌}
+use Rattle.std.proofs.Math.Nat.{mul_comm, mul-add}
+use Rattle.std.proofs.lemmas.Bool.{leb-true, eqb-true}
 use Rattle.sb_base.specs.declared.ending.Ending.{Ending}
 use Rattle.sb_base.specs.Endings.{code_of, report_of}
 use Rattle.flat_meaning.specs.declared.instruction.FlatInstruction.{FlatInstruction}
@@ -14,7 +14,8 @@ use Rattle.flat_meaning.specs.declared.instruction.FlatInstruction.TheVariants.{
 use Rattle.flat_meaning.specs.State.{State}
 use Rattle.flat_meaning.specs.Meaning.{Context, Local, Goes, Ends, Leaves, Fails, local}
 use Rattle.flat_routines.specs.Local.{local_run, local_step, act, counted}
-use Rattle.flat_routines.specs.ExitStubs.{goes_on, IsStubbed, Same, Stub, HasExitStubs, ComesToStub, DoesWithStubs}
+use Rattle.flat_routines.specs.ExitStubs.{stays_behind, IsStubbed, Same, Stub, HasExitStubs, ComesToStub}
+use Rattle.flat_routines.specs.ExitStubs.{EndsThere, AtStub, DoesWithStubs}
 use Rattle.flat_routines.proofs.Steps.{run_suc, run_ended, run_failed, run_left, run_zero}
 
 module _ (c : Context) (stub : Ending → ℕ) (routine code : List FlatInstruction) (from : ℕ)
@@ -22,7 +23,7 @@ module _ (c : Context) (stub : Ending → ℕ) (routine code : List FlatInstruct
   -- where the same instruction leads in the code, by where it leads in the routine
   abbrev Moved : Local → Local → Type 0
   Moved (Goes q s) l = l ≡ Goes (from + q) s
-  Moved (Ends status report s) l = ⊥
+  Moved (Ends status report s) l = l ≡ Ends status report s
   Moved Leaves l = l ≡ Leaves
   Moved Fails l = l ≡ Fails
 
@@ -43,7 +44,7 @@ module _ (c : Context) (stub : Ending → ℕ) (routine code : List FlatInstruct
   branched true q past s = there (from + q + 1 + past) (from + (q + 1 + past)) s (omega arith)
   branched false q past s = next q s
 
-  moved : (i : FlatInstruction) (q : ℕ) (s : State) → goes_on q i ≡ true
+  moved : (i : FlatInstruction) (q : ℕ) (s : State) → stays_behind from q i ≡ true
       → Moved (local c i q s) (local c i (from + q) s)
   moved (Constant x n) q s e = next q _
   moved (Move x y) q s e = next q _
@@ -53,23 +54,28 @@ module _ (c : Context) (stub : Ending → ℕ) (routine code : List FlatInstruct
   moved (Store op y offset x) q s e = guarded _ q _
   moved (Branch op y z past) q s e = branched _ q past s
   moved (JumpForward past) q s e = there (from + q + 1 + past) (from + (q + 1 + past)) s (omega arith)
-  moved (JumpBack back) q s e =
-      let le = leb-true back q e in there (from + q - back) (from + (q - back)) s (omega arith)
+  moved (JumpBack back) q s e = by (from == 0) refl e
+    where
+      by : (b : Bool) → (from == 0) ≡ b → (b || nat_le back q) ≡ true → Goes (from + q - back) s ≡ Goes (from + (q - back)) s
+      by true is t = let z = eqb-true from 0 is in there (from + q - back) (from + (q - back)) s (omega arith)
+      by false is t = let le = leb-true back q t in there (from + q - back) (from + (q - back)) s (omega arith)
   moved Turn q s e = next q _
   moved (Call f first x) q s e = refl
   moved (CallAddress y first n x m) q s e = refl
   moved (Return y) q s e = refl
   moved (Get x) q s e = next q _
   moved (Put x) q s e = next q _
-  moved (Exit x) q s e = cc
-  moved (End x) q s e = cc
+  moved (Exit x) q s e = refl
+  moved (End x) q s e = refl
   moved (Charged x) q s e = next q _
 
   -- what comes of the state behind a step comes of that before it
   later : (n q : ℕ) (s : State) (l : Local) (x : Local) → local_step c code (Goes q s) ≡ l
       → DoesWithStubs c code from stub n l x → DoesWithStubs c code from stub (suc n) (Goes q s) x
   later n q s l (Goes q' s') e a = run_suc c code n (Goes q s) ∙ ap (local_run c code n) e ∙ a
-  later n q s l (Ends status report s') e a = record {
+  later n q s l (Ends status report s') e (EndsThere ends) =
+      EndsThere (run_suc c code n (Goes q s) ∙ ap (local_run c code n) e ∙ ends)
+  later n q s l (Ends status report s') e (AtStub a) = AtStub (record {
     ending = a.ending;
     status_is = a.status_is;
     report_is = a.report_is;
@@ -77,8 +83,10 @@ module _ (c : Context) (stub : Ending → ℕ) (routine code : List FlatInstruct
     within = omega (arith, a.within);
     work = a.work;
     less = a.less;
+    jump = a.jump;
+    before = a.before;
     comes = run_suc c code a.steps (Goes q s) ∙ ap (local_run c code a.steps) e ∙ a.comes;
-  }
+  })
   later n q s l Leaves e a = tt
   later n q s l Fails e a = tt
 
@@ -90,7 +98,11 @@ module _ (c : Context) (stub : Ending → ℕ) (routine code : List FlatInstruct
       → DoesWithStubs c code from stub (suc n) (Goes (from + q) s) (local_run c routine n l)
   both n q s (Goes q' s') l' so_far m e =
       later n (from + q) s (Goes (from + q') s') (local_run c routine n (Goes q' s')) (e ∙ m) (so_far q' s')
-  both n q s (Ends status report s') l' so_far m e = absurd m
+  both n q s (Ends status report s') l' so_far m e =
+      subst (DoesWithStubs c code from stub (suc n) (Goes (from + q) s))
+      (sym (run_ended c routine n status report s'))
+      (EndsThere (run_suc c code n (Goes (from + q) s) ∙ ap (local_run c code n) (e ∙ m)
+      ∙ run_ended c code n status report s'))
   both n q s Leaves l' so_far m e =
       subst (DoesWithStubs c code from stub (suc n) (Goes (from + q) s)) (sym (run_left c routine n)) tt
   both n q s Fails l' so_far m e =
@@ -101,7 +113,8 @@ module _ (c : Context) (stub : Ending → ℕ) (routine code : List FlatInstruct
       → ComesToStub c code stub (suc n) (Goes (from + q) s) (code_of e) (report_of e) (counted c (End e) s)
   jumped n q s e has lt =
       let there : from + q + 1 + (stub e - suc (from + q)) ≡ stub e = omega arith in
-      let less = le-mul_of_pos_right {m = 1 + length (report_of e)} c.weight (omega arith) in
+      let less = mul-add c.weight 1 (length (report_of e)) in
+      let one = mul_comm c.weight 1 in
       record {
         ending = e;
         status_is = refl;
@@ -109,7 +122,9 @@ module _ (c : Context) (stub : Ending → ℕ) (routine code : List FlatInstruct
         steps = 1;
         within = omega arith;
         work = s.work + c.weight;
-        less = omega (arith, less);
+        less = omega (arith, less, one);
+        jump = from + q;
+        before = lt;
         comes = run_suc c code 0 (Goes (from + q) s) ∙ run_zero c code (local_step c code (Goes (from + q) s))
             ∙ ap (λ o. act c o (from + q) s) has
             ∙ ap (λ z. Goes z (record s { work = s.work + c.weight })) there;
@@ -129,7 +144,7 @@ module _ (c : Context) (stub : Ending → ℕ) (routine code : List FlatInstruct
           subst (λ j. DoesWithStubs c code from stub (suc n) (Goes (from + q) s)
           (local_run c routine n (act c (Some j) q s))) (sym is)
           (subst (DoesWithStubs c code from stub (suc n) (Goes (from + q) s))
-          (sym (run_ended c routine n (code_of x) (report_of x) (counted c (End x) s))) (jumped n q s x has lt))
+          (sym (run_ended c routine n (code_of x) (report_of x) (counted c (End x) s))) (AtStub (jumped n q s x has lt)))
 
   pub stubbed : (n q : ℕ) (s : State)
       → DoesWithStubs c code from stub n (Goes (from + q) s) (local_run c routine n (Goes q s))

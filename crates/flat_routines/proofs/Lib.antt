@@ -7,6 +7,7 @@ pub mod Wrapped
 pub mod Distinct
 pub mod Lifted
 pub mod ExitStubs
+pub mod InputOutput
 pub mod Regions
 pub mod Words
 pub mod Branches

@@ -1,5 +1,5 @@
 -- Instructions that take input or put output: each counts twice its weight.
-use Rattle.std.specs.Prelude.{Bool, true, false, ◌||◌, List, [], ◌∷◌}
+use Rattle.std.specs.Prelude.{◌≡◌, Bool, true, false, ◌||◌, List, [], ◌∷◌}
 use Rattle.flat_meaning.specs.declared.instruction.FlatInstruction.{FlatInstruction}
 use Rattle.flat_meaning.specs.declared.instruction.FlatInstruction.TheVariants.{Get, Put}
 
@@ -12,3 +12,6 @@ does_input_output i = false
 abbrev pub has_input_output : List FlatInstruction → Bool
 has_input_output [] = false
 has_input_output (i ∷ is) = does_input_output i || has_input_output is
+
+pub record IsWithoutInputOutput (instructions : List FlatInstruction) : Type 0 where
+  pub none : has_input_output instructions ≡ false

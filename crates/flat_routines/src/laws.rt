@@ -61,8 +61,8 @@ pub fn runs_without_input_and_output_do_less_work()
         → work_of x ≤ s.work + c.weight * (n + report_length x) }
 {}
 
-/// Where a routine's endings are jumps to exit stubs, the code does what the routine does, and where that ends the run
-/// it comes to the stub of the ending in the same state but for work, which is less.
+/// Where endings of a routine are jumps to exit stubs, the code does what the routine does. Where that ends the run, the
+/// code ends it as well, or comes to the stub of the ending in the same state but for the work of the report.
 pub fn endings_may_be_exit_stubs()
     ensures { (c : Context) (stub : Ending → ℕ) (routine code : List FlatInstruction) (from : ℕ)
         → HasExitStubs stub routine code from → (n q : ℕ) (s : State)

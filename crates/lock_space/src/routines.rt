@@ -4,6 +4,7 @@
 ghost use Rattle.std.specs.Prelude.{◌≡◌, ℕ, ◌+◌, ◌≤◌, ◌^◌, IfOk, [], ◌∷◌};
 ghost use Rattle.addr_map.specs.Places.{AreMapped};
 ghost use Rattle.flat_routines.specs.Registers.{AreDistinct, AreBelow};
+ghost use Rattle.flat_routines.specs.InputOutput.{IsWithoutInputOutput};
 ghost use Rattle.lock_space.specs.Routines.{IsNextRoutine, IsFreshRoutine, IsReleaseRoutine};
 ghost use Rattle.lock_space.specs.Routines.{next_code, fresh_code, release_code};
 
@@ -53,7 +54,8 @@ pub fn fresh(
     fresh_instructions(alloc, map, key, lock, scratch)
 }
 
-/// Makes the lock word whose address is in `lock` hold 0 and free. It holds a key, and is not the global one.
+/// Makes the lock word whose address is in `lock` hold 0 and free, without input and output. It holds a key, and is not
+/// the global one.
 pub fn release(
     alloc: Global,
     map: &AddrMap,
@@ -63,7 +65,8 @@ pub fn release(
     requires map { AreMapped map.now }
     requires below { AreBelow scratch (lock ∷ []) }
     requires room { scratch ≤ 2 ^ 31 }
-    ensures { IfOk result (λ r. IsReleaseRoutine map.now lock scratch r.items) }
+    ensures does { IfOk result (λ r. IsReleaseRoutine map.now lock scratch r.items) }
+    ensures computes { IfOk result (λ r. IsWithoutInputOutput r.items) }
 {
     release_instructions(alloc, map, lock, scratch)
 }

@@ -92,7 +92,8 @@ const RANGES: RangeRegisters = RangeRegisters {
 /// The first register that a routine may use for itself.
 pub const SCRATCH: u32 = 40;
 
-fn line_of(number: u32) -> Line {
+/// The line with a number, of 0 the first.
+pub fn line_of(number: u32) -> Line {
     if number == 0 {
         Line::first()
     } else {

@@ -36,6 +36,8 @@ pub enum Left {
     Past,
     /// With the run over, with this status.
     Over(u8),
+    /// With the values from this register on returned.
+    Returned(u32),
     /// At what may not be done, or after too many steps.
     Lost,
 }
@@ -45,6 +47,7 @@ enum Next {
     On(usize),
     Back(usize),
     Over(u8),
+    Returned(u32),
     Lost,
 }
 
@@ -98,6 +101,7 @@ impl Machine {
                 Next::On(past) => place = place.saturating_add(1).saturating_add(past),
                 Next::Back(back) => place = place.saturating_sub(back),
                 Next::Over(status) => return Ok(Left::Over(status)),
+                Next::Returned(from) => return Ok(Left::Returned(from)),
                 Next::Lost => return Ok(Left::Lost),
             }
         }
@@ -192,6 +196,7 @@ impl Machine {
                 Ok(Next::On(0))
             }
             FlatInstruction::End(ending) => self.end(&ending),
+            FlatInstruction::Return { from } => Ok(Next::Returned(from)),
             _ => Ok(Next::Lost),
         }
     }
@@ -208,9 +213,14 @@ impl Machine {
     }
 
     fn end(&mut self, ending: &Ending) -> Result<Next, AllocError> {
+        self.report_of(ending)?;
+        Ok(Next::Over(ending.code()))
+    }
+
+    /// Reports an ending.
+    pub fn report_of(&mut self, ending: &Ending) -> Result<(), AllocError> {
         let mut text = [0; sb_base::ending::REPORT_ROOM];
         let count = ending.report_into(&mut text);
-        self.report.extend_from_slice(&text[..count])?;
-        Ok(Next::Over(ending.code()))
+        self.report.extend_from_slice(&text[..count])
     }
 }

@@ -15,7 +15,8 @@
 //!
 //! Of each row a line tells how the run was left, what it gave and showed, whether its steps are as few as
 //! promised, and each byte of object space, each tag of a live object and each key, block and life that changed.
-//! Where the two forms differ there are two lines.
+//! Where the two forms differ there are two lines. What may be a function of the runtime is run as one too, made of
+//! the routine at the first line of a source and called at the row's, and told once more where that differs.
 //!
 //! `stdin` and `stdout` are made by `vectors.py` beside them: what must be told comes from a model of the source's
 //! objects.
@@ -23,6 +24,7 @@
 
 mod changes;
 mod code;
+mod function;
 mod machine;
 mod memory;
 mod objects;

@@ -49,6 +49,7 @@ pub fn branched(op: BranchOp, left: u64, right: u64) -> Option<bool> {
     match op {
         BranchOp::Beq => Some(left == right),
         BranchOp::Bne => Some(left != right),
+        BranchOp::Bge => Some((left ^ (1 << 63)) >= (right ^ (1 << 63))),
         BranchOp::Bltu => Some(left < right),
         BranchOp::Bgeu => Some(left >= right),
         _ => None,

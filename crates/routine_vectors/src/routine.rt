@@ -227,6 +227,18 @@ impl RoutineCall {
         }
     }
 
+    /// Whether it may be a function of the runtime: what stands in the functions of a program, and a `printf`, whose
+    /// operands take the register of the status, are none.
+    pub fn may_be_function(&self) -> bool {
+        match self.routine {
+            Routine::Accessing(_)
+            | Routine::Testing(_)
+            | Routine::Putting(Putting::Printf)
+            | Routine::Allocating(Allocating::Leave) => false,
+            _ => true,
+        }
+    }
+
     fn given_by_accessing(&self, accessing: Accessing) -> Given {
         match accessing {
             Accessing::CheckedLoad | Accessing::Load => {

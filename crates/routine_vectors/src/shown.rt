@@ -10,7 +10,7 @@ use std::alloc::AllocError;
 pub fn write_left(text: &mut String, left: Left, report: &[u8]) -> Result<(), AllocError> {
     match left {
         Left::Past => text.push_str("ok"),
-        Left::Lost => text.push_str("lost"),
+        Left::Lost | Left::Returned(_) => text.push_str("lost"),
         Left::Over(status) => {
             write!(text, "{status}")?;
             match str::from_utf8(report) {

@@ -3,8 +3,9 @@
 ghost use Rattle.addr_map.specs.Places.{AreMapped};
 
 use crate::changes::{write_born, write_bytes, write_lives, write_spaces, write_tags};
-use crate::code::{RESULT, SCRATCH, code_of};
-use crate::machine::{Left, Machine};
+use crate::code::{RESULT, SCRATCH, code_of, line_of};
+use crate::function::{STATUS, call_function, function_of};
+use crate::machine::{Left, Machine, REGISTERS};
 use crate::memory::Memory;
 use crate::objects::{Metadata, Object, Objects, hexadecimal};
 use crate::routine::{Given, Piece, RoutineCall, directive_named, routine_named, type_named};
@@ -175,28 +176,77 @@ impl Side {
     ) -> Result<String>
         requires map { AreMapped map.now }
     {
+        let called = self.perform_called::<S>(alloc, map, line)?;
         let (call, mut after) = self.call_of(alloc, line)?;
         let code = code_of::<S>(alloc, map, &call)?;
-        let read = S::read_entry(alloc, map, 0, RESULT.tag, SCRATCH)?;
         let operands = after.values;
         let left = after.run(&code)?;
-        let mut text = String::new(alloc);
-        write_left(&mut text, left, &after.report)?;
-        if left == Left::Past {
-            let given = call.given();
-            write_given(&mut text, &self.objects, given, &after)?;
-            write_registers(&mut text, given, &operands, &after.values)?;
-        }
-        write_shown(&mut text, call.is_of_program(), &after)?;
-        write_steps(&mut text, after.steps, call.limit)?;
         let (key, lock) = (after.value(RESULT.tag.key), after.value(RESULT.tag.lock));
-        if left == Left::Past {
-            self.write_changes(&mut text, map, call.given(), &mut after, &read)?;
+        let mut text = self.told::<S>(alloc, map, &call, &operands, left, &mut after)?;
+        if let Some(called) = called
+            && called.as_str() != text.as_str()
+        {
+            text.push_str("\nbut as a function ")?;
+            text.push_str(&called)?;
         }
         if is_kept {
             self.key = key;
             self.lock = lock;
             swap(&mut self.machine.memory, &mut after.memory);
+        }
+        Ok(text)
+    }
+
+    // The same by the call of a function of the runtime, made for the first line.
+    fn perform_called<S: ShadowForm>(
+        &mut self,
+        alloc: Global,
+        map: &AddrMap,
+        line: &str,
+    ) -> Result<Option<String>>
+        requires map { AreMapped map.now }
+    {
+        let (mut call, mut after) = self.call_of(alloc, line)?;
+        if !call.may_be_function() {
+            return Ok(None);
+        }
+        let at = line_of(call.line);
+        call.line = 1;
+        // a return, and the number of an ending
+        call.limit = call.limit.saturating_add(2);
+        let code = code_of::<S>(alloc, map, &call)?;
+        let function = function_of(alloc, &code)?;
+        after.set(STATUS, 0);
+        let operands = after.values;
+        let left = call_function(&mut after, &function, at)?;
+        let text = self.told::<S>(alloc, map, &call, &operands, left, &mut after)?;
+        Ok(Some(text))
+    }
+
+    // What came of a run.
+    fn told<S: ShadowForm>(
+        &mut self,
+        alloc: Global,
+        map: &AddrMap,
+        call: &RoutineCall,
+        operands: &[u64; REGISTERS],
+        left: Left,
+        after: &mut Machine,
+    ) -> Result<String>
+        requires map { AreMapped map.now }
+    {
+        let read = S::read_entry(alloc, map, 0, RESULT.tag, SCRATCH)?;
+        let mut text = String::new(alloc);
+        write_left(&mut text, left, &after.report)?;
+        if left == Left::Past {
+            let given = call.given();
+            write_given(&mut text, &self.objects, given, after)?;
+            write_registers(&mut text, given, operands, &after.values)?;
+        }
+        write_shown(&mut text, call.is_of_program(), after)?;
+        write_steps(&mut text, after.steps, call.limit)?;
+        if left == Left::Past {
+            self.write_changes(&mut text, map, call.given(), after, &read)?;
         }
         Ok(text)
     }

@@ -219,9 +219,9 @@ module _ (c : Context) (ok : IsLaidOut c.sizes) (count : ℕ) (v : State)
       }
 
   clears_alone : IsOfWords v
-      → Reaches c alone (32 + 32 * count) (Goes 0 v) 11 (Either (Clearing v (4 * v.values 0) count 0) Never)
+      → Reaches c alone (8 + 16 * count) (Goes 0 v) 11 (Either (Clearing v (4 * v.values 0) count 0) Never)
   clears_alone w =
-      weaken c alone (4 + (count * 7 + 1)) (32 + 32 * count) (Goes 0 v) 11 _ _ (omega arith) (λ x q. q)
+      weaken c alone (4 + (count * 7 + 1)) (8 + 16 * count) (Goes 0 v) 11 _ _ (omega arith) (λ x q. q)
       (next c alone 4 (count * 7 + 1) (Goes 0 v) 4 11 (Clearing v (4 * v.values 0) count count) Never _ w
       (line c alone head 0 v (Clearing v (4 * v.values 0) count count) Never (tt, (tt, (tt, (tt, tt))))
       (has_front alone 0 head turns_of (has_self alone)) begins)
@@ -246,7 +246,7 @@ direct_clears map first bytes t ok below count runtime charge weight =
     } in
     let f = clear_registers first bytes t in
     routine c 5 2 f alone _ (registers_rename (first ∷ bytes ∷ []) [] (t ∷ (t + 1) ∷ (t + 2) ∷ []) t r) refl
-    (λ s. 32 + 32 * count) (λ s. Clearing (through f s) (4 * s.values first) count 0)
+    (λ s. 8 + 16 * count) (λ s. Clearing (through f s) (4 * s.values first) count 0)
     (HasCleared map direct_entry (λ m. Unit {0}) first count t)
     (λ s w seen p. clears_alone c ok count (through f s) p.0 seen)
     (λ s s' v w p h agrees only.

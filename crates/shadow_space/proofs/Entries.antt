@@ -154,7 +154,7 @@ direct_reads map at into t ok distinct below runtime charge weight =
       own_distinct = (tt, tt);
     } in
     straight_routine c 6 1 (read_registers at into t) (direct_read 0 own 5) _
-    (registers_rename (at ∷ []) (entry_registers into) (t ∷ []) t r) refl 32 (HasRead direct_entry at into t)
+    (registers_rename (at ∷ []) (entry_registers into) (t ∷ []) t r) refl 18 (HasRead direct_entry at into t)
     (omega arith)
     (λ s w p. read_allowed c ok (through (read_registers at into t) s) p.0)
     (λ s s' w p agrees only.
@@ -215,7 +215,7 @@ direct_writes map at from t ok below runtime charge weight =
       own_distinct = (tt, tt);
     } in
     straight_routine c 6 5 (write_registers at from t) (direct_write 0 own 5) _
-    (registers_rename (at ∷ entry_registers from) [] (t ∷ []) t r) refl 32
+    (registers_rename (at ∷ entry_registers from) [] (t ∷ []) t r) refl 24
     (HasWritten map direct_entry (λ m. Unit {0}) at from t) (omega arith)
     (λ s w p. write_allowed c ok (through (write_registers at from t) s) p.0)
     (λ s s' w p agrees only.

@@ -51,22 +51,22 @@ pub record IsWordRange (map : MapSizes) (first bytes count : ℕ) : Type 0 where
   pub bytes_of_words : bytes ≡ 8 * count
   pub aligned : first % 8 ≡ 0
 
--- the entry of the word at an address is read, or written, within 32 steps
+-- the entry of the word at an address is read within 18 steps, or written within 24
 abbrev pub IsReadRoutine : MapSizes → View → (Bytes → Type 0) → (at : ℕ) → Entry → (scratch : ℕ) → List FlatInstruction
     → Type 0
 IsReadRoutine map entry IsGood at into scratch r =
-    DoesAnywhere map r (λ s. IsObjectWord map (s.values at) × IsGood s.memory) 32 (HasRead entry at into scratch)
+    DoesAnywhere map r (λ s. IsObjectWord map (s.values at) × IsGood s.memory) 18 (HasRead entry at into scratch)
 
 abbrev pub IsWriteRoutine : MapSizes → View → (Bytes → Type 0) → (at : ℕ) → Entry → (scratch : ℕ) → List FlatInstruction
     → Type 0
 IsWriteRoutine map entry IsGood at from scratch r =
-    DoesAnywhere map r (λ s. IsObjectWord map (s.values at) × IsGood s.memory) 32
+    DoesAnywhere map r (λ s. IsObjectWord map (s.values at) × IsGood s.memory) 24
     (HasWritten map entry IsGood at from scratch)
 
--- the entries of a range are cleared, within 32 steps and 32 for each word
+-- the entries of a range are cleared, within 8 steps and 16 for each word
 abbrev pub IsClearRoutine : MapSizes → View → (Bytes → Type 0) → (first bytes scratch : ℕ) → List FlatInstruction
     → Type 0
 IsClearRoutine map entry IsGood first bytes scratch r =
     (count : ℕ)
     → DoesAnywhere map r (λ s. IsWordRange map (s.values first) (s.values bytes) count × IsGood s.memory)
-    (32 + 32 * count) (HasCleared map entry IsGood first count scratch)
+    (8 + 16 * count) (HasCleared map entry IsGood first count scratch)

@@ -5,6 +5,7 @@ ghost use Rattle.addr_map.specs.Places.{MapSizes, AreMapped};
 ghost use Rattle.flat_meaning.specs.Memory.{Bytes};
 ghost use Rattle.flat_routines.specs.Registers.{AreDistinct, AreBelow};
 ghost use Rattle.flat_routines.specs.Metadata.{View, IsObjectWord, KeepsShadow, entry_registers};
+ghost use Rattle.flat_routines.specs.InputOutput.{IsWithoutInputOutput};
 ghost use Rattle.shadow_space.specs.Form.{IsReadRoutine, IsWriteRoutine, IsClearRoutine};
 ghost use Rattle.shadow_space.specs.Start.{AreStartEntries, StartsShadow};
 
@@ -24,7 +25,7 @@ pub trait ShadowForm {
     /// What holds of the memory whenever a routine is called.
     ghost IsGood: { MapSizes → Bytes → Type 0 };
 
-    /// Reads the entry of the word at the address in `at` into the registers of `into`.
+    /// Reads the entry of the word at the address in `at` into the registers of `into`, without input and output.
     fn read_entry(
         alloc: Global,
         map: &AddrMap,
@@ -37,9 +38,11 @@ pub trait ShadowForm {
         requires below { AreBelow scratch (at ∷ entry_registers into) }
         requires room { scratch ≤ 2 ^ 31 }
         ensures does { IfOk result (λ r. IsReadRoutine map.now entry (IsGood map.now) at into scratch r.items) }
+        ensures computes { IfOk result (λ r. IsWithoutInputOutput r.items) }
         ensures short { IfOk result (λ r. length r.items ≤ 32) };
 
-    /// Writes the values of the registers of `from` as the entry of the word at the address in `at`.
+    /// Writes the values of the registers of `from` as the entry of the word at the address in `at`, without input and
+    /// output.
     fn write_entry(
         alloc: Global,
         map: &AddrMap,
@@ -51,6 +54,7 @@ pub trait ShadowForm {
         requires below { AreBelow scratch (at ∷ entry_registers from) }
         requires room { scratch ≤ 2 ^ 31 }
         ensures does { IfOk result (λ r. IsWriteRoutine map.now entry (IsGood map.now) at from scratch r.items) }
+        ensures computes { IfOk result (λ r. IsWithoutInputOutput r.items) }
         ensures short { IfOk result (λ r. length r.items ≤ 32) };
 
     /// Makes the entries of the words from the address in `first` on, as many bytes as `bytes` holds, those of words

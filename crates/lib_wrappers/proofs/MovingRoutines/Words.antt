@@ -67,12 +67,12 @@ module _ (map : MapSizes) (entry : View) (IsGood : Bytes → Type 0) (t : ℕ) (
 
   pub entry_copies : CopiesEntry map entry IsGood t (read ++ write)
   entry_copies charge weight =
-      both_quiet (in_runtime map charge weight) read write 32 32 (IsToCopy (entries_of map entry IsGood) t)
+      both_quiet (in_runtime map charge weight) read write 18 24 (IsToCopy (entries_of map entry IsGood) t)
       (HasRead entry (t + 2) (entry_from t) (t + 8))
       (λ s s1. IsObjectWord map (s1.values (t + 1)) × IsGood s1.memory)
       (λ s. HasWritten map entry IsGood (t + 1) (entry_from t) (t + 8))
       (HasCopied (entries_of map entry IsGood) t)
-      (quiet_weaken (in_runtime map charge weight) read 32 32
+      (quiet_weaken (in_runtime map charge weight) read 18 18
       (λ s. IsObjectWord map (s.values (t + 2)) × IsGood s.memory) (IsToCopy (entries_of map entry IsGood) t)
       (HasRead entry (t + 2) (entry_from t) (t + 8)) (HasRead entry (t + 2) (entry_from t) (t + 8)) (omega arith)
       (λ s p. (p.from_cell, p.good)) (λ s s1 p h. h) (reads true charge weight))
@@ -390,12 +390,12 @@ module _ (map : MapSizes) (ok : IsLaidOut map) (entry : View) (IsGood : Bytes �
         (let k = y.values t in
         let a = y.values (t + 1) in let b = y.values (t + 2) in
         let l = few x y p in
-        (quiet_weaken c (move_cells OneWord t body) (7 + (k * 69 + 1)) (8 + 9 * n)
+        (quiet_weaken c (move_cells OneWord t body) (7 + (k * 47 + 1)) (8 + 9 * n)
         (IsToMoveCells (entries_of map entry IsGood) k a b t)
         (λ y'. IsToMoveCells (entries_of map entry IsGood) k a b t y' × (y' ≡ y))
         (HasMovedCells (entries_of map entry IsGood) k a b t) (λ y'. MovedSince x) (omega arith) (λ y' q. q.0)
         (λ y' z q h. moved x y z p (subst (λ u. HasMovedCells (entries_of map entry IsGood) k a b t u z) q.1 h))
-        (cells_move c (entries_of map entry IsGood) (are_entries map entry IsGood) t body 64 (copies charge weight) k a
+        (cells_move c (entries_of map entry IsGood) (are_entries map entry IsGood) t body 42 (copies charge weight) k a
         b (w.values t))).from code pc y has w (ready x y p, refl));
   }
 

@@ -5,7 +5,7 @@ use Rattle.std.specs.Prelude.{nat_lt}
 use Rattle.std.specs.Fmt.{digits, decimal}
 use Rattle.std.proofs.lemmas.Bool.{lt-ltb, le-ltb, cond-true, cond-false}
 use Rattle.addr_map.specs.Places.{MapSizes}
-use Rattle.rv_isa.specs.declared.instruction.BranchOp.TheVariants.{Bltu}
+use Rattle.rv_isa.specs.declared.instruction.BranchOp.TheVariants.{Bge}
 use Rattle.rv_isa.specs.declared.instruction.RegOp.TheVariants.{Add, Sub}
 use Rattle.rv_isa.specs.declared.instruction.RegOp32.TheVariants.{Addw}
 use Rattle.rv_isa.specs.Results.{reg_result, reg32_result, low_word}
@@ -25,7 +25,7 @@ use Rattle.flat_routines.specs.Routine.{HasAt, Outcome, Continues, Halts, Reache
 use Rattle.flat_routines.specs.Effects.{worked, effects}
 use Rattle.flat_routines.proofs.Steps.{has_front, has_back}
 use Rattle.flat_routines.proofs.Rules.{weaken, next, line, branch, arrived}
-use Rattle.flat_routines.proofs.Branches.{if_less, if_not_less}
+use Rattle.flat_routines.proofs.Branches.{if_not_negative, if_negative}
 use Rattle.shadow_space.proofs.Entries.{context_of}
 use Rattle.flat_routines.proofs.Spaces.Quiet.{quiet_words, worked_words}
 use Rattle.flat_operators.proofs.Values.{int_by_word}
@@ -113,15 +113,15 @@ module _ (map : MapSizes) (charge weight : ℕ) (count t : ℕ) (counts : count 
       → Reaches c code 6 (Goes pc f) (pc + 6) (Either (IsReady (signed_bytes x) 10 f) Never)
   sign_runs code pc f x has words is =
       let end : pc + 1 + 5 ≡ pc + 6 = omega arith in
-      branch c code 5 pc f Bltu t (Number (2 ^ 63)) 5 (pc + 6) (Either (IsReady (signed_bytes x) 10 f) Never) has.0
+      branch c code 5 pc f Bge t (Number 0) 5 (pc + 6) (Either (IsReady (signed_bytes x) 10 f) Never) has.0
       (λ e. arrived c code 5 (worked c f) (pc + 1 + 5) (pc + 6) (Either (IsReady (signed_bytes x) 10 f) Never) end
-      (ready_positive f x words is (let l = if_less (f.values t) (2 ^ 63) e in omega arith)))
+      (ready_positive f x words is (let l = if_not_negative (f.values t) (words.values t) e in omega arith)))
       (λ e.
       subst (λ p. Reaches c code 5 (Goes (pc + 1) (worked c f)) p (Either (IsReady (signed_bytes x) 10 f) Never)) end
       (line c code negative (pc + 1) (worked c f) (IsReady (signed_bytes x) 10 f) Never
       (tt, (tt, (tt, (tt, (tt, tt))))) has.1
       (again (ready_negative (worked c f) x (worked_words c f words) is
-      (let l = if_not_less (f.values t) (2 ^ 63) e in omega arith)))))
+      (let l = if_negative (f.values t) (words.values t) e in omega arith)))))
     where
       again : {f' : State} → IsReady (signed_bytes x) 10 (worked c f) f' → IsReady (signed_bytes x) 10 f f'
       again r = record {

@@ -27,12 +27,12 @@ entries_of map entry IsGood = record {
 abbrev pub entry_from : ℕ → Entry
 entry_from t = record { base = t + 4; bound = t + 5; key = t + 6; lock = t + 7 }
 
--- in functions of the runtime one entry is copied, within 64 steps
+-- in functions of the runtime one entry is copied, within 42 steps
 abbrev pub CopiesEntry : MapSizes → View → (Bytes → Type 0) → (t : ℕ) → List FlatInstruction → Type 0
 CopiesEntry map entry IsGood t body =
     (charge weight : ℕ)
     → CopiesOne (record { sizes = map; is_runtime = true; charge = charge; weight = weight })
-    (entries_of map entry IsGood) t 64 body
+    (entries_of map entry IsGood) t 42 body
 
 -- How many whole words the range to move to has, none where the two places are not equal modulo 8, and the first of
 -- them there and in the range to move from.

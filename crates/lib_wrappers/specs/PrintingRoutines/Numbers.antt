@@ -3,7 +3,7 @@ use Rattle.std.specs.Prelude.{◌≡◌, ℕ, ◌+◌, ◌*◌, ◌^◌, pos, fa
 use Rattle.std.specs.Fmt.{digits, decimal, signed_decimal}
 use Rattle.std.specs.Int.{w64, int_wrap}
 use Rattle.addr_map.specs.Places.{MapSizes}
-use Rattle.rv_isa.specs.declared.instruction.BranchOp.TheVariants.{Bltu}
+use Rattle.rv_isa.specs.declared.instruction.BranchOp.TheVariants.{Bge}
 use Rattle.rv_isa.specs.declared.instruction.RegOp.TheVariants.{Add, Sub, Sll, Srl}
 use Rattle.rv_isa.specs.declared.instruction.RegOp32.TheVariants.{Addw}
 use Rattle.obj_memory.specs.declared.int_type.IntType.TheVariants.{UnsignedInt, UnsignedLong, UnsignedChar}
@@ -38,7 +38,7 @@ IsNumberRoutine map d value count t r =
 -- the sign of a word of 64 bits is put out, and the word becomes its magnitude
 abbrev pub sign_code : (value count scratch : ℕ) → List FlatInstruction
 sign_code x c y =
-    Branch Bltu x (Number (2 ^ 63)) 5
+    Branch Bge x (Number 0) 5
     ∷ Constant y 45
     ∷ Put y
     ∷ Operate Add c c (Number 1)

@@ -94,9 +94,9 @@ fn signed_instructions(
 {
     let sign = [
         FlatInstruction::Branch {
-            op: BranchOp::Bltu,
+            op: BranchOp::Bge,
             left: value,
-            right: RightOperand::Number(1 << 63),
+            right: RightOperand::Number(0),
             past: 5,
         },
         FlatInstruction::Constant {

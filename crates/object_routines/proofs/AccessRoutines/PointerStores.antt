@@ -308,7 +308,7 @@ module _ (map : MapSizes) (mapped : AreMapped map) (entry : View) (IsGood : Byte
         q.shows)
         (λ i l none. q.others i l tt ∙ stays i l tt)
 
-    stores_pointer : Reaches c code 35 (Goes pc f) (pc + length (store_pointer_code address from t write)) R
+    stores_pointer : Reaches c code 27 (Goes pc f) (pc + length (store_pointer_code address from t write)) R
     stores_pointer =
         let U = unless_code Bne t (Number 0) write in
         let w1 = effects_words c start_code f may_start w in
@@ -316,9 +316,9 @@ module _ (map : MapSizes) (mapped : AreMapped map) (entry : View) (IsGood : Byte
         let q : pc + 1 + 1 ≡ pc + 2 = omega arith in
         let rest = subst (λ n. HasAt code n U) q has.1.1 in
         let end : pc + 2 + length U ≡ pc + length (store_pointer_code address from t write) = omega arith in
-        subst (λ n. Reaches c code 35 (Goes pc f) n R) end
-        (line_on c code start_code 33 pc f (pc + 2 + length U) R may_start (has.0, (has.1.0, tt))
-        (unless c code 32 (pc + 2) y Bne t (Number 0) write R rest
+        subst (λ n. Reaches c code 27 (Goes pc f) n R) end
+        (line_on c code start_code 25 pc f (pc + 2 + length U) R may_start (has.0, (has.1.0, tt))
+        (unless c code 24 (pc + 2) y Bne t (Number 0) write R rest
         (λ e. without_entry (if_misaligned v.word (y.values t) shifted
         (eqb-false (y.values t) 0 (if_differ (y.values t) 0 e))))
         (λ e.
@@ -327,7 +327,7 @@ module _ (map : MapSizes) (mapped : AreMapped map) (entry : View) (IsGood : Byte
         let at : y.values address ≡ v.word = stays address below.0 tt ∙ held in
         let there = word_there gx k x.objects f.memory (laid_out map mapped) stands.objects v 8 p allowed (omega arith)
         aligned in
-        weaken c code 32 32 (Goes (pc + 2 + 1) (worked c y)) (pc + 2 + 1 + length write) _ R (omega arith)
+        weaken c code 24 24 (Goes (pc + 2 + 1) (worked c y)) (pc + 2 + 1 + length write) _ R (omega arith)
         (with_entry aligned)
         ((writes false charge weight).from code (pc + 2 + 1) (worked c y) rest.1 w2
         (subst (IsObjectWord map) (sym at) there, subst IsGood (sym memory_is) half_good.shadow)))))
@@ -347,7 +347,7 @@ store_pointer_does map entry IsGood address from t write mapped is_local below w
     (v ∷ new ∷ [])
     charge weight = record {
       from = λ code pc f has w p.
-          weaken _ code 35 (35 + 0 * work_of (source_store OfPointer false v line new >> done (integer 0)) x)
+          weaken _ code 27 (27 + 0 * work_of (source_store OfPointer false v line new >> done (integer 0)) x)
           (Goes pc f)
           (pc + length (store_pointer_code address from t write)) _ _ (omega arith) (λ o q. q)
           (stores_pointer map mapped entry IsGood is_local address from t below write writes functions types k x v new

@@ -212,7 +212,7 @@ module _ (map : MapSizes) (mapped : AreMapped map) (entry : View) (IsGood : Byte
         (q.read ∙ ap (λ m. entry m (y.values address)) word.memory ∙ ap (entry f.memory) word.kept ∙ there)
         (λ i l none. q.others i (omega arith) none.1 ∙ word.others i l none)
 
-    loads_pointer : Reaches cx code 36 (Goes pc f) end R
+    loads_pointer : Reaches cx code 21 (Goes pc f) end R
     loads_pointer =
         let W = word_code address into t (length read) in
         let front = has_front code pc W read has in
@@ -220,9 +220,9 @@ module _ (map : MapSizes) (mapped : AreMapped map) (entry : View) (IsGood : Byte
         let w1 = effects_words cx (start_code map charge weight address into t apart below) f may_start w in
         let w2 : IsOfWords (worked cx y) = record { values = w1.values; memory = w1.memory } in
         let len : pc + 8 + length read ≡ end = omega (arith, length-append W read) in
-        line_on cx code (start_code map charge weight address into t apart below) 34 pc f end R may_start
+        line_on cx code (start_code map charge weight address into t apart below) 19 pc f end R may_start
         (front.0, (front.1.0, tt))
-        (branch cx code 33 (pc + 2) y Beq t (Number 0) 5 end R
+        (branch cx code 18 (pc + 2) y Beq t (Number 0) 5 end R
         (let q : pc + 1 + 1 ≡ pc + 2 = omega arith in
         subst (λ n. slice_get code n ≡ Some (Branch Beq t (Number 0) 5)) q front.1.1.0)
         (λ e.
@@ -233,9 +233,9 @@ module _ (map : MapSizes) (mapped : AreMapped map) (entry : View) (IsGood : Byte
         let run = (reads false charge weight).from code (pc + 8) (worked cx y) back w2
         (subst (IsObjectWord map) (sym word.kept) there, subst IsGood (sym word.memory) stands.spaces.shadow) in
         let to : pc + 8 ≡ pc + 2 + 1 + 5 = omega arith in
-        subst (λ n. Reaches cx code 33 (Goes n (worked cx y)) end R) to
-        (subst (λ n. Reaches cx code 33 (Goes (pc + 8) (worked cx y)) n R) len
-        (weaken cx code 32 33 (Goes (pc + 8) (worked cx y)) (pc + 8 + length read) _ R (omega arith)
+        subst (λ n. Reaches cx code 18 (Goes n (worked cx y)) end R) to
+        (subst (λ n. Reaches cx code 18 (Goes (pc + 8) (worked cx y)) n R) len
+        (weaken cx code 18 18 (Goes (pc + 8) (worked cx y)) (pc + 8 + length read) _ R (omega arith)
         (with_entry y aligned) run)))
         (λ e.
         let some = if_misaligned v.word (y.values t) word.shifted (if_unequal _ _ e) in
@@ -246,7 +246,7 @@ module _ (map : MapSizes) (mapped : AreMapped map) (entry : View) (IsGood : Byte
         let has_rest = subst (λ i. HasAt code i (no_entry into.tag ++ JumpForward (length read) ∷ [])) q front.1.1.1 in
         let consts = has_front code (pc + 2 + 1) (no_entry into.tag) (JumpForward (length read) ∷ []) has_rest in
         let jump = has_back code (pc + 2 + 1) (no_entry into.tag) (JumpForward (length read) ∷ []) has_rest in
-        weaken cx code 5 33 (Goes (pc + 2 + 1) (worked cx y)) end R R (omega arith) (λ o r. r)
+        weaken cx code 5 18 (Goes (pc + 2 + 1) (worked cx y)) end R R (omega arith) (λ o r. r)
         (line_on cx code (no_entry into.tag) 1 (pc + 2 + 1) (worked cx y) end R (tt, (tt, (tt, (tt, tt)))) consts
         (jump_on cx code 0 (pc + 2 + 1 + 4) (length read) z end R jump.0
         (arrived cx code 0 (worked cx z) (pc + 2 + 1 + 4 + 1 + length read) end R (omega (arith, len))
@@ -267,7 +267,7 @@ load_pointer_does map entry IsGood address into t read mapped apart below reads 
     weight =
     record {
       from = λ code pc f has w p.
-          weaken _ code 36 (36 + 0 * work_of (source_load OfPointer false v line) x) (Goes pc f)
+          weaken _ code 21 (21 + 0 * work_of (source_load OfPointer false v line) x) (Goes pc f)
           (pc + length (load_pointer_code address into t read)) _ _ (omega arith) (λ o q. q)
           (loads_pointer map mapped entry IsGood address into t apart below read reads functions types k x v charge
           weight

@@ -10,7 +10,7 @@ use Rattle.sb_base.specs.declared.ending.Ending.TheVariants.{Keys as KeysSpent}
 use Rattle.sb_base.specs.Endings.{code_of, report_of}
 use Rattle.addr_map.specs.declared.region.Region.TheVariants.{Heap}
 use Rattle.addr_map.specs.Places.{MapSizes, AreMapped, region_start, region_last, region_end}
-use Rattle.rv_isa.specs.declared.instruction.BranchOp.TheVariants.{Beq, Bltu}
+use Rattle.rv_isa.specs.declared.instruction.BranchOp.TheVariants.{Beq, Bne}
 use Rattle.rv_isa.specs.Results.{reg_result}
 use Rattle.obj_memory.specs.declared.object.Storage.TheVariants.{Allocated}
 use Rattle.obj_memory.specs.declared.value.Tag.TheVariants.{OfObject}
@@ -40,7 +40,7 @@ use Rattle.flat_routines.proofs.Steps.{has_front, has_back}
 use Rattle.flat_routines.proofs.Rules.{next, ended, arrived, weaken}
 use Rattle.flat_routines.proofs.Distinct.{AreRegisters}
 use Rattle.flat_routines.proofs.Words.{same_metadata, IsLocal}
-use Rattle.flat_routines.proofs.Branches.{are_equal, are_not_equal, is_less, is_not_less}
+use Rattle.flat_routines.proofs.Branches.{are_equal, are_not_equal, differ, do_not_differ}
 use Rattle.flat_routines.proofs.Showing.{shows_both}
 use Rattle.flat_routines.specs.Objects.StandsFor.{Views, Keys, Spells, IsTable, StandsFor}
 use Rattle.shadow_space.proofs.Entries.{context_of, agrees_shows, agrees_memory}
@@ -74,7 +74,7 @@ use Rattle.object_routines.proofs.AllocatingRoutines.BlockBirth.{block_elsewhere
 use Rattle.object_routines.proofs.AllocatingRoutines.BlockMemory.{good_by_table, good_by_locks, locks_by_table}
 use Rattle.object_routines.proofs.AllocatingRoutines.BlockMemory.{block_made}
 use Rattle.object_routines.proofs.AllocatingRoutines.SourceBlocks.{sought_in, made_in, no_place, no_key, makes_block}
-use Rattle.object_routines.proofs.AllocatingRoutines.Seeks.{IsSought, seeks}
+use Rattle.object_routines.proofs.AllocatingRoutines.Seeks.{IsSought, seeks, some_left, none_left}
 
 -- ---- the place in the table is that in the source
 
@@ -150,14 +150,14 @@ module _ (map : MapSizes) (mapped : AreMapped map) (entry : View) (IsGood : Byte
   whole = malloc_code map place fresh zero size into line t (t + 1) (t + 2)
 
   abbrev body : List FlatInstruction
-  body = make_code map fresh zero size into line t (t + 2)
+  body = make_code fresh zero size into line t (t + 2)
 
   abbrev Result : State → Completed Value → Outcome → Type 0
   Result s o = Leaves g k IsGood (Pointer into) t x s o
 
   -- where the branch behind the place stands
   abbrev behind : ℕ → ℕ
-  behind pc = pc + 3 + length place + 5
+  behind pc = pc + 9 + length place + 5
 
   body_length : length body ≡ 4 + length fresh + length zero
   body_length = omega (
@@ -166,7 +166,7 @@ module _ (map : MapSizes) (mapped : AreMapped map) (entry : View) (IsGood : Byte
     length-append zero (whole_bounds (t + 2) size into),
   )
 
-  whole_length : length whole ≡ 13 + length place + length fresh + length zero
+  whole_length : length whole ≡ 19 + length place + length fresh + length zero
   whole_length = omega (
     arith,
     body_length,
@@ -436,22 +436,22 @@ module _ (map : MapSizes) (mapped : AreMapped map) (entry : View) (IsGood : Byte
     abbrev count : ℕ
     count = block_total map s.memory
 
-    at_place : HasAt code (pc + 3) (place ++ (untagged (t + 2) into ++ unless_code Beq (t + 2) (Number 0) body))
+    at_place : HasAt code (pc + 9) (place ++ (untagged (t + 2) into ++ unless_code Beq (t + 2) (Number 0) body))
     at_place = has_back code pc (keys_code map t (t + 1))
         (place ++ (untagged (t + 2) into ++ unless_code Beq (t + 2) (Number 0) body)) has
 
-    at_null : HasAt code (pc + 3 + length place) (untagged (t + 2) into ++ unless_code Beq (t + 2) (Number 0) body)
-    at_null = has_back code (pc + 3) place (untagged (t + 2) into ++ unless_code Beq (t + 2) (Number 0) body) at_place
+    at_null : HasAt code (pc + 9 + length place) (untagged (t + 2) into ++ unless_code Beq (t + 2) (Number 0) body)
+    at_null = has_back code (pc + 9) place (untagged (t + 2) into ++ unless_code Beq (t + 2) (Number 0) body) at_place
 
     at_branch : HasAt code (behind pc) (unless_code Beq (t + 2) (Number 0) body)
-    at_branch = has_back code (pc + 3 + length place) (untagged (t + 2) into) (unless_code Beq (t + 2) (Number 0) body)
+    at_branch = has_back code (pc + 9 + length place) (untagged (t + 2) into) (unless_code Beq (t + 2) (Number 0) body)
         at_null
 
     at_fresh : HasAt code (behind pc + 3) (fresh ++ (zero ++ whole_bounds (t + 2) size into))
     at_fresh =
         let e : behind pc + 1 + 2 ≡ behind pc + 3 = omega arith in
         subst (λ n. HasAt code n (fresh ++ (zero ++ whole_bounds (t + 2) size into))) e
-        (has_back code (behind pc + 1) (key_test map t line) (fresh ++ (zero ++ whole_bounds (t + 2) size into))
+        (has_back code (behind pc + 1) (key_test t line) (fresh ++ (zero ++ whole_bounds (t + 2) size into))
         at_branch.1)
 
     at_zero : HasAt code (behind pc + 3 + length fresh) (zero ++ whole_bounds (t + 2) size into)
@@ -463,7 +463,7 @@ module _ (map : MapSizes) (mapped : AreMapped map) (entry : View) (IsGood : Byte
     sought : (b : ℕ) (R : Outcome → Type 0)
         → ((s3 : State) → IsOfWords s3 → IsSought map size into t x.keys z s s3
         → Reaches c code b (Goes (behind pc) s3) (pc + length whole) R)
-        → Reaches c code (3 + ((32 + 20 * count) + (5 + b))) (Goes pc s) (pc + length whole) R
+        → Reaches c code (9 + ((32 + 20 * count) + (5 + b))) (Goes pc s) (pc + length whole) R
     sought b R on = seeks map mapped size into t below apart distinct place places charge weight code
         (unless_code Beq (t + 2) (Number 0) body) b pc x.keys z s (pc + length whole) R w has
         (keys_counted s w f standing) size_is f.spaces.table on
@@ -474,7 +474,7 @@ module _ (map : MapSizes) (mapped : AreMapped map) (entry : View) (IsGood : Byte
         let same = count_is s w f standing in
         let end : behind pc + 1 + length body ≡ pc + length whole = omega (arith, whole_length, body_length) in
         subst (Goal code pc s) (sym o)
-        (weaken c code (3 + ((32 + 20 * count) + (5 + 1)))
+        (weaken c code (9 + ((32 + 20 * count) + (5 + 1)))
         (60 + 20 * ((sought_in x).work - x.work)) (Goes pc s) (pc + length whole) _ _ (omega arith) (λ y q. q)
         (sought 1 (Result s (Gives (integer 0) (sought_in x)))
         (λ s3 w3 d3.
@@ -503,17 +503,16 @@ module _ (map : MapSizes) (mapped : AreMapped map) (entry : View) (IsGood : Byte
         (ap (λ (y : MapSizes). nat_lt x.keys y.budgets.keys) same_sizes ∙ le-ltb x.keys map.budgets.keys spent) in
         let same = count_is s w f standing in
         subst (Goal code pc s) (sym o)
-        (weaken c code (3 + ((32 + 20 * count) + (5 + 3)))
+        (weaken c code (9 + ((32 + 20 * count) + (5 + 3)))
         (60 + 20 * ((sought_in x).work - x.work)) (Goes pc s) (pc + length whole) _ _ (omega arith) (λ y q. q)
         (sought 3 (Result s (Ended (KeysSpent line) (sought_in x)))
         (λ s3 w3 d3.
         goes_into c code 2 (behind pc) s3 Beq (t + 2) (Number 0) (length body) (pc + length whole)
         (Result s (Ended (KeysSpent line) (sought_in x))) at_branch.0
         (are_not_equal (s3.values (t + 2)) 0 (some_place p found s3 d3))
-        (let made = d3.made in let most = mapped.budgets.keys in
-        goes_into c code 1 (behind pc + 1) (worked c s3) Bltu t (Number map.budgets.keys) 1 (pc + length whole)
+        (goes_into c code 1 (behind pc + 1) (worked c s3) Bne t (Number 0) 1 (pc + length whole)
         (Result s (Ended (KeysSpent line) (sought_in x))) at_branch.1.0
-        (is_not_less (s3.values t) (map.budgets.keys % 2 ^ 64) (omega arith))
+        (do_not_differ (s3.values t) 0 (d3.left ∙ none_left x.keys map.budgets.keys spent))
         (ended c code 0 (KeysSpent line) (worked c (worked c s3)) (behind pc + 1 + 1) (pc + length whole)
         (Result s (Ended (KeysSpent line) (sought_in x))) at_branch.1.1.0 (spent_ended s w f standing s3 d3))))))
 
@@ -527,17 +526,16 @@ module _ (map : MapSizes) (mapped : AreMapped map) (entry : View) (IsGood : Byte
         omega (arith, whole_length, body_length) in
         let R = Result s (Gives (pointer_to (length x.objects) (with_new Allocated p z x.objects)) (made_in p z x)) in
         subst (Goal code pc s) (sym o)
-        (weaken c code (3 + ((32 + 20 * count) + (5 + suc (suc (14 + ((42 + 5 * z) + (2 + 0)))))))
+        (weaken c code (9 + ((32 + 20 * count) + (5 + suc (suc (14 + ((16 + 4 * z) + (2 + 0)))))))
         (60 + 20 * ((made_in p z x).work - x.work)) (Goes pc s) (pc + length whole) R R (omega arith) (λ y q. q)
-        (sought (suc (suc (14 + ((42 + 5 * z) + (2 + 0))))) R
+        (sought (suc (suc (14 + ((16 + 4 * z) + (2 + 0))))) R
         (λ s3 w3 d3.
-        goes_into c code (suc (14 + ((42 + 5 * z) + (2 + 0)))) (behind pc) s3 Beq (t + 2) (Number 0) (length body)
+        goes_into c code (suc (14 + ((16 + 4 * z) + (2 + 0)))) (behind pc) s3 Beq (t + 2) (Number 0) (length body)
         (pc + length whole) R at_branch.0 (are_not_equal (s3.values (t + 2)) 0 (some_place p found s3 d3))
-        (let made = d3.made in let most = mapped.budgets.keys in
-        goes_past c code (14 + ((42 + 5 * z) + (2 + 0))) (behind pc + 1) (behind pc + 3) (worked c s3) Bltu t
-        (Number map.budgets.keys) 1 (pc + length whole) R at_branch.1.0 (omega arith)
-        (is_less (s3.values t) (map.budgets.keys % 2 ^ 64) (omega arith))
-        (next c code 14 ((42 + 5 * z) + (2 + 0)) (Goes (behind pc + 3) (worked c (worked c s3)))
+        (goes_past c code (14 + ((16 + 4 * z) + (2 + 0))) (behind pc + 1) (behind pc + 3) (worked c s3) Bne t
+        (Number 0) 1 (pc + length whole) R at_branch.1.0 (omega arith)
+        (differ (s3.values t) 0 (λ e. some_left x.keys map.budgets.keys left (sym d3.left ∙ e)))
+        (next c code 14 ((16 + 4 * z) + (2 + 0)) (Goes (behind pc + 3) (worked c (worked c s3)))
         (behind pc + 3 + length fresh) (pc + length whole)
         (HasFresh map into.tag.key into.tag.lock (t + 4) (worked c (worked c s3))) Never R
         (worked_words c (worked c s3) (worked_words c s3 w3))
@@ -549,7 +547,7 @@ module _ (map : MapSizes) (mapped : AreMapped map) (entry : View) (IsGood : Byte
         let at4 = at4 s w f standing p found left s3 d3 s4 d4 in
         let lies = lies s w f standing p found left s3 d3 in
         let first = lies.begins in let last = lies.last in let holds = lies.holds in let aligned = lies.aligned in
-        next c code (42 + 5 * z) (2 + 0) (Goes (behind pc + 3 + length fresh) s4)
+        next c code (16 + 4 * z) (2 + 0) (Goes (behind pc + 3 + length fresh) s4)
         (behind pc + 3 + length fresh + length zero) (pc + length whole)
         (HasZeroed map entry IsGood (t + 2) z (t + 4) s4) Never R w4
         ((zeroes z charge weight).from code (behind pc + 3 + length fresh) s4

@@ -8,8 +8,8 @@ use Rattle.sb_base.specs.declared.ending.Ending.TheVariants.{Stack as StackSpent
 use Rattle.sb_base.specs.Endings.{code_of, report_of}
 use Rattle.addr_map.specs.declared.region.Region.TheVariants.{Stack, Heap}
 use Rattle.addr_map.specs.Places.{MapSizes, AreMapped, region_size, region_start, region_end}
-use Rattle.rv_isa.specs.declared.instruction.BranchOp.TheVariants.{Bgeu, Bltu}
-use Rattle.rv_isa.specs.Results.{reg_result}
+use Rattle.rv_isa.specs.declared.instruction.BranchOp.TheVariants.{Bgeu, Bne}
+use Rattle.rv_isa.specs.Results.{reg_result, bit_of}
 use Rattle.obj_memory.specs.Heap.{rounded_up, is_allocated}
 use Rattle.c_tree.specs.declared.program.Variable.{Variable}
 use Rattle.source_meaning.specs.State.{State as Source, Outcome as Completed, Gives, Ended, Setting}
@@ -31,7 +31,7 @@ use Rattle.flat_routines.specs.Metadata.{View, ShowsNothing}
 use Rattle.flat_routines.proofs.Steps.{has_front, has_back}
 use Rattle.flat_routines.proofs.Rules.{next, ended, arrived, weaken}
 use Rattle.flat_routines.proofs.Distinct.{AreRegisters, register_of}
-use Rattle.flat_routines.proofs.Branches.{not_below, is_below, is_less, is_not_less}
+use Rattle.flat_routines.proofs.Branches.{not_below, is_below, differ, do_not_differ}
 use Rattle.flat_routines.proofs.Showing.{shows_both}
 use Rattle.flat_routines.proofs.Words.{IsLocal}
 use Rattle.flat_routines.specs.Objects.StandsFor.{Views, Keys, StandsFor}
@@ -58,7 +58,7 @@ use Rattle.object_routines.proofs.AllocatingRoutines.FreeLocks.{stack_laid_out, 
 use Rattle.object_routines.proofs.AllocatingRoutines.BlockBirth.{held_after, keys_keep}
 use Rattle.object_routines.proofs.AllocatingRoutines.BlockMemory.{good_by_locks, range_made}
 use Rattle.object_routines.proofs.AllocatingRoutines.EntryBirths.{stack_in_space, entry_born, entry_of_lock}
-use Rattle.object_routines.proofs.AllocatingRoutines.Seeks.{keys_allowed, found_keys, keys_shown}
+use Rattle.object_routines.proofs.AllocatingRoutines.Seeks.{keys_allowed, found_left, keys_shown, some_left, none_left}
 use Rattle.object_routines.proofs.AllocatingRoutines.SourceEntries.{homes_from, entered_in, block_of, no_space}
 use Rattle.object_routines.proofs.AllocatingRoutines.SourceEntries.{no_more_keys}
 use Rattle.object_routines.proofs.AllocatingRoutines.SourceEntries.{enters_block, end_by_bytes, some_bytes, few_bytes}
@@ -88,7 +88,7 @@ module _ (map : MapSizes) (mapped : AreMapped map) (entry : View) (IsGood : Byte
   abbrev last : List FlatInstruction
   last = end_of_block to.first bytes to.end
 
-  whole_length : length whole ≡ 13 + length fresh + length zero
+  whole_length : length whole ≡ 19 + length fresh + length zero
   whole_length = omega (arith, length-append fresh (zero ++ last), length-append zero last)
 
   abbrev Goal : (code : List FlatInstruction) → (pc : ℕ) → State → Completed Block → Type 0
@@ -149,7 +149,7 @@ module _ (map : MapSizes) (mapped : AreMapped map) (entry : View) (IsGood : Byte
         }
 
     abbrev rest : List FlatInstruction
-    rest = keys_code map t (t + 1) ++ (key_test map t line ++ (fresh ++ (zero ++ last)))
+    rest = keys_code map t (t + 1) ++ (key_test t line ++ (fresh ++ (zero ++ last)))
 
     abbrev lines : List FlatInstruction
     lines = round_code top to.first ++ room_code map to.first t
@@ -162,23 +162,23 @@ module _ (map : MapSizes) (mapped : AreMapped map) (entry : View) (IsGood : Byte
         let e : pc + 5 + 2 ≡ pc + 7 = omega arith in
         subst (λ i. HasAt code i rest) e (has_back code (pc + 5) (room_test bytes t line) rest at_test)
 
-    at_keys : HasAt code (pc + 10) (key_test map t line ++ (fresh ++ (zero ++ last)))
+    at_keys : HasAt code (pc + 16) (key_test t line ++ (fresh ++ (zero ++ last)))
     at_keys =
-        let e : pc + 7 + 3 ≡ pc + 10 = omega arith in
-        subst (λ i. HasAt code i (key_test map t line ++ (fresh ++ (zero ++ last)))) e
-        (has_back code (pc + 7) (keys_code map t (t + 1)) (key_test map t line ++ (fresh ++ (zero ++ last))) at_rest)
+        let e : pc + 7 + 9 ≡ pc + 16 = omega arith in
+        subst (λ i. HasAt code i (key_test t line ++ (fresh ++ (zero ++ last)))) e
+        (has_back code (pc + 7) (keys_code map t (t + 1)) (key_test t line ++ (fresh ++ (zero ++ last))) at_rest)
 
-    at_fresh : HasAt code (pc + 12) (fresh ++ (zero ++ last))
+    at_fresh : HasAt code (pc + 18) (fresh ++ (zero ++ last))
     at_fresh =
-        let e : pc + 10 + 2 ≡ pc + 12 = omega arith in
+        let e : pc + 16 + 2 ≡ pc + 18 = omega arith in
         subst (λ i. HasAt code i (fresh ++ (zero ++ last))) e
-        (has_back code (pc + 10) (key_test map t line) (fresh ++ (zero ++ last)) at_keys)
+        (has_back code (pc + 16) (key_test t line) (fresh ++ (zero ++ last)) at_keys)
 
-    at_zero : HasAt code (pc + 12 + length fresh) (zero ++ last)
-    at_zero = has_back code (pc + 12) fresh (zero ++ last) at_fresh
+    at_zero : HasAt code (pc + 18 + length fresh) (zero ++ last)
+    at_zero = has_back code (pc + 18) fresh (zero ++ last) at_fresh
 
-    at_last : HasAt code (pc + 12 + length fresh + length zero) last
-    at_last = has_back code (pc + 12 + length fresh) zero last at_zero
+    at_last : HasAt code (pc + 18 + length fresh + length zero) last
+    at_last = has_back code (pc + 18 + length fresh) zero last at_zero
 
     rounds : (bound : ℕ) (R : Outcome → Type 0)
         → ((s1 : State) → IsOfWords s1 → IsRounded s s1
@@ -242,7 +242,7 @@ module _ (map : MapSizes) (mapped : AreMapped map) (entry : View) (IsGood : Byte
       }
 
       record HasCounted (s2 : State) : Type 0 where
-        made : s2.values t ≡ x.keys
+        left : s2.values t ≡ bit_of (nat_lt x.keys map.budgets.keys)
         first : s2.values to.first ≡ base
         bytes_there : s2.values bytes ≡ extent
         memory : s2.memory ≡ s.memory
@@ -251,28 +251,28 @@ module _ (map : MapSizes) (mapped : AreMapped map) (entry : View) (IsGood : Byte
 
       counts : (bound : ℕ) (R : Outcome → Type 0)
           → ((s2 : State) → IsOfWords s2 → HasCounted s2
-          → Reaches c code bound (Goes (pc + 10) s2) (pc + length whole) R)
-          → Reaches c code (5 + suc (3 + bound)) (Goes pc s) (pc + length whole) R
+          → Reaches c code bound (Goes (pc + 16) s2) (pc + length whole) R)
+          → Reaches c code (5 + suc (9 + bound)) (Goes pc s) (pc + length whole) R
       counts bound R on =
-          rounds (suc (3 + bound)) R
+          rounds (suc (9 + bound)) R
           (λ s1 w1 d1.
           let lie = locks_laid_out map mapped in
           let fr = register_of [] [] (t ∷ (t + 1) ∷ []) in
           let room = d1.room in let there = d1.bytes_there in let e = end_is in
           let y = worked c s1 in
           let counted' : key_counter map s1.memory ≡ 2 + x.keys = ap (key_counter map) d1.memory ∙ keys_counted in
-          goes_past c code (3 + bound) (pc + 5) (pc + 7) s1 Bgeu t (Register bytes) 1 (pc + length whole) R at_test.0
+          goes_past c code (9 + bound) (pc + 5) (pc + 7) s1 Bgeu t (Register bytes) 1 (pc + length whole) R at_test.0
           (omega arith) (not_below (s1.values t) (s1.values bytes) (omega arith))
           (stretch_on c [] [] (t ∷ (t + 1) ∷ []) t key_registers (keys_code map 0 1) refl code bound (pc + 7) y
           (pc + length whole) R (worked_words c s1 w1)
-          (has_front code (pc + 7) (keys_code map t (t + 1)) (key_test map t line ++ (fresh ++ (zero ++ last))) at_rest)
+          (has_front code (pc + 7) (keys_code map t (t + 1)) (key_test t line ++ (fresh ++ (zero ++ last))) at_rest)
           (keys_allowed map lie charge weight x.keys (through fr y) counted')
           (λ s2 w2 d2.
-          let at : pc + 10 ≡ pc + 7 + 3 = omega arith in
+          let at : pc + 16 ≡ pc + 7 + 9 = omega arith in
           subst (λ i. Reaches c code bound (Goes i s2) (pc + length whole) R) at
           (on s2 w2 (record {
-            made = sym (d2.agrees.values 0 (omega arith))
-                ∙ found_keys map lie charge weight x.keys (through fr y) counted';
+            left = sym (d2.agrees.values 0 (omega arith))
+                ∙ found_left map lie charge weight x.keys (through fr y) counted' mapped.budgets.keys;
             first = d2.others to.first to_below.0 tt ∙ d1.first;
             bytes_there = d2.others bytes ins_below.1.0 tt ∙ d1.bytes_there;
             memory = agrees_memory 2 _ _ s2 d2.agrees ∙ d1.memory;
@@ -298,14 +298,13 @@ module _ (map : MapSizes) (mapped : AreMapped map) (entry : View) (IsGood : Byte
           (ap (λ (y : MapSizes). nat_lt x.keys y.budgets.keys) same_sizes ∙ le-ltb x.keys map.budgets.keys spent) in
           let R = IsEntered g k IsGood to t x s (Ended (KeysSpent line) x) in
           subst (Goal code pc s) (sym o)
-          (weaken c code (5 + suc (3 + suc (suc 0))) (100 + 40 * (x.work - x.work)) (Goes pc s) (pc + length whole) R R
+          (weaken c code (5 + suc (9 + suc (suc 0))) (100 + 40 * (x.work - x.work)) (Goes pc s) (pc + length whole) R R
           (omega arith) (λ y q. q)
           (counts (suc (suc 0)) R
           (λ s2 w2 d2.
-          let made = d2.made in let most = mapped.budgets.keys in
-          goes_into c code 1 (pc + 10) s2 Bltu t (Number map.budgets.keys) 1 (pc + length whole) R at_keys.0
-          (is_not_less (s2.values t) (map.budgets.keys % 2 ^ 64) (omega arith))
-          (ended c code 0 (KeysSpent line) (worked c s2) (pc + 10 + 1) (pc + length whole) R at_keys.1.0
+          goes_into c code 1 (pc + 16) s2 Bne t (Number 0) 1 (pc + length whole) R at_keys.0
+          (do_not_differ (s2.values t) 0 (d2.left ∙ none_left x.keys map.budgets.keys spent))
+          (ended c code 0 (KeysSpent line) (worked c s2) (pc + 16 + 1) (pc + length whole) R at_keys.1.0
           (over (KeysSpent line) (worked c s2) (shows_worked c s s2 d2.shows))))))
 
       -- ---- the objects
@@ -465,29 +464,28 @@ module _ (map : MapSizes) (mapped : AreMapped map) (entry : View) (IsGood : Byte
             (ap (λ (y : MapSizes). nat_lt x.keys y.budgets.keys) same_sizes ∙ lt-ltb x.keys map.budgets.keys left) in
             let R = IsEntered g k IsGood to t x s (Gives (block_of vs x) (entered_in vs x)) in
             let few = few_bytes vs 0 can.sized in
-            let end : pc + 12 + length fresh + length zero + 1 ≡ pc + length whole = omega (arith, whole_length) in
+            let end : pc + 18 + length fresh + length zero + 1 ≡ pc + length whole = omega (arith, whole_length) in
             subst (Goal code pc s) (sym o)
-            (weaken c code (5 + suc (3 + suc (14 + ((42 + 5 * extent) + (1 + 0)))))
+            (weaken c code (5 + suc (9 + suc (14 + ((16 + 4 * extent) + (1 + 0)))))
             (100 + 40 * ((entered_in vs x).work - x.work)) (Goes pc s) (pc + length whole) R R (omega arith) (λ y q. q)
-            (counts (suc (14 + ((42 + 5 * extent) + (1 + 0)))) R
+            (counts (suc (14 + ((16 + 4 * extent) + (1 + 0)))) R
             (λ s2 w2 d2.
-            let made' = d2.made in let most = mapped.budgets.keys in
-            goes_past c code (14 + ((42 + 5 * extent) + (1 + 0))) (pc + 10) (pc + 12) s2 Bltu t
-            (Number map.budgets.keys) 1
+            goes_past c code (14 + ((16 + 4 * extent) + (1 + 0))) (pc + 16) (pc + 18) s2 Bne t
+            (Number 0) 1
             (pc + length whole) R at_keys.0 (omega arith)
-            (is_less (s2.values t) (map.budgets.keys % 2 ^ 64) (omega arith))
-            (next c code 14 ((42 + 5 * extent) + (1 + 0)) (Goes (pc + 12) (worked c s2)) (pc + 12 + length fresh)
+            (differ (s2.values t) 0 (λ e. some_left x.keys map.budgets.keys left (sym d2.left ∙ e)))
+            (next c code 14 ((16 + 4 * extent) + (1 + 0)) (Goes (pc + 18) (worked c s2)) (pc + 18 + length fresh)
             (pc + length whole) (HasFresh map to.key to.lock (t + 4) (worked c s2)) Never R (worked_words c s2 w2)
-            ((freshens true charge weight).from code (pc + 12) (worked c s2)
-            (has_front code (pc + 12) fresh (zero ++ last) at_fresh) (worked_words c s2 w2) (can_fresh s2 d2))
+            ((freshens true charge weight).from code (pc + 18) (worked c s2)
+            (has_front code (pc + 18) fresh (zero ++ last) at_fresh) (worked_words c s2 w2) (can_fresh s2 d2))
             (λ s3 w3 d3.
             let first = first3 s2 d2 s3 d3 in let e = end_is in let space = stack_in_space map mapped in
             let s0 = space.0 in let s1 = space.1 in let bottom = can.separate.bottom in
-            next c code (42 + 5 * extent) (1 + 0) (Goes (pc + 12 + length fresh) s3)
-            (pc + 12 + length fresh + length zero)
+            next c code (16 + 4 * extent) (1 + 0) (Goes (pc + 18 + length fresh) s3)
+            (pc + 18 + length fresh + length zero)
             (pc + length whole) (HasZeroed map entry IsGood to.first extent (t + 4) s3) Never R w3
-            ((zeroes extent charge weight).from code (pc + 12 + length fresh) s3
-            (has_front code (pc + 12 + length fresh) zero last at_zero) w3 (
+            ((zeroes extent charge weight).from code (pc + 18 + length fresh) s3
+            (has_front code (pc + 18 + length fresh) zero last at_zero) w3 (
               record {
                 size = bytes3 s2 d2 s3 d3;
                 aligned = omega arith;
@@ -497,10 +495,10 @@ module _ (map : MapSizes) (mapped : AreMapped map) (entry : View) (IsGood : Byte
             ))
             (λ s4 w4 d4.
             stretch_on c (to.first ∷ bytes ∷ []) (to.end ∷ []) [] (t + 4) (last_registers s2 d2 s3 d3 s4 d4)
-            (end_of_block 0 1 2) refl code 0 (pc + 12 + length fresh + length zero) s4 (pc + length whole) R w4 at_last
+            (end_of_block 0 1 2) refl code 0 (pc + 18 + length fresh + length zero) s4 (pc + length whole) R w4 at_last
             (tt, tt)
             (λ s5 w5 d5.
-            arrived c code 0 s5 (pc + 12 + length fresh + length zero + 1) (pc + length whole) R end
+            arrived c code 0 s5 (pc + 18 + length fresh + length zero + 1) (pc + length whole) R end
             (has_entered s2 d2 s3 d3 s4 d4 s5 d5)))
             (λ status report s' never. absurd never))
             (λ status report s' never. absurd never)))))

@@ -262,12 +262,12 @@ module _ (map : MapSizes) (mapped : AreMapped map) (entry : View) (IsGood : Byte
             let three = has_back code (pc + 2) clear tail two in
             let end : pc + 2 + length clear + 12 ≡ pc + length whole = omega (arith, length-append clear tail) in
             let wide = w.values bytes in
-            subst (λ k. Reaches c code (42 + 5 * n) (Goes pc s) k
+            subst (λ k. Reaches c code (16 + 4 * n) (Goes pc s) k
             (Either (HasZeroed map entry IsGood first n t s) Never)) end
-            (weaken c code (2 + ((32 + 32 * count) + (6 + (count * 4 + (n - 8 * count) * 4)))) (42 + 5 * n) (Goes pc s)
+            (weaken c code (2 + ((8 + 16 * count) + (6 + (count * 4 + (n - 8 * count) * 4)))) (16 + 4 * n) (Goes pc s)
             (pc + 2 + length clear + 12) _ _ (omega arith) (λ x q. q)
             (stretch_on c (bytes ∷ []) [] (t ∷ []) t regs (word_bytes 0 1) refl code
-            ((32 + 32 * count) + (6 + (count * 4 + (n - 8 * count) * 4))) pc s (pc + 2 + length clear + 12) _ w
+            ((8 + 16 * count) + (6 + (count * 4 + (n - 8 * count) * 4))) pc s (pc + 2 + length clear + 12) _ w
             (has_front code pc (word_bytes bytes t) (clear ++ tail) has) (tt, (tt, tt))
             (λ s1 w1 d1.
             let words : s1.values t ≡ 8 * count = sym (d1.agrees.values 1 (omega arith)) ∙ omega arith in
@@ -276,7 +276,7 @@ module _ (map : MapSizes) (mapped : AreMapped map) (entry : View) (IsGood : Byte
             let bytes1 : s1.values bytes ≡ s.values bytes = d1.others bytes below.1.0 tt in
             let shows1 : ShowsNothing s s1 = agrees_shows 2 _ _ s s1 d1.agrees
             (record { input = refl; output = refl; taken = refl; accesses = refl; turns = refl }) in
-            next c code (32 + 32 * count) (6 + (count * 4 + (n - 8 * count) * 4)) (Goes (pc + 2) s1)
+            next c code (8 + 16 * count) (6 + (count * 4 + (n - 8 * count) * 4)) (Goes (pc + 2) s1)
             (pc + 2 + length clear) (pc + 2 + length clear + 12) (HasCleared map entry IsGood first count (t + 1) s1)
             Never _ w1
             ((clears count true charge weight).from code (pc + 2) s1 (has_front code (pc + 2) clear tail two) w1 (

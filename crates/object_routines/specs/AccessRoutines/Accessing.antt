@@ -72,7 +72,7 @@ load_integer_code a t r = Load (load_op t) r a 0 ∷ []
 -- an integer takes one step, and a pointer what its entry takes and a few
 abbrev pub load_steps : HeldScalar → ℕ
 load_steps (Integer t r) = 1
-load_steps (Pointer h) = 36
+load_steps (Pointer h) = 21
 
 -- The register of the address alone is needed of the pointer, whatever line the source would end with.
 abbrev pub IsLoadRoutine : Basis → (address : ℕ) → (into : HeldScalar) → (scratch : ℕ) → List FlatInstruction → Type 0
@@ -108,7 +108,7 @@ store_pointer_code a from t write =
 
 abbrev pub store_steps : HeldScalar → ℕ
 store_steps (Integer t r) = 1
-store_steps (Pointer h) = 35
+store_steps (Pointer h) = 27
 
 abbrev pub IsStoreRoutine : Basis → (address : ℕ) → (from : HeldScalar) → (scratch : ℕ) → List FlatInstruction → Type 0
 IsStoreRoutine basis a from t r =

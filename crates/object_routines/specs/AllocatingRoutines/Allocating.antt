@@ -1,8 +1,8 @@
 -- `malloc` and `calloc` in flat code.
 use Rattle.std.specs.Prelude.{◌≡◌, ℕ, ◌+◌, ◌*◌, List, [], ◌∷◌, ◌++◌}
 use Rattle.sb_base.specs.declared.ending.Ending.TheVariants.{Keys as KeysSpent}
-use Rattle.rv_isa.specs.declared.instruction.BranchOp.TheVariants.{Beq, Bne, Bltu}
-use Rattle.rv_isa.specs.declared.instruction.RegOp.TheVariants.{Add, Mul, Mulhu}
+use Rattle.rv_isa.specs.declared.instruction.BranchOp.TheVariants.{Beq, Bne}
+use Rattle.rv_isa.specs.declared.instruction.RegOp.TheVariants.{Add, Sltu, Mul, Mulhu}
 use Rattle.rv_isa.specs.declared.instruction.LoadOp.TheVariants.{Ld}
 use Rattle.addr_map.specs.declared.region.Region.TheVariants.{FreeLocks}
 use Rattle.addr_map.specs.Places.{MapSizes, region_start}
@@ -18,6 +18,7 @@ use Rattle.flat_routines.specs.declared.registers.Held.{Held}
 use Rattle.flat_routines.specs.Routine.{Does, unless_code}
 use Rattle.flat_routines.specs.Metadata.{View}
 use Rattle.flat_routines.specs.Objects.StandsFor.{Keys}
+use Rattle.flat_operators.specs.Operators.{wide_code}
 use Rattle.flat_actions.specs.Actions.{IsFor, Word, Pointer, Leaves, IsActionIn, views_of, context_in, work_of}
 use Rattle.flat_actions.specs.Actions.{runtime_basis}
 use Rattle.object_routines.specs.AllocatingRoutines.Premises.{AreStanding}
@@ -45,10 +46,13 @@ IsMallocRoutine map entry IsGood size into line t r =
 
 -- ---- its instructions
 
--- how many keys were made, and the next key
-abbrev pub keys_code : MapSizes → (made key : ℕ) → List FlatInstruction
-keys_code map k key =
-    Constant k (region_start map FreeLocks) ∷ Load Ld k k 0 ∷ Operate Add key k (Number 2) ∷ []
+-- whether a key is left, and the next key; the budget of keys is a number that no instruction has
+abbrev pub keys_code : MapSizes → (left key : ℕ) → List FlatInstruction
+keys_code map left key =
+    Constant key (region_start map FreeLocks)
+    ∷ Load Ld key key 0
+    ∷ (wide_code left map.budgets.keys
+    ++ Operate Sltu left key (Register left) ∷ Operate Add key key (Number 2) ∷ [])
 
 -- a pointer with an address and no tag: null, where no place was found
 abbrev pub untagged : (address : ℕ) → Held → List FlatInstruction
@@ -61,25 +65,25 @@ untagged p h =
     ∷ []
 
 -- the run ends where no key is left
-abbrev pub key_test : MapSizes → (made line : ℕ) → List FlatInstruction
-key_test map k line = Branch Bltu k (Number map.budgets.keys) 1 ∷ End (KeysSpent line) ∷ []
+abbrev pub key_test : (left line : ℕ) → List FlatInstruction
+key_test left line = Branch Bne left (Number 0) 1 ∷ End (KeysSpent line) ∷ []
 
 -- the bounds of a whole object
 abbrev pub whole_bounds : (address size : ℕ) → Held → List FlatInstruction
 whole_bounds p size h = Move h.tag.base p ∷ Operate Add h.tag.bound p (Register size) ∷ []
 
 -- what is done where a place was found
-abbrev pub make_code : MapSizes → (fresh zero : List FlatInstruction) → (size : ℕ) → (into : Held)
-    → (line made address : ℕ) → List FlatInstruction
-make_code map fresh zero size into line k p =
-    key_test map k line ++ (fresh ++ (zero ++ whole_bounds p size into))
+abbrev pub make_code : (fresh zero : List FlatInstruction) → (size : ℕ) → (into : Held)
+    → (line left address : ℕ) → List FlatInstruction
+make_code fresh zero size into line left p =
+    key_test left line ++ (fresh ++ (zero ++ whole_bounds p size into))
 
 -- over the routines that place a block, take a key and make a range zero
 abbrev pub malloc_code : MapSizes → (place fresh zero : List FlatInstruction) → (size : ℕ) → (into : Held)
-    → (line made key address : ℕ) → List FlatInstruction
-malloc_code map place fresh zero size into line k key p =
-    keys_code map k key
-    ++ (place ++ (untagged p into ++ unless_code Beq p (Number 0) (make_code map fresh zero size into line k p)))
+    → (line left key address : ℕ) → List FlatInstruction
+malloc_code map place fresh zero size into line left key p =
+    keys_code map left key
+    ++ (place ++ (untagged p into ++ unless_code Beq p (Number 0) (make_code fresh zero size into line left p)))
 
 -- ---- `calloc`
 

@@ -135,12 +135,12 @@ end_of_block first bytes end = Operate Add end first (Register bytes) ∷ []
 
 -- over the routines that take a key and make a range zero
 abbrev pub enter_code : MapSizes → (fresh zero : List FlatInstruction) → (top bytes : ℕ) → EntryRegisters
-    → (line made key : ℕ) → List FlatInstruction
-enter_code map fresh zero top bytes to line k key =
-    (round_code top to.first ++ room_code map to.first k)
-    ++ (room_test bytes k line
-    ++ (keys_code map k key
-    ++ (key_test map k line ++ (fresh ++ (zero ++ end_of_block to.first bytes to.end)))))
+    → (line left key : ℕ) → List FlatInstruction
+enter_code map fresh zero top bytes to line left key =
+    (round_code top to.first ++ room_code map to.first left)
+    ++ (room_test bytes left line
+    ++ (keys_code map left key
+    ++ (key_test left line ++ (fresh ++ (zero ++ end_of_block to.first bytes to.end)))))
 
 -- ---- a block is left
 

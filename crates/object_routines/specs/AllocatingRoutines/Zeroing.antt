@@ -42,12 +42,12 @@ pub record HasZeroed (map : MapSizes) (entry : View) (IsGood : Bytes
   pub shows : ShowsNothing before after
   pub others : OthersStay [] scratch before after
 
--- within 42 steps and 5 for each byte
+-- within 16 steps and 4 for each byte
 abbrev pub IsZeroRoutine : MapSizes → View → (Bytes → Type 0) → (first bytes scratch : ℕ) → List FlatInstruction →
     Type 0
 IsZeroRoutine map entry IsGood first bytes t r =
     (n : ℕ)
-    → DoesInRuntime map r (λ s. IsToZero map first bytes n s × AreSpacesGood map IsGood s.memory) (42 + 5 * n)
+    → DoesInRuntime map r (λ s. IsToZero map first bytes n s × AreSpacesGood map IsGood s.memory) (16 + 4 * n)
     (HasZeroed map entry IsGood first n t)
 
 -- ---- its instructions

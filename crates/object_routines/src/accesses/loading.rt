@@ -4,6 +4,7 @@ ghost use Rattle.std.specs.Prelude.{◌≡◌, ◌≤◌, ◌^◌, IfOk, ◌∷�
 ghost use Rattle.addr_map.specs.Places.{AreMapped};
 ghost use Rattle.flat_routines.specs.Registers.{AreDistinct, AreBelow};
 ghost use Rattle.flat_routines.specs.Metadata.{held_registers};
+ghost use Rattle.flat_routines.specs.InputOutput.{IsWithoutInputOutput};
 ghost use Rattle.flat_actions.specs.Actions.{registers_of, program_basis};
 ghost use Rattle.object_routines.specs.AccessRoutines.Holding.{holder_in, IsApartFrom};
 ghost use Rattle.object_routines.specs.AccessRoutines.Accessing.{IsLoadRoutine, load_op, load_integer_code};
@@ -21,7 +22,8 @@ use std::alloc::{AllocError, Global};
 
 /// Loads a scalar through a pointer, which is to bytes of a live object, into the registers of `into`: a pointer with
 /// the entry of the word where its address is a multiple of 8, and with none elsewhere. The register of the address
-/// alone is needed of the pointer. It may write the registers from `scratch` on. The only refusal is that memory fails.
+/// alone is needed of the pointer. It may write the registers from `scratch` on, takes no input and puts no output. The
+/// only refusal is that memory fails.
 pub fn load<S: ShadowForm>(
     alloc: Global,
     map: &AddrMap,
@@ -33,8 +35,9 @@ pub fn load<S: ShadowForm>(
     requires below { AreBelow scratch (address ∷ registers_of (holder_in into)) }
     requires apart { IsApartFrom address into }
     requires room { scratch ≤ 2 ^ 31 }
-    ensures { IfOk result (λ r. IsLoadRoutine (program_basis map.now S.entry (S.IsGood map.now)) address into scratch
-        r.items) }
+    ensures does { IfOk result
+        (λ r. IsLoadRoutine (program_basis map.now S.entry (S.IsGood map.now)) address into scratch r.items) }
+    ensures computes { IfOk result (λ r. IsWithoutInputOutput r.items) }
 {
     match into {
         HeldScalar::Integer(of, register) => load_integer(alloc, address, of, register),
@@ -87,8 +90,9 @@ fn load_pointer<S: ShadowForm>(
     requires below { AreBelow scratch (address ∷ held_registers into) }
     requires apart { AreDistinct (address ∷ held_registers into) }
     requires room { scratch ≤ 2 ^ 31 }
-    ensures { IfOk result (λ r. IsLoadRoutine (program_basis map.now S.entry (S.IsGood map.now)) address (Pointer into)
-        scratch r.items) }
+    ensures does { IfOk result
+        (λ r. IsLoadRoutine (program_basis map.now S.entry (S.IsGood map.now)) address (Pointer into) scratch r.items) }
+    ensures computes { IfOk result (λ r. IsWithoutInputOutput r.items) }
 {
     let read = S::read_entry(alloc, map, address, into.tag, scratch)?;
     let code = with_entry(alloc, address, into, scratch, &read)?;

@@ -4,6 +4,7 @@ ghost use Rattle.std.specs.Prelude.{◌≡◌, ◌≤◌, ◌^◌, IfOk, ◌∷�
 ghost use Rattle.addr_map.specs.Places.{AreMapped};
 ghost use Rattle.flat_routines.specs.Registers.{AreBelow};
 ghost use Rattle.flat_routines.specs.Metadata.{held_registers};
+ghost use Rattle.flat_routines.specs.InputOutput.{IsWithoutInputOutput};
 ghost use Rattle.flat_actions.specs.Actions.{registers_of, program_basis};
 ghost use Rattle.object_routines.specs.AccessRoutines.Holding.{holder_in};
 ghost use Rattle.object_routines.specs.AccessRoutines.Accessing.{IsStoreRoutine, store_op, store_integer_code};
@@ -21,7 +22,8 @@ use std::alloc::{AllocError, Global};
 
 /// Stores the scalar in the registers of `from` through a pointer, which is to bytes of a live object: of a pointer the
 /// entry too, where the address is a multiple of 8. The register of the address alone is needed of the pointer that is
-/// written through. It may write the registers from `scratch` on. The only refusal is that memory fails.
+/// written through. It may write the registers from `scratch` on, takes no input and puts no output. The only refusal is
+/// that memory fails.
 pub fn store<S: ShadowForm>(
     alloc: Global,
     map: &AddrMap,
@@ -32,8 +34,9 @@ pub fn store<S: ShadowForm>(
     requires map { AreMapped map.now }
     requires below { AreBelow scratch (address ∷ registers_of (holder_in from)) }
     requires room { scratch ≤ 2 ^ 31 }
-    ensures { IfOk result (λ r. IsStoreRoutine (program_basis map.now S.entry (S.IsGood map.now)) address from scratch
-        r.items) }
+    ensures does { IfOk result
+        (λ r. IsStoreRoutine (program_basis map.now S.entry (S.IsGood map.now)) address from scratch r.items) }
+    ensures computes { IfOk result (λ r. IsWithoutInputOutput r.items) }
 {
     S::entries_are_local();
     match from {
@@ -83,8 +86,9 @@ fn store_pointer<S: ShadowForm>(
     requires map { AreMapped map.now }
     requires below { AreBelow scratch (address ∷ held_registers from) }
     requires room { scratch ≤ 2 ^ 31 }
-    ensures { IfOk result (λ r. IsStoreRoutine (program_basis map.now S.entry (S.IsGood map.now)) address
-        (Pointer from) scratch r.items) }
+    ensures does { IfOk result
+        (λ r. IsStoreRoutine (program_basis map.now S.entry (S.IsGood map.now)) address (Pointer from) scratch r.items) }
+    ensures computes { IfOk result (λ r. IsWithoutInputOutput r.items) }
 {
     S::entries_are_local();
     let write = S::write_entry(alloc, map, address, from.tag, scratch)?;

@@ -14,6 +14,7 @@ use crate::allocating::zeroing::zero;
 use addr_map::{AddrMap, Region};
 use flat_actions::{joined, unless};
 use flat_meaning::{FlatInstruction, RightOperand};
+use flat_operators::constant::put_wide;
 use flat_routines::Held;
 use rv_isa::{BranchOp, LoadOp, RegOp};
 use sb_base::{Ending, Line};
@@ -124,7 +125,7 @@ fn malloc_list(
     let address = scratch + 2;
     let keys = keys_list(alloc, map, scratch, scratch + 1)?;
     let null = untagged_list(alloc, address, request.into)?;
-    let make = make_list(alloc, map, fresh, zeros, request, scratch, address)?;
+    let make = make_list(alloc, fresh, zeros, request, scratch)?;
     let branch = unless(
         alloc,
         BranchOp::Beq,
@@ -137,35 +138,46 @@ fn malloc_list(
     joined(alloc, keys.as_slice(), rest.as_slice())
 }
 
-// How many keys were made, and the next one.
+// Whether a key is left, and the next one.
 pub(crate) fn keys_list(
     alloc: Global,
     map: &AddrMap,
-    made: u32,
+    left: u32,
     key: u32,
 ) -> Result<Vec<FlatInstruction>, AllocError>
-    ensures { IfOk result (λ r. r.items ≡ keys_code map.now made key) }
+    ensures { IfOk result (λ r. r.items ≡ keys_code map.now left key) }
 {
     let (cells, _) = map.region(Region::FreeLocks);
-    let code = [
+    let made = [
         FlatInstruction::Constant {
-            into: made,
+            into: key,
             value: cells,
         },
         FlatInstruction::Load {
             op: LoadOp::Ld,
-            into: made,
-            at: made,
+            into: key,
+            at: key,
             offset: 0,
+        },
+    ];
+    let next = [
+        FlatInstruction::Operate {
+            op: RegOp::Sltu,
+            into: left,
+            left: key,
+            right: RightOperand::Register(left),
         },
         FlatInstruction::Operate {
             op: RegOp::Add,
             into: key,
-            left: made,
+            left: key,
             right: RightOperand::Number(2),
         },
     ];
-    Vec::from_slice(alloc, &code)
+    let mut code = Vec::from_slice(alloc, &made)?;
+    put_wide(&mut code, left, map.budgets().keys())?;
+    code.extend_from_slice(&next)?;
+    Ok(code)
 }
 
 fn untagged_list(
@@ -202,17 +214,17 @@ fn untagged_list(
 
 fn make_list(
     alloc: Global,
-    map: &AddrMap,
     fresh: &[FlatInstruction],
     zeros: &[FlatInstruction],
     request: &BlockRequest,
-    made: u32,
-    address: u32,
+    scratch: u32,
 ) -> Result<Vec<FlatInstruction>, AllocError>
+    requires { scratch + 16 ≤ 2 ^ 31 }
     ensures { IfOk result (λ r. r.items
-        ≡ make_code map.now fresh.now zeros.now request.now.size request.now.into request.now.line made address) }
+        ≡ make_code fresh.now zeros.now request.now.size request.now.into request.now.line scratch (scratch + 2)) }
 {
-    let test = key_test(alloc, map, made, request.line)?;
+    let address = scratch + 2;
+    let test = key_test(alloc, scratch, request.line)?;
     let bounds = whole_bounds(alloc, address, request.size, request.into)?;
     let last = joined(alloc, zeros, bounds.as_slice())?;
     let rest = joined(alloc, fresh, last.as_slice())?;
@@ -222,18 +234,16 @@ fn make_list(
 // The run ends where no key is left.
 pub(crate) fn key_test(
     alloc: Global,
-    map: &AddrMap,
-    made: u32,
+    left: u32,
     line: Line,
 ) -> Result<Vec<FlatInstruction>, AllocError>
-    ensures { IfOk result (λ r. r.items ≡ key_test map.now made line) }
+    ensures { IfOk result (λ r. r.items ≡ key_test left line) }
 {
-    let keys = map.budgets().keys();
     let code = [
         FlatInstruction::Branch {
-            op: BranchOp::Bltu,
-            left: made,
-            right: RightOperand::Number(keys),
+            op: BranchOp::Bne,
+            left,
+            right: RightOperand::Number(0),
             past: 1,
         },
         FlatInstruction::End(Ending::Keys(line)),

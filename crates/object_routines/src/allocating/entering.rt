@@ -3,6 +3,7 @@
 
 ghost use Rattle.std.specs.Prelude.{◌≡◌, ◌+◌, ◌≤◌, ◌<◌, ◌^◌, ◌++◌, IfOk, [], ◌∷◌};
 ghost use Rattle.addr_map.specs.Places.{AreMapped};
+ghost use Rattle.flat_routines.specs.InputOutput.{IsWithoutInputOutput};
 ghost use Rattle.flat_routines.specs.Registers.{AreBelow, AreDistinct, AreNoneOf};
 ghost use Rattle.object_routines.specs.AllocatingRoutines.Allocating.{key_test};
 ghost use Rattle.object_routines.specs.AllocatingRoutines.Entering.{registers_in, IsEnterRoutine, IsLeaveRoutine};
@@ -84,8 +85,8 @@ pub fn enter<S: ShadowForm>(
     Ok(r)
 }
 
-/// Leaves a block whose lock word is in `lock`: all its objects die. It may write the registers from `scratch` on. The
-/// only refusal is that memory fails.
+/// Leaves a block whose lock word is in `lock`: all its objects die. It may write the registers from `scratch` on, takes
+/// no input and puts no output. The only refusal is that memory fails.
 pub fn leave<S: ShadowForm>(
     alloc: Global,
     map: &AddrMap,
@@ -95,7 +96,8 @@ pub fn leave<S: ShadowForm>(
     requires map { AreMapped map.now }
     requires below { AreBelow scratch (lock ∷ []) }
     requires room { scratch ≤ 2 ^ 31 }
-    ensures { IfOk result (λ r. IsLeaveRoutine map.now S.entry (S.IsGood map.now) lock scratch r.items) }
+    ensures does { IfOk result (λ r. IsLeaveRoutine map.now S.entry (S.IsGood map.now) lock scratch r.items) }
+    ensures computes { IfOk result (λ r. IsWithoutInputOutput r.items) }
 {
     S::entries_are_local();
     lock_space::release(alloc, map, lock, scratch)
@@ -118,7 +120,7 @@ fn enter_list(
     let begin = room_list(alloc, map, entrance.top, to.first, scratch)?;
     let room = room_test(alloc, entrance.bytes, scratch, entrance.line)?;
     let keys = keys_list(alloc, map, scratch, scratch + 1)?;
-    let test = key_test(alloc, map, scratch, entrance.line)?;
+    let test = key_test(alloc, scratch, entrance.line)?;
     let end = end_list(alloc, to.first, entrance.bytes, to.end)?;
     let last = joined(alloc, zeros, end.as_slice())?;
     let taken = joined(alloc, fresh, last.as_slice())?;

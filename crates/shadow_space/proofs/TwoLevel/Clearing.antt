@@ -246,11 +246,11 @@ module _ (c : Context) (ok : IsLaidOut c.sizes) (lie : AreLevelsLaidOut c.sizes)
         others = λ b wb out. refl;
       }
 
-  clears_alone : ReachesQuietly c alone (32 + 32 * n) 0 v v 19
+  clears_alone : ReachesQuietly c alone (8 + 16 * n) 0 v v 19
       (λ values m'. Cleared c.sizes v.memory (v.values 0) n m')
   clears_alone =
       let has = has_back alone 0 head loop (has_self alone) in
-      quiet_weaken c ok alone v (3 + (n * (14 + 2) + 1)) (32 + 32 * n) 0 v 19 _ _ (omega arith) (λ x y z. z)
+      quiet_weaken c ok alone v (3 + (n * (14 + 2) + 1)) (8 + 16 * n) 0 v 19 _ _ (omega arith) (λ x y z. z)
       (quiet_next c ok alone v 3 (n * (14 + 2) + 1) 0 3 19 v (Clearing c.sizes v.memory (v.values 0) n n)
       (λ values m'. Cleared c.sizes v.memory (v.values 0) n m') w
       (quiet_end c ok alone v head 0 v (Clearing c.sizes v.memory (v.values 0) n n) (shows_itself v)
@@ -294,7 +294,7 @@ two_level_clears map a n t mapped below count runtime charge weight =
     let f = clear_registers a n t in
     routine c 8 2 f alone
     (λ s. IsWordRange map (s.values a) (s.values n) count × AreTablesGood map s.memory)
-    (registers_rename (a ∷ n ∷ []) [] own_registers t r) refl (λ s. 32 + 32 * count)
+    (registers_rename (a ∷ n ∷ []) [] own_registers t r) refl (λ s. 8 + 16 * count)
     (λ s. Quietly (through f s) (λ values m'. Cleared map s.memory (s.values a) count m'))
     (HasCleared map two_level_entry (AreTablesGood map) a count t)
     (λ s w seen p. clears_alone c ok lie count (through f s) seen p.0 p.1)

@@ -164,14 +164,14 @@ module _ (c : Context) (ok : IsLaidOut c.sizes) (lie : AreLevelsLaidOut c.sizes)
   unfolding put
   front_none = refl
 
-  reads_alone : ReachesQuietly c alone 32 0 v v 17 J
+  reads_alone : ReachesQuietly c alone 18 0 v v 17 J
   unfolding branch_taken
   reads_alone =
       let has = has_self alone in
       let rest = has_back alone 0 front (unless_code Beq 5 (Number 0) load_it) has in
       let s = effects c front v in
       let h = front_looked in
-      quiet_weaken c ok alone v (11 + suc 5) 32 0 v 17 J J (omega arith) (λ x y z. z)
+      quiet_weaken c ok alone v (11 + suc 5) 18 0 v 17 J J (omega arith) (λ x y z. z)
       (quiet_line c ok alone v front (suc 5) 0 v 17 J (shows_itself v) front_quiet
       (has_front alone 0 front (unless_code Beq 5 (Number 0) load_it) has)
       (λ s1. quiet_branch c ok alone v 5 11 s Beq 5 (Number 0) 5 17 J rest.0 s1
@@ -207,7 +207,7 @@ two_level_reads map at into t mapped distinct below runtime charge weight =
     } in
     let f = read_registers at into t in
     routine c 8 1 f alone (λ s. IsObjectWord map (s.values at) × AreTablesGood map s.memory)
-    (registers_rename (at ∷ []) (entry_registers into) (t ∷ (t + 1) ∷ (t + 2) ∷ []) t r) refl (λ s. 32)
+    (registers_rename (at ∷ []) (entry_registers into) (t ∷ (t + 1) ∷ (t + 2) ∷ []) t r) refl (λ s. 18)
     (λ s. Quietly (through f s)
     (λ values m'. (metadata_in values own ≡ two_level_entry s.memory (s.values at)) × (m' ≡ s.memory)))
     (HasRead two_level_entry at into t)

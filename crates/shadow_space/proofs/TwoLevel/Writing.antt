@@ -256,14 +256,14 @@ module _ (c : Context) (ok : IsLaidOut c.sizes) (lie : AreLevelsLaidOut c.sizes)
       again : (s : State) → Ready s.values s.memory → Ready s.values s.memory
       again s h = (record { table = h.0.table; cell = h.0.cell; offset = h.0.offset; same = h.0.same }, h.1)
 
-  writes_alone : ReachesQuietly c (alone c.sizes) 32 0 v v 23 J
+  writes_alone : ReachesQuietly c (alone c.sizes) 24 0 v v 23 J
   unfolding put branch_taken
   writes_alone =
       let has = has_self (alone c.sizes) in
       let s = effects c (look_up 0 5 6 7) v in
       let h = looked_up c lie 0 v w in
       let code = alone c.sizes in
-      quiet_weaken c ok code v (7 + suc 15) 32 0 v 23 J J (omega arith) (λ x y z. z)
+      quiet_weaken c ok code v (7 + suc 15) 24 0 v 23 J J (omega arith) (λ x y z. z)
       (quiet_line c ok code v (look_up 0 5 6 7) (suc 15) 0 v 23 J (shows_itself v) (look_up_quiet c lie 0 v w)
       (has_front code 0 (look_up 0 5 6 7) (tests c.sizes) has)
       (λ s1. quiet_branch c ok code v 15 7 s Bne 5 (Number 0) 10 23 J (has_7 c.sizes).0 s1
@@ -313,7 +313,7 @@ two_level_writes map at from t mapped below runtime charge weight =
     } in
     let f = write_registers at from t in
     routine c 10 5 f (alone map) (λ s. IsObjectWord map (s.values at) × AreTablesGood map s.memory)
-    (registers_rename (at ∷ entry_registers from) [] own_registers t r) refl (λ s. 32)
+    (registers_rename (at ∷ entry_registers from) [] own_registers t r) refl (λ s. 24)
     (λ s. Quietly (through f s)
     (λ values m'. IsWritten map s.memory (s.values at) (metadata_in s.values from) m'))
     (HasWritten map two_level_entry (AreTablesGood map) at from t)

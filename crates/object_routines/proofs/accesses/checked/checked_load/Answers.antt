@@ -25,4 +25,4 @@ returns g c =
     subst (IsCheckedLoad basis a.pointer a.into a.line a.scratch) (sym same)
     (checked_does basis c.requires.map a.pointer n a.line a.scratch c.requires.pointer some (omega arith) [] tt
     (holder_in a.into) (load_steps a.into) access (λ vs o. on o (read_scalar s (argument 0 vs).word))
-    (λ vs e x. refl) (c.in_ok-access.ensures a.line))
+    (λ vs e x. refl) (c.in_ok-access.ensures.does a.line))

@@ -26,4 +26,4 @@ returns g c =
     (checked_does basis c.requires.map a.pointer n a.line a.scratch c.requires.pointer some (omega arith)
     (holder_in a.from ∷ []) (c.requires.from, tt) Nowhere (store_steps a.from) access
     (λ vs o. on (on o (λ p. write_scalar s (argument 0 vs).word p (argument 1 vs))) (λ u. done (integer 0)))
-    (λ vs e x. refl) (c.in_ok-access.ensures a.line))
+    (λ vs e x. refl) (c.in_ok-access.ensures.does a.line))

@@ -1,12 +1,14 @@
-use Rattle.std.proofs.Common.{sym, subst}
+use Rattle.std.proofs.Common.{refl, sym, subst}
 use Rattle.std.proofs.lemmas.Result.{IfOk-weaker}
+use Rattle.flat_routines.specs.InputOutput.{IsWithoutInputOutput}
+use Rattle.flat_routines.proofs.InputOutput.{computes}
 use Rattle.object_routines.specs.AccessRoutines.Accessing.{IsStoreRoutine, store_integer_code}
 use Rattle.object_routines.proofs.AccessRoutines.IntegerStores.{store_integer_does}
 use Rattle.object_routines.proofs.accesses.storing.store.Goals as goal
 use Rattle.flat_actions.specs.Actions.{program_basis}
 
-pub returns-in-Integer : goal.returns-in-Integer
-returns-in-Integer g c =
+pub returns-in-Integer-clause-does : goal.returns-in-Integer-clause-does
+returns-in-Integer-clause-does g c =
     let a = c.args in
     let entry = g.S.ShadowForm.entry in
     let good = g.S.ShadowForm.IsGood a.map.now in
@@ -19,3 +21,8 @@ returns-in-Integer g c =
     (store_integer_does a.map.now entry good a.address of r a.scratch c.requires.map
     (λ m m' keep h. c.entries_are_local.ensures a.map.now m m' c.requires.map keep h))))
     c.store_integer.ensures
+
+pub returns-in-Integer-clause-computes : goal.returns-in-Integer-clause-computes
+returns-in-Integer-clause-computes g c = IfOk-weaker _ _ _
+    (λ v e. subst IsWithoutInputOutput (sym e)
+    (computes (store_integer_code c.args.address c.in-Integer.of c.in-Integer.register) refl)) c.store_integer.ensures

@@ -1,12 +1,14 @@
 use Rattle.std.proofs.Common.{ap, sym, subst, ◌∙◌}
+use Rattle.flat_routines.specs.InputOutput.{IsWithoutInputOutput}
+use Rattle.flat_routines.proofs.InputOutput.{computes}
 use Rattle.object_routines.specs.AccessRoutines.Accessing.{IsStoreRoutine, store_pointer_code}
 use Rattle.object_routines.specs.declared.accesses.held.HeldScalar.TheVariants.{Pointer}
 use Rattle.object_routines.proofs.AccessRoutines.PointerStores.{store_pointer_does}
 use Rattle.object_routines.proofs.accesses.storing.store_pointer.Goals as goal
 use Rattle.flat_actions.specs.Actions.{program_basis}
 
-pub returns : goal.returns
-returns g c =
+pub returns-clause-does : goal.returns-clause-does
+returns-clause-does g c =
     let a = c.args in
     let entry = g.S.ShadowForm.entry in
     let good = g.S.ShadowForm.IsGood a.map.now in
@@ -15,3 +17,10 @@ returns g c =
     (store_pointer_does a.map.now entry good a.address a.from a.scratch c.in_ok-write.write.items c.requires.map
     (λ m m' keep h. c.entries_are_local.ensures a.map.now m m' c.requires.map keep h)
     c.requires.below c.in_ok-write.ensures.does)
+
+pub returns-clause-computes : goal.returns-clause-computes
+returns-clause-computes g c =
+    let a = c.args in
+    let same = c.in_ok-code.ensures ∙ ap (store_pointer_code a.address a.from a.scratch) c.deref.ensures.value in
+    subst IsWithoutInputOutput (sym same)
+    (computes (store_pointer_code a.address a.from a.scratch c.in_ok-write.write.items) c.in_ok-write.ensures.computes.none)

@@ -16,4 +16,4 @@ returns g c =
     (free_does a.map.now c.requires.map g.S.ShadowForm.entry (g.S.ShadowForm.IsGood a.map.now)
     (λ m m' k h. c.entries_are_local.ensures a.map.now m m' c.requires.map k h) a.pointer a.line a.scratch
     c.requires.below c.in_ok-find.find.items c.in_ok-unlist.unlist.items c.in_ok-unlock.unlock.items
-    c.in_ok-find.ensures c.in_ok-unlist.ensures c.in_ok-unlock.ensures)
+    c.in_ok-find.ensures c.in_ok-unlist.ensures c.in_ok-unlock.ensures.does)

@@ -21,4 +21,4 @@ returns g c =
     c.requires.old c.requires.below.0 c.requires.below.1 c.requires.apart.1 c.requires.apart.0
     c.in_ok-find.find.items c.in_ok-block.block.items c.in_ok-moves.moves.items c.in_ok-unlist.unlist.items
     c.in_ok-unlock.unlock.items c.in_ok-find.ensures c.in_ok-block.ensures c.in_ok-moves.ensures.does
-    c.in_ok-unlist.ensures c.in_ok-unlock.ensures)
+    c.in_ok-unlist.ensures c.in_ok-unlock.ensures.does)

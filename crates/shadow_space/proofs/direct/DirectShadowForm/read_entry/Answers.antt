@@ -1,6 +1,9 @@
-use Rattle.std.proofs.Common.{sym, subst}
+use Rattle.std.proofs.Common.{refl, sym, subst}
 use Rattle.std.proofs.lemmas.Result.{IfOk-weaker}
 use Rattle.flat_routines.proofs.Regions.{laid_out}
+use Rattle.flat_routines.specs.InputOutput.{IsWithoutInputOutput}
+use Rattle.flat_routines.proofs.InputOutput.{computes}
+use Rattle.shadow_space.specs.Direct.{direct_read}
 use Rattle.shadow_space.specs.Form.{IsReadRoutine}
 use Rattle.shadow_space.specs.Direct.{direct_entry}
 use Rattle.shadow_space.proofs.Entries.{direct_reads}
@@ -12,3 +15,8 @@ returns-clause-does c = IfOk-weaker _ _ _
     (sym e)
     (direct_reads c.args.map.now c.args.at c.args.into c.args.scratch (laid_out c.args.map.now c.requires.map)
     c.requires.distinct c.requires.below)) c.read_code.ensures
+
+pub returns-clause-computes : goal.returns-clause-computes
+returns-clause-computes c = IfOk-weaker _ _ _
+    (λ r e. subst IsWithoutInputOutput (sym e)
+    (computes (direct_read c.args.at c.args.into c.args.scratch) refl)) c.read_code.ensures

@@ -1,6 +1,9 @@
-use Rattle.std.proofs.Common.{sym, subst}
+use Rattle.std.proofs.Common.{refl, sym, subst}
 use Rattle.std.proofs.lemmas.Result.{IfOk-weaker}
 use Rattle.flat_routines.proofs.Regions.{laid_out}
+use Rattle.flat_routines.specs.InputOutput.{IsWithoutInputOutput}
+use Rattle.flat_routines.proofs.InputOutput.{computes}
+use Rattle.shadow_space.specs.Direct.{direct_write}
 use Rattle.shadow_space.specs.Form.{IsWriteRoutine}
 use Rattle.shadow_space.specs.Direct.{direct_entry}
 use Rattle.shadow_space.proofs.Entries.{direct_writes}
@@ -12,3 +15,8 @@ returns-clause-does c = IfOk-weaker _ _ _
     (sym e)
     (direct_writes c.args.map.now c.args.at c.args.from c.args.scratch (laid_out c.args.map.now c.requires.map)
     c.requires.below)) c.write_code.ensures
+
+pub returns-clause-computes : goal.returns-clause-computes
+returns-clause-computes c = IfOk-weaker _ _ _
+    (λ r e. subst IsWithoutInputOutput (sym e)
+    (computes (direct_write c.args.at c.args.from c.args.scratch) refl)) c.write_code.ensures

@@ -1,5 +1,8 @@
-use Rattle.std.proofs.Common.{sym, subst}
+use Rattle.std.proofs.Common.{◌+◌, refl, sym, subst}
 use Rattle.std.proofs.lemmas.Result.{IfOk-weaker}
+use Rattle.flat_routines.specs.InputOutput.{IsWithoutInputOutput}
+use Rattle.flat_routines.proofs.InputOutput.{computes}
+use Rattle.shadow_space.specs.TwoLevel.Code.{two_level_read}
 use Rattle.shadow_space.specs.Form.{IsReadRoutine}
 use Rattle.shadow_space.specs.TwoLevel.Tables.{two_level_entry, AreTablesGood}
 use Rattle.shadow_space.proofs.TwoLevel.Reading.{two_level_reads}
@@ -11,3 +14,8 @@ returns-clause-does c = IfOk-weaker _ _ _
     c.args.scratch) (sym e)
     (two_level_reads c.args.map.now c.args.at c.args.into c.args.scratch c.requires.map c.requires.distinct
     c.requires.below)) c.read_code.ensures
+
+pub returns-clause-computes : goal.returns-clause-computes
+returns-clause-computes c = IfOk-weaker _ _ _
+    (λ r e. subst IsWithoutInputOutput (sym e)
+    (computes (two_level_read c.args.at c.args.into c.args.scratch (c.args.scratch + 1) (c.args.scratch + 2)) refl)) c.read_code.ensures

@@ -1,0 +1,3 @@
+pub mod Status
+pub mod Functions
+pub mod Calls

@@ -438,5 +438,5 @@ pub turn_fits : (g : Setting) (t : Tac) (u m : ℕ) (counted : Option ℕ) (o : 
 turn_fits g t u m None o setting condition turn step is s range temps k = refl
 turn_fits g t u m (Some i) None setting condition turn step is s range temps k = absurd is
 turn_fits g t u m (Some i) (Some q) setting condition turn step is s range temps k =
-    ap (λ l. is_counted l (at_work k s)) is
+    ap (λ l. is_counted l (at_work k s)) is.2
     ∙ ap (λ b. not b && is_less true (plain_value q.variable s).word q.bound) range.0 ∙ range.1

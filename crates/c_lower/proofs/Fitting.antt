@@ -39,11 +39,7 @@ use Rattle.tac_ir.specs.Fitting.{are_passed, is_written, is_in_place, is_held, i
 use Rattle.tac_ir.specs.Fitting.{fit_type}
 use Rattle.tac_ir.specs.Fitting.{is_int, is_printed, each_printed, are_printed}
 use Rattle.tac_ir.specs.Meaning.{variables_in, function_in, header_of_code}
-use Rattle.c_lower.proofs.KeyNames.{HaveSizes}
-
-pub both_true : {a b : Bool} → a ≡ true → b ≡ true → (a && b) ≡ true
-both_true {a = true} e h = h
-both_true {a = false} e h = cc
+use Rattle.c_lower.proofs.KeyNames.{HaveSizes, both_true}
 
 left_true : (a b : Bool) → a ≡ true → (a || b) ≡ true
 left_true true b e = refl

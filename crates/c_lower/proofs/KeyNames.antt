@@ -157,11 +157,11 @@ module _ (sc : Scope) (ls : List Bool) where
 
 -- in a good state it is there
 
-is_both : {a b : Bool} → a ≡ true → b ≡ true → (a && b) ≡ true
-is_both {a = a} {b = b} e f = ap (λ q. q && b) e ∙ f
+pub both_true : {a b : Bool} → a ≡ true → b ≡ true → (a && b) ≡ true
+both_true {a = a} {b = b} e f = ap (λ q. q && b) e ∙ f
 
 whole_held : (size : ℕ) (o : ObjectState) → o.is_live ≡ true → o.size ≡ size → is_whole size o ≡ true
-whole_held size o live same = is_both live (eq-eqb o.size size same)
+whole_held size o live same = both_true live (eq-eqb o.size size same)
 
 -- the kind of a variable that is an object is the one that it is declared with
 kind_by : (v : Variable) (kind : Kind) → (if v.is_object then Some v.kind else None) ≡ Some kind → v.kind ≡ kind

@@ -76,7 +76,8 @@ use Rattle.c_tree.specs.declared.expression.Update.{Update}
 use Rattle.c_tree.specs.Valid.{is_automatic, is_static}
 use Rattle.c_lower.specs.Values.{KeyIs}
 use Rattle.c_lower.proofs.KeyNames.{BaseIf, object_found, static_there, key_base_there, read_named, write_named}
-use Rattle.c_lower.proofs.Fitting.{both_true, in_place, word_fits, written_fits, held_fits, arguments_fit, printed_fits}
+use Rattle.c_lower.proofs.KeyNames.{both_true}
+use Rattle.c_lower.proofs.Fitting.{in_place, word_fits, written_fits, held_fits, arguments_fit, printed_fits}
 use Rattle.c_lower.proofs.Fitting.{update_fits, kind_update_fits, type_fits, constant_fits, type_arguments_fit}
 use Rattle.c_lower.proofs.Fitting.{data_below}
 use Rattle.c_lower.proofs.Fitting.{AreDeclared}

@@ -12,6 +12,7 @@ use Rattle.c_tree.specs.Blocks.{block_objects, block_variables, switch_variables
 use Rattle.source_meaning.specs.Blocks.{has_objects}
 use Rattle.source_meaning.specs.Statements.{is_default}
 use Rattle.tac_ir.specs.declared.instruction.Instruction.TheVariants as tac
+use Rattle.tac_ir.specs.declared.function.Span.{Span}
 use Rattle.tac_ir.specs.declared.function.CountedLoop.{CountedLoop}
 use Rattle.c_lower.specs.Placed.{Placed, Holds, HasAt}
 use Rattle.c_lower.specs.Values.{LowersExpression, LowersArgument}
@@ -63,14 +64,23 @@ LowersFirst c nothing n0 n1 = n0 ≡ n1
 LowersFirst c (first_expression e) n0 n1 = LowersExpression c e 0 n0 n1
 LowersFirst c (first_declaration ds) n0 n1 = LowersDeclared c ds n0 n1
 
--- the parts of a `for` that counts, in the table, with the nodes where its parts begin
+-- the parts of a `for` that counts, in the table, with the nodes where its parts begin, and some spans
 abbrev pub CountedIs : List CountedLoop → Option ℕ → Option CountedParts → (setting condition turn step : ℕ) → Type 0
 CountedIs loops None None n0 h t s = Unit {0}
 CountedIs loops None (Some q) n0 h t s = ⊥
 CountedIs loops (Some i) None n0 h t s = ⊥
 CountedIs loops (Some i) (Some q) n0 h t s =
-    HasAt loops i (record
-    { variable = q.variable; start = q.start; bound = q.bound; setting = n0; condition = h; turn = t; step = s })
+    (body : Span) × (added : Span) × HasAt loops i (record {
+      variable = q.variable;
+      start = q.start;
+      bound = q.bound;
+      setting = n0;
+      condition = h;
+      turn = t;
+      step = s;
+      body = body;
+      added = added;
+    })
 
 -- blocks
 

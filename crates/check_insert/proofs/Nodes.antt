@@ -15,10 +15,12 @@ use Rattle.tac_ir.specs.declared.instruction.Instruction.TheVariants.{Offset, Di
 use Rattle.tac_ir.specs.declared.instruction.Instruction.TheVariants.{Write, Update, Judge, Zero, StorePart}
 use Rattle.tac_ir.specs.declared.instruction.Instruction.TheVariants.{StoreText, Branch, Case, Turn, Library, Print}
 use Rattle.tac_ir.specs.declared.instruction.Instruction.TheVariants.{Call, CallThrough, EnterBlock, LeaveBlock, Return}
+use Rattle.tac_ir.specs.declared.function.CountedLoop.{CountedLoop}
 use Rattle.tac_ir.specs.declared.function.CodeFunction.{CodeFunction}
 use Rattle.tac_ir.specs.declared.function.StaticData.{StaticData}
 use Rattle.tac_ir.specs.declared.function.Tac.{Tac}
 use Rattle.tac_ir.specs.Meaning.{header_of_code}
+use Rattle.tac_ir.specs.Bodies.{without_added}
 use Rattle.tac_ir.specs.SameTables.{SameAt}
 use Rattle.tac_ir.specs.Structures.{structure_put}
 use Rattle.tac_ir.specs.Temporaries.{temporaries}
@@ -26,7 +28,7 @@ use Rattle.check_insert.specs.declared.access.Access.{Access}
 use Rattle.check_insert.specs.Counting.{is_check, checks_needed, sum_over, sum_of_functions}
 use Rattle.check_insert.specs.Inserted.{Has, StandsFor, NeedsNoMore, FunctionIn, InsertedAt, Inserted}
 use Rattle.check_insert.specs.Building.{access_of, front, back, behind, fronts, backs, with_checks, checked_function}
-use Rattle.check_insert.specs.Building.{checked_program}
+use Rattle.check_insert.specs.Building.{with_added, checked_program}
 
 -- what stands at the node of an instruction, and behind all nodes from one node on
 abbrev StandAs : List Instruction → (node next : ℕ) → Option Access → Instruction → Type 0
@@ -150,7 +152,7 @@ count_one next (Skip m) = omega arith
 count_one next (Return a) = omega arith
 
 -- an access gets as many new nodes as checks
-back_length : (next : ℕ) (i : Instruction) → length (back next (access_of i)) ≡ checks_needed i
+pub back_length : (next : ℕ) (i : Instruction) → length (back next (access_of i)) ≡ checks_needed i
 back_length next Reserved = refl
 back_length next (Constant d w m) = refl
 back_length next (FunctionPointer d f m) = refl
@@ -211,7 +213,7 @@ back_length next (LeaveBlock b m) = refl
 back_length next (Skip m) = refl
 back_length next (Return a) = refl
 
-backs_length : (next : ℕ) (is : List Instruction) → length (backs next is) ≡ sum_over checks_needed is
+pub backs_length : (next : ℕ) (is : List Instruction) → length (backs next is) ≡ sum_over checks_needed is
 backs_length next [] = refl
 backs_length next (i ∷ is) =
     let a = length-append (back next (access_of i)) (backs (behind next (access_of i)) is) in
@@ -318,7 +320,7 @@ all_stand code n next (j ∷ is) f b (suc k) i h =
     (all_stand code (n + 1) (behind next (access_of j)) is (next_from code _ n (front next (access_of j) j) f)
     (rest_from code next (access_of j) _ b) k i h)
 
-front_length : (next : ℕ) (is : List Instruction) → length (fronts next is) ≡ length is
+pub front_length : (next : ℕ) (is : List Instruction) → length (fronts next is) ≡ length is
 front_length next [] = refl
 front_length next (i ∷ is) = ap suc (front_length (behind next (access_of i)) is)
 
@@ -444,6 +446,7 @@ function_in c = record {
       each_get (NeedsNoMore c.code) (with_checks c.code)
       (each_and (NeedsNoMore c.code) (fronts next c.code) (backs next c.code) (need_fronts c.code 0 next c.code itself)
       (need_backs c.code 0 next c.code itself)) n i h;
+  loops = refl;
 }
 
 -- a program
@@ -457,9 +460,20 @@ functions_in [] u = tt
 functions_in (c ∷ cs) zero = function_in c
 functions_in (c ∷ cs) (suc u) = functions_in cs u
 
+without_all : (code : List Instruction) (ls : List CountedLoop)
+    → map without_added (map (with_added code) ls) ≡ map without_added ls
+without_all code [] = refl
+without_all code (l ∷ ls) = ap (λ m. without_added l ∷ m) (without_all code ls)
+
 same_functions : (cs : List CodeFunction) (u : ℕ) → SameAt (slice_get cs u) (slice_get (map checked_function cs) u)
 same_functions [] u = tt
-same_functions (c ∷ cs) zero = record { header = refl; entry = refl; keys = refl; blocks = refl; loops = refl }
+same_functions (c ∷ cs) zero = record {
+  header = refl;
+  entry = refl;
+  keys = refl;
+  blocks = refl;
+  loops = without_all c.code c.loops;
+}
 same_functions (c ∷ cs) (suc u) = same_functions cs u
 
 counts : (cs : List CodeFunction)

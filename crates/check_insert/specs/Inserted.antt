@@ -1,5 +1,5 @@
 -- When one program has the checks of another put in. Nodes keep their numbers; what is new stands at new ones.
-use Rattle.std.specs.Prelude.{◌≡◌, ◌≤◌, ℕ, ◌+◌, List, length, Option, Some, None, slice_get}
+use Rattle.std.specs.Prelude.{◌≡◌, ◌≤◌, ℕ, ◌+◌, List, length, map, Option, Some, None, slice_get}
 use Rattle.obj_memory.specs.Access.{scalar_size}
 use Rattle.c_tree.specs.declared.expression.Kind.{Kind}
 use Rattle.c_tree.specs.declared.expression.Kind.TheVariants.{Void, Scalar as OfScalar, Structure, Array}
@@ -14,6 +14,7 @@ use Rattle.tac_ir.specs.declared.function.Tac.{Tac}
 use Rattle.tac_ir.specs.SameTables.{SameTables}
 use Rattle.tac_ir.specs.Structures.{structure_put}
 use Rattle.tac_ir.specs.Temporaries.{temporaries}
+use Rattle.check_insert.specs.Building.{with_added}
 use Rattle.check_insert.specs.Counting.{checks, checks_needed, checks_to_insert, sum_over}
 
 abbrev pub Has : List Instruction → (node : ℕ) → Instruction → Type 0
@@ -63,12 +64,13 @@ pub record NeedsNoMore (code : List Instruction) (instruction : Instruction) : T
   pub most : temporaries instruction ≤ temporaries other
   pub structures : (t : Tac) (temporary : ℕ) → structure_put t instruction temporary ≤ structure_put t other temporary
 
--- for each check there is a node more, and no instruction needs more temporaries than there were, or a larger structure
--- in one
+-- for each check there is a node more, those of a loop's body are a span, and no instruction needs more temporaries than
+-- there were, or a larger structure in one
 pub record FunctionIn (before after : CodeFunction) : Type 0 where
   pub size : length after.code ≡ length before.code + sum_over checks_needed before.code
   pub code : (n : ℕ) (i : Instruction) → Has before.code n i → StandsFor after.code n i
   pub homes : (n : ℕ) (i : Instruction) → Has after.code n i → NeedsNoMore before.code i
+  pub loops : after.loops ≡ map (with_added before.code) before.loops
 
 abbrev pub InsertedAt : Option CodeFunction → Option CodeFunction → Type 0
 InsertedAt None None = Unit {0}
@@ -76,7 +78,7 @@ InsertedAt None (Some c') = ⊥
 InsertedAt (Some c) None = ⊥
 InsertedAt (Some c) (Some c') = FunctionIn c c'
 
--- the tables stay: what calls lay out, keys, blocks, counted loops, static objects and texts
+-- the tables stay: what calls lay out, keys, blocks, static objects and texts, and counted loops but for what is added
 pub record Inserted (before after : Tac) : Type 0 where
   pub tables : SameTables before after
   pub functions : (u : ℕ) → InsertedAt (slice_get before.functions u) (slice_get after.functions u)

@@ -1,8 +1,8 @@
 //! Accesses that get checks.
 
-ghost use Rattle.std.specs.Prelude.{◌≡◌, ◌+◌, ◌<◌, ◌^◌, ◌++◌, ◌∷◌, [], IfOk, OnOk};
+ghost use Rattle.std.specs.Prelude.{◌≡◌, ◌+◌, ◌<◌, ◌^◌, ◌++◌, ◌∷◌, [], IfOk, OnOk, length};
 ghost use Rattle.c_tree.specs.Kinds.{size_of_kind};
-ghost use Rattle.check_insert.specs.Building.{access_of, unless_bare, if_unchecked, front, back, with_checks};
+ghost use Rattle.check_insert.specs.Building.{access_of, unless_bare, if_unchecked, front, back, places, with_checks};
 
 use c_tree::Kind;
 use sb_base::Line;
@@ -209,15 +209,26 @@ fn put(
 }
 
 /// The code of a function with its checks put in.
-pub fn with_checks(alloc: Global, code: &[Instruction]) -> Result<Vec<Instruction>, AllocError>
-    ensures { IfOk result (λ nodes. nodes.items ≡ with_checks code.now) }
+#[derive(Drop)]
+pub struct CheckedCode {
+    pub nodes: Vec<Instruction>,
+    /// For each node of the code without them, where its own checks begin behind all those nodes.
+    pub places: Vec<usize>,
+}
+
+/// The code of a function with its checks put in.
+pub fn with_checks(alloc: Global, code: &[Instruction]) -> Result<CheckedCode, AllocError>
+    ensures nodes { IfOk result (λ r. r.nodes.items ≡ with_checks code.now) }
+    ensures places { IfOk result (λ r. r.places.items ≡ places (length code.now) code.now) }
 {
     let mut nodes = Vec::new(alloc);
     let mut behind = Vec::new(alloc);
+    let mut places = Vec::new(alloc);
     for instruction in code {
         let next = code.len() + behind.len();
+        places.push(next)?;
         put(&mut nodes, &mut behind, instruction, next)?;
     }
     nodes.extend_from_slice(&behind)?;
-    Ok(nodes)
+    Ok(CheckedCode { nodes, places })
 }

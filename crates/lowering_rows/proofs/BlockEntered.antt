@@ -34,6 +34,7 @@ use Rattle.tac_ir.specs.declared.instruction.Instruction.TheVariants as tac
 use Rattle.tac_ir.specs.declared.key.Base.TheVariants as base
 use Rattle.tac_ir.specs.declared.function.CodeFunction.{CodeFunction}
 use Rattle.tac_ir.specs.declared.function.Tac.{Tac}
+use Rattle.tac_ir.specs.Bodies.{no_nodes}
 use Rattle.tac_ir.specs.Temporaries.{temporaries}
 use Rattle.tac_ir.specs.Meaning.{tac_meaning}
 use Rattle.source_meaning.specs.Calls.{function_at}
@@ -111,7 +112,17 @@ function_with code = record {
   code = code;
   keys = record { base = base.Plain 0; path = []; constant = 0; scaled = None } ∷ [];
   blocks = (2 ∷ []) ∷ [];
-  loops = record { variable = 1; start = 0; bound = 2; setting = 3; condition = 5; turn = 9; step = 27 } ∷ [];
+  loops = record {
+    variable = 1;
+    start = 0;
+    bound = 2;
+    setting = 3;
+    condition = 5;
+    turn = 9;
+    step = 27;
+    body = record { start = 10; end = 27 };
+    added = no_nodes;
+  } ∷ [];
 }
 
 code_of : List Instruction → Tac
@@ -184,7 +195,7 @@ body = record {
             (4, refl, refl),
             (8, (6, 7, refl, refl, refl), refl),
             refl,
-            refl,
+            (record { start = 10; end = 27 }, no_nodes, refl),
             refl,
             (
               11,

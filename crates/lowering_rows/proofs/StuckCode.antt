@@ -38,6 +38,7 @@ use Rattle.tac_ir.specs.declared.key.Base.TheVariants as base
 use Rattle.tac_ir.specs.declared.key.Key.{Key}
 use Rattle.tac_ir.specs.declared.function.CodeFunction.{CodeFunction}
 use Rattle.tac_ir.specs.declared.function.CountedLoop.{CountedLoop}
+use Rattle.tac_ir.specs.Bodies.{no_nodes}
 use Rattle.tac_ir.specs.declared.function.StaticData.{StaticData}
 use Rattle.tac_ir.specs.declared.function.Tac.{Tac}
 use Rattle.tac_ir.specs.Stage.{Temps, no_temps, with_temp, Frame, Entered, Stage, Begins, Stands, Over, Stuck}
@@ -66,8 +67,17 @@ abbrev key : Base → Key
 key b = record { base = b; path = []; constant = 0; scaled = None }
 
 abbrev counted : (start bound : ℕ) → CountedLoop
-counted start bound =
-    record { variable = 0; start = start; bound = bound; setting = 0; condition = 0; turn = 0; step = 0 }
+counted start bound = record {
+  variable = 0;
+  start = start;
+  bound = bound;
+  setting = 0;
+  condition = 0;
+  turn = 0;
+  step = 0;
+  body = no_nodes;
+  added = no_nodes;
+}
 
 -- An int and a pointer are plain; of four objects of an int one is as it is declared, one is dead, one has another size
 -- and one has no home. The first block declares the last of them, the second the first.

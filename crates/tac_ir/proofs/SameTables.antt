@@ -1,5 +1,5 @@
 -- What programs with the same tables have in common: instructions, calls, the setting and the start of a run.
-use Rattle.std.proofs.Common.{◌≡◌, ℕ, List, [], ◌++◌, Option, Some, None, refl, ap, ◌∙◌, subst}
+use Rattle.std.proofs.Common.{◌≡◌, ℕ, zero, suc, List, [], ◌∷◌, ◌++◌, Option, Some, None, refl, sym, ap, ◌∙◌, subst}
 use Rattle.std.specs.Prelude.{◌&&◌, nat_lt, length, slice_get, map}
 use Rattle.behaviours.specs.Steps.{seen_after}
 use Rattle.sb_base.specs.Budgets.{BudgetSizes}
@@ -20,6 +20,7 @@ use Rattle.tac_ir.specs.declared.instruction.Instruction.TheVariants.{Call}
 use Rattle.tac_ir.specs.declared.instruction.Instruction.TheVariants.{CallThrough, EnterBlock}
 use Rattle.tac_ir.specs.declared.key.Key.{Key}
 use Rattle.tac_ir.specs.declared.function.CodeFunction.{CodeFunction}
+use Rattle.tac_ir.specs.declared.function.CountedLoop.{CountedLoop}
 use Rattle.tac_ir.specs.declared.function.Tac.{Tac}
 use Rattle.tac_ir.specs.Stage.{Temps, no_temps, gathered, Frame, Stage, Begins, Stands, came, seen}
 use Rattle.tac_ir.specs.Accesses.{only_if}
@@ -31,6 +32,7 @@ use Rattle.tac_ir.specs.Meaning.{header_of_code, setting_of_code, begun, called_
 use Rattle.tac_ir.specs.Meaning.{loops_of, type_of, fit_call, fits_key}
 use Rattle.tac_ir.specs.Meaning.{step}
 use Rattle.tac_ir.specs.Meaning.{placed_data, first_stage, tac_meaning}
+use Rattle.tac_ir.specs.Bodies.{without_added}
 use Rattle.tac_ir.specs.SameTables.{SameFunction, SameAt, SameTables}
 
 pub came_same : {A : Type 0} (o : Outcome A) (F F' : A → State → Stage) → ((a : A) (s : State) → F a s ≡ F' a s)
@@ -42,6 +44,13 @@ came_same (Paused s) F F' h = refl
 keyed_same : {keys keys' : List Key} (key : Option ℕ) (s : State) (v : Value) (x : Stage) → keys' ≡ keys
     → keyed keys' key s v x ≡ keyed keys key s v x
 keyed_same key s v x e = ap (λ l. keyed l key s v x) e
+
+-- what a turn tests does not depend on the nodes of checks
+counted_as : (ls : List CountedLoop) (n : ℕ) (s : State)
+    → is_counted (slice_get ls n) s ≡ is_counted (slice_get (map without_added ls) n) s
+counted_as [] n s = refl
+counted_as (l ∷ ls) zero s = refl
+counted_as (l ∷ ls) (suc n) s = counted_as ls n s
 
 -- what functions have in common, by any of their tables
 by_table : {A : Type 0} (T : Option CodeFunction → A)
@@ -72,8 +81,11 @@ module _ {t t' : Tac} (same : SameTables t t') where
   pub blocks_same : (u : ℕ) → blocks_in (function_in t' u) ≡ blocks_in (function_in t u)
   blocks_same = table_same blocks_in (λ c c' h. h.blocks)
 
-  pub loops_same : (u : ℕ) → loops_of (function_in t' u) ≡ loops_of (function_in t u)
-  loops_same = table_same loops_of (λ c c' h. h.loops)
+  counted_same : (u n : ℕ) (s : State)
+      → is_counted (slice_get (loops_of (function_in t' u)) n) s ≡ is_counted (slice_get (loops_of (function_in t u)) n) s
+  counted_same u n s = table_same (λ o. is_counted (slice_get (loops_of o) n) s)
+      (λ c c' h. counted_as c'.loops n s ∙ ap (λ ls. is_counted (slice_get ls n) s) h.loops
+      ∙ sym (counted_as c.loops n s)) u
 
   pub type_same : (u : ℕ) → type_of (function_in t' u) ≡ type_of (function_in t u)
   type_same = table_same type_of (λ c c' h. ap (λ (x : Header). x.type_number) h.header)
@@ -120,7 +132,7 @@ module _ {t t' : Tac} (same : SameTables t t') where
     fits_same (Update w k f mode line at key d a right m) u temps s =
         ap (λ q. is_update_of w k && q) (key_same u key s (temps a).value)
     fits_same (Judge test size line key a m) u temps s = key_same u key s (temps a).value
-    fits_same (Turn (Some n) m) u temps s = ap (λ ls. is_counted (slice_get ls n) s) (loops_same u)
+    fits_same (Turn (Some n) m) u temps s = counted_same u n s
     fits_same (Print x line d n m) u temps s =
         ap (λ ts. are_printed (pieces (if_there (slice_get ts x))) (gathered temps d n)) same.texts
     fits_same (Call f line d n m) u temps s = call_same f (gathered temps d n)

@@ -8,6 +8,7 @@ pub mod Edges
 pub mod Temporaries
 pub mod Structures
 pub mod Changes
+pub mod Bodies
 pub mod Later
 pub mod SameTables
 pub mod PlainVariables

@@ -1,16 +1,17 @@
--- When two programs differ in their instructions alone: what calls lay out and what instructions name by number is the
--- same.
+-- When two programs differ in their instructions alone, and in which of them checks have added to the bodies of counted
+-- loops: what calls lay out and what instructions name by number is the same.
 use Rattle.std.specs.Prelude.{◌≡◌, ℕ, map, Option, Some, None}
 use Rattle.tac_ir.specs.declared.function.CodeFunction.{CodeFunction}
 use Rattle.tac_ir.specs.declared.function.Tac.{Tac}
 use Rattle.tac_ir.specs.Meaning.{header_of_code, function_in}
+use Rattle.tac_ir.specs.Bodies.{without_added}
 
 pub record SameFunction (before after : CodeFunction) : Type 0 where
   pub header : header_of_code after ≡ header_of_code before
   pub entry : after.entry ≡ before.entry
   pub keys : after.keys ≡ before.keys
   pub blocks : after.blocks ≡ before.blocks
-  pub loops : after.loops ≡ before.loops
+  pub loops : map without_added after.loops ≡ map without_added before.loops
 
 abbrev pub SameAt : Option CodeFunction → Option CodeFunction → Type 0
 SameAt None None = Unit {0}

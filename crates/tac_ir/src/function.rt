@@ -8,6 +8,15 @@ use sb_base::Line;
 use std::alloc::Global;
 use tree_containers::Items;
 
+/// Nodes in a row. There are none where it ends at its start.
+#[derive(Clone, Copy)]
+pub struct Span {
+    /// The first node.
+    pub start: usize,
+    /// The node behind the last one.
+    pub end: usize,
+}
+
 /// A `for` that counts a plain int variable up by 1, as the text has it: `for (v = A; v < B; v++)`, where the body
 /// assigns v nowhere.
 #[derive(Clone, Copy)]
@@ -26,6 +35,10 @@ pub struct CountedLoop {
     pub turn: usize,
     /// The node where the step begins.
     pub step: usize,
+    /// The nodes of the body.
+    pub body: Span,
+    /// The nodes that checks of accesses in the body have besides.
+    pub added: Span,
 }
 
 /// The code of a function, with what its calls lay out.

@@ -10,6 +10,6 @@ pub mod instruction;
 pub mod key;
 pub mod laws;
 
-pub use crate::function::{CodeFunction, CountedLoop, StaticData, Tac};
+pub use crate::function::{CodeFunction, CountedLoop, Span, StaticData, Tac};
 pub use crate::instruction::{Instruction, Mode, RightOperand, Test};
 pub use crate::key::{Base, Key, Member, Scaled};

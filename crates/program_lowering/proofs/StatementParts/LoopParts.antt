@@ -11,6 +11,7 @@ use Rattle.c_tree.specs.Room.{height}
 use Rattle.c_tree.specs.Blocks.{if_any, first_contents}
 use Rattle.tac_ir.specs.declared.instruction.Instruction.{Instruction}
 use Rattle.tac_ir.specs.declared.instruction.Instruction.TheVariants as tac
+use Rattle.tac_ir.specs.declared.function.Span.{Span}
 use Rattle.tac_ir.specs.Temporaries.{temporaries}
 use Rattle.c_lower.specs.Counted.{CountedParts}
 use Rattle.c_lower.specs.Placed.{Placed, Holds, HasAt}
@@ -182,7 +183,7 @@ for_head_code {vs = vs} {a = a} {b = b} {numbers = numbers} {test = test} {step 
 pub no_loop : {a : Emitter} {n : ℕ} {h : ForHead} → LoopAdded a a None n h None
 no_loop = record { emits = emits_none 0 (λ w. refl); is = λ p f. tt }
 
-pub some_loop : (a b : Emitter) (r : Range) (n setting : ℕ) (h : ForHead) → b.code.items ≡ a.code.items
+pub some_loop : (a b : Emitter) (r : Range) (n setting : ℕ) (h : ForHead) (body added : Span) → b.code.items ≡ a.code.items
     → b.keys.items ≡ a.keys.items → b.blocks.items ≡ a.blocks.items
     → b.loops.items ≡ a.loops.items ++ record {
       variable = r.variable;
@@ -192,13 +193,15 @@ pub some_loop : (a b : Emitter) (r : Range) (n setting : ℕ) (h : ForHead) → 
       condition = h.condition;
       turn = h.turn;
       step = h.step;
+      body = body;
+      added = added;
     } ∷ [] → b.texts.items ≡ a.texts.items → b.literals.items ≡ a.literals.items → n ≡ length a.loops.items
     → LoopAdded a b (parts_with (Some r)) setting h (Some n)
-some_loop a b r n setting h code keys blocks loops texts literals at = record {
+some_loop a b r n setting h body added code keys blocks loops texts literals at = record {
   emits = same_emits a b code (stays_by a.keys.items b.keys.items keys) (stays_by a.blocks.items b.blocks.items blocks)
       (one_more a.loops.items b.loops.items _ loops)
       (stays_by a.texts.items b.texts.items texts) literals;
-  is = λ c f. f.loops n _ (has_last a.loops.items b.loops.items _ n loops at);
+  is = λ c f. (body, added, f.loops n _ (has_last a.loops.items b.loops.items _ n loops at));
 }
 
 pub for_tail_code : {a b c d e : Emitter} {line setting body n : ℕ} {first : First} {parts : Option CountedParts}

@@ -16,7 +16,7 @@ use crate::parts::initializer::{condition, first, part};
 use c_tree::{Expression, First, Variable};
 use sb_base::Line;
 use std::alloc::{AllocError, Global};
-use tac_ir::{CountedLoop, Instruction};
+use tac_ir::{CountedLoop, Instruction, Span};
 
 /// What stands in the parentheses of a `for`, with its line: its first part, its condition and its step.
 #[derive(Clone, Copy)]
@@ -42,6 +42,13 @@ pub struct ForHead {
     pub turn: usize,
     pub condition: usize,
     pub step: usize,
+}
+
+/// The body of a `for`: where it begins, and its nodes.
+#[derive(Clone, Copy)]
+pub struct LoopBody {
+    pub entry: usize,
+    pub nodes: Span,
 }
 
 /// Fills a node that was reserved.
@@ -94,13 +101,14 @@ pub fn for_parts(
     })
 }
 
-// The number of a counted loop in the table, with the nodes where its parts begin.
+// The number of a counted loop in the table, with the nodes where its parts begin, and those of its body.
 #[tactic(auto, using(crate::proofs::StatementParts::LoopParts::loops_added))]
 fn add_loop(
     code: &mut Emitter,
     range: Option<Range>,
     setting: usize,
     h: ForHead,
+    body: Span,
 ) -> Result<Option<usize>, AllocError>
     ensures { IfOk result (λ n. LoopAdded code.old code.new (parts_with range) setting h n) }
 {
@@ -116,34 +124,36 @@ fn add_loop(
                 condition: h.condition,
                 turn: h.turn,
                 step: h.step,
+                body,
+                added: Span { start: 0, end: 0 },
             })?;
             Ok(Some(number))
         }
     }
 }
 
-/// The first part of a `for` whose body begins at a node, with its turn filled, and its block entered.
+/// The first part of a `for` whose body stands, with its turn filled, and its block entered.
 #[tactic(auto, using(crate::proofs::StatementParts::LoopParts::for_tails))]
 pub fn for_tail(
     code: &mut Emitter,
     clauses: &ForClauses,
     range: Option<Range>,
     h: ForHead,
-    body: usize,
+    body: LoopBody,
 ) -> Result<usize, AllocError>
     requires height { greatest_height (first_contents (first_of clauses.now.first.now)) < 2 ^ 64 }
     requires waits { Waits code.old h.turn }
     ensures { IfOk result (λ n. ForTailCode code.old code.new clauses.now.line (first_of clauses.now.first.now)
-        (parts_with range) h body n) }
+        (parts_with range) h body.entry n) }
 {
     let setting = first(code, clauses.first, h.condition)?;
-    let counted = add_loop(code, range, setting, h)?;
+    let counted = add_loop(code, range, setting, h, body.nodes)?;
     fill(
         code,
         h.turn,
         Instruction::Turn {
             counted,
-            next: body,
+            next: body.entry,
         },
     );
     let entry = enter(code, h.inside.block, clauses.line, setting)?;

@@ -16,13 +16,13 @@ use crate::expressions::Emitter;
 use crate::parts::block::{block_variables, enter, first_variables, leave, switch_variables};
 use crate::parts::counted::counted_parts;
 use crate::parts::exits::Exits;
-use crate::parts::loops::{ForClauses, fill, for_parts, for_tail, test_turn};
+use crate::parts::loops::{ForClauses, LoopBody, fill, for_parts, for_tail, test_turn};
 use crate::statements::labels::{default_start, test_items};
 use crate::statements::simple::{branch, declare_all, evaluate, give_back};
 use c_tree::{Expression, Statement, SwitchItem, Variable};
 use sb_base::Line;
 use std::alloc::AllocError;
-use tac_ir::Instruction;
+use tac_ir::{Instruction, Span};
 
 /// Lowers a statement of a function with these variables, which is left for these nodes, and gives the node where it
 /// begins. An error comes where there is no memory for it.
@@ -244,9 +244,12 @@ fn for_loop(
     let declared = first_variables(code.alloc, clauses.first)?;
     let numbers = declared.as_slice();
     let head = for_parts(code, variables, numbers, clauses, x)?;
+    let start = code.code.len();
     let turn = statement(code, variables, body, head.inside.exits.in_loop(head.step))?;
+    let end = code.code.len();
     let range = counted_parts(clauses.first, clauses.condition, clauses.step, body);
-    let entry = for_tail(code, clauses, range, head, turn)?;
+    let nodes = Span { start, end };
+    let entry = for_tail(code, clauses, range, head, LoopBody { entry: turn, nodes })?;
     Ok(entry)
 }
 

@@ -64,8 +64,8 @@ pub record NeedsNoMore (code : List Instruction) (instruction : Instruction) : T
   pub most : temporaries instruction ≤ temporaries other
   pub structures : (t : Tac) (temporary : ℕ) → structure_put t instruction temporary ≤ structure_put t other temporary
 
--- for each check there is a node more, those of a loop's body are a span, and no instruction needs more temporaries than
--- there were, or a larger structure in one
+-- for each check there is a node more, those of a loop's body are a span, and no instruction needs more temporaries
+-- than there were, or a larger structure in one
 pub record FunctionIn (before after : CodeFunction) : Type 0 where
   pub size : length after.code ≡ length before.code + sum_over checks_needed before.code
   pub code : (n : ℕ) (i : Instruction) → Has before.code n i → StandsFor after.code n i

@@ -79,9 +79,9 @@ fn checked_functions(
 }
 
 /// The program with its checks put in, made of the given one: each access through a pointer gets a spatial and then a
-/// temporal check, in code that no run reaches too. Nodes keep their numbers, keys and blocks stay, and counted loops but
-/// for the nodes that checks add to their bodies: these are closed where they were. An error comes where there is no
-/// memory for it.
+/// temporal check, in code that no run reaches too. Nodes keep their numbers, keys and blocks stay, and counted loops
+/// but for the nodes that checks add to their bodies: these are closed where they were. An error comes where there is
+/// no memory for it.
 pub fn insert(alloc: Global, program: Tac) -> Result<Tac, AllocError>
     ensures checks { IfOk result (λ checked. Inserted program checked) }
     ensures closed { IfOk result

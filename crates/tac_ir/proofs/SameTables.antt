@@ -82,7 +82,8 @@ module _ {t t' : Tac} (same : SameTables t t') where
   blocks_same = table_same blocks_in (λ c c' h. h.blocks)
 
   counted_same : (u n : ℕ) (s : State)
-      → is_counted (slice_get (loops_of (function_in t' u)) n) s ≡ is_counted (slice_get (loops_of (function_in t u)) n) s
+      → is_counted (slice_get (loops_of (function_in t' u)) n) s
+      ≡ is_counted (slice_get (loops_of (function_in t u)) n) s
   counted_same u n s = table_same (λ o. is_counted (slice_get (loops_of o) n) s)
       (λ c c' h. counted_as c'.loops n s ∙ ap (λ ls. is_counted (slice_get ls n) s) h.loops
       ∙ sym (counted_as c.loops n s)) u

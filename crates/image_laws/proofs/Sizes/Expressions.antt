@@ -14,6 +14,7 @@ use Rattle.c_tree.specs.Walk.{walk_each, sum_of}
 use Rattle.c_tree.specs.Valid as valid
 use Rattle.c_lower.specs.Values.{count}
 use Rattle.program_lowering.specs.ExpressionCode.Weights.{expression_weight, weight_made, taking_weight, takings_weight}
+use Rattle.program_lowering.specs.ExpressionCode.Weights.{returning_weight}
 use Rattle.compiled_programs.specs.Programs.{is_integer_expression, is_integer_node, are_integer_expressions}
 use Rattle.compiled_programs.specs.Programs.{has_no_pointer, is_integer_update, is_integer_routine}
 use Rattle.image_laws.specs.Sizes.Nodes.{expression_nodes, nodes_made}
@@ -40,8 +41,19 @@ no_taking k (OfScalar s) h = refl
 no_taking k (Structure size) h = cc
 no_taking k (Array size) h = refl
 
-pub no_taken : (k : ℕ) (e : Expression) → is_integer_expression e ≡ true → taking_weight (kind_of e) (words k) ≡ 0
+no_returning : (k : ℕ) (kind : Kind) → has_no_pointer kind ≡ true → returning_weight kind (words k) ≡ 0
+no_returning k Void h = refl
+no_returning k (OfScalar s) h = refl
+no_returning k (Structure size) h = cc
+no_returning k (Array size) h = refl
+
+no_taken : (k : ℕ) (e : Expression) → is_integer_expression e ≡ true → taking_weight (kind_of e) (words k) ≡ 0
 no_taken k (expression kind line node) i = no_taking k kind (and_parts (has_no_pointer kind) (is_integer_node node) i).0
+
+pub none_returned : (k : ℕ) (e : Expression) → is_integer_expression e ≡ true
+    → returning_weight (kind_of e) (words k) ≡ 0
+none_returned k (expression kind line node) i =
+    no_returning k kind (and_parts (has_no_pointer kind) (is_integer_node node) i).0
 
 -- an expression, and expressions in turn
 record IsLight (k : ℕ) (e : Expression) : Type 0 where

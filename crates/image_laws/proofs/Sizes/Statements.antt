@@ -27,7 +27,7 @@ use Rattle.compiled_programs.specs.Programs.{are_integer_statements, are_integer
 use Rattle.image_laws.specs.Sizes.Nodes.{expression_nodes_if, declared_nodes, first_nodes}
 use Rattle.image_laws.specs.Sizes.Nodes.{statement_nodes, each_nodes, items_nodes}
 use Rattle.image_laws.proofs.Sizes.Words.{words}
-use Rattle.image_laws.proofs.Sizes.Expressions.{evaluated_light, no_taken}
+use Rattle.image_laws.proofs.Sizes.Expressions.{evaluated_light, none_returned}
 
 -- integers are no objects
 
@@ -155,7 +155,8 @@ module _ (k : ℕ) (vs : List Variable) (none : (numbers : List ℕ) → block_w
     statement_light scope inside continue v i = omega arith
     statement_light scope inside (return None) v i = omega arith
     statement_light scope inside (return (Some e)) v i =
-        let h = evaluated_light k scope e (and_parts _ _ (and_parts _ _ v).0).0 i in omega (arith, h, no_taken k e i)
+        let h = evaluated_light k scope e (and_parts _ _ (and_parts _ _ v).0).0 i in
+        omega (arith, h, none_returned k e i)
 
     pub each_light : (scope : Scope) (inside : valid.Inside) (ss : Statements)
         → valid.are_statements scope inside ss ≡ true → are_integer_statements ss ≡ true

@@ -1,4 +1,3 @@
-pub mod Reports
 pub mod Instructions
 pub mod Blocks
 pub mod Programs
@@ -7,3 +6,4 @@ pub mod Starting
 pub mod Following
 pub mod Images
 pub mod Runtime
+pub mod Starts

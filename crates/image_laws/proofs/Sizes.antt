@@ -3,7 +3,6 @@ pub mod Expressions
 pub mod Statements
 pub mod Checked
 pub mod Numbers
-pub mod Reports
 pub mod Operators
 pub mod Blocks
 pub mod Functions

@@ -4,6 +4,7 @@ pub mod Sound
 pub mod Standing
 pub mod Locals
 pub mod Asks
+pub mod Tails
 pub mod Outside
 pub mod Calling
 pub mod Entering

@@ -57,6 +57,7 @@ pub record AreSmall (map : MapSizes) (code : Tac) (function : CodeFunction) : Ty
   pub callees : greatest_callee function.code < 2 ^ 32
   pub words : greatest_word function.code < 2 ^ 64
   pub lines : greatest_line function.code < 2 ^ 32
+  pub line : function.line < 2 ^ 32
 
 pub record AreAllSmall (map : MapSizes) (code : Tac) : Type 0 where
   pub functions : (u : ℕ) (c : CodeFunction) → slice_get code.functions u ≡ Some c → AreSmall map code c

@@ -141,6 +141,8 @@ fn is_small(
 ) -> Result<bool, AllocError>
     ensures { IfOk result (λ small. IsTrue small ↔ AreSmall map.now program.now function.now) }
 {
+    // Read for the bound that its type gives, as above.
+    let _line = function.line.number();
     let greatest = greatest_callee(function.code.as_slice());
     if function.room < 1 << 32 && greatest < 1 << 32 && has_few_registers(function) {
         return is_short(alloc, map, program, function);

@@ -14,6 +14,7 @@ use Rattle.flat_meaning.specs.Calls.{function_in}
 use Rattle.flat_meaning.specs.Meaning.{is_runtime_function}
 use Rattle.reg_plan.specs.declared.plan.FunctionPlan.{FunctionPlan}
 use Rattle.machine_laws.specs.Calls.Calls.{row}
+use Rattle.machine_laws.specs.Calls.Table.{runtime_begin}
 use Rattle.machine_laws.specs.Layout.Lists.{items_of}
 use Rattle.machine_laws.specs.Segments.Segments.{is_of, function_words, words_if, words_below, begin_if, begin}
 use Rattle.machine_laws.specs.Segments.Segments.{rows_below}
@@ -63,15 +64,15 @@ module _ (m : MapSizes) (p : FlatProgram) (plans : List FunctionPlan) (k : ℕ) 
         (read ∙ ap (λ gs. get_or gs k g) functions_are)
 
     pub runtime_below : g.is_runtime ≡ true
-        → rows' ≡ rows ++ row (0x10000 + 16 * length p.functions + 36 + 4 * length runtime)
+        → rows' ≡ rows ++ row (runtime_begin p + 4 * length runtime)
         → runtime' ≡ runtime ++ words → compiled' ≡ compiled
         → AreBelow m p plans (k + 1) rows' runtime' compiled'
     runtime_below kind r t c =
         let is : is_runtime_function (function_in p k) ≡ true = ap is_runtime_function there ∙ kind in
         let of : is_of true (function_in p k) ≡ true = ap (is_of true) there ∙ kind in
         let not_of : is_of false (function_in p k) ≡ false = ap (is_of false) there ∙ ap not kind in
-        let at : 0x10000 + 16 * length p.functions + 36 + 4 * length runtime ≡ begin m p plans k =
-        ap (λ ws. 0x10000 + 16 * length p.functions + 36 + 4 * length ws) below.runtime_is ∙ sym (begin_is true is) in
+        let at : runtime_begin p + 4 * length runtime ≡ begin m p plans k =
+        ap (λ ws. runtime_begin p + 4 * length ws) below.runtime_is ∙ sym (begin_is true is) in
         record {
           rows_are = r ∙ ap (λ a. rows ++ row a) at ∙ ap (λ is. is ++ row (begin m p plans k)) below.rows_are
               ∙ sym next_rows;

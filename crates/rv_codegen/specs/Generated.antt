@@ -8,7 +8,8 @@ use Rattle.flat_meaning.specs.declared.function.FlatProgram.{FlatProgram}
 use Rattle.flat_meaning.specs.Calls.{function_in}
 use Rattle.reg_plan.specs.declared.plan.FunctionPlan.{FunctionPlan}
 use Rattle.machine_laws.specs.Layout.Lists.{items_of}
-use Rattle.machine_laws.specs.Segments.Segments.{words_below, rows_below, start_address, code_words, table_words}
+use Rattle.machine_laws.specs.Segments.Segments.{words_below, rows_below, code_words, table_words}
+use Rattle.machine_laws.specs.Calls.Table.{start_address}
 use Rattle.machine_laws.specs.Segments.Segments.{AreAssemblable, code_bytes, table_bytes, FitsSegments}
 use Rattle.rv_codegen.specs.declared.code.GenerateError.{GenerateError}
 use Rattle.rv_codegen.specs.declared.code.GenerateError.TheVariants.{TooLarge, RuntimeTooLarge}

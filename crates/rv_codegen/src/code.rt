@@ -10,7 +10,8 @@ use std::alloc::AllocError;
 pub struct Code {
     /// The address of the first instruction of a run.
     pub start: u64,
-    /// From 0x10000 on: the jump table, the start, and the functions of the runtime.
+    /// From 0x10000 on: the entries of the jump table of the functions of the program, the start, the tails of endings,
+    /// the entries of the functions of the runtime, and these functions.
     pub table: Vec<u32>,
     /// From 0x100000 on: the functions of the program.
     pub compiled: Vec<u32>,
@@ -21,7 +22,8 @@ pub struct Code {
 pub enum GenerateError {
     /// The functions of the program take more than 8388608 bytes, this many.
     TooLarge(u128),
-    /// The jump table, the start and the functions of the runtime take more than 983040 bytes, this many.
+    /// The jump table, the start, the tails of endings and the functions of the runtime take more than 983040 bytes,
+    /// this many.
     RuntimeTooLarge(u128),
     /// The function with this number has 2^28 words or more, if each branch and jump has its longest form.
     FunctionTooLong(u32),

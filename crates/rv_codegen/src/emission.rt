@@ -4,6 +4,7 @@
 pub mod block;
 mod calls;
 mod constants;
+pub mod endings;
 mod immediates;
 mod local;
 pub mod table;
@@ -12,4 +13,5 @@ mod values;
 pub use crate::emission::block::{
     PlacedInstruction, PlannedFunction, left_register, put_block, put_entry, right_register,
 };
-pub use crate::emission::table::{put_row, put_start};
+pub use crate::emission::endings::put_tails;
+pub use crate::emission::table::{START_BYTES, put_row, put_start, start_address};

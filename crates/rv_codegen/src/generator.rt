@@ -8,13 +8,13 @@ ghost use Rattle.flat_meaning.specs.Meaning.{body_of};
 ghost use Rattle.rv_isa.specs.Table.{word_of};
 ghost use Rattle.rv_asm.specs.Forms.{IsAssemblable};
 ghost use Rattle.machine_laws.specs.Calls.Calls.{row};
-ghost use Rattle.machine_laws.specs.Following.Start.{start_block};
+ghost use Rattle.machine_laws.specs.Calls.Table.{source_count, runtime_begin};
 ghost use Rattle.machine_laws.specs.Layout.Lists.{items_of};
-ghost use Rattle.machine_laws.specs.Segments.Segments.{function_words};
+ghost use Rattle.machine_laws.specs.Segments.Segments.{function_words, start_with_tails};
 ghost use Rattle.rv_codegen.specs.Generated.{IsReady, AreBelow, IsGenerated, IsCause};
 
 use crate::code::{Code, GenerateError};
-use crate::emission::{put_row, put_start};
+use crate::emission::{START_BYTES, put_row, put_start, put_tails, start_address};
 use crate::listing::function_items;
 use addr_map::AddrMap;
 use flat_meaning::{FlatFunction, FlatProgram};
@@ -30,8 +30,10 @@ fn function_words(
     map: &AddrMap,
     program: &FlatProgram,
     plans: &[FunctionPlan],
+    sources: u32,
     number: u32,
 ) -> Result<Vec<u32>, GenerateError>
+    requires sources { sources ≡ source_count program.now }
     requires ready { IsReady program.now plans.now }
     requires function { number < length program.now.functions }
     ensures { MatchResult result
@@ -39,7 +41,7 @@ fn function_words(
         × IsAssemblable (items_of map.now program.now plans.now number))
         (IsCause map.now program.now plans.now) }
 {
-    let list = function_items(alloc, map, program, plans, number)?;
+    let list = function_items(alloc, map, program, plans, sources, number)?;
     let items = list.as_slice();
     let able = is_assemblable(alloc, items)?;
     lists_can_be_assembled();
@@ -58,6 +60,7 @@ struct Segments {
 }
 
 // Puts a function of the runtime.
+#[tactic(auto, using(machine_laws::proofs::Calls::Table::tails_length))]
 fn put_runtime(
     segments: &mut Segments,
     program: &FlatProgram,
@@ -65,12 +68,15 @@ fn put_runtime(
 ) -> Result<(), AllocError>
     ensures rows { OnOk result
         (segments.new.rows.items ≡ segments.old.rows.items
-        ++ row (0x10000 + 16 * length program.now.functions + 36 + 4 * length segments.old.runtime.items)) }
+        ++ row (runtime_begin program.now + 4 * length segments.old.runtime.items)) }
     ensures runtime { OnOk result (segments.new.runtime.items ≡ segments.old.runtime.items ++ words.now) }
     ensures compiled { segments.new.compiled.items ≡ segments.old.compiled.items }
 {
     let count = program.functions.as_slice().len() as u128;
-    let begin = 0x1_0000 + 16 * count + 36 + 4 * segments.runtime.len() as u128;
+    let begin = 0x1_0000
+        + 16 * count
+        + u128::from(START_BYTES)
+        + 4 * segments.runtime.len() as u128;
     put_row(&mut segments.rows, begin)?;
     segments.runtime.extend_from_slice(words)?;
     Ok(())
@@ -106,8 +112,10 @@ fn put_function(
     map: &AddrMap,
     program: &FlatProgram,
     plans: &[FunctionPlan],
+    sources: u32,
     number: u32,
 ) -> Result<(), GenerateError>
+    requires sources { sources ≡ source_count program.now }
     requires ready { IsReady program.now plans.now }
     requires function { number < length program.now.functions }
     requires below { AreBelow map.now program.now plans.now number segments.old.rows.items
@@ -117,7 +125,7 @@ fn put_function(
         segments.new.runtime.items segments.new.compiled.items)
         (IsCause map.now program.now plans.now) }
 {
-    let code = function_words(alloc, map, program, plans, number)?;
+    let code = function_words(alloc, map, program, plans, sources, number)?;
     let words = code.as_slice();
     let functions = program.functions.as_slice();
     let runtime = is_of_runtime(&functions[number as usize]);
@@ -135,7 +143,9 @@ fn segments_of(
     map: &AddrMap,
     program: &FlatProgram,
     plans: &[FunctionPlan],
+    sources: u32,
 ) -> Result<Segments, GenerateError>
+    requires sources { sources ≡ source_count program.now }
     requires ready { IsReady program.now plans.now }
     ensures { MatchResult result
         (λ s. AreBelow map.now program.now plans.now (length program.now.functions) s.rows.items s.runtime.items
@@ -148,7 +158,7 @@ fn segments_of(
         compiled: Vec::new(alloc),
     };
     for number in 0..program.functions.as_slice().len() as u32 {
-        put_function(&mut segments, alloc, map, program, plans, number)?;
+        put_function(&mut segments, alloc, map, program, plans, sources, number)?;
     }
     Ok(segments)
 }
@@ -163,29 +173,62 @@ fn put_words(words: &mut Vec<u32>, instrs: &[Instr]) -> Result<(), AllocError>
     Ok(())
 }
 
-// The words of the jump table, the start and the functions of the runtime.
-fn table_of(
+// The start, and the tails of endings.
+fn start_of(
     alloc: Global,
     map: &AddrMap,
     program: &FlatProgram,
-    rows: &mut Vec<Instr>,
+    sources: u32,
+) -> Result<Vec<Instr>, AllocError>
+    requires { sources ≡ source_count program.now }
+    ensures { IfOk result (λ code. code.items ≡ start_with_tails map.now program.now) }
+{
+    let mut code = Vec::new(alloc);
+    put_start(&mut code, map, program, sources)?;
+    put_tails(&mut code)?;
+    Ok(code)
+}
+
+// The words of the jump table with the start behind the first entries, and of the functions of the runtime.
+fn table_of(
+    alloc: Global,
+    first: &[Instr],
+    start: &[Instr],
+    last: &[Instr],
     runtime: &[u32],
 ) -> Result<Vec<u32>, AllocError>
     ensures { IfOk result
-        (λ table. table.items
-        ≡ prelude.map word_of (rows.old.items ++ start_block map.now program.now) ++ runtime.now) }
+        (λ table. table.items ≡ prelude.map word_of (first.now ++ (start.now ++ last.now)) ++ runtime.now) }
 {
-    put_start(rows, map, program)?;
     let mut table = Vec::new(alloc);
-    put_words(&mut table, rows)?;
+    put_words(&mut table, first)?;
+    put_words(&mut table, start)?;
+    put_words(&mut table, last)?;
     table.extend_from_slice(runtime)?;
     Ok(table)
 }
 
+// One past the last function of the program.
+#[tactic(auto, unfolding(machine_laws::specs::Calls::Table::program_end))]
+fn source_count(program: &FlatProgram) -> u32
+    requires { length program.now.functions < 2 ^ 32 }
+    ensures count { result ≡ source_count program.now }
+    ensures within { result ≤ length program.now.functions }
+{
+    let mut count = 0;
+    let functions = program.functions.as_slice();
+    for number in 0..functions.len() as u32 {
+        if !is_of_runtime(&functions[number as usize]) {
+            count = number + 1;
+        }
+    }
+    count
+}
+
 /// The code of a program under its plans, one for each function. `TooLarge` comes exactly where every function can be
 /// assembled and the functions of the program take more than 8388608 bytes; `RuntimeTooLarge` where they take no more,
-/// and the jump table, the start and the functions of the runtime more than 983040; `FunctionTooLong` names a function
-/// whose longest forms have 2^28 words or more; `Memory` where there is none.
+/// and the jump table with the start and the tails of endings, and the functions of the runtime, more than 983040;
+/// `FunctionTooLong` names a function whose longest forms have 2^28 words or more; `Memory` where there is none.
 pub fn generate(
     alloc: Global,
     map: &AddrMap,
@@ -197,23 +240,25 @@ pub fn generate(
         (λ c. IsGenerated map.now program.now plans.now c.start c.table.items c.compiled.items)
         (IsCause map.now program.now plans.now) }
 {
+    let sources = source_count(program);
     let Segments {
-        mut rows,
+        rows,
         runtime,
         compiled,
-    } = segments_of(alloc, map, program, plans)?;
+    } = segments_of(alloc, map, program, plans, sources)?;
     let code_bytes = 4 * compiled.len() as u128;
     if code_bytes > 0x80_0000 {
         return Err(GenerateError::TooLarge(code_bytes));
     }
-    let table = table_of(alloc, map, program, &mut rows, &runtime)?;
+    let begin = start_of(alloc, map, program, sources)?;
+    let (first, last) = rows.as_slice().split_at(4 * sources as usize);
+    let table = table_of(alloc, first, &begin, last, &runtime)?;
     let table_bytes = 4 * table.len() as u128;
     if table_bytes > 0xf_0000 {
         return Err(GenerateError::RuntimeTooLarge(table_bytes));
     }
-    let start = 0x1_0000 + 16 * program.functions.as_slice().len() as u64;
     Ok(Code {
-        start,
+        start: start_address(sources),
         table,
         compiled,
     })

@@ -5,6 +5,7 @@ ghost use Rattle.rv_asm.specs.declared.item.Item.TheVariants as item;
 ghost use Rattle.flat_meaning.specs.Calls.{function_in};
 ghost use Rattle.flat_meaning.specs.Meaning.{body_of};
 ghost use Rattle.reg_plan.specs.Saves.Saves.{is_call, saved_at};
+ghost use Rattle.machine_laws.specs.Calls.Table.{source_count};
 ghost use Rattle.machine_laws.specs.Following.Code.{keeping};
 ghost use Rattle.machine_laws.specs.Layout.Lists.{plain, label_for, tail_of, items_at, items_of};
 
@@ -154,6 +155,7 @@ fn put_items(
 ) -> Result<(), AllocError>
     requires function { planned.now.number < length planned.now.program.now.functions }
     requires plan { planned.now.number < length planned.now.plans.now }
+    requires sources { planned.now.sources ≡ source_count planned.now.program.now }
     requires saved { is_call placed.now.instruction.now ≡ true → placed.now.saved.now
         ≡ saved_at planned.now.program.now planned.now.plans.now planned.now.number placed.now.place }
     ensures { OnOk result (list.new ≡ list.old
@@ -173,8 +175,10 @@ pub(crate) fn function_items(
     map: &AddrMap,
     program: &FlatProgram,
     plans: &[FunctionPlan],
+    sources: u32,
     number: u32,
 ) -> Result<Listing, AllocError>
+    requires sources { sources ≡ source_count program.now }
     requires function { number < length program.now.functions }
     requires plan { number < length plans.now }
     requires small { length (body_of (function_in program.now number)) < 2 ^ 32 }
@@ -183,6 +187,7 @@ pub(crate) fn function_items(
     let planned = PlannedFunction {
         program,
         plans,
+        sources,
         number,
     };
     let body = program.functions.as_slice()[number as usize]

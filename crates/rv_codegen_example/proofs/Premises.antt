@@ -26,6 +26,8 @@ use Rattle.reg_plan.specs.Accepted.{IsAccepted}
 use Rattle.reg_plan.specs.Tests.{AreAccepted}
 use Rattle.rv_asm.specs.Forms.{forms_of, longest_size, IsAssemblable}
 use Rattle.rv_asm.specs.Words.{words_of}
+use Rattle.machine_laws.specs.Blocks.Tails.{tails}
+use Rattle.machine_laws.specs.Calls.Table.{program_end, start_address, row_address}
 use Rattle.machine_laws.specs.Blocks.Immediates.{immediate}
 use Rattle.machine_laws.specs.Blocks.Blocks.{RightIsShort, digits, constant, load_at, store_at}
 use Rattle.machine_laws.specs.Blocks.Places.{home, location}
@@ -40,7 +42,7 @@ use Rattle.rv_sim.specs.Behaviour.{behaviour}
 use Rattle.rv_sim.specs.Start.{start_of}
 use Rattle.rv_codegen.specs.MachineImages.Image.{written, filled, IsImage, ImageFollows}
 use Rattle.machine_laws.specs.View.Segments.{Hold}
-use Rattle.machine_laws.specs.Segments.Segments.{words_below, rows_below, start_address, code_words, table_words}
+use Rattle.machine_laws.specs.Segments.Segments.{words_below, rows_below, code_words, table_words}
 use Rattle.machine_laws.specs.Segments.Segments.{code_bytes, table_bytes, FitsSegments}
 use Rattle.machine_laws.proofs.Segments.Labels.{labels_meet}
 use Rattle.rv_codegen_example.specs.Program.{sizes, doublings, main, next, same, program, MeetsPremises, HasNearForms}
@@ -154,7 +156,7 @@ encodable = record {
   operate = λ f pc op x y z e. short_right z (each_fits f pc (flat.Operate op x y z) e);
   operate32 = λ f pc op x y z e. short_right z (each_fits f pc (flat.Operate32 op x y z) e);
   branch = λ f pc op y z past e. short_right z (each_fits f pc (flat.Branch op y z past) e);
-  report = λ f pc e at. absurd (false≢true (each_fits f pc (flat.End e) at));
+  line = λ f pc e at. absurd (false≢true (each_fits f pc (flat.End e) at));
   status = λ f pc e at. absurd (false≢true (each_fits f pc (flat.End e) at));
   rooms = function_is (λ g. 8 ≤ g.room) (omega arith) (omega arith) (omega arith);
   parameters = function_is (λ g. g.parameters ≤ 1024) (omega arith) (omega arith) (omega arith);
@@ -223,12 +225,12 @@ module _ (a : Global) where
 
   main_long : nat_lt (longest_size (items_of sizes program plans 0)) (2 ^ 28) ≡ true
   unfolding plans keeping block location home give take save restore digits constant immediate load_at store_at
-      function_address
+      row_address program_end function_address
   main_long = refl
 
   next_long : nat_lt (longest_size (items_of sizes program plans 1)) (2 ^ 28) ≡ true
   unfolding plans keeping block location home give take save restore digits constant immediate load_at store_at
-      function_address
+      row_address program_end function_address
   next_long = refl
 
   same_long : nat_lt (longest_size (items_of sizes program plans 2)) (2 ^ 28) ≡ true
@@ -237,12 +239,12 @@ module _ (a : Global) where
 
   code_long : nat_le (code_bytes sizes program plans) 0x800000 ≡ true
   unfolding plans keeping block location home give take save restore digits constant immediate load_at store_at words_of
-      forms_of words_below function_address
+      forms_of words_below row_address program_end function_address
   code_long = refl
 
   table_long : nat_le (0x10000 + table_bytes sizes program plans) 0x100000 ≡ true
   unfolding plans keeping block location home give take save restore digits constant immediate load_at store_at words_of
-      forms_of words_below rows_below
+      forms_of words_below rows_below row_address program_end function_address tails
   table_long = refl
 
   fits : FitsSegments sizes program plans
@@ -265,7 +267,7 @@ module _ (a : Global) where
 
   near_forms : HasNearForms plans
   unfolding plans keeping block location home give take save restore digits constant immediate load_at store_at forms_of
-      function_address
+      row_address program_end function_address
   near_forms = record {
     branch = record { item = _; stands = refl; goes = refl; is = refl };
     jump = record { item = _; stands = refl; goes = refl; is = refl };

@@ -4,8 +4,9 @@ use Rattle.std.proofs.Common.{not, arith, length-append, Bool, true, false, Opti
 use Rattle.std.specs.Prelude.{◌==◌, ◌||◌, nat_lt, nat_le, if◌then◌else◌}
 use Rattle.std.proofs.lemmas.Bool.{and_parts}
 use Rattle.words.specs.TwosComplement.{low_bits, negated}
-use Rattle.sb_base.specs.Endings.{code_of, report_of}
-use Rattle.addr_map.specs.Places.{MapSizes, function_address}
+use Rattle.sb_base.specs.declared.ending.Ending.{Ending}
+use Rattle.sb_base.specs.declared.ending.Ending.TheVariants as ending
+use Rattle.addr_map.specs.Places.{MapSizes}
 use Rattle.rv_isa.specs.declared.instruction.ImmOp.TheVariants.{Addi}
 use Rattle.rv_isa.specs.declared.instruction.StoreOp.TheVariants.{Sb}
 use Rattle.rv_isa.specs.declared.instruction.RegOp.{RegOp}
@@ -31,7 +32,8 @@ use Rattle.machine_laws.specs.Blocks.Blocks.{end_block}
 use Rattle.machine_laws.specs.Blocks.Blocks.{local_block, wide, digits, load_at, store_at}
 use Rattle.machine_laws.specs.Blocks.Immediates.{is_immediate, immediate, immediate32, immediate_of, immediate32_of}
 use Rattle.machine_laws.proofs.Blocks.Lengths.{constant_length, fetch_length, keep_length}
-use Rattle.machine_laws.proofs.Blocks.Reports.{end_length}
+use Rattle.machine_laws.specs.Blocks.Tails.{end_block}
+use Rattle.machine_laws.specs.Calls.Table.{tails_address, row_address}
 use Rattle.machine_laws.specs.Calls.Calls.{Keeping, give, take, save, restore, advance, retreat, call_block}
 use Rattle.machine_laws.specs.Calls.Calls.{return_block}
 use Rattle.machine_laws.specs.Calls.Calls.{entry_block}
@@ -39,7 +41,7 @@ use Rattle.machine_laws.specs.Calls.Effects.{AreOwn}
 use Rattle.machine_laws.proofs.Calls.Lengths.{give_length, take_length, save_length, restore_length}
 use Rattle.machine_laws.specs.Following.Code.{keeping, CallShape, wanted, call_part, back_part, charged_from, block}
 use Rattle.machine_laws.proofs.Following.Sound.{IsSound}
-use Rattle.image_laws.specs.CodeSizes.Sizes.{constant_words, right_words, operator_words, end_words, call_words}
+use Rattle.image_laws.specs.CodeSizes.Sizes.{constant_words, right_words, operator_words, call_words}
 use Rattle.image_laws.specs.CodeSizes.Sizes.{instruction_words}
 
 -- ---- instructions that stay in their function
@@ -128,9 +130,16 @@ alike32 Srlw rd rs1 (right.Number n) = either (right.Number n) (nat_lt (low_bits
 alike32 Sraw rd rs1 (right.Number n) = either (right.Number n) (nat_lt (low_bits 64 n) 32) _ _
 alike32 op rd rs1 (right.Number n) = refl
 
-ends : (report : List ℕ) (status : ℕ) → length (end_block report status) ≤ end_words report
-ends [] status = omega arith
-ends (b ∷ bs) status = end_length (b ∷ bs) status
+pub ends : (tails : ℕ) (e : Ending) → length (end_block tails e) ≤ 4
+ends tails (ending.Exit status) = omega arith
+ends tails (ending.Spatial line) = omega arith
+ends tails (ending.Temporal line) = omega arith
+ends tails (ending.BadCall line) = omega arith
+ends tails (ending.BadFree line) = omega arith
+ends tails (ending.Divide line) = omega arith
+ends tails (ending.Stack line) = omega arith
+ends tails (ending.Keys line) = omega arith
+ends tails (ending.Abort line) = omega arith
 
 module _ (place : ℕ → Location) (base begin : ℕ) where
   local_length : (i : FlatInstruction) (p : FlatProgram) (room r : ℕ)
@@ -180,7 +189,7 @@ module _ (place : ℕ → Location) (base begin : ℕ) where
       let is = OpImm Addi 10 (used (place x) 5) 0 ∷ OpImm Addi 17 0 93 ∷ Ecall ∷ [] in
       let c = length-append (fetch (place x) base 5) is in
       omega arith
-  local_length (flat.End e) p room r = ends (report_of e) (code_of e)
+  local_length (flat.End e) p room r = omega arith
   local_length (flat.Charged x) p room r =
       kept_length (constant 6 begin) (Op Sub (used (place x) 5) 2 6) (place x) base 5 11 (constant_length 6 begin)
 
@@ -280,14 +289,14 @@ module _ (p : FlatProgram) (plans : List FunctionPlan) (ok : IsSound p plans) (f
   block_length m pc (flat.JumpBack back) = local_most m (flat.JumpBack back)
   block_length m pc flat.Turn = local_most m flat.Turn
   block_length m pc (flat.Call to first x) =
-      shaped_length pc (constant_words (function_address to)) (record {
+      shaped_length pc (constant_words (row_address p to)) (record {
         first = first;
         count = parameters_of (function_in p to);
         into = x;
         results = results_of (function_in p to);
-        aim = constant 28 (function_address to);
+        aim = constant 28 (row_address p to);
         target = 28;
-      }) (constant_most 28 (function_address to))
+      }) (constant_most 28 (row_address p to))
   block_length m pc (flat.CallAddress y first n x r) =
       let k = keeping p plans f in
       shaped_length pc 3 (record {
@@ -307,5 +316,5 @@ module _ (p : FlatProgram) (plans : List FunctionPlan) (ok : IsSound p plans) (f
   block_length m pc (flat.Get x) = local_most m (flat.Get x)
   block_length m pc (flat.Put x) = local_most m (flat.Put x)
   block_length m pc (flat.Exit x) = local_most m (flat.Exit x)
-  block_length m pc (flat.End e) = local_most m (flat.End e)
+  block_length m pc (flat.End e) = ends (tails_address p) e
   block_length m pc (flat.Charged x) = local_most m (flat.Charged x)

@@ -2,9 +2,9 @@
 use Rattle.std.proofs.Common.{◌≡◌, ℕ, zero, suc, ◌+◌, ◌-◌, ◌*◌, ◌^◌, ◌≤◌, ◌==◌, ◌||◌, Bool, true, false, not, List, []}
 use Rattle.std.proofs.Common.{◌∷◌, length, Option, Some, None, refl, ap, ◌∙◌, subst, arith, length-append}
 use Rattle.std.specs.Prelude.{nat_lt, nat_le, slice_get, if◌then◌else◌}
-use Rattle.addr_map.specs.Places.{MapSizes, code_size, function_address}
+use Rattle.addr_map.specs.Places.{MapSizes, code_size}
 use Rattle.words.specs.TwosComplement.{low_bits}
-use Rattle.sb_base.specs.Endings.{report_of}
+use Rattle.machine_laws.specs.Calls.Table.{row_address}
 use Rattle.rv_isa.specs.declared.instruction.Instr.{Instr}
 use Rattle.flat_meaning.specs.declared.instruction.RightOperand.{RightOperand}
 use Rattle.flat_meaning.specs.declared.instruction.RightOperand.TheVariants as right
@@ -20,7 +20,7 @@ use Rattle.machine_laws.specs.Segments.Segments.{is_of, function_words, words_if
 use Rattle.rv_codegen.specs.declared.code.GenerateError.TheVariants.{TooLarge}
 use Rattle.rv_codegen.specs.Generated.{IsCause}
 use Rattle.machine_laws.specs.Blocks.Immediates.{is_immediate, immediate_of, immediate32_of}
-use Rattle.image_laws.specs.CodeSizes.Sizes.{constant_words, right_words, operator_words, end_words, instruction_words}
+use Rattle.image_laws.specs.CodeSizes.Sizes.{constant_words, right_words, operator_words, instruction_words}
 use Rattle.image_laws.specs.CodeSizes.Sizes.{more_words, body_words, most_words, most_if, most_below, instructions_if}
 use Rattle.image_laws.specs.CodeSizes.Sizes.{instructions_below, HandsOver}
 use Rattle.image_laws.proofs.CodeSizes.Lists.{function_length}
@@ -72,10 +72,6 @@ few_for_operator : (z : RightOperand) (short : Option Instr) → operator_words 
 few_for_operator z (Some i) = omega arith
 few_for_operator z None = let r = few_for_right z in omega arith
 
-few_for_end : (report : List ℕ) → end_words report ≤ 18 + 2 * length report
-few_for_end [] = omega arith
-few_for_end (b ∷ bs) = omega arith
-
 pub few_for_each : (p : FlatProgram) (room r : ℕ) (i : FlatInstruction)
     → instruction_words p room r i ≤ 18 + more_words p r i
 few_for_each p room r (flat.Constant x n) = let c = few_for_constant (low_bits 64 n) in omega arith
@@ -83,9 +79,9 @@ few_for_each p room r (flat.Operate op x y z) = few_for_operator z (immediate_of
 few_for_each p room r (flat.Operate32 op x y z) = few_for_operator z (immediate32_of op 0 0 z)
 few_for_each p room r (flat.Branch op y z past) = let c = few_for_right z in omega arith
 few_for_each p room r (flat.Call g first x) =
-    let c = few_for_constant room in let a = few_for_constant (function_address g) in omega arith
+    let c = few_for_constant room in let a = few_for_constant (row_address p g) in omega arith
 few_for_each p room r (flat.CallAddress y first n x k) = let c = few_for_constant room in omega arith
-few_for_each p room r (flat.End e) = few_for_end (report_of e)
+few_for_each p room r (flat.End e) = omega arith
 few_for_each p room r (flat.Move x y) = omega arith
 few_for_each p room r (flat.Load op x y o) = omega arith
 few_for_each p room r (flat.Store op y o x) = omega arith

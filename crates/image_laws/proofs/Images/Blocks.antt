@@ -31,7 +31,7 @@ use Rattle.metadata_plan.specs.Blocks.{conversion, right_code, right_register, k
 use Rattle.metadata_plan.specs.Blocks.{call_tests, argument_moves, call_code, block, zeros, zero_variables, room_in}
 use Rattle.metadata_plan.specs.Laid.{jump, jump_unless, jumps, falls}
 use Rattle.metadata_plan.specs.OperatorLists.Operators.{operators}
-use Rattle.metadata_expansion.specs.Numbers.{word_in}
+use Rattle.metadata_expansion.specs.Numbers.{word_in, line_in}
 use Rattle.image_laws.proofs.Images.Instructions.{AreFit, fit_append, fit_if, stack_fit, abort_fit, short}
 use Rattle.image_laws.proofs.Images.Instructions.{constant_fit, conversion_fit, unary_fit, binary_fit}
 
@@ -53,67 +53,71 @@ kept_fit Prefix t x d n s = fit_append (operators.convert t x n s) (flat.Move d 
 kept_fit Postfix t x d n s = (tt, conversion_fit t x n)
 
 update_fit : (c : CodeFunction) (w : Update) (k : Scalar) (f : Fixity) (line d x : ℕ) (right : RightOperand)
-    → AreFit (update_code operators c w k f line d x right)
-update_fit c (Arithmetic op t) (Integer k) f line d x right =
+    → line < 2 ^ 32 → AreFit (update_code operators c w k f line d x right)
+update_fit c (Arithmetic op t) (Integer k) f line d x right low =
     let s = first_free c in
     let v = variable_register c x in
     fit_append (operators.convert t s v (s + 2)) _ (conversion_fit t s v)
     (fit_append (right_code right (s + 1)) _ (right_fit right (s + 1))
     (fit_append (operators.binary op t s s (right_register c right (s + 1)) (s + 2) line) _
-    (binary_fit op t line s s (right_register c right (s + 1)) (s + 2))
+    (binary_fit op t line s s (right_register c right (s + 1)) (s + 2) low)
     (kept_fit f k v (temporary_register c d) s (s + 2))))
-update_fit c (Arithmetic op t) Pointer f line d x right = tt
-update_fit c (Forward size) k f line d x right = tt
-update_fit c (Back size) k f line d x right = tt
+update_fit c (Arithmetic op t) Pointer f line d x right low = tt
+update_fit c (Forward size) k f line d x right low = tt
+update_fit c (Back size) k f line d x right low = tt
 
-library_fit : (r : Routine) (line d s : ℕ) → AreFit (library_code operators r line d s)
-library_fit routine.Putchar line d s = (tt, conversion_fit UnsignedChar d d)
-library_fit routine.Getchar line d s = (tt, tt)
-library_fit routine.Exit line d s = (tt, tt)
-library_fit routine.Abort line d s = (abort_fit line, tt)
-library_fit _ line d s = tt
+library_fit : (r : Routine) (line d s : ℕ) → line < 2 ^ 32 → AreFit (library_code operators r line d s)
+library_fit routine.Putchar line d s low = (tt, conversion_fit UnsignedChar d d)
+library_fit routine.Getchar line d s low = (tt, tt)
+library_fit routine.Exit line d s low = (tt, tt)
+library_fit routine.Abort line d s low = (abort_fit line low, tt)
+library_fit _ line d s low = tt
 
-tests_fit : (m : MapSizes) (room line s : ℕ) → m.budgets.calls ≤ 16777216 → AreFit (call_tests m room line s)
-tests_fit m room line s few = (tt, (tt, (short (m.budgets.calls + 1 - room) (omega arith), (stack_fit line, tt))))
+tests_fit : (m : MapSizes) (room line s : ℕ) → m.budgets.calls ≤ 16777216 → line < 2 ^ 32
+    → AreFit (call_tests m room line s)
+tests_fit m room line s few low =
+    (tt, (tt, (short (m.budgets.calls + 1 - room) (omega arith), (stack_fit line low, tt))))
 
 moves_fit : (c : CodeFunction) (r d n : ℕ) → AreFit (argument_moves c r d n)
 moves_fit c r d zero = tt
 moves_fit c r d (suc n) = (tt, moves_fit c (r + 1) (d + 1) n)
 
-call_fit : (m : MapSizes) (t : Tac) (c : CodeFunction) (f line d n : ℕ) → m.budgets.calls ≤ 16777216
+call_fit : (m : MapSizes) (t : Tac) (c : CodeFunction) (f line d n : ℕ) → m.budgets.calls ≤ 16777216 → line < 2 ^ 32
     → AreFit (call_code m t c f line d n)
-call_fit m t c f line d n few =
+call_fit m t c f line d n few low =
     let s = first_free c in
     fit_append (call_tests m (room_in (function_in t f)) line s)
     (argument_moves c s d n ++ (flat.Call f s (temporary_register c d) ∷ []))
-    (tests_fit m (room_in (function_in t f)) line s few)
+    (tests_fit m (room_in (function_in t f)) line s few low)
     (fit_append (argument_moves c s d n) (flat.Call f s (temporary_register c d) ∷ []) (moves_fit c s d n) (tt, tt))
 
 -- ---- blocks
 
 pub block_fit : (m : MapSizes) (t : Tac) (c : CodeFunction) (i : Instruction) → m.budgets.calls ≤ 16777216
-    → word_in i < 2 ^ 64 → AreFit (block operators m t c i)
-block_fit m t c (tac.Constant d w next) few word = constant_fit (temporary_register c d) w word
-block_fit m t c (tac.GetPlain d x next) few word = (tt, tt)
-block_fit m t c (tac.SetPlain x a next) few word = (tt, tt)
-block_fit m t c (tac.UpdatePlain w k f line d x right next) few word = update_fit c w k f line d x right
-block_fit m t c (tac.ZeroOf kind d next) few word = (short 0 (omega arith), tt)
-block_fit m t c (tac.Convert kind d a next) few word =
+    → word_in i < 2 ^ 64 → line_in i < 2 ^ 32 → AreFit (block operators m t c i)
+block_fit m t c (tac.Constant d w next) few word low = constant_fit (temporary_register c d) w word
+block_fit m t c (tac.GetPlain d x next) few word low = (tt, tt)
+block_fit m t c (tac.SetPlain x a next) few word low = (tt, tt)
+block_fit m t c (tac.UpdatePlain w k f line d x right next) few word low = update_fit c w k f line d x right low
+block_fit m t c (tac.ZeroOf kind d next) few word low = (short 0 (omega arith), tt)
+block_fit m t c (tac.Convert kind d a next) few word low =
     kind_fit kind (temporary_register c d) (temporary_register c a) (first_free c)
-block_fit m t c (tac.Unary op ty d a next) few word =
+block_fit m t c (tac.Unary op ty d a next) few word low =
     unary_fit op ty (temporary_register c d) (temporary_register c a) (first_free c)
-block_fit m t c (tac.Binary op ty line d a b next) few word =
+block_fit m t c (tac.Binary op ty line d a b next) few word low =
     binary_fit op ty line (temporary_register c d) (temporary_register c a) (temporary_register c b) (first_free c)
-block_fit m t c (tac.Branch a x y) few word = (short 0 (omega arith), tt)
-block_fit m t c (tac.Case a w x y) few word =
+    low
+block_fit m t c (tac.Branch a x y) few word low = (short 0 (omega arith), tt)
+block_fit m t c (tac.Case a w x y) few word low =
     fit_append (operators.constant (first_free c) w (first_free c + 1)) _ (constant_fit (first_free c) w word) (tt, tt)
-block_fit m t c (tac.Turn counted next) few word = (tt, tt)
-block_fit m t c (tac.Library r line d n next) few word = library_fit r line (temporary_register c d) (first_free c)
-block_fit m t c (tac.Call f line d n next) few word =
+block_fit m t c (tac.Turn counted next) few word low = (tt, tt)
+block_fit m t c (tac.Library r line d n next) few word low =
+    library_fit r line (temporary_register c d) (first_free c) low
+block_fit m t c (tac.Call f line d n next) few word low =
     fit_if (takes (function_in t f) n) (call_code m t c f line d n) (flat.End (AbortAt line) ∷ [])
-    (call_fit m t c f line d n few) (abort_fit line, tt)
-block_fit m t c (tac.Return a) few word = (tt, tt)
-block_fit m t c _ few word = (abort_fit 1, tt)
+    (call_fit m t c f line d n few low) (abort_fit line low, tt)
+block_fit m t c (tac.Return a) few word low = (tt, tt)
+block_fit m t c _ few word low = (abort_fit 1 (omega arith), tt)
 
 -- ---- what stands between blocks
 

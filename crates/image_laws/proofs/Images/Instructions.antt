@@ -1,5 +1,5 @@
--- The instructions that an expansion has are ones of the machine: their numbers are short and their reports bytes. They
--- make no access of memory and call no address.
+-- The instructions that an expansion has are ones of the machine: their numbers are short, and their lines have 32
+-- bits. They make no access of memory and call no address.
 use Rattle.std.proofs.Common.{◌≡◌, inl, inr, ℕ, zero, suc, ◌-◌, ◌^◌, ◌<◌, Bool, true, false}
 use Rattle.std.proofs.Common.{◌||◌, ◌==◌, nat_lt, nat_le, List, [], ◌∷◌, ◌++◌, Some, refl, subst}
 use Rattle.std.proofs.Common.{arith}
@@ -7,7 +7,8 @@ use Rattle.std.specs.Prelude.{if◌then◌else◌, slice_get, codes}
 use Rattle.std.specs.List.{All}
 use Rattle.std.proofs.lemmas.Bool.{ltb-true, leb-true}
 use Rattle.sb_base.specs.declared.ending.Ending.TheVariants as ending
-use Rattle.sb_base.specs.Endings.{code_of, report_of}
+use Rattle.sb_base.specs.Endings.{code_of}
+use Rattle.machine_laws.specs.Blocks.Tails.{line_of}
 use Rattle.obj_memory.specs.declared.int_type.IntType.{IntType}
 use Rattle.obj_memory.specs.declared.int_type.IntType.TheVariants as type
 use Rattle.obj_memory.specs.declared.operator.UnaryOperator.{UnaryOperator}
@@ -24,7 +25,6 @@ use Rattle.flat_meaning.specs.declared.instruction.FlatInstruction.TheVariants a
 use Rattle.machine_laws.specs.Blocks.Blocks.{IsShort, RightIsShort}
 use Rattle.flat_operators.specs.Operators.{wide_code, constant_code, conversion_code, converted, wrapping_code}
 use Rattle.flat_operators.specs.Operators.{shift_left_code, shift_right_code, divided_code, unary_code, binary_code}
-use Rattle.image_laws.proofs.Images.Reports.{are_bytes, report_bytes}
 
 -- what is asked of one
 abbrev pub IsFit : FlatInstruction → Type 0
@@ -35,7 +35,7 @@ IsFit (flat.Branch op y z past) = RightIsShort z
 IsFit (flat.Load op x y offset) = ⊥
 IsFit (flat.Store op y offset x) = ⊥
 IsFit (flat.CallAddress y first n x r) = ⊥
-IsFit (flat.End e) = All (λ b. b < 256) (report_of e) × (code_of e < 256)
+IsFit (flat.End e) = (line_of e < 2 ^ 32) × (code_of e < 256)
 IsFit _ = Unit {0}
 
 -- of each of a list
@@ -58,17 +58,14 @@ fit_if false is js x y = y
 
 -- ---- endings
 
-pub stack_fit : (line : ℕ) → IsFit (flat.End (ending.Stack line))
-unfolding are_bytes
-stack_fit line = (report_bytes (codes "stack exhausted") line refl, omega arith)
+pub stack_fit : (line : ℕ) → line < 2 ^ 32 → IsFit (flat.End (ending.Stack line))
+stack_fit line low = (low, omega arith)
 
-pub abort_fit : (line : ℕ) → IsFit (flat.End (ending.Abort line))
-unfolding are_bytes
-abort_fit line = (report_bytes (codes "abort") line refl, omega arith)
+pub abort_fit : (line : ℕ) → line < 2 ^ 32 → IsFit (flat.End (ending.Abort line))
+abort_fit line low = (low, omega arith)
 
-divide_fit : (line : ℕ) → IsFit (flat.End (ending.Divide line))
-unfolding are_bytes
-divide_fit line = (report_bytes (codes "division by zero") line refl, omega arith)
+divide_fit : (line : ℕ) → line < 2 ^ 32 → IsFit (flat.End (ending.Divide line))
+divide_fit line low = (low, omega arith)
 
 -- ---- operators
 
@@ -127,8 +124,8 @@ shift_right_fit : (t : IntType) (x a b n : ℕ) → AreFit (shift_right_code t x
 unfolding shift_right_code
 shift_right_fit t x a b n = fit_if (size_of t == 8) _ _ (tt, tt) (short 31 (omega arith), (tt, tt))
 
-divided_fit : (o : RegOp) (t : IntType) (line x a b : ℕ) → AreFit (divided_code o t line x a b)
-divided_fit o t line x a b = (short 0 (omega arith), (divide_fit line, (tt, converted_fit t x)))
+divided_fit : (o : RegOp) (t : IntType) (line x a b : ℕ) → line < 2 ^ 32 → AreFit (divided_code o t line x a b)
+divided_fit o t line x a b low = (short 0 (omega arith), (divide_fit line low, (tt, converted_fit t x)))
 
 pub unary_fit : (o : UnaryOperator) (t : IntType) (x y n : ℕ) → AreFit (unary_code o t x y n)
 unfolding unary_code
@@ -137,21 +134,22 @@ unary_fit unary.Negate t x y n = (short 0 (omega arith), (tt, converted_fit t x)
 unary_fit unary.Complement t x y n = (inr (omega arith, omega arith), (tt, converted_fit t x))
 unary_fit unary.Not t x y n = (short 1 (omega arith), tt)
 
-pub binary_fit : (o : BinaryOperator) (t : IntType) (line x a b n : ℕ) → AreFit (binary_code o t line x a b n)
+pub binary_fit : (o : BinaryOperator) (t : IntType) (line x a b n : ℕ) → line < 2 ^ 32
+    → AreFit (binary_code o t line x a b n)
 unfolding binary_code
-binary_fit binary.Add t line x a b n = wrapping_fit op.Add Addw t x a b
-binary_fit binary.Subtract t line x a b n = wrapping_fit op.Sub Subw t x a b
-binary_fit binary.Multiply t line x a b n = wrapping_fit op.Mul Mulw t x a b
-binary_fit binary.Divide t line x a b n = divided_fit (if is_signed t then op.Div else op.Divu) t line x a b
-binary_fit binary.Remainder t line x a b n = divided_fit (if is_signed t then op.Rem else op.Remu) t line x a b
-binary_fit binary.ShiftLeft t line x a b n = shift_left_fit t x a b
-binary_fit binary.ShiftRight t line x a b n = shift_right_fit t x a b n
-binary_fit binary.BitAnd t line x a b n = (tt, tt)
-binary_fit binary.BitXor t line x a b n = (tt, tt)
-binary_fit binary.BitOr t line x a b n = (tt, tt)
-binary_fit binary.Less t line x a b n = (tt, tt)
-binary_fit binary.Greater t line x a b n = (tt, tt)
-binary_fit binary.LessOrEqual t line x a b n = (tt, (short 1 (omega arith), tt))
-binary_fit binary.GreaterOrEqual t line x a b n = (tt, (short 1 (omega arith), tt))
-binary_fit binary.Equal t line x a b n = (tt, (short 1 (omega arith), tt))
-binary_fit binary.NotEqual t line x a b n = (tt, (short 1 (omega arith), (short 1 (omega arith), tt)))
+binary_fit binary.Add t line x a b n low = wrapping_fit op.Add Addw t x a b
+binary_fit binary.Subtract t line x a b n low = wrapping_fit op.Sub Subw t x a b
+binary_fit binary.Multiply t line x a b n low = wrapping_fit op.Mul Mulw t x a b
+binary_fit binary.Divide t line x a b n low = divided_fit (if is_signed t then op.Div else op.Divu) t line x a b low
+binary_fit binary.Remainder t line x a b n low = divided_fit (if is_signed t then op.Rem else op.Remu) t line x a b low
+binary_fit binary.ShiftLeft t line x a b n low = shift_left_fit t x a b
+binary_fit binary.ShiftRight t line x a b n low = shift_right_fit t x a b n
+binary_fit binary.BitAnd t line x a b n low = (tt, tt)
+binary_fit binary.BitXor t line x a b n low = (tt, tt)
+binary_fit binary.BitOr t line x a b n low = (tt, tt)
+binary_fit binary.Less t line x a b n low = (tt, tt)
+binary_fit binary.Greater t line x a b n low = (tt, tt)
+binary_fit binary.LessOrEqual t line x a b n low = (tt, (short 1 (omega arith), tt))
+binary_fit binary.GreaterOrEqual t line x a b n low = (tt, (short 1 (omega arith), tt))
+binary_fit binary.Equal t line x a b n low = (tt, (short 1 (omega arith), tt))
+binary_fit binary.NotEqual t line x a b n low = (tt, (short 1 (omega arith), (short 1 (omega arith), tt)))

@@ -33,7 +33,7 @@ use Rattle.metadata_plan.specs.Laid.{entry_of, program_of}
 use Rattle.metadata_plan.proofs.Numbers.{words_most}
 use Rattle.metadata_plan.specs.OperatorLists.Operators.{operators}
 use Rattle.metadata_expansion.specs.Homes.{homes}
-use Rattle.metadata_expansion.specs.Numbers.{greatest_word, AreAllSmall}
+use Rattle.metadata_expansion.specs.Numbers.{greatest_word, greatest_line, AreAllSmall}
 use Rattle.compiled_programs.specs.Programs.{is_integer_program}
 use Rattle.image_laws.proofs.Lowering.Programs.{valid_function, function_is}
 use Rattle.image_laws.specs.Images.Images.{HaveFewParameters, IsChecked}
@@ -97,14 +97,15 @@ module _ (m : MapSizes) (t : Tac) where
 
   module _ (few : m.budgets.calls ≤ 16777216) (small : AreAllSmall m t) where
     laid_fit : (c : CodeFunction) (n : ℕ) (is : List Instruction) → greatest_word is < 2 ^ 64
+        → greatest_line is < 2 ^ 32
         → AreFit (laid_from operators m t c n is)
-    laid_fit c n [] below = tt
-    laid_fit c n (i ∷ is) below =
+    laid_fit c n [] below lines = tt
+    laid_fit c n (i ∷ is) below lines =
         let b = block operators m t c i in
         let place = place_of operators m t c in
         let js = jumps c place n (place n + length b) (successors i) in
-        fit_append (laid_from operators m t c (suc n) is) (b ++ js) (laid_fit c (suc n) is (omega arith))
-        (fit_append b js (block_fit m t c i few (omega arith))
+        fit_append (laid_from operators m t c (suc n) is) (b ++ js) (laid_fit c (suc n) is (omega arith) (omega arith))
+        (fit_append b js (block_fit m t c i few (omega arith) (omega arith))
         (jumps_fit c place n (place n + length b) (successors i)))
 
     begin_fit : (c : CodeFunction) → AreFit (begin_code operators m t c)
@@ -114,6 +115,10 @@ module _ (m : MapSizes) (t : Tac) where
         (zero_variables_fit (words_in c.parameters) c.variables)
         (fit_if (c.entry + 1 == length c.code) [] to tt
         (jump_fit (length (prologue c)) (place_of operators m t c c.entry)))
+
+    main_line : (o : Option CodeFunction) → function_in t t.main ≡ o → line_in o < 2 ^ 32
+    main_line None e = omega arith
+    main_line (Some c) e = (small.functions t.main c e).line
 
     entry_fit : AreFit (entry_code m t)
     entry_fit = (
@@ -126,7 +131,7 @@ module _ (m : MapSizes) (t : Tac) where
             tt,
             (
               short (m.budgets.calls + 1 - room_in (function_in t t.main)) (omega arith),
-              (stack_fit (line_in (function_in t t.main)), (tt, (tt, tt))),
+              (stack_fit (line_in (function_in t t.main)) (main_line (function_in t t.main) refl), (tt, (tt, tt))),
             ),
           ),
         ),
@@ -138,7 +143,7 @@ module _ (m : MapSizes) (t : Tac) where
         ⊎_elim
         (λ h. subst (λ (z : FlatFunction). AreFit z.body) h.2
         (fit_append (begin_code operators m t h.0) (laid_from operators m t h.0 0 h.0.code) (begin_fit h.0)
-        (laid_fit h.0 0 h.0.code (small.functions u h.0 h.1).words)))
+        (laid_fit h.0 0 h.0.code (small.functions u h.0 h.1).words (small.functions u h.0 h.1).lines)))
         (λ h. subst (λ (z : FlatFunction). AreFit z.body) h entry_fit)
         (which t.functions (entry_of m t) u g e)
 
@@ -193,7 +198,7 @@ module _ (p : Program) (m : MapSizes) (t : Tac) (mapped : AreMapped m) (valid : 
     operate = λ u pc op x y z e. fit u pc (flat.Operate op x y z) e;
     operate32 = λ u pc op x y z e. fit u pc (flat.Operate32 op x y z) e;
     branch = λ u pc op y z past e. fit u pc (flat.Branch op y z past) e;
-    report = λ u pc ending e. (fit u pc (flat.End ending) e).0;
+    line = λ u pc ending e. (fit u pc (flat.End ending) e).0;
     status = λ u pc ending e. (fit u pc (flat.End ending) e).1;
     rooms = of_each (λ (g : FlatFunction). 8 ≤ g.room) (omega arith) (has_room p t valid ints few checked);
     parameters = of_each (λ (g : FlatFunction). g.parameters ≤ 1024) (omega arith) (has_few p t valid ints few checked);

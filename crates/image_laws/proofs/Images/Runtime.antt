@@ -2,12 +2,12 @@
 use Rattle.std.proofs.Common.{◌≡◌, ℕ, zero, suc, ◌+◌, ◌-◌, ◌*◌, ◌==◌, ◌<◌, ◌≤◌, Bool, true, false, not}
 use Rattle.std.proofs.Common.{◌&&◌, nat_lt, List, [], ◌∷◌, ◌++◌, map, length, length-append, Option, Some, None, refl}
 use Rattle.std.proofs.Common.{sym, ap, ◌∙◌, subst, arith}
-use Rattle.std.specs.Prelude.{if◌then◌else◌, slice_get, codes, decimal}
+use Rattle.std.specs.Prelude.{if◌then◌else◌, slice_get}
 use Rattle.std.proofs.lemmas.Bool.{and_parts}
 use Rattle.std.proofs.lemmas.List.{length-map}
 use Rattle.sb_base.specs.declared.ending.Ending.TheVariants.{Stack}
-use Rattle.sb_base.specs.Endings.{report_of, report_at}
-use Rattle.addr_map.specs.Places.{MapSizes, function_address, functions_begin, code_begin}
+use Rattle.sb_base.specs.declared.ending.Ending.{Ending}
+use Rattle.addr_map.specs.Places.{MapSizes, functions_begin, code_begin}
 use Rattle.words.specs.TwosComplement.{low_bits}
 use Rattle.rv_isa.specs.declared.instruction.Instr.TheVariants.{Op, OpImm, Ecall, Jalr}
 use Rattle.rv_isa.specs.declared.instruction.ImmOp.TheVariants.{Addi}
@@ -39,16 +39,19 @@ use Rattle.reg_plan.proofs.Plans.{needed_is_named}
 use Rattle.machine_laws.specs.Blocks.Places.{callee_scratch, right_scratch}
 use Rattle.machine_laws.specs.Blocks.Blocks.{constant, used, fetch, keep, store_at}
 use Rattle.machine_laws.proofs.Blocks.Lengths.{constant_length, fetch_length, keep_length, store_length}
-use Rattle.machine_laws.proofs.Blocks.Reports.{choice_few, decimal_few}
+use Rattle.machine_laws.proofs.Blocks.Reports.{choice_few}
 use Rattle.machine_laws.specs.Calls.Calls.{Keeping, save, restore, save_one, restore_one, give, take, advance, retreat}
 use Rattle.machine_laws.specs.Calls.Calls.{call_block, back_block, entry_block}
 use Rattle.machine_laws.proofs.Calls.Lengths.{give_length, take_length}
 use Rattle.machine_laws.specs.Following.Code.{keeping_of, keeping, block, wanted, charged_from}
-use Rattle.machine_laws.proofs.Following.Bounds.{turn_bound, end_bound}
-use Rattle.machine_laws.specs.Following.Start.{start_block}
+use Rattle.machine_laws.proofs.Following.Bounds.{turn_bound}
+use Rattle.machine_laws.specs.Calls.Table.{tails_address, row_address}
+use Rattle.machine_laws.proofs.Calls.Table.{tails_length}
+use Rattle.machine_laws.specs.Segments.Segments.{table_instrs}
+use Rattle.image_laws.proofs.CodeSizes.Blocks.{ends}
 use Rattle.machine_laws.specs.Layout.Lists.{plain, tail_of, items_at, items_from, items_of}
 use Rattle.machine_laws.specs.Segments.Segments.{is_of, function_words, words_if, words_below, rows_below, table_bytes}
-use Rattle.machine_laws.proofs.Segments.Standing.{rows_length}
+use Rattle.machine_laws.proofs.Segments.Standing.{first_length}
 use Rattle.metadata_plan.specs.Blocks.{entry_code, room_in}
 use Rattle.metadata_plan.specs.Laid.{functions_of, entry_of, program_of}
 use Rattle.metadata_plan.specs.OperatorLists.Operators.{operators}
@@ -179,12 +182,12 @@ module _ (m : MapSizes) (p : FlatProgram) (plans : List FunctionPlan) (f n : ℕ
       let n = parameters_of (flat_function p g) in
       let r = results_of (flat_function p g) in
       let w = wanted k pc x r in
-      let aim = constant callee_scratch (function_address g) in
+      let aim = constant callee_scratch (row_address p g) in
       let saves = save_none k w none k.count in
       let restores = restore_none k w none k.count in
       let gives = give_length k first n in
       let takes = take_length k (pc + 1) x r in
-      let aims = constant_length callee_scratch (function_address g) in
+      let aims = constant_length callee_scratch (row_address p g) in
       let rooms = constant_length right_scratch k.room in
       let up = length-append (constant right_scratch k.room) (Op Add k.base k.base right_scratch ∷ []) in
       let down = length-append (constant right_scratch k.room) (Op Sub k.base k.base right_scratch ∷ []) in
@@ -198,18 +201,12 @@ module _ (m : MapSizes) (p : FlatProgram) (plans : List FunctionPlan) (f n : ℕ
       (back_block k w (pc + 1) x r) in
       omega arith
 
--- ---- the report
+-- ---- an ending
 
-report_most : (line : ℕ) → length (report_of (Stack line)) ≤ 97
-unfolding report_at
-report_most line =
-    let front = codes "sbcets: " ++ codes "stack exhausted" ++ codes " at line " in
-    let d = decimal_few line in
-    let a = length-append front (decimal line) in
-    let b = length-append (front ++ decimal line) (codes "\n") in
-    let n : length front ≡ 32 = refl in
-    let m : length (codes "\n") ≡ 1 = refl in
-    omega (arith, d, a, b, n, m)
+ends_short : (m : MapSizes) (p : FlatProgram) (plans : List FunctionPlan) (f pc : ℕ) (e : Ending)
+    → length (block m p plans f pc (flat.End e)) ≤ 4
+unfolding block
+ends_short m p plans f pc e = ends (tails_address p) e
 
 -- ---- the functions of a flat program
 
@@ -301,8 +298,7 @@ module _ (m : MapSizes) (t : Tac) (main : t.main < length t.functions) (many_fun
       let n = length (entry_code m t) in
       let line = line_in (function_in t t.main) in
       let room = m.budgets.calls + 1 - room_in (function_in t t.main) in
-      let report = report_most line in
-      let ended = end_bound m code plans f 5 (Stack line) in
+      let ended = ends_short m code plans f 5 (Stack line) in
       let params = parameters_most (flat_function code t.main) (few t.main) in
       let r7 : List FlatInstruction = flat.Exit 0 ∷ [] in
       let r6 : List FlatInstruction = flat.Call t.main 0 0 ∷ r7 in
@@ -314,7 +310,7 @@ module _ (m : MapSizes) (t : Tac) (main : t.main < length t.functions) (many_fun
       let i7 = more_items m code plans f n 7 (flat.Exit 0) [] 6 2 (exit_most m code plans f n 7 0) (omega arith) in
       let i6 = more_items m code plans f n 6 (flat.Call t.main 0 0) r7 12400 10
       (call_most m code plans f n 6 t.main 0 0 none_wanted params (omega (arith, one))) i7 in
-      let i5 = more_items m code plans f n 5 (flat.End (Stack line)) r6 400 12412 (omega (arith, report, ended)) i6 in
+      let i5 = more_items m code plans f n 5 (flat.End (Stack line)) r6 400 12412 (omega (arith, ended)) i6 in
       let i4 = more_items m code plans f n 4 (flat.Branch Bltu 0 (right.Number room) 1) r5 14 12814
       (branch_most m code plans f n 4 Bltu 0 room 1) i5 in
       let i3 = more_items m code plans f n 3 (flat.Charged 0) r4 15 12830 (charged_most m code plans f n 3 0) i4 in
@@ -357,11 +353,8 @@ module _ (m : MapSizes) (t : Tac) (main : t.main < length t.functions) (many_fun
   runtime_has_room =
       let count : length code.functions ≡ suc last = code_count m t ∙ omega arith in
       let words = subst (λ n. length (words_below m code plans true n) ≤ 39000) (sym count) runtime_words in
-      let rows = rows_below m code plans (length code.functions) in
-      let a = rows_length m code plans (length code.functions) in
-      let b = length-append rows (start_block m code) in
-      let c = length-map (rows ++ start_block m code) word_of in
-      let d = length-append (map word_of (rows ++ start_block m code))
+      let front = first_length m code plans in
+      let tails_are = tails_length in
+      let all = length-append (map word_of (table_instrs m code (rows_below m code plans (length code.functions))))
       (words_below m code plans true (length code.functions)) in
-      let nine : length (start_block m code) ≡ 9 = refl in
-      omega (arith, count, words, a, b, c, d, nine)
+      omega (arith, count, words, front, tails_are, all)

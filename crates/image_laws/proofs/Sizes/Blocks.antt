@@ -3,7 +3,7 @@ use Rattle.std.proofs.Common.{◌≡◌, ℕ, zero, suc, ◌+◌, ◌-◌, ◌*�
 use Rattle.std.proofs.Common.{length, refl, arith}
 use Rattle.std.specs.Prelude.{if◌then◌else◌, nat_lt}
 use Rattle.sb_base.specs.declared.ending.Ending.TheVariants as ending
-use Rattle.addr_map.specs.Places.{MapSizes, function_address}
+use Rattle.addr_map.specs.Places.{MapSizes}
 use Rattle.obj_memory.specs.declared.int_type.IntType.{IntType}
 use Rattle.obj_memory.specs.declared.int_type.IntType.TheVariants.{UnsignedChar}
 use Rattle.obj_memory.specs.declared.value.Scalar.{Scalar}
@@ -43,14 +43,14 @@ use Rattle.image_laws.specs.CodeSizes.Sizes.{constant_words, instruction_words, 
 use Rattle.image_laws.proofs.CodeSizes.Programs.{few_for_constant}
 use Rattle.image_laws.proofs.Sizes.Numbers.{few_constant, branch_few}
 use Rattle.image_laws.proofs.Sizes.Words.{words}
-use Rattle.image_laws.proofs.Sizes.Reports.{stack_end, abort_end, first_end}
+use Rattle.machine_laws.specs.Calls.Table.{row_address}
 use Rattle.image_laws.proofs.Sizes.Operators.{words_append, constant_code_words, conversion_words, unary_words}
 use Rattle.image_laws.proofs.Sizes.Operators.{binary_words}
 
 -- what is known of the functions that are called
 pub record Calls (p : FlatProgram) (m : MapSizes) (t : Tac) : Type 0 where
   pub budget : m.budgets.calls ≤ 16777216
-  pub address : (f n : ℕ) → takes (code.function_in t f) n ≡ true → constant_words (function_address f) ≤ 2
+  pub address : (f n : ℕ) → takes (code.function_in t f) n ≡ true → constant_words (row_address p f) ≤ 2
   pub parameters : (f n : ℕ) → takes (code.function_in t f) n ≡ true → parameters_of (function_in p f) ≤ n
   pub gives : (f n : ℕ) → takes (code.function_in t f) n ≡ true → results_of (function_in p f) ≡ 1
 
@@ -118,7 +118,7 @@ module _ (p : FlatProgram) (room : ℕ) where
   library_words routine.Putchar line d s lt = let h = conversion_words p room 1 UnsignedChar d d in omega (arith, h)
   library_words routine.Getchar line d s lt = omega arith
   library_words routine.Exit line d s lt = omega arith
-  library_words routine.Abort line d s lt = let h = abort_end line lt in omega (arith, h)
+  library_words routine.Abort line d s lt = omega arith
   library_words routine.Malloc line d s lt = omega arith
   library_words routine.Calloc line d s lt = omega arith
   library_words routine.Free line d s lt = omega arith
@@ -141,15 +141,14 @@ module _ (p : FlatProgram) (room : ℕ) where
 
   -- a node that is never reached ends the run
   unreached : body_words p room 1 (flat.End (ending.Abort 1) ∷ []) ≤ 56
-  unreached = let h = first_end in omega (arith, h)
+  unreached = omega arith
 
   module _ (m : MapSizes) (t : Tac) (known : Calls p m t) (c : CodeFunction) where
     tests_words : (bytes line s : ℕ) → line < 2 ^ 32 → body_words p room 1 (call_tests m bytes line s) ≤ 118
     tests_words bytes line s lt =
         let few = known.budget in
         let h = branch_few p room 1 Bltu s (m.budgets.calls + 1 - bytes) 1 (omega (arith, few)) in
-        let r = stack_end line lt in
-        omega (arith, h, r)
+        omega (arith, h)
 
     call_words : (f line d n : ℕ) → line < 2 ^ 32 → takes (code.function_in t f) n ≡ true
         → body_words p room 1 (call_code m t c f line d n) ≤ 217 + 13 * n
@@ -177,7 +176,7 @@ module _ (p : FlatProgram) (room : ℕ) where
             → body_words p room 1 (if b then call_code m t c f line d n else flat.End (ending.Abort line) ∷ [])
             ≤ 217 + 13 * n
         by true e = call_words f line d n lt e
-        by false e = let h = abort_end line lt in omega (arith, h)
+        by false e = omega arith
 
     pub block_words : (ts : List (List ℕ)) (i : Instruction) → word_in i < 2 ^ 64 → line_in i < 2 ^ 32
         → body_words p room 1 (block operators m t c i) + 2 * length (successors i) ≤ weight_of ts i (words 60)

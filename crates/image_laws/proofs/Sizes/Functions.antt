@@ -1,10 +1,11 @@
 -- How many words functions and programs have at most.
-use Rattle.std.proofs.Common.{◌≡◌, ℕ, zero, suc, ◌+◌, ◌*◌, ◌≤◌, ◌==◌, Bool, true, false, List, [], ◌∷◌, ◌++◌, length}
-use Rattle.std.proofs.Common.{Option, Some, None, refl, ap, arith}
+use Rattle.std.proofs.Common.{◌≡◌, ℕ, zero, suc, ◌+◌, ◌-◌, ◌*◌, ◌^◌, ◌<◌, ◌≤◌, ◌==◌, Bool, true, false, List}
+use Rattle.std.proofs.Common.{[], ◌∷◌, ◌++◌, length}
+use Rattle.std.proofs.Common.{Option, Some, None, refl, ap, arith, ⊎_elim}
 use Rattle.std.specs.Prelude.{slice_get, if◌then◌else◌}
-use Rattle.std.proofs.lemmas.Bool.{and_parts, eqb-true}
+use Rattle.std.proofs.lemmas.Bool.{and_parts, eqb-true, cases_lt}
 use Rattle.std.proofs.lemmas.Option.{slice_get_within, same_Some}
-use Rattle.addr_map.specs.Places.{MapSizes, function_address}
+use Rattle.addr_map.specs.Places.{MapSizes}
 use Rattle.c_tree.specs.declared.program.Variable.{Variable}
 use Rattle.tac_ir.specs.declared.function.CodeFunction.{CodeFunction}
 use Rattle.tac_ir.specs.declared.function.Tac.{Tac}
@@ -24,6 +25,8 @@ use Rattle.metadata_expansion.specs.Homes.{homes}
 use Rattle.metadata_expansion.specs.Numbers.{AreSmall, AreAllSmall}
 use Rattle.metadata_plan.specs.OperatorLists.Operators.{operators}
 use Rattle.program_lowering.specs.ProgramCode.Weights.{codes_weight}
+use Rattle.machine_laws.specs.Calls.Table.{source_count, row_address}
+use Rattle.machine_laws.proofs.Calls.Table.{first_row, last_row, tails_length}
 use Rattle.image_laws.specs.CodeSizes.Sizes.{constant_words, instruction_words, body_words, most_words, most_if}
 use Rattle.image_laws.specs.CodeSizes.Sizes.{most_below}
 use Rattle.image_laws.proofs.Sizes.Words.{words, frame_words}
@@ -89,6 +92,13 @@ module _ (p : FlatProgram) (room : ℕ) where
       by true j h = omega arith
       by false j h = omega (arith, h)
 
+-- the entry of a function stands low
+row_low : (p : FlatProgram) (f : ℕ) → f < 4096 → row_address p f < 2 ^ 31 - 2 ^ 11
+row_low p f few =
+    let long = tails_length in
+    ⊎_elim (λ lt. let e = first_row p f lt in omega arith) (λ le. let e = last_row p f le in omega arith)
+    (cases_lt f (source_count p))
+
 -- ---- functions
 
 module _ (m : MapSizes) (t : Tac) (few : m.budgets.calls ≤ 16777216) (count : length t.functions ≤ 4096)
@@ -111,12 +121,11 @@ module _ (m : MapSizes) (t : Tac) (few : m.budgets.calls ≤ 16777216) (count : 
   results_at f n (Some c) at e = ap results_of (function_at m t t.functions (entry_of m t ∷ []) f c at)
 
   address_at : (f n : ℕ) (x : Option CodeFunction) → code.function_in t f ≡ x → takes x n ≡ true
-      → constant_words (function_address f) ≤ 2
-  unfolding function_address
+      → constant_words (row_address p f) ≤ 2
   address_at f n None at e = cc
   address_at f n (Some c) at e =
       let below = slice_get_within t.functions f c at in
-      short_constant (function_address f) (omega (arith, below, count))
+      short_constant (row_address p f) (row_low p f (omega (arith, below, count)))
 
   calls : Calls p m t
   calls = record {

@@ -28,7 +28,6 @@ use Rattle.flat_operators.specs.Operators.{converted, wrapping_code, shift_left_
 use Rattle.flat_operators.specs.Operators.{turned, equal_code, unary_code, binary_code}
 use Rattle.image_laws.specs.CodeSizes.Sizes.{instruction_words, body_words}
 use Rattle.image_laws.proofs.Sizes.Numbers.{few_constant, low_constant, operate_few, operate32_few}
-use Rattle.image_laws.proofs.Sizes.Reports.{divide_end}
 
 module _ (p : FlatProgram) (room r : ℕ) where
   pub words_append : (xs ys : List FlatInstruction) → body_words p room r (xs ++ ys)
@@ -131,9 +130,8 @@ module _ (p : FlatProgram) (room r : ℕ) where
   divided_words : (q : RegOp) (t : IntType) (line d a b : ℕ) → line < 2 ^ 32
       → body_words p room r (divided_code q t line d a b) ≤ 132
   divided_words q t line d a b lt =
-      let report = divide_end line lt in
       let h = converted_words t d in
-      omega (arith, report, h)
+      omega (arith, h)
 
   equal_words : (d a b : ℕ) → body_words p room r (equal_code d a b) ≤ 19
   equal_words d a b = let h = operate_few p room r op.Sltu d d 1 (omega arith) in omega (arith, h)

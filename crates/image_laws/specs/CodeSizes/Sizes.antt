@@ -2,17 +2,16 @@
 use Rattle.std.specs.Prelude.{◌≡◌, ℕ, zero, suc, ◌+◌, ◌-◌, ◌*◌, ◌^◌, ◌≤◌, ◌==◌, ◌||◌, nat_lt, nat_le, if◌then◌else◌}
 use Rattle.std.specs.Prelude.{List, [], ◌∷◌, length, Option, Some, None}
 use Rattle.words.specs.TwosComplement.{low_bits}
-use Rattle.addr_map.specs.Places.{function_address}
 use Rattle.rv_isa.specs.declared.instruction.Instr.{Instr}
 use Rattle.flat_meaning.specs.declared.instruction.RightOperand.{RightOperand}
 use Rattle.flat_meaning.specs.declared.instruction.RightOperand.TheVariants as right
-use Rattle.sb_base.specs.Endings.{report_of}
 use Rattle.flat_meaning.specs.declared.instruction.FlatInstruction.{FlatInstruction}
 use Rattle.flat_meaning.specs.declared.instruction.FlatInstruction.TheVariants as flat
 use Rattle.flat_meaning.specs.declared.function.FlatFunction.{FlatFunction}
 use Rattle.flat_meaning.specs.declared.function.FlatProgram.{FlatProgram}
 use Rattle.flat_meaning.specs.Calls.{function_in}
 use Rattle.flat_meaning.specs.Meaning.{parameters_of, results_of, instruction_at}
+use Rattle.machine_laws.specs.Calls.Table.{row_address}
 use Rattle.machine_laws.specs.Blocks.Immediates.{is_immediate, immediate_of, immediate32_of}
 
 -- a number in a register
@@ -30,18 +29,14 @@ abbrev pub operator_words : RightOperand → Option Instr → ℕ
 operator_words z (Some i) = 7
 operator_words z None = 7 + right_words z
 
--- a report with what ends the run behind it
-abbrev pub end_words : (report : List ℕ) → ℕ
-end_words [] = 3
-end_words (b ∷ bs) = 8 + 2 * length (b ∷ bs)
-
 -- A call that hands over and gets back so many values, in a function whose activation record has so many bytes, where
 -- the callee's address takes so many words: each of the eleven registers is saved and restored at most once.
 abbrev pub call_words : (room aim values : ℕ) → ℕ
 call_words room aim n = 67 + aim + 2 * (constant_words room + 1) + 6 * n
 
 -- an instruction with its jump or branch in the longest form, in a function whose activation record has so many bytes,
--- and that gives so many results, where each value is kept in its home, which three words reach
+-- and that gives so many results, where each value is kept in its home, which three words reach; an ending is its line
+-- and the jump to a tail
 abbrev pub instruction_words : FlatProgram → (room results : ℕ) → FlatInstruction → ℕ
 instruction_words p room r (flat.Constant x n) = constant_words (low_bits 64 n) + 3
 instruction_words p room r (flat.Move x y) = 7
@@ -54,14 +49,14 @@ instruction_words p room r (flat.JumpForward past) = 2
 instruction_words p room r (flat.JumpBack back) = 2
 instruction_words p room r flat.Turn = 1
 instruction_words p room r (flat.Call g first x) =
-    call_words room (constant_words (function_address g))
+    call_words room (constant_words (row_address p g))
     (parameters_of (function_in p g) + results_of (function_in p g))
 instruction_words p room r (flat.CallAddress y first n x k) = call_words room 3 (n + k)
 instruction_words p room r (flat.Return y) = 2 + 6 * r
 instruction_words p room r (flat.Get x) = 12
 instruction_words p room r (flat.Put x) = 9
 instruction_words p room r (flat.Exit x) = 6
-instruction_words p room r (flat.End e) = end_words (report_of e)
+instruction_words p room r (flat.End e) = 4
 instruction_words p room r (flat.Charged x) = 15
 
 abbrev pub body_words : FlatProgram → (room results : ℕ) → List FlatInstruction → ℕ
@@ -91,15 +86,14 @@ instructions_below p zero = 0
 instructions_below p (suc k) = instructions_below p k + instructions_if (function_in p k)
 
 -- What an instruction takes beyond eighteen words at most: a call saves each of the eleven registers at most once, and
--- each value that is handed over takes six words at most; a byte of a report two.
+-- each value that is handed over takes six words at most.
 abbrev pub more_words : FlatProgram → (results : ℕ) → FlatInstruction → ℕ
 more_words p r (flat.Call g first x) = 84 + 6 * (parameters_of (function_in p g) + results_of (function_in p g))
 more_words p r (flat.CallAddress y first n x k) = 84 + 6 * (n + k)
 more_words p r (flat.Return y) = 6 * r
-more_words p r (flat.End e) = 2 * length (report_of e)
 more_words p r i = 0
 
--- no call hands over more than so many values, and none gives back more; no report takes more words than such a call
+-- no call hands over more than so many values, and none gives back more
 pub record HandsOver (program : FlatProgram) (values : ℕ) : Type 0 where
   pub parameters : (f : ℕ) (g : FlatFunction) → function_in program f ≡ Some g → g.parameters ≤ values
   pub each : (f pc : ℕ) (i : FlatInstruction) → instruction_at program f pc ≡ Some i

@@ -23,7 +23,7 @@ pub fn functions_have_few_words()
 {}
 
 /// An instruction has at most eighteen words, and six more for each value that it hands over, gets back or returns, 84
-/// for a call, and two for each byte of a report.
+/// for a call.
 pub fn instructions_have_few_words()
     ensures { (p : FlatProgram) (room results : ℕ) (i : FlatInstruction)
         → instruction_words p room results i ≤ 18 + more_words p results i }
@@ -35,9 +35,8 @@ pub fn programs_have_few_bytes()
         → code_bytes map p plans ≤ 4 * most_below p (length p.functions) }
 {}
 
-/// Code is not too large where calls hand over and give back at most so many values, no report takes more words than
-/// such a call, and the instructions and functions are so few: with five values, and so reports of at most 72 bytes,
-/// 12,000 instructions in 4,000 functions.
+/// Code is not too large where calls hand over and give back at most so many values, and the instructions and functions
+/// are so few: with five values 12,000 instructions in 4,000 functions.
 pub fn short_programs_are_not_too_large()
     ensures { (map : MapSizes) (p : FlatProgram) (plans : List FunctionPlan) (values bytes : ℕ) → AreAccepted p plans
         → HandsOver p values

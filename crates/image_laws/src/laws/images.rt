@@ -1,6 +1,6 @@
 //! Laws of images of programs of integers, each as the contract of a function that does nothing.
 
-ghost use Rattle.std.specs.Prelude.{◌≡◌, ℕ, ◌+◌, ◌≤◌, List, [], length, true};
+ghost use Rattle.std.specs.Prelude.{◌≡◌, ℕ, ◌+◌, ◌*◌, ◌≤◌, List, [], length, true};
 ghost use Rattle.addr_map.specs.Places.{MapSizes, AreMapped, functions_begin, code_begin};
 ghost use Rattle.sb_base.specs.Budgets.{BudgetSizes, AreInRange};
 ghost use Rattle.c_tree.specs.Programs.{Program};
@@ -16,6 +16,7 @@ ghost use Rattle.flat_meaning.specs.declared.function.FlatProgram.{FlatProgram};
 ghost use Rattle.reg_plan.specs.declared.plan.FunctionPlan.{FunctionPlan};
 ghost use Rattle.reg_plan.specs.Planned.{ArePlannable, ArePlanned, IsPlanOfRegisters};
 ghost use Rattle.reg_plan.specs.Tests.{AreAccepted};
+ghost use Rattle.machine_laws.specs.Calls.Table.{start_address};
 ghost use Rattle.machine_laws.specs.Following.Code.{IsEncodable};
 ghost use Rattle.machine_laws.specs.Following.Start.{IsStartable};
 ghost use Rattle.machine_laws.specs.Segments.Segments.{table_bytes};
@@ -38,7 +39,7 @@ pub fn code_has_the_sizes_of_its_program()
         → (setting_of_code r budgets).sizes ≡ sizes_of p budgets }
 {}
 
-/// The expansion of checked code has instructions of the machine: its numbers are short, its reports are bytes, and it
+/// The expansion of checked code has instructions of the machine: its numbers are short, its lines have 32 bits, and it
 /// makes no access of memory.
 pub fn expansions_are_encodable()
     ensures { (p : Program) (budgets : BudgetSizes) → is_valid_program p ≡ true → is_integer_program p ≡ true
@@ -52,8 +53,14 @@ pub fn expansions_are_startable()
         → IsFlat p (sizes_of p budgets) code → IsStartable (sizes_of p budgets) code }
 {}
 
-/// What stands before compiled code has room there: the jump table of at most 4096 functions, the start, and the
-/// function with which a run begins, under plans that give out registers.
+/// The start of an expansion stands behind the entries of the functions of the text, 16 bytes each, from 0x10000 on.
+pub fn starts_stand_behind_the_text_functions()
+    ensures { (p : Program) (budgets : BudgetSizes) (code : FlatProgram) → IsFlat p (sizes_of p budgets) code
+        → start_address code ≡ 65536 + 16 * length p.functions }
+{}
+
+/// What stands before compiled code has room there: the jump table of at most 4096 functions, the start, the
+/// tails of endings, and the function with which a run begins, under plans that give out registers.
 pub fn runtimes_have_room()
     ensures { (map : MapSizes) (r : Tac) → AreAllSmall map r → length r.functions ≤ 4096
         → ArePlannable (program_of operators map r homes) → IsEncodable (program_of operators map r homes)

@@ -17,7 +17,7 @@ use Rattle.rv_isa.specs.declared.instruction.RegOp.TheVariants.{Add}
 use Rattle.rv_isa.specs.declared.instruction.Instr.{Instr}
 use Rattle.rv_isa.specs.declared.instruction.Instr.TheVariants.{Lui, Load, Store, OpImm, ShiftImm, Op}
 use Rattle.rv_isa.specs.Word.{sext}
-use Rattle.rv_isa.specs.Results.{wrap, imm_result, shift_result, reg_result, extended}
+use Rattle.rv_isa.specs.Results.{wrap, low_word, imm_result, shift_result, reg_result, extended}
 use Rattle.rv_sim.specs.Accesses.{objects_only}
 use Rattle.flat_meaning.specs.Memory.{Bytes, load, store, KeepsBut}
 use Rattle.flat_meaning.proofs.Stored.{put_same, put_other, load_stored, load_beside, store_beside}
@@ -106,6 +106,40 @@ high_parts n least small =
         let l = leb-false (2 ^ 31) ((n + 2 ^ 11) / 2 ^ 12 % 2 ^ 20 * 2 ^ 12) p in
         let k = leb-false (2 ^ 11) (n % 2 ^ 12) q in rw (p, q) (omega arith)
 
+-- without an offset
+pub wide_parts : (n : ℕ) → n < 2 ^ 31 - 2 ^ 11 → wrap (sext 32 (upper n * 2 ^ 12) + sext 12 (lower n)) ≡ n
+wide_parts n l =
+    let n0 : n + 0 ≡ n = omega arith in
+    ap (λ q. wrap (q + sext 12 (lower n))) (sym (by_size n l)) ∙ parts n 0 l (omega (arith, l)) ∙ n0
+  where
+    by_size : (k : ℕ) → k < 2 ^ 31 - 2 ^ 11 → wrap (sext 32 (upper k * 2 ^ 12) + 0) ≡ sext 32 (upper k * 2 ^ 12)
+    by_size k h =
+        let low : nat_le (2 ^ 31) ((k + 2 ^ 11) / 2 ^ 12 % 2 ^ 20 * 2 ^ 12) ≡ false =
+        lt-leb (2 ^ 31) ((k + 2 ^ 11) / 2 ^ 12 % 2 ^ 20 * 2 ^ 12) (omega arith) in
+        rw low (omega arith)
+
+-- they give the low 32 bits of any number
+pub low_parts : (n : ℕ) → n < 2 ^ 32
+    → low_word (wrap (sext 32 (upper n * 2 ^ 12) + sext 12 (lower n))) ≡ n
+low_parts n small =
+    by (nat_le (2 ^ 31) ((n + 2 ^ 11) / 2 ^ 12 % 2 ^ 20 * 2 ^ 12)) (nat_le (2 ^ 11) (n % 2 ^ 12)) refl refl
+  where
+    by : (b c : Bool) → nat_le (2 ^ 31) ((n + 2 ^ 11) / 2 ^ 12 % 2 ^ 20 * 2 ^ 12) ≡ b
+        → nat_le (2 ^ 11) (n % 2 ^ 12) ≡ c
+        → low_word (wrap (sext 32 (upper n * 2 ^ 12) + sext 12 (lower n))) ≡ n
+    by true true p q =
+        let l = leb-true (2 ^ 31) ((n + 2 ^ 11) / 2 ^ 12 % 2 ^ 20 * 2 ^ 12) p in
+        let k = leb-true (2 ^ 11) (n % 2 ^ 12) q in rw (p, q) (omega arith)
+    by true false p q =
+        let l = leb-true (2 ^ 31) ((n + 2 ^ 11) / 2 ^ 12 % 2 ^ 20 * 2 ^ 12) p in
+        let k = leb-false (2 ^ 11) (n % 2 ^ 12) q in rw (p, q) (omega arith)
+    by false true p q =
+        let l = leb-false (2 ^ 31) ((n + 2 ^ 11) / 2 ^ 12 % 2 ^ 20 * 2 ^ 12) p in
+        let k = leb-true (2 ^ 11) (n % 2 ^ 12) q in rw (p, q) (omega arith)
+    by false false p q =
+        let l = leb-false (2 ^ 31) ((n + 2 ^ 11) / 2 ^ 12 % 2 ^ 20 * 2 ^ 12) p in
+        let k = leb-false (2 ^ 11) (n % 2 ^ 12) q in rw (p, q) (omega arith)
+
 -- ---- scratch registers
 
 pub saved_apart : (r : ℕ) → IsSaved r → IsNoScratch r
@@ -134,10 +168,10 @@ module _ (o s : ℕ) where
     accesses = no_access v.accesses v.pc;
   }
 
-  wide_makes : (rd n : ℕ) (v : View) → rd ≢ 0 → wrap (sext 32 (upper n * 2 ^ 12) + sext 12 (lower n)) ≡ n
-      → Gives o s (wide rd n) v rd n
+  pub wide_makes : (rd n w : ℕ) (v : View) → rd ≢ 0 → wrap (sext 32 (upper n * 2 ^ 12) + sext 12 (lower n)) ≡ w
+      → Gives o s (wide rd n) v rd w
   unfolding imm_result
-  wide_makes rd n v ne p =
+  wide_makes rd n w v ne p =
       let up = sext 32 (upper n * 2 ^ 12) in
       let x1 = with_value v.registers rd up in
       record {
@@ -151,18 +185,7 @@ module _ (o s : ℕ) where
       }
 
   pub wide_gives : (rd n : ℕ) (v : View) → rd ≢ 0 → n < 2 ^ 31 - 2 ^ 11 → Gives o s (wide rd n) v rd n
-  wide_gives rd n v ne l =
-      let up = sext 32 (upper n * 2 ^ 12) in
-      let n0 : n + 0 ≡ n = omega arith in
-      let p : wrap (wrap (up + 0) + sext 12 (lower n)) ≡ n + 0 = parts n 0 l (omega (arith, l)) in
-      wide_makes rd n v ne (ap (λ q. wrap (q + sext 12 (lower n))) (sym (by_size n l)) ∙ p ∙ n0)
-    where
-      by_size : (k : ℕ) → k < 2 ^ 31 - 2 ^ 11
-          → wrap (sext 32 (upper k * 2 ^ 12) + 0) ≡ sext 32 (upper k * 2 ^ 12)
-      by_size k h =
-          let low : nat_le (2 ^ 31) ((k + 2 ^ 11) / 2 ^ 12 % 2 ^ 20 * 2 ^ 12) ≡ false =
-          lt-leb (2 ^ 31) ((k + 2 ^ 11) / 2 ^ 12 % 2 ^ 20 * 2 ^ 12) (omega arith) in
-          rw low (omega arith)
+  wide_gives rd n v ne l = wide_makes rd n n v ne (wide_parts n l)
 
   -- eleven bits more
   more_digits : (is : List Instr) (rd n : ℕ) (v : View) → rd ≢ 0 → n < 2 ^ 64 → Gives o s is v rd (n / 2048)
@@ -227,7 +250,7 @@ module _ (o s : ℕ) where
           one_constant rd n (n % 2 ^ 12) v ne z (rw high (omega arith))
       by false false true d p q t u = wide_gives rd n v ne (ltb-true n (2 ^ 31 - 2 ^ 11) t)
       by false false false true p q t u =
-          wide_makes rd n v ne (high_parts n (leb-true (2 ^ 64 - 2 ^ 31) n u) small)
+          wide_makes rd n n v ne (high_parts n (leb-true (2 ^ 64 - 2 ^ 31) n u) small)
       by false false false false p q t u = digits_give 5 rd n v ne z (omega arith) small
 
   -- ---- words of memory

@@ -1,18 +1,16 @@
 -- Reports: how long they are, and what stands in the words of arguments once their bytes have been stored.
 use Rattle.std.proofs.Common.{◌≡◌, ◌≢◌, ℕ, zero, suc, ◌+◌, ◌*◌, ◌/◌, ◌%◌, ◌^◌, ◌<◌, ◌≤◌, ◌==◌, Bool, true, false}
 use Rattle.std.proofs.Common.{List, [], ◌∷◌, ◌++◌, length, codes, decimal, refl, sym, ap, ◌∙◌, subst, arith}
-use Rattle.std.proofs.Common.{inl, length-append}
-use Rattle.std.specs.Prelude.{if◌then◌else◌}
+use Rattle.std.proofs.Common.{inl, inr}
+use Rattle.std.specs.Prelude.{nat_lt, ◌&&◌, if◌then◌else◌}
+use Rattle.std.proofs.lemmas.Bool.{and_parts, ltb-true}
 use Rattle.std.specs.List.{All}
 use Rattle.std.specs.Fmt.{digits, digits_onto, digit_glyph}
 use Rattle.addr_map.specs.Places.{spaces_begin}
 use Rattle.behaviours.specs.Shown.{Write}
-use Rattle.sb_base.specs.declared.ending.Ending.{Ending}
-use Rattle.sb_base.specs.declared.ending.Ending.TheVariants as ending
-use Rattle.sb_base.specs.Endings.{report_at, report_of}
 use Rattle.rv_isa.specs.declared.instruction.StoreOp.TheVariants.{Sb}
 use Rattle.rv_isa.specs.declared.instruction.ImmOp.TheVariants.{Addi}
-use Rattle.rv_isa.specs.declared.instruction.Instr.TheVariants.{Store, OpImm, Ecall}
+use Rattle.rv_isa.specs.declared.instruction.Instr.TheVariants.{Store, OpImm}
 use Rattle.rv_isa.specs.Word.{sext}
 use Rattle.rv_isa.specs.Results.{wrap, imm_result}
 use Rattle.flat_meaning.specs.Memory.{Bytes, store}
@@ -20,28 +18,17 @@ use Rattle.flat_meaning.proofs.Stored.{put_same, store_beside}
 use Rattle.machine_laws.specs.View.Segments.{IsOfData}
 use Rattle.machine_laws.specs.View.Views.{View, bytes_from, address_in, perform, performs, AllGoOn}
 use Rattle.machine_laws.proofs.View.Leaving.{no_access}
-use Rattle.machine_laws.specs.Blocks.Blocks.{asks, report_bytes, report_block, end_block}
+use Rattle.machine_laws.specs.Blocks.Tails.{text_bytes, line_text}
 use Rattle.machine_laws.proofs.Blocks.Pieces.{with_same, with_other, small_sext, silent}
 
 -- ---- how many instructions
 
-pub report_length : (k : ℕ) (report : List ℕ) → length (report_bytes k report) ≡ 2 * length report
-report_length k [] = omega arith
-report_length k (b ∷ bs) = let r = report_length (suc k) bs in omega arith
+pub text_length : (base k : ℕ) (text : List ℕ) → length (text_bytes base k text) ≡ 2 * length text
+text_length base k [] = omega arith
+text_length base k (b ∷ bs) = let r = text_length base (suc k) bs in omega arith
 
-pub end_length : (report : List ℕ) (status : ℕ) → length (end_block report status) ≤ 8 + 2 * length report
-end_length [] status = omega arith
-end_length (b ∷ bs) status =
-    let report = b ∷ bs in
-    let end = OpImm Addi 10 0 (status % 2 ^ 11) ∷ OpImm Addi 17 0 93 ∷ Ecall ∷ [] in
-    let r = report_length 0 report in
-    let a = length-append (report_bytes 0 report) (asks 64 2 (length report % 2 ^ 11)) in
-    let c = length-append (report_block report) end in
-    omega arith
-
--- of an ending without a report it is shorter
-pub short_end_length : (status : ℕ) → length (end_block [] status) ≡ 3
-short_end_length status = refl
+pub line_text_length : (text : List ℕ) → length (line_text text) ≡ 1 + 2 * length text
+line_text_length text = let r = text_length 28 0 text in omega arith
 
 -- of two lists that are short enough the one that is chosen is so too
 pub choice_few : (b : Bool) (xs ys : List ℕ) (n : ℕ) → length xs ≤ n → length ys ≤ n
@@ -63,60 +50,50 @@ pub decimal_few : (n : ℕ) → length (decimal n) ≤ 64
 unfolding digits
 decimal_few n = digits_few 64 n []
 
-report_few : (what : List ℕ) (line : ℕ) → length what ≤ 18 → length (report_at what line) ≤ 100
-unfolding report_at
-report_few what line few =
-    let begin = codes "sbcets: " ++ what in
-    let at = begin ++ codes " at line " in
-    let d = decimal_few line in
-    let a = length-append (codes "sbcets: ") what in
-    let b = length-append begin (codes " at line ") in
-    let c = length-append at (decimal line) in
-    let e = length-append (at ++ decimal line) (codes "\n") in
-    omega arith
+-- ---- bytes
 
--- whatever line an ending tells, its report is short
-pub reports_are_short : (e : Ending) → length (report_of e) ≤ 100
-reports_are_short (ending.Exit status) = omega arith
-reports_are_short (ending.Spatial line) = report_few (codes "spatial violation") line (omega arith)
-reports_are_short (ending.Temporal line) = report_few (codes "temporal violation") line (omega arith)
-reports_are_short (ending.BadCall line) = report_few (codes "bad call") line (omega arith)
-reports_are_short (ending.BadFree line) = report_few (codes "bad free") line (omega arith)
-reports_are_short (ending.Divide line) = report_few (codes "division by zero") line (omega arith)
-reports_are_short (ending.Stack line) = report_few (codes "stack exhausted") line (omega arith)
-reports_are_short (ending.Keys line) = report_few (codes "keys exhausted") line (omega arith)
-reports_are_short (ending.Abort line) = report_few (codes "abort") line (omega arith)
+unfoldable pub are_bytes : List ℕ → Bool
+are_bytes [] = true
+are_bytes (b ∷ bs) = nat_lt b 256 && are_bytes bs
+
+pub all_bytes : (xs : List ℕ) → are_bytes xs ≡ true → All (λ b. b < 256) xs
+unfolding are_bytes
+all_bytes [] a k d lt = absurd (omega arith)
+all_bytes (x ∷ xs) a zero d lt = ltb-true x 256 (and_parts (nat_lt x 256) (are_bytes xs) a).0
+all_bytes (x ∷ xs) a (suc k) d lt = all_bytes xs (and_parts (nat_lt x 256) (are_bytes xs) a).1 k d (omega arith)
 
 -- ---- what has been stored
 
-stored_byte : (m : Bytes) (a n : ℕ) → n < 256 → store 1 m a n a ≡ n
+pub stored_byte : (m : Bytes) (a n : ℕ) → n < 256 → store 1 m a n a ≡ n
 unfolding store
 stored_byte m a n small = put_same m a (n % 256) ∙ omega arith
 
--- bytes stand in the memory from an address on, and no other register but the first scratch register and no memory
--- before them has changed
-pub record Stored (object_bytes space_bytes area k : ℕ) (bytes : List ℕ) (v : View) : Type 0 where
-  pub go : AllGoOn object_bytes space_bytes (report_bytes k bytes) v
-  pub pc : (performs (report_bytes k bytes) v).pc ≡ v.pc + 4 * (2 * length bytes)
-  pub others : (r : ℕ) → r ≢ 5 → (performs (report_bytes k bytes) v).registers r ≡ v.registers r
-  pub before : (b : ℕ) → b < area + k → (performs (report_bytes k bytes) v).memory b ≡ v.memory b
-  pub are : bytes_from (performs (report_bytes k bytes) v).memory (area + k) (length bytes) ≡ bytes
-  pub accesses : (performs (report_bytes k bytes) v).accesses ≡ v.accesses
+-- bytes stand in the memory from an address on, and no other register but the first scratch register and no other
+-- memory has changed
+pub record Stored (object_bytes space_bytes base area k : ℕ) (bytes : List ℕ) (v : View) : Type 0 where
+  pub go : AllGoOn object_bytes space_bytes (text_bytes base k bytes) v
+  pub pc : (performs (text_bytes base k bytes) v).pc ≡ v.pc + 4 * (2 * length bytes)
+  pub others : (r : ℕ) → r ≢ 5 → (performs (text_bytes base k bytes) v).registers r ≡ v.registers r
+  pub before : (b : ℕ) → b < area + k → (performs (text_bytes base k bytes) v).memory b ≡ v.memory b
+  pub behind : (b : ℕ) → area + k + length bytes ≤ b → (performs (text_bytes base k bytes) v).memory b ≡ v.memory b
+  pub are : bytes_from (performs (text_bytes base k bytes) v).memory (area + k) (length bytes) ≡ bytes
+  pub accesses : (performs (text_bytes base k bytes) v).accesses ≡ v.accesses
 
-module _ (o s area : ℕ) (low : spaces_begin ≤ area) (high : area < 2 ^ 63) where
+module _ (o s base area : ℕ) (apart : base ≢ 5) (low : spaces_begin ≤ area) (high : area < 2 ^ 63) where
   pub stores_bytes : (k : ℕ) (bytes : List ℕ) (v : View) → All (λ b. b < 256) bytes → k + length bytes ≤ 2 ^ 11
-      → ((j : ℕ) → j < k + length bytes → IsOfData o s (area + j) 1) → v.registers 0 ≡ 0 → v.registers 3 ≡ area
-      → Stored o s area k bytes v
+      → ((j : ℕ) → j < k + length bytes → IsOfData o s (area + j) 1) → v.registers 0 ≡ 0 → v.registers base ≡ area
+      → Stored o s base area k bytes v
   unfolding imm_result
-  stores_bytes k [] v small few lies nought three = record {
+  stores_bytes k [] v small few lies nought from = record {
     go = tt;
     pc = omega arith;
     others = λ r a. refl;
     before = λ b l. refl;
+    behind = λ b l. refl;
     are = refl;
     accesses = refl;
   }
-  stores_bytes k (b ∷ bs) v small few lies nought three =
+  stores_bytes k (b ∷ bs) v small few lies nought from =
       let b_small : b < 256 = small 0 0 (omega arith) in
       let b_is : b % 2 ^ 11 ≡ b = omega arith in
       let k_is : k % 2 ^ 12 ≡ k = omega arith in
@@ -124,18 +101,18 @@ module _ (o s area : ℕ) (low : spaces_begin ≤ area) (high : area < 2 ^ 63) w
       let n_is : n ≡ b = ap (λ q. wrap (q + sext 12 (b % 2 ^ 11))) nought ∙ ap (λ q. wrap (0 + sext 12 q)) b_is
       ∙ ap (λ q. wrap (0 + q)) (small_sext b (omega arith)) ∙ omega arith in
       let v1 = perform (OpImm Addi 5 0 (b % 2 ^ 11)) v in
-      let v2 = perform (Store Sb 3 5 (k % 2 ^ 12)) v1 in
+      let v2 = perform (Store Sb base 5 (k % 2 ^ 12)) v1 in
       let stay : (r : ℕ) → r ≢ 5 → v1.registers r ≡ v.registers r = λ r a. with_other v.registers 5 n r a in
       let five : v1.registers 5 ≡ b = with_same v.registers 5 n (omega arith) ∙ n_is in
-      let at : address_in v1 3 (k % 2 ^ 12) ≡ area + k =
-      ap (λ q. wrap (q + sext 12 (k % 2 ^ 12))) (stay 3 (omega arith) ∙ three)
+      let at : address_in v1 base (k % 2 ^ 12) ≡ area + k =
+      ap (λ q. wrap (q + sext 12 (k % 2 ^ 12))) (stay base apart ∙ from)
       ∙ ap (λ q. wrap (area + sext 12 q)) k_is ∙ ap (λ q. wrap (area + q)) (small_sext k (omega arith))
       ∙ omega arith in
       let mem : v2.memory ≡ store 1 v.memory (area + k) b =
       ap (λ q. store 1 v.memory q (v1.registers 5)) at ∙ ap (store 1 v.memory (area + k)) five in
       let r = stores_bytes (suc k) bs v2 (λ j d lt. small (suc j) d (omega arith)) (omega arith)
-      (λ j lt. lies j (omega arith)) (stay 0 (omega arith) ∙ nought) (stay 3 (omega arith) ∙ three) in
-      let here : (performs (report_bytes (suc k) bs) v2).memory (area + k) ≡ b =
+      (λ j lt. lies j (omega arith)) (stay 0 (omega arith) ∙ nought) (stay base apart ∙ from) in
+      let here : (performs (text_bytes base (suc k) bs) v2).memory (area + k) ≡ b =
       r.before (area + k) (omega arith) ∙ ap (λ m. m (area + k)) mem ∙ stored_byte v.memory (area + k) b b_small in
       let next : suc (area + k) ≡ area + suc k = omega arith in
       record {
@@ -144,9 +121,12 @@ module _ (o s area : ℕ) (low : spaces_begin ≤ area) (high : area < 2 ^ 63) w
         others = λ q a. r.others q a ∙ stay q a;
         before = λ q l. r.before q (omega arith) ∙ ap (λ m. m q) mem
             ∙ store_beside 1 v.memory (area + k) b q (inl (omega arith));
-        are = ap (λ x. x ∷ bytes_from (performs (report_bytes (suc k) bs) v2).memory (suc (area + k)) (length bs)) here
-            ∙ ap (λ a. b ∷ bytes_from (performs (report_bytes (suc k) bs) v2).memory a (length bs)) next
+        behind = λ q l. r.behind q (omega arith) ∙ ap (λ m. m q) mem
+            ∙ store_beside 1 v.memory (area + k) b q (inr (omega arith));
+        are = ap (λ x. x ∷ bytes_from (performs (text_bytes base (suc k) bs) v2).memory (suc (area + k)) (length bs))
+            here
+            ∙ ap (λ a. b ∷ bytes_from (performs (text_bytes base (suc k) bs) v2).memory a (length bs)) next
             ∙ ap (λ l. b ∷ l) r.are;
-        accesses = r.accesses ∙ silent v1.accesses v1.pc (address_in v1 3 (k % 2 ^ 12)) 1 Write (rw at (omega arith))
+        accesses = r.accesses ∙ silent v1.accesses v1.pc (address_in v1 base (k % 2 ^ 12)) 1 Write (rw at (omega arith))
             ∙ no_access v.accesses v.pc;
       }

@@ -131,6 +131,8 @@ module _ (m : MapSizes) (p : FlatProgram) (plans : List FunctionPlan) (l : Layou
         ap (λ z. begin f + 4 * z) at
         ∙ ap (λ n. begin f + 4 * length (entry_block (keeping p plans f) n)) parameters;
     rows = ok.rows;
+    tails_stand = ok.tails_stand;
+    tails_end = ok.tails_end;
     whole = λ f g there. (ok.placed f g there).whole;
     aligned = λ f pc i at. let t = function_there p f pc i at in
         let w = (ok.placed f t.0 t.1).whole in omega arith;

@@ -4,7 +4,9 @@ use Rattle.std.proofs.Common.{Bool, true, false, Option, Some, None, arith}
 use Rattle.std.specs.Prelude.{◌==◌, nat_lt, nat_le, if◌then◌else◌}
 use Rattle.addr_map.specs.Places.{MapSizes}
 use Rattle.words.specs.TwosComplement.{low_bits, negated}
-use Rattle.sb_base.specs.Endings.{report_of}
+use Rattle.sb_base.specs.declared.ending.Ending.{Ending}
+use Rattle.sb_base.specs.declared.ending.Ending.TheVariants as ending
+use Rattle.sb_base.specs.Endings.{code_of}
 use Rattle.rv_isa.specs.declared.instruction.ImmOp.{ImmOp}
 use Rattle.rv_isa.specs.declared.instruction.ImmOp.TheVariants.{Addi, Slti, Sltiu, Xori, Ori, Andi}
 use Rattle.rv_isa.specs.declared.instruction.ShiftOp.{ShiftOp}
@@ -37,7 +39,10 @@ use Rattle.machine_laws.specs.Blocks.Immediates.{is_immediate, with_immediate, w
 use Rattle.machine_laws.specs.Blocks.Immediates.{with_shift32}
 use Rattle.machine_laws.specs.Blocks.Immediates.{immediate, immediate32, immediate_of, immediate32_of}
 use Rattle.machine_laws.specs.Blocks.Blocks.{fetch_right, operator_block}
-use Rattle.machine_laws.specs.Blocks.Blocks.{operands, asks, received_block, report_bytes, report_block, local_block}
+use Rattle.machine_laws.specs.Blocks.Blocks.{operands, asks, received_block, local_block}
+use Rattle.machine_laws.specs.Blocks.Tails.{what_of, text_before, text_bytes, line_text, written, ended, tail_block}
+use Rattle.machine_laws.specs.Blocks.Tails.{reported, tails_of, tails, tails_before, jump_block, end_block}
+use Rattle.machine_laws.specs.Calls.Table.{tails_address}
 use Rattle.machine_laws.specs.Calls.Calls.{Keeping, give, take, save_one, restore_one, save, restore, advance, retreat}
 use Rattle.machine_laws.specs.Calls.Calls.{call_block, entry_block, return_block}
 use Rattle.machine_laws.specs.Following.Code.{keeping_of, keeping, CallShape, wanted, call_part, back_part}
@@ -189,10 +194,91 @@ operator_fits places base x y z None plain b s h = both (operands places base y 
 operator_fits places base x y z (Some i) plain b s h = both (fetch (places y) base 5) (i ∷ keep x base 5)
     (fetch_fits (places y) base 5 b (omega arith)) (s, keep_fits x base 5 b (omega arith))
 
-bytes_fit : (k : ℕ) (bytes : List ℕ) → AllOfTable (report_bytes k bytes)
-bytes_fit k [] = tt
-bytes_fit k (b ∷ bs) =
-    ((omega arith, omega arith, omega arith), ((omega arith, omega arith, omega arith), bytes_fit (suc k) bs))
+-- ---- endings and their tails
+
+text_fits : (base k : ℕ) (bytes : List ℕ) → base < 32 → AllOfTable (text_bytes base k bytes)
+text_fits base k [] b = tt
+text_fits base k (x ∷ xs) b =
+    ((omega arith, omega arith, omega arith), ((b, omega arith, omega arith), text_fits base (suc k) xs b))
+
+tail_fits : (what : List ℕ) (status : ℕ) → AllOfTable (tail_block what status)
+tail_fits what status =
+    let text = text_before what in
+    let end : AllOfTable (written ++ ended status) = (
+      (omega arith, omega arith, omega arith),
+      (
+        (omega arith, omega arith, omega arith),
+        (
+          (omega arith, omega arith, omega arith),
+          (
+            (omega arith, omega arith, omega arith),
+            (
+              (omega arith, omega arith, omega arith),
+              (
+                tt,
+                ((omega arith, omega arith, omega arith), ((omega arith, omega arith, omega arith), (tt, tt))),
+              ),
+            ),
+          ),
+        ),
+      ),
+    ) in
+    let rest = both (line_text text) (written ++ ended status)
+    ((omega arith, omega arith, omega arith), text_fits 28 0 text (omega arith)) end in (
+      (omega arith, omega arith, omega arith),
+      (
+        (omega arith, omega arith, omega arith),
+        (
+          (omega arith, omega arith, omega arith),
+          (
+            (omega arith, omega arith, omega arith),
+            (
+              (omega arith, omega arith, omega arith),
+              (
+                (omega arith, omega arith, omega arith),
+                (
+                  (omega arith, omega arith, omega arith),
+                  (
+                    (omega arith, omega arith, omega arith),
+                    ((omega arith, omega arith, omega arith, omega arith), rest),
+                  ),
+                ),
+              ),
+            ),
+          ),
+        ),
+      ),
+    )
+
+tails_of_fit : (es : List Ending) → AllOfTable (tails_of es)
+tails_of_fit [] = tt
+tails_of_fit (e ∷ es) = both (tail_block (what_of e) (code_of e)) (tails_of es) (tail_fits (what_of e) (code_of e))
+    (tails_of_fit es)
+
+pub tails_fit : AllOfTable tails
+unfolding tails
+tails_fit = tails_of_fit reported
+
+jump_fits : (line tail : ℕ) → AllOfTable (jump_block line tail)
+jump_fits line tail = (
+  (omega arith, omega arith),
+  (
+    (omega arith, omega arith, omega arith),
+    ((omega arith, omega arith), ((omega arith, omega arith, omega arith), tt)),
+  ),
+)
+
+end_fits : (a : ℕ) (e : Ending) → AllOfTable (end_block a e)
+end_fits a (ending.Exit status) =
+    ((omega arith, omega arith, omega arith), ((omega arith, omega arith, omega arith), (tt, tt)))
+end_fits a (ending.Spatial line) = jump_fits line (a + 4 * length (tails_before reported 120))
+end_fits a (ending.Temporal line) = jump_fits line (a + 4 * length (tails_before reported 121))
+end_fits a (ending.BadCall line) = jump_fits line (a + 4 * length (tails_before reported 122))
+end_fits a (ending.BadFree line) = jump_fits line (a + 4 * length (tails_before reported 123))
+end_fits a (ending.Divide line) = jump_fits line (a + 4 * length (tails_before reported 124))
+end_fits a (ending.Stack line) = jump_fits line (a + 4 * length (tails_before reported 125))
+end_fits a (ending.Keys line) = jump_fits line (a + 4 * length (tails_before reported 126))
+end_fits a (ending.Abort line) = jump_fits line (a + 4 * length (tails_before reported 134))
 
 asks_fit : (number descriptor count : ℕ) → number < 2 ^ 12 → descriptor < 2 ^ 12 → count < 2 ^ 12
     → AllOfTable (asks number descriptor count)
@@ -203,11 +289,6 @@ asks_fit number descriptor count n d c = (
     ((omega arith, omega arith, omega arith), ((omega arith, omega arith, c), (tt, tt))),
   ),
 )
-
-report_fits : (bytes : List ℕ) → AllOfTable (report_block bytes)
-report_fits [] = tt
-report_fits (b ∷ bs) = both (report_bytes 0 (b ∷ bs)) (asks 64 2 (length (b ∷ bs) % 2 ^ 11)) (bytes_fit 0 (b ∷ bs))
-    (asks_fit 64 2 (length (b ∷ bs) % 2 ^ 11) (omega arith) (omega arith) (omega arith))
 
 local_fits : (places : ℕ → Location) (base begin : ℕ) (i : FlatInstruction) → base < 32
     → ((y : ℕ) → IsField (places y)) → AllOfTable (local_block places base begin i)
@@ -271,8 +352,7 @@ local_fits places base begin (flat.Exit x) b h =
       (omega arith, used_fits (places x) 5 (h x) (omega arith), omega arith),
       ((omega arith, omega arith, omega arith), (tt, tt)),
     )
-local_fits places base begin (flat.End e) b h = both (report_block (report_of e)) _ (report_fits (report_of e))
-    ((omega arith, omega arith, omega arith), ((omega arith, omega arith, omega arith), (tt, tt)))
+local_fits places base begin (flat.End e) b h = tt
 local_fits places base begin (flat.Charged x) b h =
     both (constant 6 begin) _ (constant_fits 6 begin (omega arith)) (
       (used_fits (places x) 5 (h x) (omega arith), omega arith, omega arith),
@@ -431,9 +511,7 @@ block_fits m p plans f pc (flat.Put x) =
 block_fits m p plans f pc (flat.Exit x) =
     let h = keeping_fits p plans f in local_fits (keeping p plans f).place (keeping p plans f).base (charged_from m p f)
     (flat.Exit x) h.base h.places
-block_fits m p plans f pc (flat.End e) =
-    let h = keeping_fits p plans f in local_fits (keeping p plans f).place (keeping p plans f).base (charged_from m p f)
-    (flat.End e) h.base h.places
+block_fits m p plans f pc (flat.End e) = end_fits (tails_address p) e
 block_fits m p plans f pc (flat.Charged x) =
     let h = keeping_fits p plans f in local_fits (keeping p plans f).place (keeping p plans f).base (charged_from m p f)
     (flat.Charged x) h.base h.places

@@ -21,9 +21,7 @@ use Rattle.machine_laws.specs.View.Views.{View, Layout, Fits, AllStand, Shows, b
 use Rattle.machine_laws.specs.View.Views.{perform, performs, address_in}
 use Rattle.machine_laws.proofs.View.Straight.{runs_then}
 use Rattle.machine_laws.proofs.View.Leaving.{no_access, writes_errors}
-use Rattle.machine_laws.specs.Blocks.Blocks.{report_bytes, report_block}
 use Rattle.machine_laws.proofs.Blocks.Pieces.{with_same, with_other, small_sext, silent}
-use Rattle.machine_laws.proofs.Blocks.Reports.{report_length, stores_bytes}
 use Rattle.machine_laws.proofs.Following.Runs.{straight_comes, all_append}
 
 -- ---- what is asked stands ready
@@ -93,94 +91,6 @@ asking_asks v number descriptor n area hn hd few nought three low =
       accesses = no_access v3.accesses v3.pc ∙ no_access v2.accesses v2.pc ∙ no_access v1.accesses v1.pc
           ∙ no_access v.accesses v.pc;
     }
-
--- ---- a report
-
-module _ (l : Layout) (fit : Fits l) (area : ℕ) (low : spaces_begin ≤ area) (high : area < 2 ^ 63)
-    (lies : IsOfData l.object_bytes l.space_bytes area (2 ^ 11)) where
-  -- all of it went to the error output
-  pub record Reported (bytes : List ℕ) (c : Configuration) (v : View) : Type 0 where
-    pub after : Configuration
-    pub view : View
-    pub is : runs (length (report_block bytes)) c ≡ (after, None)
-    pub shows : Shows l after view
-    pub zero_is : view.registers 0 ≡ 0
-    pub pc : view.pc ≡ v.pc + 4 * length (report_block bytes)
-    pub accesses : view.accesses ≡ v.accesses
-    pub errors : after.errors ≡ c.errors ++ bytes
-    pub output : after.output ≡ c.output
-    pub input : after.input ≡ c.input
-    pub taken : after.taken ≡ c.taken
-
-  -- a part of the words of arguments may be a buffer
-  part_lies : (k n : ℕ) → k + n ≤ 2 ^ 11 → IsOfData l.object_bytes l.space_bytes (area + k) n
-  part_lies k n few = ⊎_elim
-      (λ q. let from = q.0 in let to = q.1 in inl (omega arith, omega arith))
-      (λ q. let from = q.0 in let to = q.1 in inr (omega arith, omega arith)) lies
-
-  pub reports : (bytes : List ℕ) (c : Configuration) (v : View) → All (λ b. b < 256) bytes → length bytes < 2 ^ 11
-      → v.registers 0 ≡ 0 → v.registers 3 ≡ area → AllStand l v.pc (report_block bytes) → Shows l c v
-      → Reported bytes c v
-  reports [] c v small few nought three stand h = record {
-    after = c;
-    view = v;
-    is = runs-zero c;
-    shows = h;
-    zero_is = nought;
-    pc = omega arith;
-    accesses = refl;
-    errors = sym (append-nil c.errors);
-    output = refl;
-    input = refl;
-    taken = refl;
-  }
-  reports (b ∷ bs) c v small few nought three stand h =
-      let bytes = b ∷ bs in
-      let n = length bytes % 2 ^ 11 in
-      let n_is : n ≡ length bytes = omega arith in
-      let is = report_bytes 0 bytes in
-      let js = asking 64 2 n in
-      let count = report_length 0 bytes in
-      let st = stores_bytes l.object_bytes l.space_bytes area low high 0 bytes v small (omega arith)
-      (λ j lt. part_lies j 1 (omega arith)) nought three in
-      let w = performs is v in
-      let whole = all_append l is (js ++ Ecall ∷ []) v.pc stand in
-      let put = straight_comes l fit is c v whole.0 st.go h in
-      let pc_w : w.pc ≡ v.pc + 4 * length is = st.pc ∙ omega (arith, count) in
-      let rest = all_append l js (Ecall ∷ []) (v.pc + 4 * length is) whole.1 in
-      let ask = asking_asks w 64 2 n area (omega arith) (omega arith) (omega arith)
-      (st.others 0 (omega arith) ∙ nought) (st.others 3 (omega arith) ∙ three) high in
-      let w2 = performs js w in
-      let asked = straight_comes l fit js put.after w (subst (λ q. AllStand l q js) (sym pc_w) rest.0)
-      (tt, (tt, (tt, (tt, tt)))) put.shows in
-      let pc_w2 : w2.pc ≡ v.pc + 4 * length is + 4 * 4 = ask.pc ∙ ap (λ q. q + 16) pc_w in
-      let z : area + 0 ≡ area = omega arith in
-      let buffer : IsOfData l.object_bytes l.space_bytes (w2.registers 11) n =
-      subst (λ q. IsOfData l.object_bytes l.space_bytes q n) (z ∙ sym ask.buffer) (part_lies 0 n (omega arith)) in
-      let e = writes_errors l n asked.after w2 fit (subst (λ q. AllStand l q (Ecall ∷ [])) (sym pc_w2) rest.1).0
-      ask.number_is ask.descriptor_is ask.count (omega arith) buffer asked.shows in
-      let sent : bytes_from w2.memory (w2.registers 11) n ≡ bytes =
-      ap (λ q. bytes_from w2.memory q n) (ask.buffer ∙ sym z) ∙ ap (λ q. bytes_from q (area + 0) n) ask.memory
-      ∙ ap (λ q. bytes_from w.memory (area + 0) q) n_is ∙ st.are in
-      let long = length-append is (js ++ Ecall ∷ []) in
-      let steps : length (report_block bytes) ≡ 1 + (4 + length is) = omega arith in
-      record {
-        after = e.0;
-        view = record w2 { pc = w2.pc + 4; registers = with_value w2.registers 10 n };
-        is = ap (λ q. runs q c) steps ∙ runs_then 1 (4 + length is) c asked.after
-            (runs_then 4 (length is) c put.after put.is ∙ asked.is) ∙ e.1;
-        shows = e.2;
-        zero_is = with_other w2.registers 10 n 0 (omega arith)
-            ∙ ask.others 0 (omega arith) (omega arith) (omega arith) (omega arith)
-            ∙ st.others 0 (omega arith) ∙ nought;
-        pc = ap (λ q. q + 4) pc_w2 ∙ omega (arith, steps);
-        accesses = ask.accesses ∙ st.accesses;
-        errors = e.3.errors ∙ ap (λ q. asked.after.errors ++ q) sent
-            ∙ ap (λ q. q ++ bytes) (asked.stays.errors ∙ put.stays.errors);
-        output = e.3.output ∙ asked.stays.output ∙ put.stays.output;
-        input = e.3.input ∙ asked.stays.input ∙ put.stays.input;
-        taken = e.3.taken ∙ asked.stays.taken ∙ put.stays.taken;
-      }
 
 -- ---- what comes of a byte of the input
 

@@ -24,11 +24,10 @@ use Rattle.flat_meaning.specs.Calls.{function_in}
 use Rattle.flat_meaning.specs.Meaning.{weight_of}
 use Rattle.reg_plan.specs.declared.plan.FunctionPlan.{FunctionPlan}
 use Rattle.machine_laws.specs.Blocks.Blocks.{IsShort, RightIsShort, constant, used, used_right, fetch, keep, operands}
-use Rattle.machine_laws.specs.Blocks.Blocks.{asks, end_block}
+use Rattle.machine_laws.specs.Blocks.Blocks.{asks}
 use Rattle.machine_laws.specs.Blocks.Immediates.{immediate_of, immediate32_of}
 use Rattle.machine_laws.specs.Blocks.Effects.{IsIn, RightIsIn}
 use Rattle.machine_laws.proofs.Blocks.Lengths.{short_constant_length, short_bits_length, home_reach}
-use Rattle.machine_laws.proofs.Blocks.Reports.{end_length}
 use Rattle.machine_laws.proofs.Blocks.Lengths.{fetch_reach, keep_reach, operands_reach, operator_reach}
 use Rattle.machine_laws.specs.Following.Code.{keeping, block, charged_from}
 
@@ -53,11 +52,11 @@ weighs p f room g there e =
     }
 
 -- the end of a run
-pub end_most : (o : Option FlatFunction) (n : ℕ) → 6 + 4 * n ≤ 6 * (weight_of o * (1 + n))
+pub end_most : (o : Option FlatFunction) (n : ℕ) → 6 + 6 * n ≤ 6 * (weight_of o * (1 + n))
 end_most None n = omega arith
 end_most (Some g) n = by (nat_le g.room (2 ^ 11))
   where
-    by : (b : Bool) → 6 + 4 * n ≤ 6 * ((if b then 1 else 2) * (1 + n))
+    by : (b : Bool) → 6 + 6 * n ≤ 6 * ((if b then 1 else 2) * (1 + n))
     by true = omega arith
     by false = omega arith
 
@@ -176,11 +175,3 @@ module _ (m : MapSizes) (p : FlatProgram) (plans : List FunctionPlan) (f pc : �
   pub turn_bound : length (block m p plans f pc flat.Turn) ≤ 1
   unfolding block
   turn_bound = omega arith
-
-  pub end_bound : (e : Ending) → length (block m p plans f pc (flat.End e)) ≤ 6 + 4 * length (report_of e)
-  unfolding block
-  end_bound e = end_most_of (report_of e) (code_of e)
-    where
-      end_most_of : (report : List ℕ) (status : ℕ) → length (end_block report status) ≤ 6 + 4 * length report
-      end_most_of [] status = omega arith
-      end_most_of (b ∷ bs) status = let r = end_length (b ∷ bs) status in omega arith

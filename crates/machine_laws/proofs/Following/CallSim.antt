@@ -4,7 +4,7 @@ use Rattle.std.proofs.Common.{ap, ◌∙◌, subst, arith, ⊎_elim, Bool, true,
 use Rattle.std.proofs.Common.{length-append}
 use Rattle.std.specs.Prelude.{if◌then◌else◌, not}
 use Rattle.std.proofs.lemmas.Bool.{lt-ltb, and_parts, and_from, not-true}
-use Rattle.addr_map.specs.Places.{MapSizes, region_start, region_size, spaces_begin, function_address}
+use Rattle.addr_map.specs.Places.{MapSizes, region_start, region_size, spaces_begin}
 use Rattle.addr_map.specs.declared.region.Region.TheVariants.{Arguments, Calls, RuntimeCalls}
 use Rattle.rv_isa.specs.declared.instruction.Instr.TheVariants.{Jalr}
 use Rattle.flat_meaning.specs.declared.instruction.FlatInstruction.{FlatInstruction}
@@ -30,6 +30,8 @@ use Rattle.machine_laws.specs.Following.Matching.{object_bytes, space_bytes, rec
 use Rattle.machine_laws.specs.Following.Matching.{Meets}
 use Rattle.machine_laws.specs.Following.Start.{layout_of}
 use Rattle.machine_laws.proofs.Following.Runs.{straight_comes, all_append}
+use Rattle.machine_laws.proofs.Calls.Table.{row_whole}
+use Rattle.machine_laws.specs.Calls.Table.{row_address}
 use Rattle.machine_laws.proofs.Following.Regions.{AreRegions, flat_before}
 use Rattle.machine_laws.proofs.Following.Sound.{IsSound}
 use Rattle.machine_laws.proofs.Following.Standing.{frame_of, IsKind, kind, wait_same}
@@ -159,7 +161,7 @@ module _ (m : MapSizes) (p : FlatProgram) (plans : List FunctionPlan) (table cod
       → IsAt m p plans address f pc s frames v
       → Prepared (object_bytes m) (space_bytes m) (record_of m p f frames) (keeping p plans f)
       (wanted (keeping p plans f) pc shape.into shape.results) (region_start m Arguments) shape.first shape.count
-      shape.target (function_address to) shape.aim v
+      shape.target (row_address p to) shape.aim v
       → w.memory ≡ (performs (call_block (keeping p plans f) (wanted (keeping p plans f) pc shape.into shape.results)
       shape.first shape.count shape.aim) v).memory
       → ((r : ℕ) → r < 5 → r ≢ 1 → w.registers r ≡ (performs (call_block (keeping p plans f)
@@ -265,7 +267,7 @@ module _ (m : MapSizes) (p : FlatProgram) (plans : List FunctionPlan) (table cod
       (keeping p plans f).room w → w.registers 0 ≡ 0
       → ((y : ℕ) → (keeping p plans f).live pc y ≡ true
       → kept (record_of m p f frames) w ((keeping p plans f).place y) ≡ s.values y)
-      → Aims (object_bytes m) (space_bytes m) shape.aim w shape.target (function_address to))
+      → Aims (object_bytes m) (space_bytes m) shape.aim w shape.target (row_address p to))
       → room_if false (function_in p to) + rooms false p (waiting f pc shape.into s ∷ frames) ≤ m.budgets.calls
       → room_if true (function_in p to) + rooms true p (waiting f pc shape.into s ∷ frames)
       ≤ region_size m RuntimeCalls
@@ -276,7 +278,6 @@ module _ (m : MapSizes) (p : FlatProgram) (plans : List FunctionPlan) (table cod
       (length (entry_block (keeping p plans to) shape.count) + (4
       + length (call_block (keeping p plans f) (wanted (keeping p plans f) pc shape.into shape.results) shape.first
       shape.count shape.aim)))
-  unfolding function_address
   call_steps f pc g i shape to callee s s' frames c k h words aims fits fits' values memory accesses input output taken
       =
       let l = layout_of m table code in
@@ -300,7 +301,7 @@ module _ (m : MapSizes) (p : FlatProgram) (plans : List FunctionPlan) (table cod
       let bases = base_by g.is_runtime f g (kind m p plans address regions ok can.rooms f g g.is_runtime k.there
       refl) in
       let pr = prepares (object_bytes m) (space_bytes m) fp kf (kf.live pc) want (region_start m Arguments) 1024
-      shape.first shape.count shape.target (function_address to) shape.aim v few (omega arith) h.is_at.zero_is
+      shape.first shape.count shape.target (row_address p to) shape.aim v few (omega arith) h.is_at.zero_is
       (record { is = h.is_at.arguments; low = low_area; below = omega (arith, regions.arguments) }) f_frame
       (ok.kept f pc g k.there)
       (λ y w. let q = and_parts (kf.live (pc + 1) y) (not (is_among (many shape.into shape.results) y)) w in
@@ -315,9 +316,9 @@ module _ (m : MapSizes) (p : FlatProgram) (plans : List FunctionPlan) (table cod
       let v4 = performs cb v in
       let pc4 : v4.pc ≡ address f pc + 4 * length cb = pr.pc ∙ ap (λ q. q + 4 * length cb) h.pc_is in
       let numbered = laid.numbered to callee k.callee_is in
-      let two = arrives l fit shape.target (function_address to) (entry to) one.after v4
+      let two = arrives l fit shape.target (row_address p to) (entry to) one.after v4
       (subst (λ q. AllStand l q (Jalr 1 shape.target 0 ∷ [])) (sym pc4) front.1).0 pr.target_is (omega arith)
-      (omega arith) (laid.rows to callee k.callee_is) (laid.low to callee k.callee_is)
+      (row_whole p to) (laid.rows to callee k.callee_is) (laid.low to callee k.callee_is)
       (laid.whole to callee k.callee_is) one.shows in
       let w = two.view in
       let ra = address f pc + 4 * length (call_part kf pc shape) in

@@ -3,7 +3,7 @@ use Rattle.std.proofs.Common.{◌≡◌, ◌≢◌, ℕ, zero, suc, ◌+◌, ◌
 use Rattle.std.proofs.Common.{ap, ◌∙◌, subst, arith, Bool, true, false, List, [], ◌∷◌, ◌++◌, length, Option, Some}
 use Rattle.std.proofs.Common.{None}
 use Rattle.std.specs.Prelude.{if◌then◌else◌, replicate, slice_index, ◌==◌}
-use Rattle.addr_map.specs.Places.{MapSizes, AreMapped, region_start, region_size, function_address}
+use Rattle.addr_map.specs.Places.{MapSizes, AreMapped, region_start, region_size}
 use Rattle.addr_map.specs.declared.region.Region.TheVariants.{Arguments, Calls, RuntimeCalls}
 use Rattle.behaviours.specs.Shown.{Shown, nothing_shown}
 use Rattle.behaviours.specs.Behaviour.{Follows, Meets as MeetsMoment}
@@ -41,6 +41,8 @@ use Rattle.machine_laws.proofs.Calls.Lengths.{entry_length}
 use Rattle.machine_laws.specs.Following.Code.{keeping, IsLaid, IsEncodable}
 use Rattle.machine_laws.specs.Following.Matching.{object_bytes, space_bytes, record_of, Meets}
 use Rattle.machine_laws.specs.Following.Start.{start_block, IsStartable, begins, layout_of}
+use Rattle.machine_laws.specs.Calls.Table.{row_address}
+use Rattle.machine_laws.proofs.Calls.Table.{row_whole}
 use Rattle.machine_laws.proofs.Following.Runs.{straight_comes, all_append}
 use Rattle.machine_laws.proofs.Following.Regions.{AreRegions, regions, flat_before}
 use Rattle.machine_laws.proofs.Following.Sound.{IsSound, sound}
@@ -49,10 +51,6 @@ use Rattle.machine_laws.proofs.Following.Entering.{arrives, enters}
 use Rattle.machine_laws.proofs.Following.Bounds.{weighs}
 use Rattle.machine_laws.proofs.Following.Whole.{Matches, StageSteps, meets_worked}
 use Rattle.machine_laws.proofs.Following.Stages.{turn_stage, instruction_stage}
-
-address_whole : (f : ℕ) → function_address f % 4 ≡ 0
-unfolding function_address
-address_whole f = omega arith
 
 -- what is shown, by its parts
 shown_is : (a b : Shown) → a.output ≡ b.output → a.errors ≡ b.errors → a.taken ≡ b.taken → a.accesses ≡ b.accesses
@@ -172,27 +170,27 @@ module _ (m : MapSizes) (p : FlatProgram) (plans : List FunctionPlan) (table cod
   -- four addresses in their registers
   record Starts (v : View) : Type 0 where
     go : AllGoOn (object_bytes m) (space_bytes m) (wide 2 (region_start m Calls) ++ (wide 3 (region_start m Arguments)
-        ++ (wide 4 (region_start m RuntimeCalls) ++ wide 28 (function_address p.entry)))) v
+        ++ (wide 4 (region_start m RuntimeCalls) ++ wide 28 (row_address p p.entry)))) v
     view : View
     view_is : performs (wide 2 (region_start m Calls) ++ (wide 3 (region_start m Arguments)
-        ++ (wide 4 (region_start m RuntimeCalls) ++ wide 28 (function_address p.entry)))) v ≡ view
+        ++ (wide 4 (region_start m RuntimeCalls) ++ wide 28 (row_address p p.entry)))) v ≡ view
     pc : view.pc ≡ v.pc + 32
     zero_is : view.registers 0 ≡ v.registers 0
     two : view.registers 2 ≡ region_start m Calls
     three : view.registers 3 ≡ region_start m Arguments
     four : view.registers 4 ≡ region_start m RuntimeCalls
-    callee : view.registers 28 ≡ function_address p.entry
+    callee : view.registers 28 ≡ row_address p p.entry
     memory : view.memory ≡ v.memory
     accesses : view.accesses ≡ v.accesses
 
-  starts : (v : View) → function_address p.entry < 2 ^ 31 - 2 ^ 11 → Starts v
+  starts : (v : View) → row_address p p.entry < 2 ^ 31 - 2 ^ 11 → Starts v
   starts v small =
       let o = object_bytes m in
       let s = space_bytes m in
       let a = wide 2 (region_start m Calls) in
       let b = wide 3 (region_start m Arguments) in
       let d = wide 4 (region_start m RuntimeCalls) in
-      let e = wide 28 (function_address p.entry) in
+      let e = wide 28 (row_address p p.entry) in
       let ga = wide_gives o s 2 (region_start m Calls) v (omega arith) (omega (arith, regions.calls, regions.end)) in
       let v1 = performs a v in
       let gb = wide_gives o s 3 (region_start m Arguments) v1 (omega arith)
@@ -200,7 +198,7 @@ module _ (m : MapSizes) (p : FlatProgram) (plans : List FunctionPlan) (table cod
       let v2 = performs b v1 in
       let gd = wide_gives o s 4 (region_start m RuntimeCalls) v2 (omega arith) (omega (arith, regions.end)) in
       let v3 = performs d v2 in
-      let ge = wide_gives o s 28 (function_address p.entry) v3 (omega arith) small in
+      let ge = wide_gives o s 28 (row_address p p.entry) v3 (omega arith) small in
       let v4 = performs e v3 in
       record {
         go = go_append o s a (b ++ (d ++ e)) v ga.go (go_append o s b (d ++ e) v1 gb.go
@@ -298,15 +296,15 @@ module _ (m : MapSizes) (p : FlatProgram) (plans : List FunctionPlan) (table cod
         let numbered = laid.numbered p.entry g can_start.there in
         let v0 : View = record { pc = start; registers = λ r. 0; memory = memory; accesses = [] } in
         let front = wide 2 (region_start m Calls) ++ (wide 3 (region_start m Arguments)
-        ++ (wide 4 (region_start m RuntimeCalls) ++ wide 28 (function_address p.entry))) in
+        ++ (wide 4 (region_start m RuntimeCalls) ++ wide 28 (row_address p p.entry))) in
         let s = starts v0 (omega arith) in
         let parts = all_append l front (Jalr 1 28 0 ∷ []) start stands in
         let one = straight_comes l fit front c0 v0 parts.0 s.go first_shows in
         let shows1 : Shows l one.after s.view = subst (Shows l one.after) s.view_is one.shows in
         let pc1 : start + 4 * 8 ≡ s.view.pc = let e = s.pc in omega arith in
-        let two = arrives l fit 28 (function_address p.entry) (entry p.entry) one.after s.view
+        let two = arrives l fit 28 (row_address p p.entry) (entry p.entry) one.after s.view
         (subst (λ q. AllStand l q (Jalr 1 28 0 ∷ [])) pc1 parts.1).0 s.callee (omega arith)
-        (address_whole p.entry)
+        (row_whole p p.entry)
         (laid.rows p.entry g can_start.there) (laid.low p.entry g can_start.there)
         (laid.whole p.entry g can_start.there) shows1 in
         let w = two.view in

@@ -1,16 +1,18 @@
 -- Instructions that ask the environment: the machine comes to where the run goes, or ends as it does.
-use Rattle.std.proofs.Common.{◌≡◌, ◌≢◌, ℕ, ◌+◌, ◌-◌, ◌*◌, ◌%◌, ◌^◌, ◌<◌, ◌≤◌, inl, inr, refl, sym}
-use Rattle.std.proofs.Common.{ap, ◌∙◌, subst, arith, List, [], ◌∷◌, ◌++◌, length, Some, None, length-append}
+use Rattle.std.proofs.Common.{true, ◌≡◌, ◌≢◌, ℕ, ◌+◌, ◌-◌, ◌*◌, ◌%◌, ◌^◌, ◌<◌, ◌≤◌, inl, inr, refl, sym}
+use Rattle.std.proofs.Common.{ap, ◌∙◌, subst, arith, List, [], ◌∷◌, ◌++◌, length, codes, Some, None, length-append}
 use Rattle.addr_map.specs.Places.{MapSizes, region_start, spaces_begin}
 use Rattle.addr_map.specs.declared.region.Region.TheVariants.{Arguments}
 use Rattle.behaviours.specs.Shown.{Write}
 use Rattle.sb_base.specs.declared.ending.Ending.{Ending}
-use Rattle.sb_base.specs.Endings.{code_of, report_of}
+use Rattle.sb_base.specs.declared.ending.Ending.TheVariants as ending
+use Rattle.sb_base.specs.Endings.{code_of, report_at, report_of}
 use Rattle.rv_isa.specs.declared.instruction.StoreOp.TheVariants.{Sb}
 use Rattle.rv_isa.specs.declared.instruction.ImmOp.TheVariants.{Addi}
-use Rattle.rv_isa.specs.declared.instruction.Instr.TheVariants.{Store, OpImm, Ecall}
+use Rattle.rv_isa.specs.declared.instruction.Instr.{Instr}
+use Rattle.rv_isa.specs.declared.instruction.Instr.TheVariants.{Lui, Jalr, Store, OpImm, Ecall}
 use Rattle.rv_isa.specs.Word.{sext}
-use Rattle.rv_isa.specs.Results.{wrap}
+use Rattle.rv_isa.specs.Results.{wrap, low_word}
 use Rattle.flat_meaning.specs.declared.instruction.FlatInstruction.{FlatInstruction}
 use Rattle.flat_meaning.specs.declared.instruction.FlatInstruction.TheVariants as flat
 use Rattle.flat_meaning.specs.declared.function.FlatFunction.{FlatFunction}
@@ -28,14 +30,18 @@ use Rattle.rv_sim.specs.Run.{Configuration, Turn, runs}
 use Rattle.machine_laws.specs.View.Segments.{IsOfData}
 use Rattle.machine_laws.specs.View.Views.{View, Fits, AllStand, Shows, with_value, perform, performs, address_in}
 use Rattle.machine_laws.proofs.View.Straight.{runs_then}
-use Rattle.machine_laws.proofs.View.Leaving.{no_access, exits, writes_bytes, reads_byte, reads_nothing}
+use Rattle.machine_laws.proofs.View.Leaving.{no_access, jalr, exits, writes_bytes, reads_byte, reads_nothing}
 use Rattle.machine_laws.specs.declared.location.Location.{Location}
 use Rattle.machine_laws.specs.declared.location.Location.TheVariants as location
-use Rattle.machine_laws.specs.Blocks.Blocks.{used, fetch, keep, report_block, received_block}
+use Rattle.machine_laws.specs.Blocks.Blocks.{used, fetch, keep, received_block, upper, lower, wide}
+use Rattle.machine_laws.specs.Blocks.Tails.{text_before, ended, tail_block, reported, tails_of, tails, tails_before}
+use Rattle.machine_laws.specs.Blocks.Tails.{jump_block}
+use Rattle.machine_laws.specs.Calls.Table.{tails_address}
 use Rattle.machine_laws.specs.Blocks.Effects.{IsSaved, IsIn, kept, Computes, HasFrame}
 use Rattle.machine_laws.proofs.Blocks.Pieces.{fetches, performs_append, with_same, with_other, keeps, silent}
+use Rattle.machine_laws.proofs.Blocks.Pieces.{wide_makes, wide_parts, low_parts}
 use Rattle.machine_laws.proofs.Blocks.Local.{used_nonzero}
-use Rattle.machine_laws.proofs.Blocks.Reports.{reports_are_short}
+use Rattle.machine_laws.proofs.Blocks.Reports.{are_bytes, all_bytes}
 use Rattle.machine_laws.specs.Following.Code.{keeping, block, IsLaid, IsEncodable}
 use Rattle.machine_laws.specs.Following.Matching.{object_bytes, space_bytes, record_of, IsAt, ShowsSame, Meets}
 use Rattle.machine_laws.specs.Following.Matching.{HasEnded}
@@ -46,8 +52,8 @@ use Rattle.machine_laws.proofs.Following.Sound.{IsSound}
 use Rattle.machine_laws.proofs.Following.Standing.{frame_of, made, moves, before_untouched, record_behind, among_one}
 use Rattle.machine_laws.proofs.Following.Locals.{among_none, Steps}
 use Rattle.machine_laws.proofs.Following.Asks.{asking, asking_asks, IsAsking, immediate, immediate_other}
-use Rattle.machine_laws.proofs.Following.Asks.{small_immediate}
-use Rattle.machine_laws.proofs.Following.Asks.{stored_byte, reports, receiving, receives}
+use Rattle.machine_laws.proofs.Following.Tails.{tells, ends}
+use Rattle.machine_laws.proofs.Following.Asks.{stored_byte, receiving, receives}
 
 -- where registers of values stay, and of memory all but so many bytes before the record, so does what is kept
 kept_behind : (fp room area n : ℕ) (v w : View) (x : Location) → area + n ≤ fp
@@ -429,65 +435,143 @@ module _ (m : MapSizes) (p : FlatProgram) (plans : List FunctionPlan) (table cod
           };
         }
 
+    -- the line comes to its register, and the machine to the tail
+    tail_steps : (e : Ending) (what : List ℕ) (line status : ℕ) (before behind : List Instr)
+        → instruction_at p f pc ≡ Some (flat.End e)
+        → block m p plans f pc (flat.End e) ≡ jump_block line (tails_address p + 4 * length before)
+        → tails ≡ before ++ (tail_block what status ++ behind)
+        → are_bytes (text_before what) ≡ true → 2 < length (text_before what) → length (text_before what) ≤ 35
+        → line < 2 ^ 32 → status < 256
+        → s'.accesses ≡ s.accesses → s'.output ≡ s.output → s'.taken ≡ s.taken
+        → Ends status (report_at what line) s' c (6 + 6 * length (report_at what line))
+    tail_steps e what line status before behind at block_is parts bytes some few word low accesses output taken =
+        let l = layout_of m table code in
+        let o = object_bytes m in
+        let z = space_bytes m in
+        let v0 = h.view in
+        let tail = tails_address p + 4 * length before in
+        let is = Lui 5 (upper line) ∷ OpImm Addi 5 5 (lower line) ∷ Lui 7 (upper tail) ∷ [] in
+        let stands : AllStand l v0.pc (is ++ (Jalr 0 7 (lower tail) ∷ [])) =
+        subst (λ q. AllStand l q (jump_block line tail)) (sym h.pc_is)
+        (subst (AllStand l (address f pc)) block_is (laid.blocks f pc (flat.End e) at)) in
+        let both = all_append l is (Jalr 0 7 (lower tail) ∷ []) v0.pc stands in
+        let first = straight_comes l fit is c v0 both.0 (tt, (tt, (tt, tt))) h.shows in
+        let n = wrap (sext 32 (upper line * 2 ^ 12) + sext 12 (lower line)) in
+        let g = wide_makes o z 5 line n v0 (omega arith) refl in
+        let v1 = performs (wide 5 line) v0 in
+        let up = sext 32 (upper tail * 2 ^ 12) in
+        let v2 = perform (Lui 7 (upper tail)) v1 in
+        let long = ap length parts in
+        let long1 = length-append before (tail_block what status ++ behind) in
+        let end = laid.tails_end in
+        let tail_low : tail < 2 ^ 31 - 2 ^ 11 = omega arith in
+        let seven : wrap (v2.registers 7 + sext 12 (lower tail)) ≡ tail =
+        ap (λ q. wrap (q + sext 12 (lower tail))) (with_same v1.registers 7 up (omega arith))
+        ∙ wide_parts tail tail_low in
+        let at3 : v0.pc + 4 * 3 ≡ v2.pc = let q : v0.pc + 4 * 3 ≡ v0.pc + 4 + 4 + 4 = omega arith in q in
+        let j = jalr l 0 7 (lower tail) tail first.after v2 fit
+        (subst (λ q. AllStand l q (Jalr 0 7 (lower tail) ∷ [])) at3 both.1).0 seven (omega arith) first.shows in
+        let w : View = record v2 { pc = tail; registers = with_value v2.registers 0 (v2.pc + 4) } in
+        let all = all_append l before (tail_block what status ++ behind) (tails_address p)
+        (subst (AllStand l (tails_address p)) parts laid.tails_stand) in
+        let its = all_append l (tail_block what status) behind tail all.1 in
+        let stay : (r : ℕ) → r ≢ 5 → r ≢ 7 → w.registers r ≡ v0.registers r =
+        λ r n5 n7. with_other v1.registers 7 up r n7 ∙ g.others r n5 in
+        let five : low_word (w.registers 5) ≡ line =
+        ap low_word (with_other v1.registers 7 up 5 (omega arith) ∙ g.value) ∙ low_parts line word in
+        let from : spaces_begin ≤ region_start m Arguments = omega (arith, regions.cells_low, regions.cells) in
+        let lies : IsOfData o z (region_start m Arguments) (2 ^ 11) = inr (
+          from,
+          omega (arith, regions.arguments, regions.calls, regions.space),
+        ) in
+        let t = tells l fit (region_start m Arguments) from
+        (omega (arith, regions.arguments, regions.calls, regions.end)) lies what line status j.0 w
+        (all_bytes (text_before what) bytes) some few word low five
+        (stay 0 (omega arith) (omega arith) ∙ h.is_at.zero_is)
+        (stay 3 (omega arith) (omega arith) ∙ h.is_at.arguments) (omega arith) its.0 j.2 in
+        record {
+          steps = t.steps + (1 + 3);
+          few = omega (arith, t.few);
+          after = t.after;
+          is = runs_then t.steps (1 + 3) c j.0 (runs_then 1 3 c first.after first.is ∙ j.1) ∙ t.is;
+          ended = record {
+            ending = t.ending;
+            output = t.output ∙ j.3.output ∙ first.stays.output ∙ h.outside.output ∙ sym output;
+            errors = t.errors ∙ ap (λ q. q ++ report_at what line)
+                (j.3.errors ∙ first.stays.errors ∙ h.outside.errors);
+            taken = t.taken ∙ j.3.taken ∙ first.stays.taken ∙ h.outside.taken ∙ sym taken;
+            accesses = t.accesses ∙ no_access v1.accesses v1.pc ∙ g.accesses ∙ h.accesses ∙ sym accesses;
+          };
+        }
+
     pub end_steps : (e : Ending) → instruction_at p f pc ≡ Some (flat.End e)
         → s'.accesses ≡ s.accesses → s'.output ≡ s.output → s'.taken ≡ s.taken
-        → Ends (code_of e) (report_of e) s' c (length (block m p plans f pc (flat.End e)))
-    unfolding block
-    end_steps e at accesses output taken =
+        → Ends (code_of e) (report_of e) s' c (6 + 6 * length (report_of e))
+    unfolding block tails are_bytes
+    end_steps (ending.Exit n) at accesses output taken =
         let l = layout_of m table code in
-        let i = flat.End e in
-        let bytes = report_of e in
-        let status = code_of e in
-        let last = OpImm Addi 10 0 (status % 2 ^ 11) ∷ OpImm Addi 17 0 93 ∷ [] in
-        let v0 = h.view in
-        let area_low : region_start m Arguments < 2 ^ 63 =
-        omega (arith, regions.arguments, regions.calls, regions.end) in
+        let i = flat.End (ending.Exit n) in
         let from : spaces_begin ≤ region_start m Arguments = omega (arith, regions.cells_low, regions.cells) in
         let lies : IsOfData (object_bytes m) (space_bytes m) (region_start m Arguments) (2 ^ 11) = inr (
           from,
           omega (arith, regions.arguments, regions.calls, regions.space),
         ) in
-        let short = reports_are_short e in
-        let whole = all_append l (report_block bytes) (last ++ Ecall ∷ []) (address f pc) (laid.blocks f pc i at) in
-        let r = reports l fit (region_start m Arguments) from area_low lies bytes c v0 (can.report f pc e at)
-        (omega arith) h.is_at.zero_is h.is_at.arguments
-        (subst (λ q. AllStand l q (report_block bytes)) (sym h.pc_is) whole.0) h.shows in
-        let w0 = r.view in
-        let w1 = perform (OpImm Addi 10 0 (status % 2 ^ 11)) w0 in
-        let w2 = perform (OpImm Addi 17 0 93) w1 in
-        let pc_w0 : w0.pc ≡ address f pc + 4 * length (report_block bytes) =
-        r.pc ∙ ap (λ q. q + 4 * length (report_block bytes)) h.pc_is in
-        let rest = all_append l last (Ecall ∷ []) (address f pc + 4 * length (report_block bytes)) whole.1 in
-        let b = straight_comes l fit last r.after w0 (subst (λ q. AllStand l q last) (sym pc_w0) rest.0) (tt, (tt, tt))
-        r.shows in
-        let pc_w2 : w2.pc ≡ address f pc + 4 * length (report_block bytes) + 4 * 2 =
-        ap (λ q. q + 4 + 4) pc_w0 ∙ omega arith in
-        let small = can.status f pc e at in
-        let status_is : status % 2 ^ 11 ≡ status = omega arith in
-        let ten : w2.registers 10 ≡ status = immediate_other w1 17 0 93 10 (omega arith)
-        ∙ immediate w0 10 0 (status % 2 ^ 11) status (omega arith)
-        (ap (λ q. wrap (q + sext 12 (status % 2 ^ 11))) r.zero_is
-        ∙ ap (λ q. wrap (0 + sext 12 q)) status_is ∙ small_immediate status (omega arith)) in
-        let nought : w1.registers 0 ≡ 0 = immediate_other w0 10 0 (status % 2 ^ 11) 0 (omega arith)
-        ∙ r.zero_is in
-        let seventeen : w2.registers 17 ≡ 93 = immediate w1 17 0 93 93 (omega arith)
-        (ap (λ q. wrap (q + sext 12 93)) nought) in
-        let x = exits l b.after w2 fit (subst (λ q. AllStand l q (Ecall ∷ [])) (sym pc_w2) rest.1).0 seventeen
-        b.shows in
-        let long = length-append (report_block bytes) (last ++ Ecall ∷ []) in
-        let low_status : status % 256 ≡ status = omega arith in
+        let x = ends l fit (region_start m Arguments) from
+        (omega (arith, regions.arguments, regions.calls, regions.end)) lies (code_of (ending.Exit n)) c h.view
+        (can.status f pc (ending.Exit n) at) h.is_at.zero_is
+        (subst (λ q. AllStand l q (ended (code_of (ending.Exit n)))) (sym h.pc_is) (laid.blocks f pc i at)) h.shows in
         record {
-          steps = 1 + (2 + length (report_block bytes));
-          few = omega (arith, long);
-          after = (b.after, Some (Exited (w2.registers 10 % 256)));
-          is = runs_then 1 (2 + length (report_block bytes)) c b.after
-              (runs_then 2 (length (report_block bytes)) c r.after r.is ∙ b.is) ∙ x;
+          steps = 3;
+          few = omega arith;
+          after = (x.after, Some (Exited (code_of (ending.Exit n))));
+          is = x.is;
           ended = record {
-            ending = ap (λ q. Some (Exited (q % 256))) ten ∙ ap (λ q. Some (Exited q)) low_status;
-            output = b.stays.output ∙ r.output ∙ h.outside.output ∙ sym output;
-            errors = b.stays.errors ∙ r.errors ∙ ap (λ q. q ++ bytes) h.outside.errors;
-            taken = b.stays.taken ∙ r.taken ∙ h.outside.taken ∙ sym taken;
-            accesses = b.shows.accesses_are ∙ no_access w1.accesses w1.pc ∙ no_access w0.accesses w0.pc ∙ r.accesses
-                ∙ h.accesses ∙ sym accesses;
+            ending = refl;
+            output = x.output ∙ h.outside.output ∙ sym output;
+            errors = x.errors ∙ h.outside.errors;
+            taken = x.taken ∙ h.outside.taken ∙ sym taken;
+            accesses = x.accesses ∙ h.accesses ∙ sym accesses;
           };
         }
+    end_steps (ending.Spatial line) at accesses output taken =
+        tail_steps (ending.Spatial line) (codes "spatial violation") line 120 (tails_before reported 120)
+        (tails_of (ending.Temporal 1 ∷ ending.BadCall 1 ∷ ending.BadFree 1 ∷ ending.Divide 1 ∷ ending.Stack 1
+        ∷ ending.Keys 1 ∷ ending.Abort 1 ∷ [])) at
+        refl refl refl (omega arith) (omega arith) (can.line f pc (ending.Spatial line) at) (omega arith) accesses
+        output taken
+    end_steps (ending.Temporal line) at accesses output taken =
+        tail_steps (ending.Temporal line) (codes "temporal violation") line 121 (tails_before reported 121)
+        (tails_of (ending.BadCall 1 ∷ ending.BadFree 1 ∷ ending.Divide 1 ∷ ending.Stack 1 ∷ ending.Keys 1
+        ∷ ending.Abort 1 ∷ [])) at
+        refl refl refl (omega arith) (omega arith) (can.line f pc (ending.Temporal line) at) (omega arith) accesses
+        output taken
+    end_steps (ending.BadCall line) at accesses output taken =
+        tail_steps (ending.BadCall line) (codes "bad call") line 122 (tails_before reported 122)
+        (tails_of (ending.BadFree 1 ∷ ending.Divide 1 ∷ ending.Stack 1 ∷ ending.Keys 1 ∷ ending.Abort 1 ∷ [])) at
+        refl refl refl (omega arith) (omega arith) (can.line f pc (ending.BadCall line) at) (omega arith) accesses
+        output taken
+    end_steps (ending.BadFree line) at accesses output taken =
+        tail_steps (ending.BadFree line) (codes "bad free") line 123 (tails_before reported 123)
+        (tails_of (ending.Divide 1 ∷ ending.Stack 1 ∷ ending.Keys 1 ∷ ending.Abort 1 ∷ [])) at
+        refl refl refl (omega arith) (omega arith) (can.line f pc (ending.BadFree line) at) (omega arith) accesses
+        output taken
+    end_steps (ending.Divide line) at accesses output taken =
+        tail_steps (ending.Divide line) (codes "division by zero") line 124 (tails_before reported 124)
+        (tails_of (ending.Stack 1 ∷ ending.Keys 1 ∷ ending.Abort 1 ∷ [])) at
+        refl refl refl (omega arith) (omega arith) (can.line f pc (ending.Divide line) at) (omega arith) accesses
+        output taken
+    end_steps (ending.Stack line) at accesses output taken =
+        tail_steps (ending.Stack line) (codes "stack exhausted") line 125 (tails_before reported 125)
+        (tails_of (ending.Keys 1 ∷ ending.Abort 1 ∷ [])) at
+        refl refl refl (omega arith) (omega arith) (can.line f pc (ending.Stack line) at) (omega arith) accesses
+        output taken
+    end_steps (ending.Keys line) at accesses output taken =
+        tail_steps (ending.Keys line) (codes "keys exhausted") line 126 (tails_before reported 126)
+        (tails_of (ending.Abort 1 ∷ [])) at
+        refl refl refl (omega arith) (omega arith) (can.line f pc (ending.Keys line) at) (omega arith) accesses
+        output taken
+    end_steps (ending.Abort line) at accesses output taken =
+        tail_steps (ending.Abort line) (codes "abort") line 134 (tails_before reported 134)
+        (tails_of []) at
+        refl refl refl (omega arith) (omega arith) (can.line f pc (ending.Abort line) at) (omega arith) accesses
+        output taken

@@ -43,7 +43,6 @@ use Rattle.machine_laws.specs.Following.Start.{layout_of}
 use Rattle.machine_laws.proofs.Following.Bounds.{Weighs, weighs, end_most, constant_bound, move_bound, operate_bound}
 use Rattle.machine_laws.proofs.Following.Bounds.{operate32_bound}
 use Rattle.machine_laws.proofs.Following.Bounds.{branch_bound, charged_bound, put_bound, exit_bound, turn_bound}
-use Rattle.machine_laws.proofs.Following.Bounds.{end_bound}
 use Rattle.machine_laws.proofs.Following.Regions.{AreRegions}
 use Rattle.machine_laws.proofs.Following.Sound.{IsSound}
 use Rattle.machine_laws.proofs.Following.Standing.{among_one, function_there, frame_of, IsKind, kind}
@@ -53,6 +52,8 @@ use Rattle.machine_laws.proofs.Following.Locals.{turn_takes_one, branch_steps, c
 use Rattle.machine_laws.proofs.Following.Locals.{right_in}
 use Rattle.machine_laws.proofs.Following.Locals.{among_from, operator_reads, or_last}
 use Rattle.machine_laws.proofs.Following.Outside.{put_steps, exit_steps, end_steps}
+use Rattle.machine_laws.specs.Calls.Table.{row_address}
+use Rattle.machine_laws.proofs.Calls.Table.{program_row}
 use Rattle.machine_laws.proofs.Following.Calling.{Aims}
 use Rattle.machine_laws.proofs.Following.CallSim.{IsCall, call_steps}
 use Rattle.machine_laws.proofs.Following.ReturnSim.{call_of}
@@ -60,20 +61,20 @@ use Rattle.machine_laws.proofs.Following.ReturnStep.{return_steps}
 use Rattle.machine_laws.proofs.Following.Whole.{StageSteps, more_steps, from_steps, from_ends, inside_of, plain, same}
 use Rattle.machine_laws.proofs.Following.Whole.{load_stage, store_stage, get_stage}
 
--- the function of a program that an address names has it
-found_by : (p : FlatProgram) (a q : ℕ) → function_at p a ≡ Some q → a ≡ function_address q
+-- the function of a program that an address names has its entry there
+found_by : (p : FlatProgram) (a q : ℕ) → function_at p a ≡ Some q → a ≡ row_address p q
 unfolding function_at
 found_by p a q e = by (function_address ((a - functions_begin) / 16) == a
     && is_of_program (function_in p ((a - functions_begin) / 16))) refl e
   where
     by : (b : Bool) → (function_address ((a - functions_begin) / 16) == a
         && is_of_program (function_in p ((a - functions_begin) / 16))) ≡ b
-        → (if b then Some ((a - functions_begin) / 16) else None) ≡ Some q → a ≡ function_address q
+        → (if b then Some ((a - functions_begin) / 16) else None) ≡ Some q → a ≡ row_address p q
     by true yes_it e' =
-        let parts = and_parts (function_address ((a - functions_begin) / 16) == a)
-        (is_of_program (function_in p ((a - functions_begin) / 16))) yes_it in
-        let is_k : (a - functions_begin) / 16 ≡ q = cc in
-        sym (eqb-true (function_address ((a - functions_begin) / 16)) a parts.0) ∙ ap function_address is_k
+        let k = (a - functions_begin) / 16 in
+        let parts = and_parts (function_address k == a) (is_of_program (function_in p k)) yes_it in
+        let is_k : k ≡ q = cc in
+        sym (eqb-true (function_address k) a parts.0) ∙ sym (program_row p k parts.1) ∙ ap (row_address p) is_k
     by false it e' = cc
 
 less_rooms : (p : FlatProgram) (x : Frame) (xs : List Frame)
@@ -153,7 +154,7 @@ module _ (m : MapSizes) (p : FlatProgram) (plans : List FunctionPlan) (table cod
         (keeping p plans f).room w → w.registers 0 ≡ 0
         → ((y : ℕ) → (keeping p plans f).live pc y ≡ true
         → kept (record_of m p f frames) w ((keeping p plans f).place y) ≡ t.values y)
-        → Aims (object_bytes m) (space_bytes m) shape.aim w shape.target (function_address to))
+        → Aims (object_bytes m) (space_bytes m) shape.aim w shape.target (row_address p to))
         → (step m p (if b then Stands to 0 (record t { values = arguments shape.first shape.count t.values })
         (waiting f pc shape.into t ∷ frames) else Stuck) ≡ Stuck → ⊥)
         → StageSteps m p plans table code address entry regions ok fit laid can
@@ -210,7 +211,7 @@ module _ (m : MapSizes) (p : FlatProgram) (plans : List FunctionPlan) (table cod
         (keeping p plans f).room w → w.registers 0 ≡ 0
         → ((y : ℕ) → (keeping p plans f).live pc y ≡ true
         → kept (record_of m p f frames) w ((keeping p plans f).place y) ≡ t.values y)
-        → Aims (object_bytes m) (space_bytes m) shape.aim w shape.target (function_address to))
+        → Aims (object_bytes m) (space_bytes m) shape.aim w shape.target (row_address p to))
         → (step m p (enters m p to shape.first shape.count shape.results o (waiting f pc shape.into t ∷ frames) t)
         ≡ Stuck → ⊥)
         → StageSteps m p plans table code address entry regions ok fit laid can
@@ -227,7 +228,7 @@ module _ (m : MapSizes) (p : FlatProgram) (plans : List FunctionPlan) (table cod
     base_low = (frame_of m p plans address regions ok can.rooms f pc g t frames h.view there h.is_at).base_high
 
     -- where the numbers of functions lie
-    address_small : (to : ℕ) → function_address to < 2 ^ 20 → function_address to < 2 ^ 31 - 2 ^ 11
+    address_small : (to : ℕ) → row_address p to < 2 ^ 20 → row_address p to < 2 ^ 31 - 2 ^ 11
     address_small to lt = omega arith
 
     call_stage : (to first x : ℕ) → instruction_at p f pc ≡ Some (flat.Call to first x)
@@ -247,23 +248,23 @@ module _ (m : MapSizes) (p : FlatProgram) (plans : List FunctionPlan) (table cod
         by None e fine' = absurd (fine' refl)
         by (Some callee) e fine' =
             let numbered = laid.numbered to callee e in
-            let small : function_address to < 2 ^ 31 - 2 ^ 11 = omega arith in
+            let small : row_address p to < 2 ^ 31 - 2 ^ 11 = omega arith in
             let n = parameters_of (function_in p to) in
             let shape : CallShape = record {
               first = first;
               count = n;
               into = x;
               results = results_of (function_in p to);
-              aim = constant 28 (function_address to);
+              aim = constant 28 (row_address p to);
               target = 28;
             } in
-            let short = short_constant_length 28 (function_address to) (inl small) in
+            let short = short_constant_length 28 (row_address p to) (inl small) in
             enters_stage (flat.Call to first x) shape to (Some callee) at refl e
             (λ j lt. or_last (is_among none (first + j)) (is_among none (first + j)) (is_among (many first n) (first
             + j))
             (among_from first n j lt))
             (inl refl) (omega arith) (omega (arith, base_low)) (omega arith)
-            (λ w fw zw held. let q = constant_gives (object_bytes m) (space_bytes m) 28 (function_address to) w
+            (λ w fw zw held. let q = constant_gives (object_bytes m) (space_bytes m) 28 (row_address p to) w
             (omega arith) zw (omega arith) in
             record {
               go = q.go;
@@ -319,7 +320,7 @@ module _ (m : MapSizes) (p : FlatProgram) (plans : List FunctionPlan) (table cod
         or_first : (a b d : Bool) → a ≡ true → (a || (b || d)) ≡ true
         or_first a b d e = rw e refl
 
-        function_found : (a q : ℕ) → function_at p a ≡ Some q → a ≡ function_address q
+        function_found : (a q : ℕ) → function_at p a ≡ Some q → a ≡ row_address p q
         function_found a q e = found_by p a q e
 
     -- ---- a return
@@ -525,10 +526,9 @@ module _ (m : MapSizes) (p : FlatProgram) (plans : List FunctionPlan) (table cod
         let st = end_steps m p plans table code address entry regions ok fit laid can f pc g t t frames c h words
         there e
         at refl refl refl in
-        let bound = end_bound m p plans f pc e in
         let most = end_most (function_in p f) (length (report_of e)) in
         from_ends m p plans table code address entry regions ok fit laid can (code_of e) (report_of e) t c _
-        (6 * (weight_of (function_in p f) * (1 + length (report_of e)))) t.turns t.work st (omega (arith, bound, most))
+        (6 * (weight_of (function_in p f) * (1 + length (report_of e)))) t.turns t.work st (omega (arith, most))
         (omega arith) refl
     instruction_stage (flat.Charged x) at fine =
         let n = wrap (charged p f frames) in

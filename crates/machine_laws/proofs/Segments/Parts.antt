@@ -1,7 +1,9 @@
 -- Lists that stand in longer ones.
-use Rattle.std.proofs.Common.{◌≡◌, ℕ, ◌+◌, ◌*◌, List, [], ◌∷◌, ◌++◌, length, map}
-use Rattle.std.proofs.Common.{refl, sym, ap, ◌∙◌, length-append, append_assoc}
-use Rattle.std.proofs.lemmas.List.{append-nil, length-map, map-append}
+use Rattle.std.proofs.Common.{◌≡◌, ℕ, ◌+◌, ◌-◌, ◌*◌, ◌≤◌, List, [], ◌∷◌, ◌++◌, length, map}
+use Rattle.std.proofs.Common.{refl, sym, ap, ◌∙◌, arith, length-append, append_assoc}
+use Rattle.std.specs.Prelude.{take, drop}
+use Rattle.std.proofs.Math.Seq.{take-append-add}
+use Rattle.std.proofs.lemmas.List.{drop-append-le, length-drop, append-nil, length-map, map-append}
 use Rattle.byteorder.specs.Endian.{little_bytes}
 use Rattle.machine_laws.specs.Layout.Lists.{bytes_of, HasBytes}
 use Rattle.machine_laws.proofs.CodeLayout.Bytes.{bytes_length}
@@ -44,6 +46,33 @@ stands_right xs ys part at h = record {
   is = ap (λ zs. xs ++ zs) h.is ∙ sym (append_assoc xs h.before (part ++ h.behind));
   at_is = length-append xs h.before ∙ ap (λ n. length xs + n) h.at_is;
 }
+
+-- what stands in a list stands in the first of it, or in the rest
+pub stands_taken : {A : Type 0} (xs part : List A) (at c : ℕ) → StandsIn xs at part → at + length part ≤ c
+    → StandsIn (take c xs) at part
+stands_taken xs part at c h le =
+    let k = c - (at + length part) in
+    let at_is = h.at_is in
+    let whole : c ≡ length h.before + (length part + k) = omega arith in
+    record {
+      before = h.before;
+      behind = take k h.behind;
+      is = ap (take c) h.is ∙ ap (λ n. take n (h.before ++ (part ++ h.behind))) whole
+          ∙ take-append-add h.before (part ++ h.behind) (length part + k)
+          ∙ ap (λ zs. h.before ++ zs) (take-append-add part h.behind k);
+      at_is = h.at_is;
+    }
+
+pub stands_dropped : {A : Type 0} (xs part : List A) (at c : ℕ) → StandsIn xs at part → c ≤ at
+    → StandsIn (drop c xs) (at - c) part
+stands_dropped xs part at c h le =
+    let at_is = h.at_is in
+    record {
+      before = drop c h.before;
+      behind = h.behind;
+      is = ap (drop c) h.is ∙ drop-append-le c h.before (part ++ h.behind) (omega arith);
+      at_is = length-drop c h.before ∙ ap (λ n. n - c) h.at_is;
+    }
 
 pub stands_mapped : {A B : Type 0} (f : A → B) (xs part : List A) (at : ℕ) → StandsIn xs at part
     → StandsIn (map f xs) at (map f part)

@@ -3,7 +3,8 @@ use Rattle.std.proofs.Common.{◌≡◌, ℕ, suc, ◌+◌, ◌*◌, ◌<◌, �
 use Rattle.std.proofs.Common.{[], ◌∷◌, ◌++◌, length, map, Option, Some, refl, sym, ap, ◌∙◌, subst, arith, ⊎_elim}
 use Rattle.std.proofs.Common.{length-append}
 use Rattle.std.proofs.lemmas.Bool.{cases_lt}
-use Rattle.addr_map.specs.Places.{MapSizes, functions_begin, code_begin, code_size, function_address}
+use Rattle.std.proofs.lemmas.List.{length-map}
+use Rattle.addr_map.specs.Places.{MapSizes, functions_begin, code_begin, code_size}
 use Rattle.rv_isa.specs.declared.instruction.Instr.{Instr}
 use Rattle.rv_isa.specs.Table.{word_of}
 use Rattle.rv_asm.specs.declared.item.Item.{Item}
@@ -22,14 +23,18 @@ use Rattle.machine_laws.specs.Following.Start.{layout_of, start_block}
 use Rattle.machine_laws.proofs.Following.Sound.{get_below}
 use Rattle.machine_laws.specs.Layout.Lists.{bytes_of, items_of, HasWordsAt, ArePlaced}
 use Rattle.machine_laws.proofs.CodeLayout.Bytes.{bytes_length, stand_in_code, stand_in_table}
-use Rattle.machine_laws.proofs.CodeLayout.Table.{AllOfTable}
-use Rattle.machine_laws.specs.Segments.Segments.{is_of, function_words, words_below, start_address, begin_if, begin}
+use Rattle.machine_laws.proofs.CodeLayout.Table.{AllOfTable, tails_fit}
+use Rattle.machine_laws.specs.Segments.Segments.{is_of, function_words, words_below, begin_if, begin}
+use Rattle.machine_laws.specs.Blocks.Tails.{tails}
+use Rattle.machine_laws.specs.Calls.Table.{source_count, start_address, tails_address, row_address}
+use Rattle.machine_laws.proofs.Calls.Table.{first_row, last_row}
 use Rattle.machine_laws.specs.Segments.Segments.{code_words, table_words, FitsSegments}
 use Rattle.machine_laws.proofs.Segments.Parts.{StandsIn, stands_in_bytes}
 use Rattle.machine_laws.proofs.Segments.Small.{words_small}
 use Rattle.machine_laws.proofs.Segments.Assembled.{function_small}
 use Rattle.machine_laws.proofs.Segments.Missing.{missing_assemblable}
-use Rattle.machine_laws.proofs.Segments.Standing.{row_stands, start_stands, runtime_stands, compiled_stands}
+use Rattle.machine_laws.proofs.Segments.Standing.{row_before, row_behind, start_stands, tails_stand}
+use Rattle.machine_laws.proofs.Segments.Standing.{runtime_stands, compiled_stands}
 
 -- words of instructions that stand in memory are instructions that stand there
 next_words : (l : Layout) (a w : ℕ) (ws : List ℕ) → HasWordsAt l a (w ∷ ws) → HasWordsAt l (a + 4) ws
@@ -124,7 +129,7 @@ module _ (meet : (items : List Item) → IsAssemblable items → Assembled items
       → HasWordsAt l (begin m p plans f) (function_words m p plans f)
   placed_if f g true there kind =
       let lt = get_below p.functions f g there in
-      let at = 4 * length p.functions + 9 + length (words_below m p plans true f) in
+      let at = 4 * length p.functions + (9 + length tails) + length (words_below m p plans true f) in
       let from : functions_begin + 4 * at ≡ begin_if m p plans true f = omega arith in
       let here : functions_begin + 4 * at ≡ begin m p plans f = from ∙ sym (begins_at f g true there kind) in
       subst (λ a. HasWordsAt l a (function_words m p plans f)) here
@@ -162,34 +167,61 @@ module _ (meet : (items : List Item) → IsAssemblable items → Assembled items
 
   pub start_is_there : AllStand l (start_address p) (start_block m p)
   start_is_there =
-      let here : functions_begin + 4 * (4 * length p.functions) ≡ start_address p = omega arith in
+      let here : functions_begin + 4 * (4 * source_count p) ≡ start_address p = omega arith in
       subst (λ a. AllStand l a (start_block m p)) here
-      (in_table (4 * length p.functions) (start_block m p) (start_stands m p plans) (start_fits m p))
+      (in_table (4 * source_count p) (start_block m p) (start_stands m p plans) (start_fits m p))
 
-  row_at : (f : ℕ) → f < length p.functions → AllStand l (function_address f) (row (begin m p plans f))
-  unfolding function_address
-  row_at f lt =
-      let here : functions_begin + 4 * (4 * f) ≡ functions_begin + 16 * f = omega arith in
-      subst (λ a. AllStand l a (row (begin m p plans f))) here
-      (in_table (4 * f) (row (begin m p plans f)) (row_stands m p plans f lt) (row_fits (begin m p plans f)))
+  tails_are_there : AllStand l (tails_address p) tails
+  tails_are_there =
+      let here : functions_begin + 4 * (4 * source_count p + 9) ≡ tails_address p = omega arith in
+      subst (λ a. AllStand l a tails) here
+      (in_table (4 * source_count p + 9) tails (tails_stand m p plans) tails_fit)
 
-  low_number : (f : ℕ) → f < length p.functions → function_address f < code_begin
-  unfolding function_address
-  low_number f lt =
-      let w = within (4 * f) (map word_of (row (begin m p plans f))) (row_stands m p plans f lt) in
+  tails_within : tails_address p + 4 * length tails ≤ code_begin
+  tails_within =
+      let w = within (4 * source_count p + 9) (map word_of tails) (tails_stand m p plans) in
+      let long = length-map tails word_of in
       omega arith
+
+  -- an entry, on either side of the start, and its end
+  record HasRow (f : ℕ) : Type 0 where
+    is : AllStand l (row_address p f) (row (begin m p plans f))
+    low : row_address p f < code_begin
+
+  row_at : (f : ℕ) → f < length p.functions → HasRow f
+  row_at f lt = ⊎_elim
+      (λ first.
+      let here : functions_begin + 4 * (4 * f) ≡ row_address p f = let e = first_row p f first in omega arith in
+      let w = within (4 * f) (map word_of (row (begin m p plans f))) (row_before m p plans f first) in
+      record {
+        is = subst (λ a. AllStand l a (row (begin m p plans f))) here
+            (in_table (4 * f) (row (begin m p plans f)) (row_before m p plans f first) (row_fits (begin m p plans f)));
+        low = omega arith;
+      })
+      (λ last.
+      let at = 4 * f + (9 + length tails) in
+      let here : functions_begin + 4 * at ≡ row_address p f = let e = last_row p f last in omega arith in
+      let w = within at (map word_of (row (begin m p plans f))) (row_behind m p plans f last lt) in
+      record {
+        is = subst (λ a. AllStand l a (row (begin m p plans f))) here
+            (in_table at (row (begin m p plans f)) (row_behind m p plans f last lt) (row_fits (begin m p plans f)));
+        low = omega arith;
+      })
+      (cases_lt f (source_count p))
 
   pub placed : ArePlaced m p plans l (begin m p plans) (function_words m p plans) place
   placed = record {
     assembled = λ f g there. asm f;
     places = λ f g there k. refl;
     placed = λ f g there. placed_if f g g.is_runtime there refl;
-    rows = λ f g there. row_at f (get_below p.functions f g there);
-    numbered = λ f g there. low_number f (get_below p.functions f g there);
+    rows = λ f g there. (row_at f (get_below p.functions f g there)).is;
+    tails_stand = tails_are_there;
+    tails_end = tails_within;
+    numbered = λ f g there. (row_at f (get_below p.functions f g there)).low;
     of_code = λ f g there kind. let at = begins_at f g false there kind in omega arith;
     of_runtime = λ f g there kind.
         let at = begins_at f g true there kind in
-        let w = within (4 * length p.functions + 9 + length (words_below m p plans true f))
+        let w = within (4 * length p.functions + (9 + length tails) + length (words_below m p plans true f))
         (function_words m p plans f)
         (runtime_stands m p plans f (get_below p.functions f g there) (of_kind (function_in p f) g true there kind)) in
         omega arith;

@@ -24,8 +24,9 @@ use Rattle.machine_laws.proofs.Following.Follows.{machine_follows}
 use Rattle.machine_laws.specs.Layout.Lists.{bytes_of, address_in}
 use Rattle.machine_laws.proofs.CodeLayout.Bytes.{bytes_length}
 use Rattle.machine_laws.proofs.CodeLayout.Laid.{laid}
-use Rattle.machine_laws.specs.Segments.Segments.{start_address, begin, function_words, code_words, table_words}
+use Rattle.machine_laws.specs.Segments.Segments.{begin, function_words, code_words, table_words}
 use Rattle.machine_laws.specs.Segments.Segments.{FitsSegments}
+use Rattle.machine_laws.specs.Calls.Table.{start_address}
 use Rattle.machine_laws.proofs.Segments.Placed.{place, placed, start_is_there}
 
 pub segments_fit : (m : MapSizes) (p : FlatProgram) (plans : List FunctionPlan) → AreMapped m

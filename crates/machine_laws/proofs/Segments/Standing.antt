@@ -1,9 +1,9 @@
 -- Where the functions, the entries of the jump table and the start stand among the words that are generated.
-use Rattle.std.proofs.Common.{◌≡◌, ℕ, zero, suc, ◌+◌, ◌*◌, ◌<◌, Bool, true, false, List, [], ◌++◌}
+use Rattle.std.proofs.Common.{◌≡◌, ℕ, zero, suc, ◌+◌, ◌-◌, ◌*◌, ◌<◌, ◌≤◌, Bool, true, false, List, [], ◌++◌}
 use Rattle.std.proofs.Common.{length, map, sym, ap, ◌∙◌, subst, arith, ⊎_elim, length-append}
-use Rattle.std.specs.Prelude.{if◌then◌else◌}
+use Rattle.std.specs.Prelude.{take, drop, if◌then◌else◌}
 use Rattle.std.proofs.lemmas.Bool.{cases_lt}
-use Rattle.std.proofs.lemmas.List.{length-map}
+use Rattle.std.proofs.lemmas.List.{length-map, length-take-le, take-append-drop}
 use Rattle.addr_map.specs.Places.{MapSizes}
 use Rattle.rv_isa.specs.Table.{word_of}
 use Rattle.flat_meaning.specs.declared.function.FlatProgram.{FlatProgram}
@@ -13,8 +13,13 @@ use Rattle.machine_laws.specs.Calls.Calls.{row}
 use Rattle.machine_laws.specs.Following.Start.{start_block}
 use Rattle.machine_laws.specs.Segments.Segments.{is_of, function_words, words_if, words_below, begin, rows_below}
 use Rattle.machine_laws.specs.Segments.Segments.{code_words}
-use Rattle.machine_laws.specs.Segments.Segments.{table_words}
-use Rattle.machine_laws.proofs.Segments.Parts.{StandsIn, stands_last, stands_left, stands_right, stands_mapped}
+use Rattle.machine_laws.specs.Segments.Segments.{start_with_tails, table_instrs, table_words}
+use Rattle.machine_laws.specs.Blocks.Tails.{tails}
+use Rattle.machine_laws.specs.Calls.Table.{source_count}
+use Rattle.machine_laws.proofs.Calls.Table.{source_within}
+use Rattle.rv_isa.specs.declared.instruction.Instr.{Instr}
+use Rattle.machine_laws.proofs.Segments.Parts.{StandsIn, stands_last, stands_first, stands_left, stands_right}
+use Rattle.machine_laws.proofs.Segments.Parts.{stands_mapped, stands_taken, stands_dropped}
 
 module _ (m : MapSizes) (p : FlatProgram) (plans : List FunctionPlan) where
   -- the words of a function among those of all below a number
@@ -57,40 +62,83 @@ module _ (m : MapSizes) (p : FlatProgram) (plans : List FunctionPlan) where
       (rows_length k) (stands_last (rows_below m p plans k) (row (begin m p plans k)))))
       (cases_lt k n)
 
-  pub row_stands : (k : ℕ) → k < length p.functions
-      → StandsIn (table_words m p plans) (4 * k) (map word_of (row (begin m p plans k)))
-  row_stands k lt =
-      let rows = rows_below m p plans (length p.functions) in
-      let runtime = words_below m p plans true (length p.functions) in
-      stands_left (map word_of (rows ++ start_block m p)) runtime (map word_of (row (begin m p plans k))) (4 * k)
-      (stands_mapped word_of (rows ++ start_block m p) (row (begin m p plans k)) (4 * k)
-      (stands_left rows (start_block m p) (row (begin m p plans k)) (4 * k) (row_in k (length p.functions) lt)))
+  abbrev rows : List Instr
+  rows = rows_below m p plans (length p.functions)
 
-  -- the start, which has nine, behind all entries
-  pub start_stands : StandsIn (table_words m p plans) (4 * length p.functions) (map word_of (start_block m p))
-  start_stands =
-      let rows = rows_below m p plans (length p.functions) in
-      let runtime = words_below m p plans true (length p.functions) in
-      stands_left (map word_of (rows ++ start_block m p)) runtime (map word_of (start_block m p))
-      (4 * length p.functions)
-      (stands_mapped word_of (rows ++ start_block m p) (start_block m p) (4 * length p.functions)
-      (subst (λ a. StandsIn (rows ++ start_block m p) a (start_block m p)) (rows_length (length p.functions))
-      (stands_last rows (start_block m p))))
+  abbrev cut : ℕ
+  cut = 4 * source_count p
 
-  -- a function of the runtime, behind the start
-  first_length : length (map word_of (rows_below m p plans (length p.functions) ++ start_block m p))
-      ≡ 4 * length p.functions + 9
-  first_length =
-      let rows = rows_below m p plans (length p.functions) in
+  abbrev runtime : List ℕ
+  runtime = words_below m p plans true (length p.functions)
+
+  cut_length : length (take cut rows) ≡ cut
+  cut_length =
       let len = rows_length (length p.functions) in
-      length-map (rows ++ start_block m p) word_of ∙ length-append rows (start_block m p) ∙ omega arith
+      let within = source_within p in
+      length-take-le cut rows (omega arith)
+
+  -- what stands among the instructions before the functions of the runtime
+  of_instrs : (part : List Instr) (at : ℕ) → StandsIn (table_instrs m p rows) at part
+      → StandsIn (table_words m p plans) at (map word_of part)
+  of_instrs part at h = stands_left (map word_of (table_instrs m p rows)) runtime (map word_of part) at
+      (stands_mapped word_of (table_instrs m p rows) part at h)
+
+  -- behind the entries that stand before the start
+  of_rest : (part : List Instr) (at : ℕ) → StandsIn (start_with_tails m p ++ drop cut rows) at part
+      → StandsIn (table_words m p plans) (cut + at) (map word_of part)
+  of_rest part at h = of_instrs part (cut + at)
+      (subst (λ n. StandsIn (table_instrs m p rows) (n + at) part) cut_length
+      (stands_right (take cut rows) (start_with_tails m p ++ drop cut rows) part at h))
+
+  pub row_before : (k : ℕ) → k < source_count p
+      → StandsIn (table_words m p plans) (4 * k) (map word_of (row (begin m p plans k)))
+  row_before k lt =
+      let within = source_within p in
+      let part = row (begin m p plans k) in
+      of_instrs part (4 * k) (stands_left (take cut rows) (start_with_tails m p ++ drop cut rows) part (4 * k)
+      (stands_taken rows part (4 * k) cut (row_in k (length p.functions) (omega arith)) (omega arith)))
+
+  pub row_behind : (k : ℕ) → source_count p ≤ k → k < length p.functions
+      → StandsIn (table_words m p plans) (4 * k + (9 + length tails)) (map word_of (row (begin m p plans k)))
+  row_behind k le lt =
+      let part = row (begin m p plans k) in
+      let long = length-append (start_block m p) tails in
+      let at : cut + (length (start_with_tails m p) + (4 * k - cut)) ≡ 4 * k + (9 + length tails) = omega arith in
+      subst (λ n. StandsIn (table_words m p plans) n (map word_of part)) at
+      (of_rest part (length (start_with_tails m p) + (4 * k - cut))
+      (stands_right (start_with_tails m p) (drop cut rows) part (4 * k - cut)
+      (stands_dropped rows part (4 * k) cut (row_in k (length p.functions) lt) (omega arith))))
+
+  -- the start, which has nine, behind the first entries
+  pub start_stands : StandsIn (table_words m p plans) cut (map word_of (start_block m p))
+  start_stands =
+      let at : cut + 0 ≡ cut = omega arith in
+      subst (λ n. StandsIn (table_words m p plans) n (map word_of (start_block m p))) at
+      (of_rest (start_block m p) 0 (stands_left (start_with_tails m p) (drop cut rows) (start_block m p) 0
+      (stands_first (start_block m p) tails)))
+
+  -- the tails
+  pub tails_stand : StandsIn (table_words m p plans) (cut + 9) (map word_of tails)
+  tails_stand = of_rest tails 9 (stands_left (start_with_tails m p) (drop cut rows) tails 9
+      (stands_last (start_block m p) tails))
+
+  -- a function of the runtime, behind all entries
+  pub first_length : length (map word_of (table_instrs m p rows)) ≡ 4 * length p.functions + (9 + length tails)
+  first_length =
+      let len = rows_length (length p.functions) in
+      let parts = ap length (take-append-drop cut rows) in
+      let sum = length-append (take cut rows) (drop cut rows) in
+      let all = length-append (take cut rows) (start_with_tails m p ++ drop cut rows) in
+      let rest = length-append (start_with_tails m p) (drop cut rows) in
+      let long = length-append (start_block m p) tails in
+      length-map (table_instrs m p rows) word_of ∙ omega arith
 
   pub runtime_stands : (k : ℕ) → k < length p.functions → is_of true (function_in p k) ≡ true
-      → StandsIn (table_words m p plans) (4 * length p.functions + 9 + length (words_below m p plans true k))
+      → StandsIn (table_words m p plans)
+      (4 * length p.functions + (9 + length tails) + length (words_below m p plans true k))
       (function_words m p plans k)
   runtime_stands k lt of =
-      let first = map word_of (rows_below m p plans (length p.functions) ++ start_block m p) in
-      let runtime = words_below m p plans true (length p.functions) in
+      let first = map word_of (table_instrs m p rows) in
       subst (λ n. StandsIn (table_words m p plans) (n + length (words_below m p plans true k))
       (function_words m p plans k)) first_length
       (stands_right first runtime (function_words m p plans k) (length (words_below m p plans true k))

@@ -11,7 +11,6 @@ use Rattle.rv_isa.specs.declared.instruction.RegOp.TheVariants.{Add, Sub, Mul}
 use Rattle.rv_isa.specs.declared.instruction.RegOp32.{RegOp32}
 use Rattle.rv_isa.specs.declared.instruction.Instr.{Instr}
 use Rattle.rv_isa.specs.declared.instruction.Instr.TheVariants.{Lui, Load, Store, OpImm, ShiftImm, Op, Op32, Ecall}
-use Rattle.sb_base.specs.Endings.{code_of, report_of}
 use Rattle.flat_meaning.specs.declared.instruction.RightOperand.{RightOperand}
 use Rattle.flat_meaning.specs.declared.instruction.RightOperand.TheVariants as right
 use Rattle.flat_meaning.specs.declared.instruction.FlatInstruction.{FlatInstruction}
@@ -153,26 +152,9 @@ abbrev pub exit_block : (status : Location) → (base : ℕ) → List Instr
 exit_block y base =
     fetch y base left_scratch ++ (OpImm Addi 10 (used y left_scratch) 0 ∷ OpImm Addi 17 0 93 ∷ Ecall ∷ [])
 
--- the bytes of a report, stored one behind another in the words of arguments from an offset on
-abbrev pub report_bytes : (offset : ℕ) → List ℕ → List Instr
-report_bytes k [] = []
-report_bytes k (b ∷ bs) =
-    OpImm Addi left_scratch 0 (b % 2 ^ 11) ∷ Store Sb argument_words left_scratch (k % 2 ^ 12)
-    ∷ report_bytes (suc k) bs
-
--- one write of all of them to the error output, where there are any
-abbrev pub report_block : (report : List ℕ) → List Instr
-report_block [] = []
-report_block (b ∷ bs) = report_bytes 0 (b ∷ bs) ++ asks 64 2 (length (b ∷ bs) % 2 ^ 11)
-
--- a report, and then the ending with a status
-abbrev pub end_block : (report : List ℕ) → (status : ℕ) → List Instr
-end_block report status =
-    report_block report ++ (OpImm Addi 10 0 (status % 2 ^ 11) ∷ OpImm Addi 17 0 93 ∷ Ecall ∷ [])
-
--- the machine's instructions for an instruction that stays in its function, but for its jump or branch: where
--- values are
--- kept, the register of its activation record, and the first address less what a call of it is charged
+-- the machine's instructions for an instruction that stays in its function, but for its jump or branch, and that does
+-- not end the run: where values are kept, the register of its activation record, and the first address less what a
+-- call of it is charged
 abbrev pub local_block : (ℕ → Location) → (base begin : ℕ) → FlatInstruction → List Instr
 local_block place base begin (flat.Constant x n) =
     constant (used (place x) left_scratch) (low_bits 64 n) ++ keep (place x) base left_scratch
@@ -196,5 +178,5 @@ local_block place base begin (flat.Return y) = []
 local_block place base begin (flat.Get x) = asks 63 0 1 ++ received_block (place x) base
 local_block place base begin (flat.Put x) = sent_block (place x) base
 local_block place base begin (flat.Exit x) = exit_block (place x) base
-local_block place base begin (flat.End e) = end_block (report_of e) (code_of e)
+local_block place base begin (flat.End e) = []
 local_block place base begin (flat.Charged x) = charged_block (place x) base begin

@@ -1,10 +1,9 @@
 -- The machine's instructions for each instruction of a program under its plans, and where they stand.
 use Rattle.std.specs.Prelude.{◌≡◌, ℕ, ◌+◌, ◌-◌, ◌*◌, ◌^◌, ◌%◌, ◌<◌, ◌≤◌, Bool, true, false, not, ◌&&◌, nat_lt, List}
 use Rattle.std.specs.Prelude.{[], ◌∷◌, ◌++◌, length, Option, Some, None, slice_get}
-use Rattle.std.specs.List.{All}
 use Rattle.sb_base.specs.declared.ending.Ending.{Ending}
-use Rattle.sb_base.specs.Endings.{code_of, report_of}
-use Rattle.addr_map.specs.Places.{MapSizes, region_start, function_address, code_begin, code_size}
+use Rattle.sb_base.specs.Endings.{code_of}
+use Rattle.addr_map.specs.Places.{MapSizes, region_start, code_begin, code_size}
 use Rattle.addr_map.specs.declared.region.Region.TheVariants.{Calls}
 use Rattle.rv_isa.specs.declared.instruction.LoadOp.{LoadOp}
 use Rattle.rv_isa.specs.declared.instruction.StoreOp.{StoreOp}
@@ -30,7 +29,9 @@ use Rattle.reg_plan.specs.Accepted.{is_live}
 use Rattle.machine_laws.specs.declared.location.Location.TheVariants.{Frame}
 use Rattle.machine_laws.specs.Blocks.Places.{home, location, frame_register, callee_scratch, left_scratch}
 use Rattle.machine_laws.specs.Blocks.Blocks.{IsShort, RightIsShort, constant, used, used_right, fetch, local_block}
+use Rattle.machine_laws.specs.Blocks.Tails.{line_of, tails, end_block}
 use Rattle.machine_laws.specs.Calls.Calls.{Keeping, call_block, back_block, entry_block, return_block, row}
+use Rattle.machine_laws.specs.Calls.Table.{tails_address, row_address}
 
 -- how a function keeps its values under a plan: only before an instruction of its own is a value live
 abbrev pub keeping_of : Option FlatFunction → Option FunctionPlan → Keeping
@@ -77,7 +78,7 @@ shape_of p k (flat.Call g first x) = Some (record {
   count = parameters_of (function_in p g);
   into = x;
   results = results_of (function_in p g);
-  aim = constant callee_scratch (function_address g);
+  aim = constant callee_scratch (row_address p g);
   target = callee_scratch;
 })
 shape_of p k (flat.CallAddress y first n x r) = Some (record {
@@ -116,6 +117,7 @@ block_in m p f k pc (flat.Call g first x) = shaped_block k pc (shape_of p k (fla
 block_in m p f k pc (flat.CallAddress y first n x r) =
     shaped_block k pc (shape_of p k (flat.CallAddress y first n x r))
 block_in m p f k pc (flat.Return y) = return_block k y (results_of (function_in p f)) ++ (Jalr 0 1 0 ∷ [])
+block_in m p f k pc (flat.End e) = end_block (tails_address p) e
 block_in m p f k pc i = local_block k.place k.base (charged_from m p f) i
 
 unfoldable pub block : MapSizes → FlatProgram → List FunctionPlan → (function pc : ℕ) → FlatInstruction → List Instr
@@ -161,8 +163,8 @@ pub record BranchStands (layout : Layout) (op : BranchOp) (a b from next to : �
 
 -- Where the code of a program stands: the block of each instruction at an address, the next one's behind it; jumps and
 -- branches to the addresses of their targets, where these are of the function; before the first instruction the entry
--- block, to which the function's entry of the jump table leads. What the functions of the program have lies in compiled
--- code, what those of the runtime have lies before it.
+-- block, to which the function's entry of the jump table leads; and the tails of endings. What the functions of the
+-- program have lies in compiled code, what those of the runtime have lies before it.
 pub record IsLaid (map : MapSizes) (program : FlatProgram) (plans : List FunctionPlan) (layout : Layout)
     (address : (function pc : ℕ) → ℕ) (entry : (function : ℕ) → ℕ) : Type 0 where
   pub blocks : (f pc : ℕ) (i : FlatInstruction) → instruction_at program f pc ≡ Some i
@@ -183,11 +185,13 @@ pub record IsLaid (map : MapSizes) (program : FlatProgram) (plans : List Functio
   pub first : (f : ℕ) (g : FlatFunction) → function_in program f ≡ Some g
       → address f 0 ≡ entry f + 4 * length (entry_block (keeping program plans f) g.parameters)
   pub rows : (f : ℕ) (g : FlatFunction) → function_in program f ≡ Some g
-      → AllStand layout (function_address f) (row (entry f))
+      → AllStand layout (row_address program f) (row (entry f))
+  pub tails_stand : AllStand layout (tails_address program) tails
+  pub tails_end : tails_address program + 4 * length tails ≤ code_begin
   pub whole : (f : ℕ) (g : FlatFunction) → function_in program f ≡ Some g → entry f % 4 ≡ 0
   pub aligned : (f pc : ℕ) (i : FlatInstruction) → instruction_at program f pc ≡ Some i → address f pc % 4 ≡ 0
   pub low : (f : ℕ) (g : FlatFunction) → function_in program f ≡ Some g → entry f < 2 ^ 31 - 2 ^ 11
-  pub numbered : (f : ℕ) (g : FlatFunction) → function_in program f ≡ Some g → function_address f < code_begin
+  pub numbered : (f : ℕ) (g : FlatFunction) → function_in program f ≡ Some g → row_address program f < code_begin
   pub of_code : (f pc : ℕ) (i : FlatInstruction) → instruction_at program f pc ≡ Some i
       → is_runtime_function (function_in program f) ≡ false
       → (code_begin ≤ address f pc)
@@ -197,8 +201,8 @@ pub record IsLaid (map : MapSizes) (program : FlatProgram) (plans : List Functio
       → address f pc + 4 * length (block map program plans f pc i) ≤ code_begin
 
 -- what the meaning of flat code does not ask, and the machine's instructions need: offsets of loads and stores fit
--- their fields, numbers have 32 bits with their sign, reports and statuses are bytes, each record has room for its
--- return address, and the words of arguments are enough
+-- their fields, numbers have 32 bits with their sign, lines have 32 bits, statuses are bytes, each record has room for
+-- its return address, and the words of arguments are enough
 pub record IsEncodable (program : FlatProgram) : Type 0 where
   pub load_offset : (f pc : ℕ) (op : LoadOp) (x y offset : ℕ)
       → instruction_at program f pc ≡ Some (flat.Load op x y offset) → offset < 2 ^ 11
@@ -211,8 +215,7 @@ pub record IsEncodable (program : FlatProgram) : Type 0 where
       → instruction_at program f pc ≡ Some (flat.Operate32 op x y z) → RightIsShort z
   pub branch : (f pc : ℕ) (op : BranchOp) (y : ℕ) (z : RightOperand) (past : ℕ)
       → instruction_at program f pc ≡ Some (flat.Branch op y z past) → RightIsShort z
-  pub report : (f pc : ℕ) (e : Ending) → instruction_at program f pc ≡ Some (flat.End e)
-      → All (λ b. b < 256) (report_of e)
+  pub line : (f pc : ℕ) (e : Ending) → instruction_at program f pc ≡ Some (flat.End e) → line_of e < 2 ^ 32
   pub status : (f pc : ℕ) (e : Ending) → instruction_at program f pc ≡ Some (flat.End e) → code_of e < 256
   pub rooms : (f : ℕ) (g : FlatFunction) → function_in program f ≡ Some g → 8 ≤ g.room
   pub parameters : (f : ℕ) (g : FlatFunction) → function_in program f ≡ Some g → g.parameters ≤ 1024

@@ -1,6 +1,6 @@
 -- Where a program begins on the machine, and when its image can.
 use Rattle.std.specs.Prelude.{◌≡◌, ℕ, ◌<◌, ◌≤◌, true, false, List, [], ◌∷◌, ◌++◌, Some, replicate}
-use Rattle.addr_map.specs.Places.{MapSizes, region_start, region_size, function_address}
+use Rattle.addr_map.specs.Places.{MapSizes, region_start, region_size}
 use Rattle.addr_map.specs.declared.region.Region.TheVariants.{Arguments, Calls, RuntimeCalls}
 use Rattle.rv_isa.specs.declared.instruction.Instr.{Instr}
 use Rattle.rv_isa.specs.declared.instruction.Instr.TheVariants.{Jalr}
@@ -14,6 +14,7 @@ use Rattle.flat_meaning.specs.Calls.{function_in, room_if}
 use Rattle.flat_meaning.specs.Meaning.{instruction_at}
 use Rattle.machine_laws.specs.Blocks.Places.{program_frame, argument_words, runtime_frame, callee_scratch}
 use Rattle.machine_laws.specs.Blocks.Blocks.{wide}
+use Rattle.machine_laws.specs.Calls.Table.{row_address}
 use Rattle.machine_laws.specs.Following.Matching.{object_bytes, space_bytes}
 
 -- the registers of the back end, and the call of the entry
@@ -22,7 +23,7 @@ start_block m p =
     wide program_frame (region_start m Calls)
     ++ (wide argument_words (region_start m Arguments)
     ++ (wide runtime_frame (region_start m RuntimeCalls)
-    ++ (wide callee_scratch (function_address p.entry) ++ (Jalr 1 callee_scratch 0 ∷ []))))
+    ++ (wide callee_scratch (row_address p p.entry) ++ (Jalr 1 callee_scratch 0 ∷ []))))
 
 -- The entry takes no arguments, its activation record fits, and it begins with three turns: they count as much as the
 -- instructions take that are done before the first of the entry.

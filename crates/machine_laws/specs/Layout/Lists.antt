@@ -3,7 +3,7 @@
 -- at the end stands for all places behind the last instruction.
 use Rattle.std.specs.Prelude.{◌≡◌, ℕ, zero, suc, ◌+◌, ◌-◌, ◌*◌, ◌^◌, ◌%◌, ◌<◌, ◌≤◌, true, false, nat_lt, if◌then◌else◌}
 use Rattle.std.specs.Prelude.{List, [], ◌∷◌, ◌++◌, map, length, Some, slice_get}
-use Rattle.addr_map.specs.Places.{MapSizes, function_address, code_begin, code_size}
+use Rattle.addr_map.specs.Places.{MapSizes, code_begin, code_size}
 use Rattle.byteorder.specs.Endian.{little_bytes}
 use Rattle.rv_isa.specs.declared.instruction.Instr.{Instr}
 use Rattle.rv_isa.specs.declared.instruction.Instr.TheVariants.{Ebreak}
@@ -23,6 +23,8 @@ use Rattle.reg_plan.specs.declared.plan.FunctionPlan.{FunctionPlan}
 use Rattle.machine_laws.specs.Blocks.Places.{left_scratch}
 use Rattle.machine_laws.specs.Blocks.Blocks.{used, used_right}
 use Rattle.machine_laws.specs.Calls.Calls.{Keeping, entry_block, row}
+use Rattle.machine_laws.specs.Blocks.Tails.{tails}
+use Rattle.machine_laws.specs.Calls.Table.{tails_address, row_address}
 use Rattle.machine_laws.specs.Following.Code.{keeping, block}
 
 abbrev pub plain : List Instr → List Item
@@ -81,7 +83,8 @@ pub record HasWordsAt (layout : Layout) (address : ℕ) (words : List ℕ) : Typ
   pub end : address + 4 * length words ≤ code_begin + code_size
 
 -- Each function's assembled words stand in memory: those of the program's in compiled code, the runtime's before it;
--- and the entries of the jump table lead to them.
+-- the entries of the jump table lead to them, and the tails
+-- of endings stand.
 pub record ArePlaced (map : MapSizes) (program : FlatProgram) (plans : List FunctionPlan) (layout : Layout) (begin : ℕ
     → ℕ)
     (words : ℕ → List ℕ) (place : (function item : ℕ) → ℕ) : Type 0 where
@@ -91,8 +94,10 @@ pub record ArePlaced (map : MapSizes) (program : FlatProgram) (plans : List Func
       → (assembled f g there).place k ≡ place f k
   pub placed : (f : ℕ) (g : FlatFunction) → function_in program f ≡ Some g → HasWordsAt layout (begin f) (words f)
   pub rows : (f : ℕ) (g : FlatFunction) → function_in program f ≡ Some g
-      → AllStand layout (function_address f) (row (begin f))
-  pub numbered : (f : ℕ) (g : FlatFunction) → function_in program f ≡ Some g → function_address f < code_begin
+      → AllStand layout (row_address program f) (row (begin f))
+  pub tails_stand : AllStand layout (tails_address program) tails
+  pub tails_end : tails_address program + 4 * length tails ≤ code_begin
+  pub numbered : (f : ℕ) (g : FlatFunction) → function_in program f ≡ Some g → row_address program f < code_begin
   pub of_code : (f : ℕ) (g : FlatFunction) → function_in program f ≡ Some g → g.is_runtime ≡ false
       → code_begin ≤ begin f
   pub of_runtime : (f : ℕ) (g : FlatFunction) → function_in program f ≡ Some g → g.is_runtime ≡ true

@@ -1,6 +1,7 @@
 -- The words of the two segments of code that are generated for a program: the functions of the program one behind the
--- other in compiled code; the jump table, the start and the functions of the runtime before it.
-use Rattle.std.specs.Prelude.{ℕ, zero, suc, ◌+◌, ◌*◌, ◌<◌, ◌≤◌, Bool, true, false, not, if◌then◌else◌}
+-- other in compiled code; the jump table with the start and the tails of endings, and the functions of the runtime,
+-- before it.
+use Rattle.std.specs.Prelude.{ℕ, zero, suc, ◌+◌, ◌*◌, ◌<◌, ◌≤◌, Bool, true, false, not, if◌then◌else◌, take, drop}
 use Rattle.std.specs.Prelude.{List, [], ◌++◌, map, length, Option, Some, None}
 use Rattle.addr_map.specs.Places.{MapSizes, functions_begin, code_begin, code_size}
 use Rattle.rv_isa.specs.declared.instruction.Instr.{Instr}
@@ -12,7 +13,9 @@ use Rattle.flat_meaning.specs.declared.function.FlatProgram.{FlatProgram}
 use Rattle.flat_meaning.specs.Calls.{function_in}
 use Rattle.flat_meaning.specs.Meaning.{is_runtime_function}
 use Rattle.reg_plan.specs.declared.plan.FunctionPlan.{FunctionPlan}
+use Rattle.machine_laws.specs.Blocks.Tails.{tails}
 use Rattle.machine_laws.specs.Calls.Calls.{row}
+use Rattle.machine_laws.specs.Calls.Table.{source_count, runtime_begin}
 use Rattle.machine_laws.specs.Following.Start.{start_block}
 use Rattle.machine_laws.specs.Layout.Lists.{items_of}
 
@@ -34,13 +37,9 @@ unfoldable pub words_below : MapSizes → FlatProgram → List FunctionPlan → 
 words_below m p plans r zero = []
 words_below m p plans r (suc k) = words_below m p plans r k ++ words_if m p plans r k
 
--- where the jump table ends and the start begins
-abbrev pub start_address : FlatProgram → ℕ
-start_address p = functions_begin + 16 * length p.functions
-
--- where a function begins: the start has nine words
+-- where a function begins
 abbrev pub begin_if : MapSizes → FlatProgram → List FunctionPlan → (runtime : Bool) → (function : ℕ) → ℕ
-begin_if m p plans true f = start_address p + 36 + 4 * length (words_below m p plans true f)
+begin_if m p plans true f = runtime_begin p + 4 * length (words_below m p plans true f)
 begin_if m p plans false f = code_begin + 4 * length (words_below m p plans false f)
 
 unfoldable pub begin : MapSizes → FlatProgram → List FunctionPlan → (function : ℕ) → ℕ
@@ -54,9 +53,18 @@ rows_below m p plans (suc k) = rows_below m p plans k ++ row (begin m p plans k)
 abbrev pub code_words : MapSizes → FlatProgram → List FunctionPlan → List ℕ
 code_words m p plans = words_below m p plans false (length p.functions)
 
+-- the start, with the tails of endings
+abbrev pub start_with_tails : MapSizes → FlatProgram → List Instr
+start_with_tails m p = start_block m p ++ tails
+
+-- the entries with the start and the tails, which stand behind those of the first functions
+abbrev pub table_instrs : MapSizes → FlatProgram → (rows : List Instr) → List Instr
+table_instrs m p rows =
+    take (4 * source_count p) rows ++ (start_with_tails m p ++ drop (4 * source_count p) rows)
+
 abbrev pub table_words : MapSizes → FlatProgram → List FunctionPlan → List ℕ
 table_words m p plans =
-    map word_of (rows_below m p plans (length p.functions) ++ start_block m p)
+    map word_of (table_instrs m p (rows_below m p plans (length p.functions)))
     ++ words_below m p plans true (length p.functions)
 
 -- every function can be assembled

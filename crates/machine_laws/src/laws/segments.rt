@@ -14,11 +14,12 @@ ghost use Rattle.reg_plan.specs.Tests.{AreAccepted};
 ghost use Rattle.rv_asm.specs.Forms.{IsAssemblable, longest_size};
 ghost use Rattle.rv_sim.specs.Behaviour.{behaviour};
 ghost use Rattle.machine_laws.specs.View.Segments.{Hold};
+ghost use Rattle.machine_laws.specs.Calls.Table.{start_address};
 ghost use Rattle.machine_laws.specs.Following.Code.{IsEncodable};
 ghost use Rattle.machine_laws.specs.Following.Matching.{object_bytes, space_bytes};
 ghost use Rattle.machine_laws.specs.Following.Start.{layout_of, IsStartable, begins};
 ghost use Rattle.machine_laws.specs.Layout.Lists.{bytes_of, items_of, ArePlaced};
-ghost use Rattle.machine_laws.specs.Segments.Segments.{start_address, begin, function_words, code_words, table_words};
+ghost use Rattle.machine_laws.specs.Segments.Segments.{begin, function_words, code_words, table_words};
 ghost use Rattle.machine_laws.specs.Segments.Segments.{FitsSegments};
 
 use rv_asm::laws::targets_are_met;

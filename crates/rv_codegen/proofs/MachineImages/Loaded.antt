@@ -28,7 +28,8 @@ use Rattle.machine_laws.specs.Following.Matching.{object_bytes, space_bytes}
 use Rattle.machine_laws.specs.Following.Start.{IsStartable, begins}
 use Rattle.machine_laws.proofs.Following.Regions.{regions}
 use Rattle.machine_laws.specs.Layout.Lists.{bytes_of}
-use Rattle.machine_laws.specs.Segments.Segments.{start_address, code_words, table_words, FitsSegments}
+use Rattle.machine_laws.specs.Segments.Segments.{code_words, table_words, FitsSegments}
+use Rattle.machine_laws.specs.Calls.Table.{start_address}
 use Rattle.rv_codegen.specs.Generated.{IsGenerated}
 use Rattle.rv_codegen.proofs.MachineImages.Sizes.{in_order}
 use Rattle.rv_codegen.specs.MachineImages.Image.{image_with, written, filled, IsImage, ImageFollows, data_memory}

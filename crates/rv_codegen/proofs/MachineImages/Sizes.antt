@@ -1,5 +1,5 @@
 -- How much memory the segments of an image take.
-use Rattle.std.proofs.Common.{ℕ, ◌+◌, ◌*◌, ◌<◌, ◌≤◌, List, length, map, arith}
+use Rattle.std.proofs.Common.{ap, ℕ, ◌+◌, ◌*◌, ◌<◌, ◌≤◌, List, length, map, arith}
 use Rattle.std.proofs.Common.{length-append, ◌++◌, true}
 use Rattle.std.proofs.lemmas.List.{length-map}
 use Rattle.addr_map.specs.Places.{MapSizes, AreMapped, region_size, region_start}
@@ -13,9 +13,10 @@ use Rattle.machine_laws.specs.Following.Matching.{object_bytes, space_bytes}
 use Rattle.machine_laws.specs.Following.Start.{start_block}
 use Rattle.machine_laws.proofs.Following.Regions.{regions}
 use Rattle.machine_laws.proofs.CodeLayout.Bytes.{bytes_length}
-use Rattle.machine_laws.specs.Segments.Segments.{rows_below, table_words, code_words, words_below}
+use Rattle.machine_laws.specs.Calls.Table.{source_count}
+use Rattle.machine_laws.specs.Segments.Segments.{table_words, code_words}
 use Rattle.machine_laws.specs.Segments.Segments.{FitsSegments}
-use Rattle.machine_laws.proofs.Segments.Standing.{rows_length}
+use Rattle.machine_laws.proofs.Segments.Standing.{start_stands}
 use Rattle.rv_codegen.specs.MachineImages.Image.{written}
 
 -- ---- data
@@ -52,15 +53,16 @@ spaces_size m h = omega (arith, shadow_size m h, locks_size m h, free_locks_size
 
 -- ---- code
 
--- the start stands behind the jump table, whose entries have four words
+-- the start stands behind as many entries of four words as there are functions at most
 table_length : (m : MapSizes) (p : FlatProgram) (plans : List FunctionPlan)
-    → 4 * length p.functions < length (table_words m p plans)
+    → 4 * source_count p < length (table_words m p plans)
 table_length m p plans =
-    let rows = rows_below m p plans (length p.functions) in
-    let a = rows_length m p plans (length p.functions) in
-    let b = length-append rows (start_block m p) in
-    let c = length-map (rows ++ start_block m p) word_of in
-    let d = length-append (map word_of (rows ++ start_block m p)) (words_below m p plans true (length p.functions)) in
+    let s = start_stands m p plans in
+    let whole = ap length s.is in
+    let a = length-append s.before (map word_of (start_block m p) ++ s.behind) in
+    let b = length-append (map word_of (start_block m p)) s.behind in
+    let at_is = s.at_is in
+    let long = length-map (start_block m p) word_of in
     omega arith
 
 -- ---- together

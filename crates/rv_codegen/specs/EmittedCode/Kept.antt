@@ -10,7 +10,9 @@ use Rattle.rv_isa.specs.declared.instruction.Instr.TheVariants.{Jalr}
 use Rattle.machine_laws.specs.declared.location.Location.{Location}
 use Rattle.machine_laws.specs.declared.location.Location.TheVariants.{Register, Frame}
 use Rattle.machine_laws.specs.Blocks.Blocks.{local_block}
+use Rattle.machine_laws.specs.Blocks.Tails.{end_block}
 use Rattle.machine_laws.specs.Calls.Calls.{Keeping, return_block}
+use Rattle.machine_laws.specs.Calls.Table.{tails_address}
 use Rattle.machine_laws.specs.Following.Code.{keeping_of, shape_of, shaped_block}
 
 abbrev pub kept_by : FlatFunction → FunctionPlan → Keeping
@@ -34,6 +36,7 @@ block_of p f plan begin pc (flat.Call g first x) =
 block_of p f plan begin pc (flat.CallAddress y first n x r) =
     shaped_block (kept_by f plan) pc (shape_of p (kept_by f plan) (flat.CallAddress y first n x r))
 block_of p f plan begin pc (flat.Return y) = return_block (kept_by f plan) y f.results ++ (Jalr 0 1 0 ∷ [])
+block_of p f plan begin pc (flat.End e) = end_block (tails_address p) e
 block_of p f plan begin pc i = local_block (kept_by f plan).place (kept_by f plan).base begin i
 
 -- a place whose numbers fit an instruction's operands, or are computed with

@@ -20,14 +20,15 @@ use Rattle.machine_laws.specs.Following.Code.{IsEncodable}
 use Rattle.machine_laws.specs.Following.Matching.{object_bytes, space_bytes}
 use Rattle.machine_laws.specs.Following.Start.{IsStartable, begins}
 use Rattle.machine_laws.specs.Layout.Lists.{bytes_of}
-use Rattle.machine_laws.specs.Segments.Segments.{start_address, code_words, table_words, FitsSegments}
+use Rattle.machine_laws.specs.Segments.Segments.{code_words, table_words, FitsSegments}
+use Rattle.machine_laws.specs.Calls.Table.{start_address}
 
 -- a segment of code: the file has all its bytes
 abbrev pub code_part : (address : ℕ) → (words : List ℕ) → WrittenSegment
 code_part a words = record { address = a; bytes = bytes_of words; size = length (bytes_of words) }
 
--- The four segments: the jump table, the start and the functions of the runtime; the functions of the program; the
--- objects, of which the file has the first bytes; and the runtime's spaces, as well.
+-- The four segments: the jump table with the start and the tails, and the functions of the runtime; the functions of
+-- the program; the objects, of which the file has the first bytes; and the runtime's spaces, as well.
 abbrev pub image_with : MapSizes → (start : ℕ) → (table compiled : List ℕ) → (objects spaces : List ℕ) → WrittenImage
 image_with m start table compiled objects spaces = record {
   entry = start;

@@ -1,6 +1,6 @@
 //! The instructions that stand for an instruction of flat code.
 
-ghost use Rattle.std.specs.Prelude.{◌≡◌, ◌+◌, ◌-◌, ◌<◌, ◌++◌, true, false, length, Some, OnOk};
+ghost use Rattle.std.specs.Prelude.{◌≡◌, ◌+◌, ◌-◌, ◌<◌, ◌^◌, ◌++◌, true, false, length, Some, OnOk};
 ghost use Rattle.reg_plan.specs.Saves.Saves.{is_call, saved_below, saved_at};
 ghost use Rattle.addr_map.specs.Places.{region_start};
 ghost use Rattle.addr_map.specs.declared.region.Region.TheVariants.{Calls};
@@ -10,15 +10,18 @@ ghost use Rattle.machine_laws.specs.Blocks.Blocks.{local_block, used, used_right
 ghost use Rattle.machine_laws.specs.Blocks.Places.{location, frame_register, left_scratch};
 ghost use Rattle.machine_laws.specs.Following.Code.{block, keeping};
 ghost use Rattle.machine_laws.specs.Calls.Calls.{entry_block};
+ghost use Rattle.machine_laws.specs.Calls.Table.{source_count};
 ghost use Rattle.rv_codegen.specs.EmittedCode.Kept.{block_of};
 
 use crate::emission::calls::{
     Arguments, CallSite, Results, put_call, put_call_address, put_entry_of, put_return,
 };
+use crate::emission::endings::put_end;
 use crate::emission::local::{
-    put_charged, put_end, put_exit, put_get, put_load, put_move, put_nothing, put_number,
-    put_operate, put_operate32, put_put, put_store,
+    put_charged, put_exit, put_get, put_load, put_move, put_nothing, put_number, put_operate,
+    put_operate32, put_put, put_store,
 };
+use crate::emission::table::{row_address, tails_address};
 use crate::emission::values::{self, put_operands};
 use addr_map::{AddrMap, Region};
 use flat_meaning::{FlatFunction, FlatInstruction, FlatProgram, RightOperand};
@@ -26,11 +29,13 @@ use reg_plan::FunctionPlan;
 use rv_isa::{Instr, Reg};
 use std::alloc::AllocError;
 
-/// A function of a program, by its number, under the plans of all functions.
+/// A function of a program, by its number, under the plans of all functions. Before the start stand the entries of
+/// `sources` functions.
 #[derive(Clone, Copy)]
 pub struct PlannedFunction<'a> {
     pub program: &'a FlatProgram,
     pub plans: &'a [FunctionPlan],
+    pub sources: u32,
     pub number: u32,
 }
 
@@ -121,7 +126,6 @@ fn put_local(
         FlatInstruction::Get { into } => put_get(code, function, plan, into),
         FlatInstruction::Put { from } => put_put(code, function, plan, from),
         FlatInstruction::Exit { status } => put_exit(code, function, plan, status),
-        FlatInstruction::End(ending) => put_end(code, &ending),
         FlatInstruction::Charged { into } => put_charged(code, function, plan, into, begin),
         _ => Ok(()),
     }
@@ -131,12 +135,14 @@ fn put_local(
 fn put_block_in(
     code: &mut Vec<Instr>,
     program: &FlatProgram,
+    sources: u32,
     function: &FlatFunction,
     plan: &FunctionPlan,
     begin: u64,
     placed: &PlacedInstruction,
 ) -> Result<(), AllocError>
-    requires { is_call placed.now.instruction.now ≡ true
+    requires sources { sources ≡ source_count program.now }
+    requires saved { is_call placed.now.instruction.now ≡ true
         → placed.now.saved.now ≡ saved_below function.now plan.now placed.now.place (length plan.now.live.items) }
     ensures { OnOk result
         (code.new.items ≡ code.old.items
@@ -160,7 +166,13 @@ fn put_block_in(
                 },
                 saved: placed.saved,
             };
-            put_call(code, function, plan, &site, callee)
+            put_call(
+                code,
+                function,
+                plan,
+                &site,
+                row_address(program, sources, callee),
+            )
         }
         FlatInstruction::CallAddress {
             at,
@@ -181,6 +193,7 @@ fn put_block_in(
             put_call_address(code, function, plan, &site, at)
         }
         FlatInstruction::Return { from } => put_return(code, function, plan, from),
+        FlatInstruction::End(ending) => put_end(code, tails_address(sources), &ending),
         _ => put_local(code, function, plan, begin, placed.instruction),
     }
 }
@@ -195,6 +208,7 @@ pub fn put_block(
 ) -> Result<(), AllocError>
     requires function { planned.now.number < length planned.now.program.now.functions }
     requires plan { planned.now.number < length planned.now.plans.now }
+    requires sources { planned.now.sources ≡ source_count planned.now.program.now }
     requires saved { is_call placed.now.instruction.now ≡ true → placed.now.saved.now
         ≡ saved_at planned.now.program.now planned.now.plans.now planned.now.number placed.now.place }
     ensures { OnOk result
@@ -205,7 +219,15 @@ pub fn put_block(
     let function = &planned.program.functions.as_slice()[planned.number as usize];
     let plan = &planned.plans[planned.number as usize];
     let begin = charged_from(map, function);
-    put_block_in(code, planned.program, function, plan, begin, placed)
+    put_block_in(
+        code,
+        planned.program,
+        planned.sources,
+        function,
+        plan,
+        begin,
+        placed,
+    )
 }
 
 /// Puts the first instructions of a function, before those of its body: its return address and its arguments are

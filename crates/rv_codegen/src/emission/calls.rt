@@ -5,7 +5,6 @@ ghost use Rattle.std.specs.Prelude.{◌≡◌, ◌+◌, ◌*◌, ◌<◌, ◌≤
 ghost use Rattle.std.specs.Prelude.{if◌then◌else◌, OnOk, length};
 ghost use Rattle.reg_plan.specs.Effects.{is_among, many};
 ghost use Rattle.reg_plan.specs.Saves.Saves.{saved_below};
-ghost use Rattle.addr_map.specs.Places.{function_address};
 ghost use Rattle.rv_isa.specs.declared.instruction.RegOp.TheVariants.{Add};
 ghost use Rattle.rv_isa.specs.declared.instruction.Instr.TheVariants.{Jalr, Op};
 ghost use Rattle.machine_laws.specs.Blocks.Blocks.{constant, used, keep, load_at, store_at, fetch};
@@ -169,14 +168,6 @@ pub(crate) fn callee_scratch() -> Reg
     ensures { result ≡ callee_scratch }
 {
     Reg::new(28)
-}
-
-// The address of the jump table entry of a function.
-#[tactic(auto, unfolding(addr_map::specs::Places::function_address))]
-pub(crate) fn entry_address(number: u32) -> u64
-    ensures { result ≡ function_address number }
-{
-    0x1_0000 + 16 * u64::from(number)
 }
 
 // Whether a virtual register is one of the results of a call.
@@ -366,13 +357,13 @@ fn put_back(
     )
 }
 
-/// Puts a call of the function with a number.
+/// Puts a call of the function whose entry of the jump table has an address.
 pub(crate) fn put_call(
     code: &mut Vec<Instr>,
     function: &FlatFunction,
     plan: &FunctionPlan,
     site: &CallSite,
-    callee: u32,
+    callee: u64,
 ) -> Result<(), AllocError>
     requires place { site.now.place < 2 ^ 63 }
     requires saved { site.now.saved.now
@@ -381,10 +372,10 @@ pub(crate) fn put_call(
         (code.new.items ≡ code.old.items
         ++ call_of (kept_by function.now plan.now) site.now.place site.now.arguments.first site.now.arguments.count
         site.now.results.into site.now.results.count
-        (constant callee_scratch (function_address callee)) callee_scratch) }
+        (constant callee_scratch callee) callee_scratch) }
 {
     put_hand_over(code, function, plan, site)?;
-    put_constant(code, callee_scratch(), entry_address(callee))?;
+    put_constant(code, callee_scratch(), callee)?;
     put_jump(code, function, callee_scratch())?;
     put_back(code, function, plan, site)
 }

@@ -21,8 +21,8 @@ pub(crate) fn addi(rd: Reg, rs1: Reg, imm: u64) -> Instr
     }
 }
 
-// What LUI has of a number whose low 12 bits are added sign-extended.
-fn upper(number: u128) -> Imm20
+/// What LUI has of a number whose low 12 bits are added sign-extended.
+pub(crate) fn upper(number: u128) -> Imm20
     requires { number < 2 ^ 127 }
     ensures { result ≡ Rattle.machine_laws.specs.Blocks.Blocks.upper number }
 {

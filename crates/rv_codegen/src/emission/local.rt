@@ -1,13 +1,12 @@
 //! Instructions that stay in their function.
 
 ghost use Rattle.std.specs.Prelude.{◌≡◌, ◌+◌, ◌-◌, ◌<◌, ◌≤◌, ◌^◌, ◌%◌, ◌++◌, ◌∷◌, []};
-ghost use Rattle.std.specs.Prelude.{length, OnOk};
-ghost use Rattle.sb_base.specs.Endings.{report_of, code_of};
+ghost use Rattle.std.specs.Prelude.{OnOk};
 ghost use Rattle.rv_isa.specs.declared.instruction.ImmOp.TheVariants.{Addi};
 ghost use Rattle.rv_isa.specs.declared.instruction.Instr.TheVariants.{OpImm};
 ghost use Rattle.flat_meaning.specs.declared.instruction.FlatInstruction.TheVariants as flat;
 ghost use Rattle.machine_laws.specs.Blocks.Blocks.{move_block, charged_block, asks, received_block, sent_block};
-ghost use Rattle.machine_laws.specs.Blocks.Blocks.{exit_block, report_bytes, report_block, end_block, local_block};
+ghost use Rattle.machine_laws.specs.Blocks.Blocks.{exit_block, local_block};
 ghost use Rattle.machine_laws.specs.Blocks.Blocks.{keep, operator_block};
 ghost use Rattle.machine_laws.specs.Blocks.Places.{location, frame_register, left_scratch};
 
@@ -21,8 +20,6 @@ use crate::emission::values::{
 use flat_meaning::{FlatFunction, RightOperand};
 use reg_plan::FunctionPlan;
 use rv_isa::{Imm12, Instr, LoadOp, Reg, RegOp, RegOp32, StoreOp};
-use sb_base::Ending;
-use sb_base::ending::REPORT_ROOM;
 use std::alloc::AllocError;
 
 /// Puts a number into a virtual register.
@@ -338,51 +335,6 @@ pub(crate) fn put_exit(
     put_fetch(code, function, plan, u64::from(status), left_scratch())?;
     let status = used(function, plan, u64::from(status), left_scratch());
     code.push(addi(Reg::A0, status, 0))?;
-    code.push(addi(Reg::A7, Reg::ZERO, 93))?;
-    code.push(Instr::Ecall)?;
-    Ok(())
-}
-
-// Puts stores of bytes to the words of arguments, one behind another.
-#[tactic(auto, using(crate::proofs::EmittedCode::Lists::nothing_behind))]
-fn put_report_bytes(code: &mut Vec<Instr>, report: &[u8]) -> Result<(), AllocError>
-    requires { length report.now < 2 ^ 11 }
-    ensures { OnOk result (code.new.items ≡ code.old.items ++ report_bytes 0 report.now) }
-{
-    for (offset, byte) in report.iter().enumerate() {
-        code.push(addi(left_scratch(), Reg::ZERO, u64::from(*byte) % 0x800))?;
-        code.push(Instr::Store {
-            op: StoreOp::Sb,
-            rs1: argument_words(),
-            rs2: left_scratch(),
-            imm: Imm12::low(offset as u32),
-        })?;
-    }
-    Ok(())
-}
-
-// Puts a write of a report to the error output.
-#[tactic(auto, using(crate::proofs::EmittedCode::Lists::nothing_behind))]
-fn put_report(code: &mut Vec<Instr>, report: &[u8]) -> Result<(), AllocError>
-    requires { length report.now < 2 ^ 11 }
-    ensures { OnOk result (code.new.items ≡ code.old.items ++ report_block report.now) }
-{
-    if report.is_empty() {
-        return Ok(());
-    }
-    put_report_bytes(code, report)?;
-    put_asks(code, 64, 2, report.len() as u64 % 0x800)
-}
-
-/// Puts an ending with its report.
-pub(crate) fn put_end(code: &mut Vec<Instr>, ending: &Ending) -> Result<(), AllocError>
-    ensures { OnOk result
-        (code.new.items ≡ code.old.items ++ end_block (report_of ending.now) (code_of ending.now)) }
-{
-    let mut text = [0; REPORT_ROOM];
-    let length = ending.report_into(&mut text);
-    put_report(code, &text[..length])?;
-    code.push(addi(Reg::A0, Reg::ZERO, u64::from(ending.code()) % 0x800))?;
     code.push(addi(Reg::A7, Reg::ZERO, 93))?;
     code.push(Instr::Ecall)?;
     Ok(())

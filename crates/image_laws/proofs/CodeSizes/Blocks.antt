@@ -28,7 +28,6 @@ use Rattle.reg_plan.specs.Effects.{is_among, many}
 use Rattle.machine_laws.specs.declared.location.Location.{Location}
 use Rattle.machine_laws.specs.Blocks.Blocks.{constant, used, used_right, fetch, keep, fetch_right, operands}
 use Rattle.machine_laws.specs.Blocks.Blocks.{asks, received_block, operator_block, operate_block, operate32_block}
-use Rattle.machine_laws.specs.Blocks.Blocks.{end_block}
 use Rattle.machine_laws.specs.Blocks.Blocks.{local_block, wide, digits, load_at, store_at}
 use Rattle.machine_laws.specs.Blocks.Immediates.{is_immediate, immediate, immediate32, immediate_of, immediate32_of}
 use Rattle.machine_laws.proofs.Blocks.Lengths.{constant_length, fetch_length, keep_length}

@@ -143,9 +143,20 @@ module _ (l : Layout) (fit : Fits l) (area : ℕ) (low : spaces_begin ≤ area) 
       ∙ small_word (n / 10) (omega arith) in
       let five5 : v5.registers 5 ≡ n / 10 = with_same v4.registers 5 less (omega arith) ∙ less_is in
       let parts = all_append l is (Branch Bne 5 0 (2 ^ 13 - 20) ∷ []) v.pc stand in
-      let first = straight_comes l fit is c v parts.0
-      (tt, (tt, (tt, (subst (λ q. IsOfData l.object_bytes l.space_bytes q 1) (sym at)
-      (part_lies a 1 from (omega arith)), (tt, tt))))) h in
+      let first = straight_comes l fit is c v parts.0 (
+        tt,
+        (
+          tt,
+          (
+            tt,
+            (
+              subst (λ q. IsOfData l.object_bytes l.space_bytes q 1) (sym at)
+                  (part_lies a 1 from (omega arith)),
+              (tt, tt),
+            ),
+          ),
+        ),
+      ) h in
       let pc5 : v5.pc ≡ v.pc + 20 = let q : v.pc + 4 + 4 + 4 + 4 + 4 ≡ v.pc + 20 = omega arith in q in
       let twenty : v.pc + 4 * 5 ≡ v5.pc = omega (arith, pc5) in
       let stand5 = subst (λ q. AllStand l q (Branch Bne 5 0 (2 ^ 13 - 20) ∷ [])) twenty parts.1 in
@@ -339,8 +350,17 @@ module _ (l : Layout) (fit : Fits l) (area : ℕ) (low : spaces_begin ≤ area) 
       let mem : (performs newline v).memory ≡ store 1 v.memory (area + 63) 10 =
       ap (λ q. store 1 v.memory q (v2.registers 6)) at ∙ ap (store 1 v.memory (area + 63)) ten2 in
       record {
-        go = (tt, (tt, (subst (λ q. IsOfData l.object_bytes l.space_bytes q 1) (sym at)
-            (part_lies (area + 63) 1 (omega arith) (omega arith)), tt)));
+        go = (
+          tt,
+          (
+            tt,
+            (
+              subst (λ q. IsOfData l.object_bytes l.space_bytes q 1) (sym at)
+                  (part_lies (area + 63) 1 (omega arith) (omega arith)),
+              tt,
+            ),
+          ),
+        );
         ten = ten2;
         top = top2;
         memory = ap (λ q. q ∷ []) (ap (λ f. f (area + 63)) mem ∙ stored_byte v.memory (area + 63) 10 (omega arith));

@@ -1,6 +1,7 @@
 //! A routine made a function.
 
-ghost use Rattle.std.specs.Prelude.{◌≡◌, suc, ◌+◌, ◌-◌, ◌*◌, ◌<◌, ◌≤◌, ◌^◌, [], ◌∷◌, ◌++◌, IfOk, OnOk, length};
+ghost use Rattle.std.specs.Prelude.{◌≡◌, suc, ◌+◌, ◌-◌, ◌*◌, ◌<◌, ◌≤◌, ◌^◌, [], ◌∷◌, ◌++◌};
+ghost use Rattle.std.specs.Prelude.{IfOk, OnOk, length};
 ghost use Rattle.flat_meaning.specs.declared.instruction.FlatInstruction.TheVariants.{Constant, Return};
 ghost use Rattle.runtime_functions.specs.Status.{return_status};
 ghost use Rattle.runtime_functions.specs.Functions.{IsRuntimeFunction, function_body, own_homes, stub_place};

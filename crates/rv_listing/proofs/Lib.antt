@@ -1,0 +1,12 @@
+pub mod Accepted
+pub mod Bytes
+pub mod Cutting
+pub mod Decoded
+pub mod Digits
+pub mod FieldsRead
+pub mod InstructionRead
+pub mod LinesRead
+pub mod Names
+pub mod PieceRead
+pub mod Runs
+pub mod Trip

@@ -5,3 +5,4 @@ pub mod GivingOut
 pub mod Plans
 pub mod Exact
 pub mod Saves
+pub mod Order

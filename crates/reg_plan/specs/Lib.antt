@@ -4,6 +4,7 @@ pub mod Registers
 pub mod Flow
 pub mod Accepted
 pub mod Colours
+pub mod Order
 pub mod Planned
 pub mod Tests
 pub mod Saves

@@ -17,7 +17,9 @@ pub mod effects;
 pub mod flow;
 pub mod intervals;
 pub mod live;
+pub mod lookup;
 pub mod plan;
 pub mod planned;
 
+pub use crate::lookup::LiveLookup;
 pub use crate::plan::{FunctionPlan, LiveInterval, Place, Plan};

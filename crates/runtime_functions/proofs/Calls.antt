@@ -25,13 +25,11 @@ use Rattle.flat_meaning.specs.Meaning.{Context, Local, Goes, Ends, Leaves, Fails
 use Rattle.flat_meaning.specs.Meaning.{instruction_at, body_of, parameters_of, results_of, has_room, weight_of, enters}
 use Rattle.flat_meaning.proofs.Stored.{put_same, put_other}
 use Rattle.flat_routines.specs.Local.{local_run, local_step, act, counted}
-use Rattle.flat_routines.specs.Routine.{Outcome, Continues, Halts, Does, left_at}
+use Rattle.flat_routines.specs.Routine.{Outcome, Continues, Halts, left_at}
 use Rattle.flat_routines.specs.Lifted.{stage_of}
 use Rattle.flat_routines.specs.ExitStubs.{DoesWithStubs, EndsThere, AtStub, ComesToStub}
 use Rattle.flat_routines.proofs.ExitStubs.{stubbed}
 use Rattle.flat_routines.proofs.Lifted.{lifted}
-use Rattle.flat_routines.proofs.Steps.{has_self}
-use Rattle.flat_meaning.specs.Words.{IsOfWords}
 use Rattle.runtime_functions.specs.declared.status.ReturnStatus.{ReturnStatus}
 use Rattle.runtime_functions.specs.Status.{return_status, status_number}
 use Rattle.runtime_functions.specs.Functions.{stub_place, function_body}
@@ -90,7 +88,7 @@ module _ (c : Context) (code : List FlatInstruction) where
   run_from (suc n) Fails h = run_from n Fails tt
 
 -- an ending without a status has no report
-no_report : (e : Ending) → return_status e ≡ None → report_of e ≡ []
+pub no_report : (e : Ending) → return_status e ≡ None → report_of e ≡ []
 no_report (ending.Exit status) h = refl
 no_report (ending.Spatial l) h = absurd cc
 no_report (ending.Temporal l) h = absurd cc
@@ -101,7 +99,7 @@ no_report (ending.Stack l) h = absurd cc
 no_report (ending.Keys l) h = absurd cc
 no_report (ending.Abort l) h = absurd cc
 
-some_report : (e : Ending) (r : ReturnStatus) → return_status e ≡ Some r → 1 ≤ length (report_of e)
+pub some_report : (e : Ending) (r : ReturnStatus) → return_status e ≡ Some r → 1 ≤ length (report_of e)
 unfolding report_at
 some_report (ending.Exit status) r h = absurd cc
 some_report (ending.Spatial l) r h = omega arith
@@ -170,7 +168,7 @@ module _ (m : MapSizes) (p : FlatProgram) (s : CallSite) (fn : FlatFunction) (r 
   results_are : results_of (function_in p f) ≡ 1 + n
   results_are = ap results_of h.found ∙ h.is.results_are
 
-  weight_is : weight_of (function_in p f) ≡ 1
+  pub weight_is : weight_of (function_in p f) ≡ 1
   weight_is =
       ap weight_of h.found ∙ ap (λ b. if b then 1 else 2) (le-leb fn.room (2 ^ 11) h.is.room)
 
@@ -272,7 +270,7 @@ module _ (m : MapSizes) (p : FlatProgram) (s : CallSite) (fn : FlatFunction) (r 
     stage = Stands s.caller (s.place + 1) (after z) s.frames;
     comes = run_add (step m p) (1 + k) 1 begin ∙ ap (run (step m p) 1) (lifts k (length r) (Continues z) e)
         ∙ returns_it (length r) z (has_return r a).0;
-    called = λ kept. has_returned z z 0 z.work kept (λ i l. refl) refl (omega arith);
+    called = has_returned z z (z.values a) z.work refl (λ i l. refl) refl (omega arith);
   }
 
   -- the number of a status is put into its register
@@ -311,8 +309,9 @@ module _ (m : MapSizes) (p : FlatProgram) (s : CallSite) (fn : FlatFunction) (r 
             ∙ ap (λ o. run (step m p) 1 (at_instruction m p o f place y frames))
             (at_place place (Constant a (status_number x)) stands.0)
             ∙ returns_it (place + 1) (told x y) stands.1.0;
-        called = Returned t.ending x is t.status_is t.report_is
-            (has_returned (told x y) z (status_number x) (told x y).work
+        called = Returned t.ending x is t.status_is t.report_is (record z { work = (told x y).work })
+            (record { same = refl; less = omega arith })
+            (has_returned (told x y) (record z { work = (told x y).work }) (status_number x) (told x y).work
             (put_same z.values a _ ∙ omega arith)
             (λ i l. put_other z.values a _ (a + 1 + i) (λ e. omega (arith, e)))
             refl (omega arith));
@@ -362,33 +361,3 @@ module _ (m : MapSizes) (p : FlatProgram) (s : CallSite) (fn : FlatFunction) (r 
           stopped None is =
               let none : stub_of r a t.ending ≡ 0 = ap (λ o. place_by r a o) is in
               let before = t.before in absurd (omega arith)
-
--- ---- of a routine by what it does
-
--- what a routine does, its call does: there is an outcome for which its result holds, and the run comes where that says
-pub record Serves (m : MapSizes) (p : FlatProgram) (s : CallSite) (a n bound : ℕ) (Q : Outcome → Type 0) : Type 0 where
-  pub outcome : Outcome
-  pub comes : ComesOfCall m p s a n bound outcome
-  pub holds : Q outcome
-
-pub serves : (m : MapSizes) (p : FlatProgram) (s : CallSite) (fn : FlatFunction) (r : List FlatInstruction) (a n : ℕ)
-    → CallsRuntime m p s fn r a n → (P : State → Type 0) (B : State → ℕ) (Q : State → Outcome → Type 0)
-    → Does (context m p s.function (waits_at s)) r P B Q → IsOfWords (begins_in s a) → P (begins_in s a)
-    → Serves m p s a n (B (begins_in s a) + 3) (Q (begins_in s a))
-serves m p s fn r a n h P B Q does words holds =
-    let t = does.from r 0 (begins_in s a) (has_self r) words holds in
-    let place : 0 + length r ≡ length r = omega arith in
-    let d = comes_of_call m p s fn r a n h t.steps t.outcome
-    (t.comes ∙ ap (λ q. left_at q t.outcome) place) in
-    let within = d.within in let few = t.within in
-    record {
-      outcome = t.outcome;
-      comes = record {
-        steps = d.steps;
-        within = omega arith;
-        stage = d.stage;
-        comes = d.comes;
-        called = d.called;
-      };
-      holds = t.holds;
-    }

@@ -1,2 +1,3 @@
 pub mod Stubs
 pub mod Calls
+pub mod Actions

@@ -1,5 +1,6 @@
 -- What the call of a function of the runtime does in the run of a program.
 use Rattle.std.specs.Prelude.{◌≡◌, ℕ, ◌+◌, ◌*◌, ◌<◌, ◌≤◌, ◌⊎◌, List, [], ◌∷◌, Some, true}
+use Rattle.std.specs.Prelude.{length}
 use Rattle.sb_base.specs.declared.ending.Ending.{Ending}
 use Rattle.sb_base.specs.Endings.{code_of, report_of}
 use Rattle.behaviours.specs.Steps.{run}
@@ -48,7 +49,7 @@ pub record CallsRuntime (map : MapSizes) (program : FlatProgram) (site : CallSit
   pub room : function.room + rooms true program (waits_at site) ≤ region_size map RuntimeCalls
 
 -- The run stands behind the call: the status and the results are in the registers for them, all others as they were,
--- and all else as the routine left it, but for the work of the return.
+-- and all else as it was at the return, but for the work of the return.
 pub record HasReturned (site : CallSite) (parameters results status : ℕ) (left : State) (stage : Stage) : Type 0 where
   pub after : State
   pub stands : stage ≡ Stands site.caller (site.place + 1) after site.frames
@@ -58,17 +59,23 @@ pub record HasReturned (site : CallSite) (parameters results status : ℕ) (left
   pub rest : after ≡ record left { values = after.values; work = after.work }
   pub work : after.work ≤ left.work + (8 + 2 * (1 + results))
 
+-- the state in which an ending is returned as a status: that in which the routine ends the run, but for the work, in
+-- which the report does not count and one instruction more does
+pub record IsTold (report : List ℕ) (left told : State) : Type 0 where
+  pub same : told ≡ record left { work = told.work }
+  pub less : told.work + length report ≡ left.work + 1
+
 -- where the routine ends the run: its ending is returned as a status; one without a report ends the run
 pub data Reports (site : CallSite) (parameters results status : ℕ) (report : List ℕ) (left : State)
     (stage : Stage) : Type 0 where
   Returned : (e : Ending) → (r : ReturnStatus) → return_status e ≡ Some r → status ≡ code_of e → report ≡ report_of e
-      → HasReturned site parameters results (status_number r) left stage
+      → (told : State) → IsTold report left told → HasReturned site parameters results (status_number r) told stage
       → Reports site parameters results status report left stage
   Exited : report ≡ [] → stage ≡ Over status report left → Reports site parameters results status report left stage
 
--- by how the routine is left; where it goes on, the register of the status is still 0
+-- by how the routine is left; where it goes on, what it leaves in the register of the status is the status
 abbrev pub IsCalled : (site : CallSite) → (parameters results : ℕ) → Outcome → Stage → Type 0
-IsCalled s a n (Continues z) stage = z.values a ≡ 0 → HasReturned s a n 0 z stage
+IsCalled s a n (Continues z) stage = HasReturned s a n (z.values a) z stage
 IsCalled s a n (Halts status report z) stage = Reports s a n status report z stage
 
 -- the run comes there from the call, within so many steps

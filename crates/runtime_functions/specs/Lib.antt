@@ -1,3 +1,4 @@
 pub mod Status
 pub mod Functions
 pub mod Calls
+pub mod Actions

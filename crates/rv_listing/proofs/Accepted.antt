@@ -1,5 +1,6 @@
 -- What is accepted is the bytes of its lines, one after the other.
-use Rattle.std.proofs.Common.{rules, ◌≡◌, ℕ, ◌+◌, ◌-◌, ◌≤◌, Bool, true, false, ◌==◌, List, [], ◌∷◌, ◌++◌, length, map, refl, sym}
+use Rattle.std.proofs.Common.{rules, ◌≡◌, ℕ, ◌+◌, ◌-◌, ◌≤◌, Bool, true, false, ◌==◌, List, [], ◌∷◌}
+use Rattle.std.proofs.Common.{◌++◌, length, map, refl, sym}
 use Rattle.std.proofs.Common.{ap, ◌∙◌, arith, Result, Ok, Err, length-append}
 use Rattle.std.specs.Prelude.{flat_map, if◌then◌else◌, nat_le}
 use Rattle.rv_listing.specs.declared.fault.ListFault.{ListFault}

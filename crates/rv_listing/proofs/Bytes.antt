@@ -1,5 +1,6 @@
 -- Groups of bytes, three characters at a time.
-use Rattle.std.proofs.Common.{◌≡◌, ℕ, ◌+◌, ◌≤◌, ◌<◌, List, [], ◌∷◌, ◌++◌, length, take, drop, set, refl, sym, ap, ◌∙◌}
+use Rattle.std.proofs.Common.{◌≡◌, ℕ, ◌+◌, ◌≤◌, ◌<◌, List, [], ◌∷◌, ◌++◌, length, take, drop, set, refl}
+use Rattle.std.proofs.Common.{sym, ap, ◌∙◌}
 use Rattle.std.proofs.Common.{arith, Option, Some, None, slice_index}
 use Rattle.std.proofs.lemmas.List.{append_assoc, append-nil, take_more_set}
 use Rattle.std.specs.Prelude.{option_map}

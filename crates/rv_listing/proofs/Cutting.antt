@@ -1,5 +1,6 @@
 -- Texts that lack a byte, and where a text is cut.
-use Rattle.std.proofs.Common.{rules, ◌≡◌, ℕ, ◌<◌, ◌≤◌, Bool, true, false, not, ◌&&◌, ◌==◌, List, [], ◌∷◌, ◌++◌, refl, ap, ◌∙◌}
+use Rattle.std.proofs.Common.{rules, ◌≡◌, ℕ, ◌<◌, ◌≤◌, Bool, true, false, not, ◌&&◌, ◌==◌, List, [], ◌∷◌}
+use Rattle.std.proofs.Common.{◌++◌, refl, ap, ◌∙◌}
 use Rattle.std.proofs.Common.{arith, Some, None}
 use Rattle.std.specs.Prelude.{if◌then◌else◌, option_map, nat_le}
 use Rattle.rv_listing.specs.Fields.{cut, is_digit, are_digits}

@@ -1,5 +1,6 @@
 -- A field that was written is read back.
-use Rattle.std.proofs.Common.{rules, ◌≡◌, ℕ, ◌-◌, ◌*◌, ◌%◌, ◌<◌, ◌≤◌, ◌^◌, Bool, true, false, not, ◌==◌}
+use Rattle.std.proofs.Common.{rules, ◌≡◌, ℕ, ◌-◌, ◌*◌, ◌%◌, ◌<◌, ◌≤◌, ◌^◌, Bool, true, false, not}
+use Rattle.std.proofs.Common.{◌==◌}
 use Rattle.std.proofs.Common.{List, [], ◌∷◌, refl, ap, ◌∙◌, arith, Some, None, Ok, Err}
 use Rattle.std.specs.Prelude.{decimal, if◌then◌else◌, option_map, option_and_then, nat_lt, nat_le}
 use Rattle.rv_listing.specs.declared.fault.ListFault.TheVariants as fault

@@ -1,5 +1,6 @@
 -- The line of an instruction is read back.
-use Rattle.std.proofs.Common.{rules, ◌≡◌, ℕ, ◌<◌, ◌≤◌, ◌^◌, Bool, true, false, not, ◌==◌, List, [], ◌∷◌, ◌++◌, refl}
+use Rattle.std.proofs.Common.{rules, ◌≡◌, ℕ, ◌*◌, ◌<◌, ◌≤◌, ◌^◌, Bool, true, false, not, ◌==◌, List, [], ◌∷◌}
+use Rattle.std.proofs.Common.{◌++◌, refl}
 use Rattle.std.proofs.Common.{ap, ◌∙◌, arith, Some, Ok}
 use Rattle.std.proofs.lemmas.List.{append-nil}
 use Rattle.std.specs.Prelude.{nat_le}
@@ -96,10 +97,13 @@ without_operands m =
 
 pub instruction_read : (i : Instr) → IsOfTable i → read_instruction (instruction_text i) ≡ Ok i
 unfolding instruction_text mnemonic_of operands_of instruction_of shape_of operands_text read_operands
-instruction_read (Lui rd imm) t = with_operands mnemonic.Lui _ (operands rd imm 0) (pair_read (Unsigned (2 ^ 20)) rd imm (omega arith) t.0 t.1)
-instruction_read (Auipc rd imm) t = with_operands mnemonic.Auipc _ (operands rd imm 0) (pair_read (Unsigned (2 ^ 20)) rd imm (omega arith) t.0 t.1)
+instruction_read (Lui rd imm) t =
+    with_operands mnemonic.Lui _ (operands rd imm 0) (pair_read (Unsigned (2 ^ 20)) rd imm (omega arith) t.0 t.1)
+instruction_read (Auipc rd imm) t =
+    with_operands mnemonic.Auipc _ (operands rd imm 0) (pair_read (Unsigned (2 ^ 20)) rd imm (omega arith) t.0 t.1)
 instruction_read (Jal rd imm) t =
-    with_operands mnemonic.Jal _ (operands rd imm 0) (pair_read (Offset (2 ^ 20)) rd imm (omega arith, omega arith) t.0 (omega (arith, t.1), t.2))
+    let fits : imm < 2 * 2 ^ 20 = omega (arith, t.1) in
+    with_operands mnemonic.Jal _ (operands rd imm 0) (pair_read (Offset (2 ^ 20)) rd imm (omega arith, omega arith) t.0 (fits, t.2))
 instruction_read (Jalr rd rs1 imm) t =
     with_operands mnemonic.Jalr _ (operands rd imm rs1) (based_read rd imm rs1 t.0 (omega (arith, t.2)) t.1)
 instruction_read (Branch op rs1 rs2 imm) t =
@@ -128,13 +132,14 @@ instruction_read Ebreak t = without_operands mnemonic.Ebreak
 
 -- No byte of the text is below a space.
 
-low_first : (b : ℕ) (f : Field) (n : ℕ) (m : ℕ) (cs : List ℕ) → b < 32 → 32 ≤ m → IsField f → Fits f n → lacks b cs ≡ true
-    → lacks b (m ∷ (field_text f n ++ cs)) ≡ true
+low_first : (b : ℕ) (f : Field) (n : ℕ) (m : ℕ) (cs : List ℕ) → b < 32 → 32 ≤ m → IsField f → Fits f n
+    → lacks b cs ≡ true → lacks b (m ∷ (field_text f n ++ cs)) ≡ true
 low_first b f n m cs lt le i h e =
     and_true (not (m == b)) (lacks b (field_text f n ++ cs)) (is_other m b (omega (arith, lt, le)))
     (lacks_both b (field_text f n) cs (field_lacks b f n (omega (arith, lt)) i h) e)
 
-last_low : (b : ℕ) (f : Field) (n : ℕ) (m : ℕ) → b < 32 → 32 ≤ m → IsField f → Fits f n → lacks b (m ∷ field_text f n) ≡ true
+last_low : (b : ℕ) (f : Field) (n : ℕ) (m : ℕ) → b < 32 → 32 ≤ m → IsField f → Fits f n
+    → lacks b (m ∷ field_text f n) ≡ true
 last_low b f n m lt le i h =
     and_true (not (m == b)) (lacks b (field_text f n)) (is_other m b (omega (arith, lt, le))) (field_lacks b f n (omega (arith, lt)) i h)
 

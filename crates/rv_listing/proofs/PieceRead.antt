@@ -1,5 +1,6 @@
 -- The line of a piece is read back.
-use Rattle.std.proofs.Common.{rules, ◌≡◌, ℕ, ◌+◌, ◌*◌, ◌/◌, ◌%◌, ◌^◌, ◌<◌, ◌≤◌, Bool, true, false, not, ◌&&◌, ◌==◌}
+use Rattle.std.proofs.Common.{rules, ◌≡◌, ℕ, ◌+◌, ◌*◌, ◌/◌, ◌%◌, ◌^◌, ◌<◌, ◌≤◌, Bool, true, false}
+use Rattle.std.proofs.Common.{not, ◌&&◌, ◌==◌}
 use Rattle.std.proofs.Common.{List, [], ◌∷◌, length, drop, replicate, refl, ap, ◌∙◌, arith, Some, None, Ok, Err}
 use Rattle.std.proofs.lemmas.List.{length-replicate}
 use Rattle.std.specs.Prelude.{decimal, codes, flat_map, if◌then◌else◌, option_map, nat_le, nat_lt, nat_eq}
@@ -8,7 +9,8 @@ use Rattle.rv_isa.specs.Table.{IsOfTable}
 use Rattle.rv_listing.specs.declared.fault.ListFault.TheVariants as fault
 use Rattle.rv_listing.specs.Lines.{Piece, image, instruction, zeros, group, piece_bytes, piece_text, instruction_bytes}
 use Rattle.rv_listing.specs.Lines.{instruction_text, byte_text, hexadecimal_digit, size_of, size_in, image_in, is_hexadecimal}
-use Rattle.rv_listing.specs.Lines.{hexadecimal_value, byte_in, with_byte, bytes_in, unless_form, group_in, if_ok, read_instruction, read_line}
+use Rattle.rv_listing.specs.Lines.{hexadecimal_value, byte_in, with_byte, bytes_in, unless_form, group_in, if_ok, read_instruction}
+use Rattle.rv_listing.specs.Lines.{read_line}
 use Rattle.rv_listing.proofs.Digits.{decimal_reads, all_digits, and_true, and_left, and_right}
 use Rattle.rv_listing.proofs.Cutting.{lacks, digits_lack, is_other}
 use Rattle.rv_listing.proofs.FieldsRead.{unsigned_read}
@@ -64,8 +66,10 @@ byte_read : (b : ℕ) → b < 256 → byte_in 32 (hexadecimal_digit (b / 16)) (h
 byte_read b lt =
     let high : b / 16 < 16 = omega (arith, lt) in
     let low : b % 16 < 16 = omega arith in
-    ap (λ x. if x then Some (hexadecimal_value (hexadecimal_digit (b / 16)) * 16 + hexadecimal_value (hexadecimal_digit (b % 16))) else None)
-    (and_true (is_hexadecimal (hexadecimal_digit (b / 16))) (is_hexadecimal (hexadecimal_digit (b % 16))) (digit_is (b / 16) high) (digit_is (b % 16) low))
+    ap (λ x. if x then Some (hexadecimal_value (hexadecimal_digit (b / 16)) * 16 + hexadecimal_value (hexadecimal_digit
+    (b % 16))) else None)
+    (and_true (is_hexadecimal (hexadecimal_digit (b / 16))) (is_hexadecimal (hexadecimal_digit (b % 16))) (digit_is (b / 16) high)
+    (digit_is (b % 16) low))
     ∙ ap Some (ap (λ x. x * 16 + hexadecimal_value (hexadecimal_digit (b % 16))) (digit_value (b / 16) high)
     ∙ ap (λ x. b / 16 * 16 + x) (digit_value (b % 16) low) ∙ omega arith)
 

@@ -1,5 +1,6 @@
 -- Runs of zeros, as the pieces of a file are put one after the other.
-use Rattle.std.proofs.Common.{rules, ◌≡◌, ℕ, zero, suc, ◌+◌, ◌<◌, ◌≤◌, Bool, true, false, ◌==◌, List, [], ◌∷◌, ◌++◌, length}
+use Rattle.std.proofs.Common.{rules, ◌≡◌, ℕ, zero, suc, ◌+◌, ◌<◌, ◌≤◌, Bool, true, false, ◌==◌, List, []}
+use Rattle.std.proofs.Common.{◌∷◌, ◌++◌, length}
 use Rattle.std.proofs.Common.{take, drop, refl, sym, ap, ◌∙◌, arith, Option, Some, None}
 use Rattle.std.proofs.lemmas.List.{append_assoc, append-nil}
 use Rattle.std.specs.Prelude.{if◌then◌else◌}
@@ -140,7 +141,8 @@ pub one_word : (start text text' : List ℕ) (z z' place : ℕ) (ranges : List (
 one_word start text text' z z' place ranges bytes rest word back le w b puts e =
     puts
     ∙ ap (λ x. text ++ text_of (with_zeros z (merged (word_piece (is_code ranges place) x ∷ words ranges (place + 4) back)))) w
-    ∙ ap (λ x. text ++ text_of (with_zeros z (merged (word_piece (is_code ranges place) (take 4 rest) ∷ words ranges (place + 4) x)))) b
+    ∙ ap (λ x. text ++ text_of (with_zeros z (merged (word_piece (is_code ranges place) (take 4 rest) ∷ words ranges
+    (place + 4) x)))) b
     ∙ ap (λ x. text ++ text_of (with_zeros z (merged x))) (sym (words_more ranges place rest le)) ∙ e
 
 zeros_alone : (b : Bool) (z : ℕ) (old : List ℕ)

@@ -30,11 +30,14 @@ bytes_of ps = flat_map piece_bytes ps
 number_of_four : (a b c d : ℕ) → a < 256 → b < 256 → c < 256 → d < 256
     → little_bytes 4 (little_number 4 (a ∷ b ∷ c ∷ d ∷ [])) ≡ a ∷ b ∷ c ∷ d ∷ []
 number_of_four a b c d ha hb hc hd =
-    four _ _ _ _ a b c d (omega (arith, ha, hb, hc, hd)) (omega (arith, ha, hb, hc, hd)) (omega (arith, ha, hb, hc, hd)) (omega (arith, ha, hb, hc, hd))
+    four _ _ _ _ a b c d (omega (arith, ha, hb, hc, hd)) (omega (arith, ha, hb, hc, hd)) (omega (arith, ha, hb, hc, hd)) (omega
+    (arith, ha, hb, hc, hd))
   where
-    four : (a b c d e f g h : ℕ) → a ≡ e → b ≡ f → c ≡ g → d ≡ h → a ∷ b ∷ c ∷ d ∷ [] ≡ e ∷ f ∷ g ∷ h ∷ []
+    four : (a b c d e f g h : ℕ) → a ≡ e → b ≡ f → c ≡ g → d ≡ h → a ∷ b ∷ c ∷ d ∷ []
+        ≡ e ∷ f ∷ g ∷ h ∷ []
     four a b c d e f g h p q r s =
-        ap (λ x. x ∷ b ∷ c ∷ d ∷ []) p ∙ ap (λ x. e ∷ x ∷ c ∷ d ∷ []) q ∙ ap (λ x. e ∷ f ∷ x ∷ d ∷ []) r ∙ ap (λ x. e ∷ f ∷ g ∷ x ∷ []) s
+        ap (λ x. x ∷ b ∷ c ∷ d ∷ []) p ∙ ap (λ x. e ∷ x ∷ c ∷ d ∷ []) q ∙ ap (λ x. e ∷ f ∷ x ∷ d ∷ []) r
+        ∙ ap (λ x. e ∷ f ∷ g ∷ x ∷ []) s
 
 small_number : (a b c d : ℕ) → a < 256 → b < 256 → c < 256 → d < 256 → little_number 4 (a ∷ b ∷ c ∷ d ∷ []) < 2 ^ 32
 small_number a b c d ha hb hc hd = omega (arith, ha, hb, hc, hd)
@@ -53,7 +56,8 @@ zero_word a b c d e =
     sym (ap (λ x. x ∷ b ∷ c ∷ d ∷ []) ea ∙ ap (λ x. 0 ∷ x ∷ c ∷ d ∷ []) eb ∙ ap (λ x. 0 ∷ 0 ∷ x ∷ d ∷ []) ec
     ∙ ap (λ x. 0 ∷ 0 ∷ 0 ∷ x ∷ []) ed)
 
-plain_is : (a b c d : ℕ) (x : Bool) → (little_number 4 (a ∷ b ∷ c ∷ d ∷ []) == 0) ≡ x → AreBytes (a ∷ b ∷ c ∷ d ∷ [])
+plain_is : (a b c d : ℕ) (x : Bool) → (little_number 4 (a ∷ b ∷ c ∷ d ∷ []) == 0) ≡ x → AreBytes
+    (a ∷ b ∷ c ∷ d ∷ [])
     → Is (a ∷ b ∷ c ∷ d ∷ []) (if x then zeros 4 else group (a ∷ b ∷ c ∷ d ∷ []))
 unfolding piece_bytes
 plain_is a b c d true e h = record { good = omega arith; bytes = zero_word a b c d (zero_is _ e) } where
@@ -74,7 +78,8 @@ where_code : (x : Bool) (n : ℕ) → n < 2 ^ 32 → IfFound (HasWord n) (if x t
 where_code true n lt = decoded_again n lt
 where_code false n lt = tt
 
-word_is : (x : Bool) (a b c d : ℕ) → AreBytes (a ∷ b ∷ c ∷ d ∷ []) → Is (a ∷ b ∷ c ∷ d ∷ []) (word_piece x (a ∷ b ∷ c ∷ d ∷ []))
+word_is : (x : Bool) (a b c d : ℕ) → AreBytes (a ∷ b ∷ c ∷ d ∷ []) → Is (a ∷ b ∷ c ∷ d ∷ []) (word_piece x
+    (a ∷ b ∷ c ∷ d ∷ []))
 unfolding word_piece
 word_is x a b c d h =
     let n = little_number 4 (a ∷ b ∷ c ∷ d ∷ []) in
@@ -91,7 +96,8 @@ beside cs p bs ps i a = record {
   bytes = ap (λ x. x ++ bytes_of ps) i.bytes ∙ ap (λ x. cs ++ x) a.bytes;
 }
 
-run_beside : (n m : ℕ) (bs cs : List ℕ) (ps : List Piece) → Is cs (zeros n) → Are bs (zeros m ∷ ps) → Are (cs ++ bs) (zeros (n + m) ∷ ps)
+run_beside : (n m : ℕ) (bs cs : List ℕ) (ps : List Piece) → Is cs (zeros n) → Are bs (zeros m ∷ ps) → Are (cs ++ bs) (zeros
+    (n + m) ∷ ps)
 unfolding piece_bytes
 run_beside n m bs cs ps i a =
     let some : 1 ≤ n = i.good in

@@ -1,5 +1,6 @@
 -- Lines of a listing: what each piece of a file is written as, and which bytes a line has.
-use Rattle.std.specs.Prelude.{◌≡◌, ℕ, ◌+◌, ◌-◌, ◌*◌, ◌/◌, ◌%◌, ◌≤◌, Bool, not, ◌&&◌, ◌||◌, ◌==◌, nat_eq, nat_le}
+use Rattle.std.specs.Prelude.{◌≡◌, ℕ, ◌+◌, ◌-◌, ◌*◌, ◌/◌, ◌%◌, ◌≤◌, Bool, not, ◌&&◌, ◌||◌}
+use Rattle.std.specs.Prelude.{◌==◌, nat_eq, nat_le}
 use Rattle.std.specs.Prelude.{nat_lt, if◌then◌else◌, List, [], ◌∷◌, ◌++◌, length, take, drop, replicate, flat_map, codes}
 use Rattle.std.specs.Prelude.{Option, Some, None, option_map, Result, Ok, Err, decimal}
 use Rattle.std.specs.List.{starts_with}

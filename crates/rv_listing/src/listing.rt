@@ -1,6 +1,7 @@
 //! The listing of a file.
 
-ghost use Rattle.std.specs.Prelude.{◌≡◌, ◌≤◌, ◌^◌, ◌+◌, ◌++◌, ◌∷◌, List, None, length, if◌then◌else◌, OnOk, IfOk};
+ghost use Rattle.std.specs.Prelude.{◌≡◌, ◌≤◌, ◌^◌, ◌+◌, ◌++◌, ◌∷◌, List, None, length, if◌then◌else◌};
+ghost use Rattle.std.specs.Prelude.{OnOk, IfOk};
 ghost use Rattle.rv_isa.specs.Decoding.{decoded};
 ghost use Rattle.rv_listing.specs.Lines.{Piece};
 ghost use Rattle.rv_listing.specs.Listings.{listing_text, is_code, holds_word, word_piece, words, merged};

@@ -12,7 +12,8 @@ loop-rest-preserved c = record {
 }
 
 pub returns-in_default-clause-value : goal.returns-in_default-clause-value
-returns-in_default-clause-value c = no_byte _ _ _ _ (search rules) c.split_at.ensures.front (sym c.byte_in.ensures ∙ search rules) c.loop-rest.invariant.read
+returns-in_default-clause-value c = no_byte _ _ _ _ (search rules) c.split_at.ensures.front (sym c.byte_in.ensures
+    ∙ search rules) c.loop-rest.invariant.read
 
 pub returns-then-not-is_empty-clause-value : goal.returns-then-not-is_empty-clause-value
 returns-then-not-is_empty-clause-value c = too_few _ _ _ (search rules) (search rules) c.loop-rest.invariant.read

@@ -36,7 +36,7 @@ loads_split {n} {i} {rest} {header} {after} s =
     rw (s.header_is, s.after_is) (loads_next n i rest s.left ∙ with_load_alone
     (is_load (program_header (take 56 rest))) (program_header (take 56 rest)) (loads (n - (i + 1)) (drop 56 rest)))
 
-then_none : (f g : Option ImageFault) → (f then g) ≡ None → (f ≡ None) × (g ≡ None)
+pub then_none : (f g : Option ImageFault) → (f then g) ≡ None → (f ≡ None) × (g ≡ None)
 then_none None g e = (refl, e)
 then_none (Some f) g e = cc
 

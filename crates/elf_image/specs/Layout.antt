@@ -2,6 +2,7 @@
 -- number is little endian.
 use Rattle.std.specs.Prelude.{ℕ, zero, suc, ◌/◌, ◌%◌, Bool, ◌==◌, if◌then◌else◌, List, [], ◌∷◌, drop, take, map}
 use Rattle.std.specs.Prelude.{slice_index}
+use Rattle.std.specs.List.{filter}
 use Rattle.byteorder.specs.Endian.{little_number}
 use Rattle.elf_image.specs.declared.header.FileHeader.{FileHeader}
 use Rattle.elf_image.specs.declared.header.ProgramHeader.{ProgramHeader}
@@ -80,3 +81,11 @@ segment_of bytes h = record {
 -- the image that bytes spell. It is meant where they pass the tests of an image.
 unfoldable pub content_of : List ℕ → Content
 content_of bytes = record { entry = (file_header bytes).entry; segments = map (segment_of bytes) (loads_of bytes) }
+
+-- where the bytes of the executable segments stand in the file: the first place of each, and how many they are
+abbrev pub ranges_of : List ProgramHeader → List (ℕ × ℕ)
+ranges_of headers = map (λ h. (h.offset, h.file_size)) (filter is_executable headers)
+
+-- those of a whole file
+unfoldable pub code_ranges : List ℕ → List (ℕ × ℕ)
+code_ranges bytes = ranges_of (loads_of bytes)

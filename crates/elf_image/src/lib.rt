@@ -2,6 +2,7 @@
 //! by tests in a fixed order.
 #![tactic(auto)]
 
+pub mod code;
 pub mod fault;
 pub mod header;
 pub mod image;
@@ -9,6 +10,7 @@ pub mod laws;
 pub mod new_image;
 mod writing;
 
+pub use code::code_ranges;
 pub use fault::{ImageFault, ReadError};
 pub use image::{Image, Segment};
 pub use new_image::{NewImage, NewSegment};

@@ -1,3 +1,4 @@
+pub mod Leading
 pub mod Growing
 pub mod Counts
 pub mod Steps

@@ -1,3 +1,4 @@
+pub mod ClosedBodies
 pub mod Bodies
 pub mod Ready
 pub mod InTurn

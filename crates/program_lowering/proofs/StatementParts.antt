@@ -1,4 +1,5 @@
 pub mod Opened
 pub mod BlockParts
 pub mod InitializerParts
+pub mod Closing
 pub mod LoopParts

@@ -12,6 +12,8 @@ use Rattle.program_lowering.specs.declared.expressions.emitter.Emitter.{Emitter}
 use Rattle.program_lowering.specs.ExpressionCode.Weights.{Weights, Weighs, weight_of, code_weight, no_weight}
 use Rattle.program_lowering.specs.ExpressionCode.Weights.{taken_into, taking_weight, returning_weight}
 use Rattle.program_lowering.specs.ExpressionCode.Emitted.{Has, Added, Stays, Keeps, IsReal, Fills, Emits}
+use Rattle.program_lowering.proofs.ExpressionCode.Leading.{leads_none, leads_added, added_stays, closed_then}
+use Rattle.program_lowering.proofs.ExpressionCode.Leading.{same_nodes}
 use Rattle.program_lowering.specs.ExpressionCode.Last.{KeyAdded, TextAdded, TakingCode, Outcomes}
 
 -- lists
@@ -202,7 +204,7 @@ same_emits a b code keys blocks loops texts literals = record {
 }
 
 pub no_key : (a : Emitter) → KeyAdded a a None None
-no_key a = record { emits = emits_none 0 (λ w. refl); is = λ c f. tt }
+no_key a = record { emits = emits_none 0 (λ w. refl); same = same_nodes; is = λ c f. tt }
 
 pub some_key : (a b : Emitter) (key : Key) (n : ℕ) → b.code.items ≡ a.code.items → b.keys.items ≡ a.keys.items
     ++ key ∷ []
@@ -212,6 +214,7 @@ some_key a b key n code keys blocks loops texts literals at = record {
   emits = same_emits a b code (one_more a.keys.items b.keys.items key keys)
       (stays_by a.blocks.items b.blocks.items blocks)
       (stays_by a.loops.items b.loops.items loops) (stays_by a.texts.items b.texts.items texts) literals;
+  same = record { code = code; loops = loops };
   is = λ c f. f.keys n key (has_last a.keys.items b.keys.items key n keys at);
 }
 
@@ -222,6 +225,7 @@ text_added a b text n code keys blocks loops texts literals at = record {
   emits = same_emits a b code (stays_by a.keys.items b.keys.items keys) (stays_by a.blocks.items b.blocks.items blocks)
       (stays_by a.loops.items b.loops.items loops)
       (one_more a.texts.items b.texts.items text texts) literals;
+  same = record { code = code; loops = loops };
   is = λ ts s. s n text (has_last a.texts.items b.texts.items text n texts at);
 }
 
@@ -240,6 +244,7 @@ pub take_structure : {a b : Emitter} {size line d n next : ℕ}
     → TakingCode a b (Structure size) line d n next
 take_structure {size = size} {d = d} h = record {
   emits = added_as (d + 1) (taking_weight (Structure size)) h (omega arith) (λ w ts s. taken_as_argument d size w);
+  leads = leads_added h;
   returns = λ e.
       added_by (d + 1) (returning_weight (Structure size)) h (omega arith)
       (λ w ts s. ap (λ k. taken_into k (Structure size) w) e);
@@ -249,6 +254,7 @@ take_structure {size = size} {d = d} h = record {
 pub take_void : {a : Emitter} {line d next : ℕ} → TakingCode a a Void line d next next
 take_void {d = d} = record {
   emits = emits_none (d + 1) (λ w. refl);
+  leads = leads_none;
   returns = λ e. emits_none (d + 1) (λ w. refl);
   stands = λ c f. refl;
 }
@@ -256,6 +262,7 @@ take_void {d = d} = record {
 pub take_scalar : {a : Emitter} {k : _} {line d next : ℕ} → TakingCode a a (OfScalar k) line d next next
 take_scalar {d = d} = record {
   emits = emits_none (d + 1) (λ w. refl);
+  leads = leads_none;
   returns = λ e. emits_none (d + 1) (λ w. refl);
   stands = λ c f. refl;
 }
@@ -263,6 +270,7 @@ take_scalar {d = d} = record {
 pub take_array : {a : Emitter} {size line d next : ℕ} → TakingCode a a (Array size) line d next next
 take_array {d = d} = record {
   emits = emits_none (d + 1) (λ w. refl);
+  leads = leads_none;
   returns = λ e. emits_none (d + 1) (λ w. refl);
   stands = λ c f. refl;
 }
@@ -271,13 +279,22 @@ pub three_ways : {a b c e : Emitter} {d zero one test next : ℕ} → Added a b 
     → Added b c one (tac.Constant d 1 next)
     → Added c e test (tac.Branch d one zero)
     → Outcomes a e d zero one test next
-three_ways {d = d} hz ho ht =
+three_ways {d = d} {zero = wz} {one = wo} {next = m} hz ho ht =
     let ez = added_emits (d + 1) hz (omega arith) (λ ts w. refl) in
     let eo = added_emits (d + 1) ho (omega arith) (λ ts w. refl) in
     let et = added_emits (d + 1) ht (omega arith) (λ ts w. refl) in
     let two = emits_then (d + 1) (λ w. 2 * w.constant) ez eo (omega arith) (omega arith) (λ w. omega arith) in
     record {
       emits = emits_then (d + 1) (λ w. w.branch + 2 * w.constant) two et (omega arith) (omega arith) (λ w. omega arith);
+      leads = record {
+        by = λ ss s o.
+            let z = added_stays hz s o in
+            let v = added_stays ho z.0.closed (z.0.opens m o.0, tt) in
+            let t = added_stays ht v.0.closed (v.1, (v.0.opens wz z.1, tt)) in (
+              closed_then z.0 (closed_then v.0 t.0),
+              (t.0.opens wz (v.0.opens wz z.1), (t.0.opens wo v.1, (t.1, tt))),
+            );
+      };
       gives_zero = λ p f. added_holds hz tt (fills_before eo (fills_before et f));
       gives_one = λ p f. added_holds ho tt (fills_before et f);
       tests = λ p f. added_holds ht tt f;

@@ -19,22 +19,23 @@ use Rattle.program_lowering.specs.ExpressionCode.Shapes.{choice, operands_of, lv
 use Rattle.program_lowering.specs.ExpressionCode.Shapes.{OperandsCode, Finishes, LvalueFinishes}
 use Rattle.program_lowering.proofs.ExpressionCode.Growing.{emits_none, emits_then, added_emits, added_holds}
 use Rattle.program_lowering.proofs.ExpressionCode.Growing.{fills_before}
+use Rattle.program_lowering.proofs.ExpressionCode.Leading.{leads_none, leads_then, added_stays, closed_then}
 use Rattle.program_lowering.proofs.ExpressionCode.Steps.{used_most, weight_most, used_by_most, weight_by_most}
 use Rattle.program_lowering.proofs.ExpressionCode.Steps.{some_used}
 
 pub none_code : {a : Emitter} {d n : ℕ} → OperandsCode a a none d n n
-none_code {d = d} = record { emits = emits_none (d + 0) (λ w. refl); stands = λ p f. refl }
+none_code {d = d} = record { emits = emits_none (d + 0) (λ w. refl); leads = leads_none; stands = λ p f. refl }
 
 pub one_code : {a b : Emitter} {x : Expression} {d n m : ℕ} → ExpressionCode a b x d n m
     → OperandsCode a b (one x) d n m
-one_code h = record { emits = h.emits; stands = h.stands }
+one_code h = record { emits = h.emits; leads = h.leads; stands = h.stands }
 
 pub place_code : {a b : Emitter} {p : Lvalue} {d n m : ℕ} → LvalueCode a b p d n m → OperandsCode a b (place p) d n m
-place_code h = record { emits = h.emits; stands = h.stands }
+place_code h = record { emits = h.emits; leads = h.leads; stands = h.stands }
 
 pub each_code : {a b : Emitter} {es : Expressions} {d n m : ℕ} → ArgumentsCode a b es d n m
     → OperandsCode a b (each es) d n m
-each_code h = record { emits = h.emits; stands = h.stands }
+each_code h = record { emits = h.emits; leads = h.leads; stands = h.stands }
 
 pub two_code : {a b c : Emitter} {x y : Expression} {d n k m : ℕ} → ExpressionCode a b y (d + 1) k m
     → ExpressionCode b c x d n k → OperandsCode a c (two x y) d n m
@@ -42,6 +43,7 @@ two_code {x = x} {y = y} {d = d} {k = k} hy hx = record {
   emits = emits_then (d + max (used x) (1 + used y)) (λ w. expression_weight x w + expression_weight y w) hy.emits
       hx.emits
       (omega arith) (omega arith) (λ w. omega arith);
+  leads = leads_then hy.leads hx.leads;
   stands = λ p f. (k, hx.stands p f, hy.stands p (fills_before hx.emits f));
 }
 
@@ -50,6 +52,7 @@ pub place_and_code : {a b c : Emitter} {q : Lvalue} {y : Expression} {d n k m : 
 place_and_code {q = q} {y = y} {d = d} {k = k} hy hx = record {
   emits = emits_then (d + max (used_by_lvalue q) (1 + used y)) (λ w. lvalue_weight q w + expression_weight y w) hy.emits
       hx.emits (omega arith) (omega arith) (λ w. omega arith);
+  leads = leads_then hy.leads hx.leads;
   stands = λ p f. (k, hx.stands p f, hy.stands p (fills_before hx.emits f));
 }
 
@@ -59,6 +62,7 @@ callee_code {x = x} {es = es} {d = d} {k = k} hy hx = record {
   emits = emits_then (d + max (used x) (1 + arguments_used es))
       (λ w. expression_weight x w + arguments_weight es w) hy.emits
       hx.emits (omega arith) (omega arith) (λ w. omega arith);
+  leads = leads_then hy.leads hx.leads;
   stands = λ p f. (k, hx.stands p f, hy.stands p (fills_before hx.emits f));
 }
 
@@ -67,6 +71,7 @@ pub sequence_code : {a b c : Emitter} {x y : Expression} {d n k m : ℕ} → Exp
 sequence_code {x = x} {y = y} {d = d} {k = k} hy hx = record {
   emits = emits_then (d + max (used x) (used y)) (λ w. expression_weight x w + expression_weight y w) hy.emits hx.emits
       (omega arith) (omega arith) (λ w. omega arith);
+  leads = leads_then hy.leads hx.leads;
   stands = λ p f. (k, hx.stands p f, hy.stands p (fills_before hx.emits f));
 }
 
@@ -83,6 +88,14 @@ both_code {x = x} {y = y} {d = d} {k = k} {kb = kb} {wz = wz} {wo = wo} {test = 
     record {
       emits = emits_then most (λ v. 2 * v.branch + 2 * v.constant + (expression_weight x v + expression_weight y v))
           second hx.emits (omega arith) (omega arith) (λ v. omega arith);
+      leads = record {
+        by = λ ss s o.
+            let u = w.leads.by ss s o in
+            let v = hy.leads.by ss u.0.closed (u.1.1.1.0, tt) in
+            let r = added_stays h v.0.closed (v.1.0, (v.0.opens wz u.1.0, tt)) in
+            let z = hx.leads.by ss r.0.closed (r.1, tt) in
+            (closed_then u.0 (closed_then v.0 (closed_then r.0 z.0)), z.1);
+      };
       stands = λ p f.
           let g = fills_before hx.emits f in
           let i = fills_before branch g in
@@ -114,6 +127,14 @@ either_code {x = x} {y = y} {d = d} {k = k} {kb = kb} {wz = wz} {wo = wo} {test 
     record {
       emits = emits_then most (λ v. 2 * v.branch + 2 * v.constant + (expression_weight x v + expression_weight y v))
           second hx.emits (omega arith) (omega arith) (λ v. omega arith);
+      leads = record {
+        by = λ ss s o.
+            let u = w.leads.by ss s o in
+            let v = hy.leads.by ss u.0.closed (u.1.1.1.0, tt) in
+            let r = added_stays h v.0.closed (v.0.opens wo u.1.1.0, (v.1.0, tt)) in
+            let z = hx.leads.by ss r.0.closed (r.1, tt) in
+            (closed_then u.0 (closed_then v.0 (closed_then r.0 z.0)), z.1);
+      };
       stands = λ p f.
           let g = fills_before hx.emits f in
           let i = fills_before branch g in
@@ -135,7 +156,7 @@ either_code {x = x} {y = y} {d = d} {k = k} {kb = kb} {wz = wz} {wo = wo} {test 
 pub choice_code : {a b c e g : Emitter} {x y z : Expression} {d n k kb ke m : ℕ} → ExpressionCode a b z d ke m
     → ExpressionCode b c y d kb m → Added c e k (tac.Branch d kb ke) → ExpressionCode e g x d n k
     → OperandsCode a g (choice x y z) d n m
-choice_code {x = x} {y = y} {z = z} {d = d} {k = k} {kb = kb} {ke = ke} hz hy h hx =
+choice_code {x = x} {y = y} {z = z} {d = d} {k = k} {kb = kb} {ke = ke} {m = m} hz hy h hx =
     let most = d + max 1 (max (used x) (max (used y) (used z))) in
     let branch = added_emits (d + 1) h (omega arith) (λ ts w. refl) in
     let first = emits_then most (λ w. expression_weight y w + expression_weight z w) hz.emits hy.emits (omega arith)
@@ -146,6 +167,14 @@ choice_code {x = x} {y = y} {z = z} {d = d} {k = k} {kb = kb} {ke = ke} hz hy h 
       emits = emits_then most
           (λ w. w.branch + (expression_weight x w + (expression_weight y w + expression_weight z w)))
           second hx.emits (omega arith) (omega arith) (λ w. omega arith);
+      leads = record {
+        by = λ ss s o.
+            let u = hz.leads.by ss s o in
+            let v = hy.leads.by ss u.0.closed (u.0.opens m o.0, tt) in
+            let r = added_stays h v.0.closed (v.1.0, (v.0.opens ke u.1.0, tt)) in
+            let z = hx.leads.by ss r.0.closed (r.1, tt) in
+            (closed_then u.0 (closed_then v.0 (closed_then r.0 z.0)), z.1);
+      };
       stands = λ p f.
           let g = fills_before hx.emits f in
           let i = fills_before branch g in
@@ -157,6 +186,7 @@ pub finished : {a b c : Emitter} (e : Expression) {d n k m : ℕ} → Finishes a
 finished e {d = d} {n = n} h o = record {
   emits = emits_then (d + used e) (expression_weight e) h.emits o.emits (omega arith) (omega (arith, used_most e))
       (weight_most e);
+  leads = leads_then h.leads o.leads;
   stands = λ p f. h.stands p (fills_before o.emits f) n (o.stands p f);
 }
 
@@ -165,13 +195,14 @@ pub lvalue_finished : {a b c : Emitter} (q : Lvalue) {d n k m : ℕ} → LvalueF
 lvalue_finished q {d = d} {n = n} h o = record {
   emits = emits_then (d + used_by_lvalue q) (lvalue_weight q) h.emits o.emits (omega arith)
       (omega (arith, used_by_most q)) (weight_by_most q);
+  leads = leads_then h.leads o.leads;
   stands = λ p f. h.stands p (fills_before o.emits f) n (o.stands p f);
 }
 
 -- arguments, the last of which comes first
 
 pub no_arguments : {a : Emitter} {d n : ℕ} → ArgumentsCode a a no_expressions d n n
-no_arguments {d = d} = record { emits = emits_none (d + 0) (λ w. refl); stands = λ p f. refl }
+no_arguments {d = d} = record { emits = emits_none (d + 0) (λ w. refl); leads = leads_none; stands = λ p f. refl }
 
 pub more_arguments : {a b c e : Emitter} {x : Expression} {es : Expressions} {d n k j m : ℕ}
     → ArgumentsCode a b es (d + 1) j m → TakingCode b c (kind_of x) (line_of x) d k j → ExpressionCode c e x d n k
@@ -183,6 +214,7 @@ more_arguments {x = x} {es = es} {d = d} {k = k} {j = j} hs t hx =
     record {
       emits = emits_then most (arguments_weight (expressions x es)) first hx.emits (omega arith) (omega arith)
           (λ w. omega arith);
+      leads = leads_then (leads_then hs.leads t.leads) hx.leads;
       stands = λ p f.
           let g = fills_before hx.emits f in
           (k, j, hx.stands p f, t.stands p g, hs.stands p (fills_before t.emits g));

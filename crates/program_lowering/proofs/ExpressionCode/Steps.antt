@@ -12,6 +12,7 @@ use Rattle.c_tree.specs.Tree.{index, member, arrow, member_of_value, parenthesiz
 use Rattle.c_tree.specs.Walk.{visited, visited_lvalue, walk_operands, walk_lvalue_operands, walk_each, sum_of}
 use Rattle.c_tree.specs.Room.{in_turn}
 use Rattle.tac_ir.specs.declared.instruction.Instruction.{Instruction}
+use Rattle.tac_ir.specs.Edges.{successors}
 use Rattle.tac_ir.specs.Temporaries.{temporaries}
 use Rattle.c_lower.specs.Homes.{used, used_by_lvalue, used_made}
 use Rattle.c_lower.specs.Placed.{Placed, Holds}
@@ -28,6 +29,7 @@ use Rattle.program_lowering.specs.ExpressionCode.Shapes.{operands_in, operands_a
 use Rattle.program_lowering.specs.ExpressionCode.Shapes.{LowersOperands, operands_used, operands_nodes, operands_weight}
 use Rattle.program_lowering.specs.ExpressionCode.Shapes.{text_in, finish_weight, lvalue_finish_weight, Finishes}
 use Rattle.program_lowering.specs.ExpressionCode.Shapes.{LvalueFinishes}
+use Rattle.program_lowering.proofs.ExpressionCode.Leading.{leads_none, leads_to, leads_behind, same_nodes, same_then}
 use Rattle.program_lowering.proofs.ExpressionCode.Growing.{emits_none, emits_then, added_by, added_has}
 use Rattle.program_lowering.proofs.ExpressionCode.Growing.{fills_before, stays_all}
 
@@ -40,9 +42,10 @@ abbrev FewIn : Option Instruction → (most : ℕ) → Type 0
 FewIn None most = Unit {0}
 FewIn (Some i) most = temporaries i ≤ most
 
-abbrev RealIn : Option Instruction → Type 0
-RealIn None = Unit {0}
-RealIn (Some i) = IsReal i
+-- an instruction of a text, which leads to one node
+abbrev RealIn : Option Instruction → (next : ℕ) → Type 0
+RealIn None m = Unit {0}
+RealIn (Some i) m = IsReal i × (successors i ≡ m ∷ [])
 
 last_stands : (c : Placed) (kind : Kind) (line d : ℕ) (key : Option ℕ) (text m k n : ℕ) (node : Node)
     → KeyIs c.keys key (key_in c.literals node) → TextIs c.texts node text
@@ -192,36 +195,36 @@ last_few kind line d key text m (printf format es) = omega
     (arith, turns_count 0 es, turns_some 0 (walk_each used_made es))
 
 last_real : (kind : Kind) (line d : ℕ) (key : Option ℕ) (text m : ℕ) (node : Node)
-    → RealIn (last_in node kind line d key text m)
-last_real kind line d key text m (constant w) = tt
-last_real kind line d key text m (function f) = tt
-last_real kind line d key text m (plain x) = tt
-last_real kind line d key text m (read p) = tt
+    → RealIn (last_in node kind line d key text m) m
+last_real kind line d key text m (constant w) = (tt, refl)
+last_real kind line d key text m (function f) = (tt, refl)
+last_real kind line d key text m (plain x) = (tt, refl)
+last_real kind line d key text m (read p) = (tt, refl)
 last_real kind line d key text m (decay p) = tt
 last_real kind line d key text m (address p) = tt
 last_real kind line d key text m (parenthesized a) = tt
 last_real kind line d key text m (deref_function a) = tt
 last_real kind line d key text m (address_function a) = tt
-last_real kind line d key text m (cast a) = tt
-last_real kind line d key text m (convert a) = tt
-last_real kind line d key text m (unary op a) = tt
-last_real kind line d key text m (binary op a b) = tt
-last_real kind line d key text m (offset_by form size a b) = tt
-last_real kind line d key text m (difference size a b) = tt
+last_real kind line d key text m (cast a) = (tt, refl)
+last_real kind line d key text m (convert a) = (tt, refl)
+last_real kind line d key text m (unary op a) = (tt, refl)
+last_real kind line d key text m (binary op a b) = (tt, refl)
+last_real kind line d key text m (offset_by form size a b) = (tt, refl)
+last_real kind line d key text m (difference size a b) = (tt, refl)
 last_real kind line d key text m (logical_and a b) = tt
 last_real kind line d key text m (logical_or a b) = tt
 last_real kind line d key text m (comma a b) = tt
 last_real kind line d key text m (conditional a b e) = tt
-last_real kind line d key text m (assign p a) = tt
-last_real kind line d key text m (assign_plain x a) = tt
-last_real kind line d key text m (compound u p a) = tt
-last_real kind line d key text m (change_plain u x a) = tt
-last_real kind line d key text m (step u fixity p) = tt
-last_real kind line d key text m (step_plain u fixity x) = tt
-last_real kind line d key text m (call f es) = tt
-last_real kind line d key text m (call_through type a es) = tt
-last_real kind line d key text m (library routine es) = tt
-last_real kind line d key text m (printf format es) = tt
+last_real kind line d key text m (assign p a) = (tt, refl)
+last_real kind line d key text m (assign_plain x a) = (tt, refl)
+last_real kind line d key text m (compound u p a) = (tt, refl)
+last_real kind line d key text m (change_plain u x a) = (tt, refl)
+last_real kind line d key text m (step u fixity p) = (tt, refl)
+last_real kind line d key text m (step_plain u fixity x) = (tt, refl)
+last_real kind line d key text m (call f es) = (tt, refl)
+last_real kind line d key text m (call_through type a es) = (tt, refl)
+last_real kind line d key text m (library routine es) = (tt, refl)
+last_real kind line d key text m (printf format es) = (tt, refl)
 
 operands_most : (kind : Kind) (node : Node)
     → operands_used (operands_in node) ≤ used_made (visited kind node) (walk_operands used_made node)
@@ -388,14 +391,14 @@ place_few kind d m (arrow a offset size) = omega arith
 place_few kind d m (member_of_value a offset size) = omega arith
 place_few kind d m (parenthesized_lvalue p) = tt
 
-place_real : (d m : ℕ) (node : LvalueNode) → RealIn (last_at node d m)
-place_real d m (automatic x) = tt
-place_real d m (static n) = tt
+place_real : (d m : ℕ) (node : LvalueNode) → RealIn (last_at node d m) m
+place_real d m (automatic x) = (tt, refl)
+place_real d m (static n) = (tt, refl)
 place_real d m (deref a) = tt
-place_real d m (index form size a b) = tt
-place_real d m (member p offset size) = tt
-place_real d m (arrow a offset size) = tt
-place_real d m (member_of_value a offset size) = tt
+place_real d m (index form size a b) = (tt, refl)
+place_real d m (member p offset size) = (tt, refl)
+place_real d m (arrow a offset size) = (tt, refl)
+place_real d m (member_of_value a offset size) = (tt, refl)
 place_real d m (parenthesized_lvalue p) = tt
 
 pub places_most : (kind : Kind) (node : LvalueNode)
@@ -448,7 +451,7 @@ places_weigh kind w (parenthesized_lvalue p) = omega arith
 
 pub a_format : {a b : Emitter} {format : List ℕ} {es : Expressions} {n : ℕ} → TextAdded a b format n
     → FormatAdded a b (printf format es) n
-a_format h = record { emits = h.emits; is = h.is }
+a_format h = record { emits = h.emits; same = h.same; is = h.is }
 
 -- of anything else
 
@@ -488,7 +491,7 @@ no_format_in ts (library routine es) n h = tt
 no_format_in ts (printf format es) n h = absurd h
 
 pub no_format : (a : Emitter) (node : Node) (n : ℕ) → HasNone node → FormatAdded a a node n
-no_format a node n h = record { emits = emits_none 0 (λ w. refl); is = λ ts s. no_format_in ts node n h }
+no_format a node n h = record { emits = emits_none 0 (λ w. refl); same = same_nodes; is = λ ts s. no_format_in ts node n h }
 
 -- the key of an access is that of the code in which it stands
 
@@ -507,7 +510,8 @@ added_as {a = a} {c = c} {x = x} {kind = kind} {line = line} {d = d} {k = k} {m 
     ka fa e h =
     let few : temporaries i ≤ d + used (expression kind line node) = subst
     (λ o. FewIn o (d + used (expression kind line node))) e (last_few kind line d key text m node) in
-    let real : IsReal i = subst RealIn e (last_real kind line d key text m node) in
+    let real : IsReal i × (successors i ≡ m ∷ []) = subst (λ o. RealIn o m) e
+    (last_real kind line d key text m node) in
     let most = d + used (expression kind line node) in
     let first = emits_then most no_weight ka.emits fa.emits (omega arith) (omega arith) (λ w. omega arith) in
     let more = added_by most (finish_weight (expression kind line node)) h few
@@ -516,11 +520,12 @@ added_as {a = a} {c = c} {x = x} {kind = kind} {line = line} {d = d} {k = k} {m 
     record {
       emits = emits_then most (finish_weight (expression kind line node)) first more (omega arith) (omega arith)
           (λ w. omega arith);
+      leads = leads_behind (same_then ka.same fa.same) (leads_to h real.1);
       stands = λ p f n o.
           let g = fills_before more f in
           last_stands p kind line d key text m k n node (key_stands node ka (fills_before fa.emits g))
           (fa.is p.texts g.texts)
-          (subst (λ j. StandsAs p j k m) (sym e) (f.code k i real (added_has h))) o;
+          (subst (λ j. StandsAs p j k m) (sym e) (f.code k i real.0 (added_has h))) o;
     }
 
 pub some_last : {a b c x : Emitter} {kind : Kind} {line d k m text : ℕ} {node : Node} {key : Option ℕ} {i : Instruction}
@@ -540,6 +545,7 @@ none_last {c = c} {kind = kind} {line = line} {d = d} {m = m} {text = text} {nod
     record {
       emits = emits_then most (finish_weight (expression kind line node)) ka.emits fa.emits (omega arith) (omega arith)
           none;
+      leads = leads_behind (same_then ka.same fa.same) leads_none;
       stands = λ p f n o.
           last_stands p kind line d key text m m n node (key_stands node ka (fills_before fa.emits f))
           (fa.is p.texts f.texts)
@@ -553,12 +559,13 @@ some_place {a = a} {b = b} {kind = kind} {line = line} {d = d} {k = k} {m = m} {
     let e = sym l ∙ s in
     let most = d + used_by_lvalue (lvalue kind line node) in
     let few : temporaries i ≤ most = subst (λ o. FewIn o most) e (place_few kind d m node) in
-    let real : IsReal i = subst RealIn e (place_real d m node) in
+    let real : IsReal i × (successors i ≡ m ∷ []) = subst (λ o. RealIn o m) e (place_real d m node) in
     record {
       emits = added_by most (lvalue_finish_weight (lvalue kind line node)) h few
           (λ w ts s. ap (λ o. weight_if ts o w) (sym e) ∙ place_same ts d m w node);
+      leads = leads_to h real.1;
       stands = λ p f n o. last_places p d m k n node
-          (subst (λ j. StandsAs p j k m) (sym e) (f.code k i real (added_has h))) o;
+          (subst (λ j. StandsAs p j k m) (sym e) (f.code k i real.0 (added_has h))) o;
     }
 
 pub none_place : {a : Emitter} {kind : Kind} {line d m : ℕ} {node : LvalueNode} {l : Option Instruction}
@@ -566,6 +573,7 @@ pub none_place : {a : Emitter} {kind : Kind} {line d m : ℕ} {node : LvalueNode
 none_place {kind = kind} {line = line} {d = d} {m = m} {node = node} l s = record {
   emits = emits_none (d + used_by_lvalue (lvalue kind line node))
       (λ w. sym (place_same [] d m w node) ∙ sym (ap (λ o. weight_if [] o w) (sym s ∙ l)));
+  leads = leads_none;
   stands = λ p f n o. last_places p d m m n node (subst (λ j. StandsAs p j m m) (sym s ∙ l) refl) o;
 }
 

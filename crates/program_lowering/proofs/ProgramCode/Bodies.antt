@@ -15,10 +15,13 @@ use Rattle.c_lower.specs.Programs.{LowersBody, placed_in, function_exits}
 use Rattle.program_lowering.specs.declared.expressions.emitter.Emitter.{Emitter}
 use Rattle.program_lowering.specs.ExpressionCode.Weights.{code_weight}
 use Rattle.program_lowering.specs.ExpressionCode.Emitted.{Added, Fills}
+use Rattle.program_lowering.proofs.ExpressionCode.Leading.{added_stays}
+use Rattle.program_lowering.proofs.ProgramCode.ClosedBodies.{none_has, empty_closed, function_closed, function_bare}
+use Rattle.program_lowering.specs.ExpressionCode.Enclosed.{AllOpen}
 use Rattle.program_lowering.proofs.ExpressionCode.Growing.{added_emits, added_holds, emits_then, fills_before}
 use Rattle.program_lowering.proofs.ExpressionCode.Growing.{weighs_from, weighs_into}
 use Rattle.program_lowering.specs.declared.parts.exits.Exits.{Exits}
-use Rattle.program_lowering.specs.StatementParts.Leaving.{exits_of}
+use Rattle.program_lowering.specs.StatementParts.Leaving.{exits_of, exit_nodes}
 use Rattle.program_lowering.specs.StatementCode.Code.{StatementsCode}
 use Rattle.program_lowering.specs.StatementCode.Sizes.{each_height}
 use Rattle.program_lowering.proofs.StatementCode.Heights.{each_needs_one}
@@ -27,28 +30,30 @@ use Rattle.program_lowering.specs.declared.programs.function.Lowered.{Lowered}
 use Rattle.program_lowering.specs.ProgramCode.Code.{BodyCode, Completes, FunctionCode}
 use Rattle.program_lowering.specs.ProgramCode.Weights.{body_weight}
 
-none_has : {A : Type 0} (xs : List A) (n : ℕ) (x : A) → xs ≡ [] → HasAt xs n x → ⊥
-none_has [] n x e h = cc
-none_has (y ∷ xs) n x e h = cc
-
 pub body_code : {vs : List Variable} {ss : Statements} {result : Kind} {texts : List (List ℕ)} {literals : List Bool}
-    {a b c d : Emitter} {returns end entry : ℕ} {x : Exits} → a.code.items ≡ [] → a.texts.items ≡ texts
+    {a b c d : Emitter} {returns end entry : ℕ} {x : Exits} → a.code.items ≡ [] → a.loops.items ≡ [] → a.texts.items ≡ texts
     → a.literals.items ≡ literals → Added a b returns (tac.Return 0)
     → Added b c end (tac.ZeroOf result 0 returns) → exits_of x ≡ function_exits end returns
     → StatementsCode vs c d ss entry x → BodyCode vs ss result texts literals d entry
-body_code {vs = vs} {ss = ss} {result = result} {texts = texts} {a = a} {returns = returns} {end = end}
-    {entry = entry} {x = x} none same told r z q h =
+body_code {vs = vs} {ss = ss} {result = result} {texts = texts} {a = a} {c = c} {returns = returns} {end =
+    end} {entry = entry} {x = x} none bare same told r z q h =
     let most = each_height ss in
     let one = each_needs_one ss in
     let er = added_emits most r (omega (arith, one)) (λ ts w. refl) in
     let ez = added_emits most z (omega (arith, one)) (λ ts w. refl) in
     let two = emits_then most (λ w. w.return + w.zero_of result) er ez (omega arith) (omega arith) (λ w. omega arith) in
     let whole = emits_then most (body_weight vs result ss) two h.emits (omega arith) (omega arith) (λ w. omega arith) in
+    let last = added_stays r (empty_closed none bare) tt in
+    let ends = added_stays z last.0.closed (last.1, tt) in
+    let made = h.leads.by [] ends.0.closed (subst (λ y. AllOpen [] c (exit_nodes y)) (sym q)
+    (ends.1, (ends.1, (ends.1, (ends.0.opens returns last.1, tt))))) in
     record {
       texts_stay = λ n t k. whole.kept.texts n t (subst (λ l. HasAt l n t) (sym same) k);
       literals_same = whole.kept.literals ∙ told;
       homes = whole.fits most (omega arith)
           (record { by = λ n i k. absurd (none_has a.code.items n i none k) });
+      closed = made.0.closed;
+      begins = made.1.0;
       weight = λ w ts s. weighs_into (whole.grown w ts s) (omega (arith, ap (λ is. code_weight ts is w) none));
       stands = λ p v f.
           let fz = fills_before h.emits f in (
@@ -88,6 +93,8 @@ function_code {texts = texts} {literals = literals} {result = result} {b = b} {l
             header = headers f l.function w.line_is w.type_is (w.parameters_are ∙ ep) (w.variables_are ∙ ev)
                 (w.entered_are ∙ ee) w.room_is;
             homes = λ n i k. h.homes.by n i (subst (λ is. HasAt is n i) w.code_is k);
+            closed = function_closed b.code b.entry l.function w.code_is w.loops_are w.entry_is h.closed h.begins;
+            none_added = function_bare b.code l.function w.loops_are h.closed;
             weight = λ v. weighs_from (ap (λ is. code_weight ts is v) w.code_is) (h.weight v ts fills.texts);
             body = subst (λ n. LowersBody (placed_in ts literals f l.function) result n f.body) (sym w.entry_is)
                 (h.stands (placed_in ts literals f l.function) refl fills);

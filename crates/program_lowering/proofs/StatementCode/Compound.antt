@@ -1,5 +1,5 @@
 -- Blocks and branches from their parts.
-use Rattle.std.proofs.Common.{◌≡◌, ℕ, ◌+◌, ◌-◌, ◌≤◌, List, length, map, drop, Some, refl, ap, subst, arith}
+use Rattle.std.proofs.Common.{◌≡◌, ℕ, ◌+◌, ◌-◌, ◌≤◌, List, [], ◌∷◌, length, map, drop, Some, refl, ap, subst, arith}
 use Rattle.std.specs.Prelude.{get_or, max}
 use Rattle.c_tree.specs.declared.program.Variable.{Variable}
 use Rattle.c_tree.specs.declared.statement.Statement.{Statement as CodeStatement}
@@ -11,10 +11,13 @@ use Rattle.c_tree.specs.Statements.{if_else}
 use Rattle.c_tree.specs.View.{statement_of}
 use Rattle.c_lower.specs.Statements.{LowersStatement, HasNumber, has_objects_of}
 use Rattle.program_lowering.specs.declared.expressions.emitter.Emitter.{Emitter}
+use Rattle.program_lowering.proofs.ExpressionCode.Leading.{leads_first, leads_before, leads_then, closed_then}
+use Rattle.program_lowering.proofs.ExpressionCode.Leading.{all_open}
+use Rattle.program_lowering.specs.ExpressionCode.Enclosed.{Leads}
 use Rattle.program_lowering.proofs.ExpressionCode.Growing.{emits_none, emits_then, fills_before}
 use Rattle.program_lowering.specs.declared.parts.exits.Exits.{Exits}
 use Rattle.program_lowering.specs.declared.parts.exits.BlockExits.{BlockExits}
-use Rattle.program_lowering.specs.StatementParts.Leaving.{exits_of, before}
+use Rattle.program_lowering.specs.StatementParts.Leaving.{exits_of, exit_nodes, before}
 use Rattle.program_lowering.specs.StatementParts.Weights.{left_weight, block_weight}
 use Rattle.program_lowering.specs.StatementParts.Code.{ConditionCode, EntryCode, LeavingCode}
 use Rattle.program_lowering.proofs.StatementParts.InitializerParts.{drop_before}
@@ -26,15 +29,16 @@ use Rattle.program_lowering.proofs.StatementCode.Heights.{needs_one}
 -- statements in order
 
 pub no_statements_code : {vs : List Variable} {a : Emitter} {x : Exits} → StatementsCode vs a a no_statements x.next x
-no_statements_code = record { emits = emits_none 1 (λ w. refl); stands = λ c v f. refl }
+no_statements_code = record { emits = emits_none 1 (λ w. refl); leads = leads_first; stands = λ c v f. refl }
 
 more_statements : {vs : List Variable} {a b c : Emitter} {n k : ℕ} {x y : Exits} (s : Statement) (ss : Statements)
     → exits_of y ≡ before (exits_of x) k → StatementsCode vs a b ss k x → StatementCode vs b c s n y
     → StatementsCode vs a c (statements s ss) n x
-more_statements {vs = vs} {n = n} {k = k} s ss e hs h = record {
+more_statements {vs = vs} {b = b} {c = c} {n = n} {k = k} s ss e hs h = record {
   emits = emits_then (max (statement_height s) (each_height ss))
       (each_weight vs (statements s ss)) hs.emits h.emits
       (omega arith) (omega arith) (λ w. omega arith);
+  leads = leads_before hs.leads (subst (λ z. Leads b c (n ∷ []) (exit_nodes z)) e h.leads);
   stands = λ p v f.
       (k, subst (LowersStatement p s n) e (h.stands p v f), hs.stands p v (fills_before h.emits f));
 }
@@ -60,6 +64,7 @@ block_code {vs = vs} {numbers = numbers} {line = line} {k = k} {n = n} {y = y} {
     record {
       emits = emits_then top (statement_weight vs (block line ss)) inner y'.emits (omega arith) (omega arith)
           (λ w. omega (arith, ap (λ ns. block_weight vs ns w) same, l.weighs w));
+      leads = leads_then (leads_then l.leads h.leads) y'.leads;
       stands = λ p v f.
           let fh = fills_before y'.emits f in
           let fl = fills_before h.emits fh in (
@@ -79,9 +84,15 @@ block_code {vs = vs} {numbers = numbers} {line = line} {k = k} {n = n} {y = y} {
 
 pub if_code : {vs : List Variable} {a b c : Emitter} {e : Expression} {s : Statement} {k n : ℕ} {x : Exits}
     → StatementCode vs a b s k x → ConditionCode b c (Some e) n k x.next → StatementCode vs a c (if_then e s) n x
-if_code {vs = vs} {e = e} {s = s} {k = k} h t = record {
+if_code {vs = vs} {e = e} {s = s} {k = k} {x = x} h t = record {
   emits = emits_then (max (height e) (statement_height s)) (statement_weight vs (if_then e s)) h.emits t.emits
       (omega arith) (omega (arith, needs_one s)) (λ w. omega arith);
+  leads = record {
+    by = λ ss c o.
+        let u = h.leads.by ss c o in
+        let v = t.leads.by ss u.0.closed (u.1.0, (u.0.opens x.next o.0, tt)) in
+        (closed_then u.0 v.0, v.1);
+  };
   stands = λ p v f. (k, t.stands p f, h.stands p v (fills_before t.emits f));
 }
 
@@ -89,7 +100,7 @@ pub if_else_code : {vs : List Variable} {a b c d : Emitter} {e : Expression} {s 
     Exits}
     → StatementCode vs a b other j x → StatementCode vs b c s k x → ConditionCode c d (Some e) n k j
     → StatementCode vs a d (if_else e s other) n x
-if_else_code {vs = vs} {e = e} {s = s} {other = other} {k = k} {j = j} ho h t =
+if_else_code {vs = vs} {e = e} {s = s} {other = other} {k = k} {j = j} {x = x} ho h t =
     let top = max (height e) (max (statement_height s) (statement_height other)) in
     let both = emits_then top (λ w. statement_weight vs s w + statement_weight vs other w) ho.emits h.emits
     (omega arith)
@@ -97,6 +108,13 @@ if_else_code {vs = vs} {e = e} {s = s} {other = other} {k = k} {j = j} ho h t =
     record {
       emits = emits_then top (statement_weight vs (if_else e s other)) both t.emits (omega arith)
           (omega (arith, needs_one s)) (λ w. omega arith);
+      leads = record {
+        by = λ ss c' o.
+            let u = ho.leads.by ss c' o in
+            let v = h.leads.by ss u.0.closed (all_open (exit_nodes (exits_of x)) u.0 o) in
+            let w = t.leads.by ss v.0.closed (v.1.0, (v.0.opens j u.1.0, tt)) in
+            (closed_then u.0 (closed_then v.0 w.0), w.1);
+      };
       stands = λ p v f.
           let ft = fills_before t.emits f in
           (k, j, t.stands p f, h.stands p v ft, ho.stands p v (fills_before h.emits ft));

@@ -13,6 +13,7 @@ use Rattle.c_lower.specs.Placed.{Placed}
 use Rattle.c_lower.specs.Statements.{LowersLabels, any_default}
 use Rattle.program_lowering.specs.declared.expressions.emitter.Emitter.{Emitter}
 use Rattle.program_lowering.specs.ExpressionCode.Emitted.{Added}
+use Rattle.program_lowering.proofs.ExpressionCode.Leading.{leads_first, leads_added, stays_closed, closed_then}
 use Rattle.program_lowering.proofs.ExpressionCode.Growing.{emits_none, emits_then, emits_within, added_emits}
 use Rattle.program_lowering.proofs.ExpressionCode.Growing.{added_holds}
 use Rattle.program_lowering.proofs.ExpressionCode.Growing.{fills_before}
@@ -25,19 +26,28 @@ use Rattle.program_lowering.specs.StatementCode.Switches.{default_start}
 use Rattle.program_lowering.proofs.StatementCode.Elements.{of_item, drop_number, get_any}
 
 pub no_labels_code : {a : Emitter} {item n : ℕ} → LabelsCode a a [] item n n
-no_labels_code = record { emits = emits_none 1 (λ w. refl); stands = λ c f other e. refl }
+no_labels_code = record {
+  emits = emits_none 1 (λ w. refl);
+  leads = record { by = λ ss s o. (stays_closed s, (o.1.0, tt)) };
+  stands = λ c f other e. refl;
+}
 
 pub case_code : {a b : Emitter} {w item n m : ℕ} → Added a b n (tac.Case 0 w item m)
     → LabelsCode a b (Case w ∷ []) item n m
 case_code {w = n} {m = m} h = record {
   emits = emits_within 1 (labels_weight (Case n ∷ [])) (added_emits 1 h (omega arith) (λ ts w. refl)) (omega arith)
       (λ w. omega arith);
+  leads = leads_added h;
   stands = λ c f other e.
       (m, added_holds h tt f, refl);
 }
 
 pub default_code : {a : Emitter} {item n : ℕ} → LabelsCode a a (Default ∷ []) item n n
-default_code = record { emits = emits_none 1 (λ w. refl); stands = λ c f other e. (e refl, refl) }
+default_code = record {
+  emits = emits_none 1 (λ w. refl);
+  leads = record { by = λ ss s o. (stays_closed s, (o.1.0, tt)) };
+  stands = λ c f other e. (e refl, refl);
+}
 
 -- one label before others
 
@@ -55,6 +65,12 @@ more_labels : {a b c : Emitter} {item n k m : ℕ} (l : CaseLabel) (ls : List Ca
     → LabelsCode b c (l ∷ []) item n k → LabelsCode a c (l ∷ ls) item n m
 more_labels {item = item} {n = n} {k = k} {m = m} l ls hs h = record {
   emits = emits_then 1 (labels_weight (l ∷ ls)) hs.emits h.emits (omega arith) (omega arith) (λ w. omega arith);
+  leads = record {
+    by = λ ss s o.
+        let u = hs.leads.by ss s o in
+        let v = h.leads.by ss u.0.closed (u.0.opens item o.0, (u.1.0, tt)) in
+        (closed_then u.0 v.0, v.1);
+  };
   stands = λ p f other e.
       one_before p l ls item other n k m
       (h.stands p f other (λ d. e (or_left (is_default l) (any_default ls) (alone (is_default l) d))))
@@ -71,7 +87,7 @@ next_label {a = a} {c = c} {item = item} {n = n} {m = m} ls i l ge le is hs h =
 -- items
 
 pub no_tests_code : {a : Emitter} {n : ℕ} → TestsCode a a no_items [] n n
-no_tests_code = record { emits = emits_none 1 (λ w. refl); stands = λ c f d. refl }
+no_tests_code = record { emits = emits_none 1 (λ w. refl); leads = leads_first; stands = λ c f d. refl }
 
 more_tests : {a b c : Emitter} {n k m start : ℕ} (x : CodeItem) (is : SwitchItems) (starts : List ℕ)
     → TestsCode a b is starts k m → LabelsCode b c x.labels start n k
@@ -82,6 +98,12 @@ more_tests {a = a} {c = c} {n = n} {k = k} {m = m} {start = start} x is starts h
       emits = emits_then 1 (λ w. labels_weight x.labels w + tests_weight is w) hs.emits h.emits (omega arith)
           (omega arith)
           (λ w. omega arith);
+      leads = record {
+        by = λ ss s o.
+            let u = hs.leads.by ss s (o.0, o.1.1) in
+            let v = h.leads.by ss u.0.closed (u.0.opens start o.1.0, (u.1.0, tt)) in
+            (closed_then u.0 v.0, v.1);
+      };
       stands = λ p f d. (k, h.stands p f m d.0, hs.stands p (fills_before h.emits f) d.1);
     } in
     subst (λ ls. TestsCode a c (items ls (item_of x).1 is) (start ∷ starts) n m) (sym (ap (λ i. i.0) view)) code

@@ -1,5 +1,5 @@
 -- Loops from their parts.
-use Rattle.std.proofs.Common.{◌≡◌, ℕ, ◌+◌, ◌≤◌, List, length, Option, None, refl, ap, subst, arith}
+use Rattle.std.proofs.Common.{◌≡◌, ℕ, ◌+◌, ◌≤◌, List, [], ◌∷◌, length, Option, None, refl, sym, ap, ◌∙◌, subst, arith}
 use Rattle.std.specs.Prelude.{max}
 use Rattle.c_tree.specs.declared.program.Variable.{Variable}
 use Rattle.c_tree.specs.Blocks.{first_variables}
@@ -8,16 +8,20 @@ use Rattle.c_tree.specs.Tree.{Expression}
 use Rattle.c_tree.specs.Statements.{First, Statement, while_do, do_while, for}
 use Rattle.tac_ir.specs.declared.instruction.Instruction.{Instruction}
 use Rattle.tac_ir.specs.declared.instruction.Instruction.TheVariants as tac
+use Rattle.tac_ir.specs.declared.function.Span.{Span}
 use Rattle.tac_ir.specs.Temporaries.{temporaries}
 use Rattle.c_lower.specs.Counted.{CountedParts, counted_parts}
 use Rattle.c_lower.specs.Statements.{in_loop, LowersStatement, HasNumber, has_objects_of, CountedIs}
 use Rattle.program_lowering.specs.declared.expressions.emitter.Emitter.{Emitter}
 use Rattle.program_lowering.specs.ExpressionCode.Weights.{Weights, weight_of}
 use Rattle.program_lowering.specs.ExpressionCode.Emitted.{Has, Stays, Emits}
+use Rattle.program_lowering.proofs.ExpressionCode.Leading.{closed_then}
+use Rattle.program_lowering.proofs.StatementParts.Closing.{filled_open, nodes_between, added_closed, added_open}
+use Rattle.program_lowering.specs.ExpressionCode.Enclosed.{AreClosed, IsOpen, AllOpen}
 use Rattle.program_lowering.proofs.ExpressionCode.Growing.{fills_before, keeps_on, weighs_from, weighs_then}
 use Rattle.program_lowering.specs.declared.parts.exits.Exits.{Exits}
 use Rattle.program_lowering.specs.declared.parts.loops.ForHead.{ForHead}
-use Rattle.program_lowering.specs.StatementParts.Leaving.{exits_of}
+use Rattle.program_lowering.specs.StatementParts.Leaving.{exits_of, exit_nodes}
 use Rattle.program_lowering.specs.StatementParts.Code.{most}
 use Rattle.program_lowering.specs.StatementParts.Weights.{block_weight}
 use Rattle.program_lowering.specs.StatementParts.Loops.{Waits, Filled, HeadCode, ForHeadCode, ForTailCode}
@@ -55,12 +59,20 @@ pub while_code : {vs : List Variable} {a b c d : Emitter} {e : Expression} {s : 
     Exits}
     → HeadCode a b e turn start x.next → exits_of y ≡ in_loop (exits_of x) start → StatementCode vs b c s n y
     → Filled c d turn (tac.Turn None n) → StatementCode vs a d (while_do e s) start x
-while_code {vs = vs} {e = e} {s = s} {turn = turn} {n = n} h q g f =
+while_code {vs = vs} {b = b} {e = e} {s = s} {turn = turn} {start = start} {n = n} {x = x} h q g f =
     let still = g.emits.kept.code turn tac.Reserved h.waits.by in
     record {
       emits = filled_emits (max (height e) (statement_height s))
           (statement_weight vs (while_do e s)) h.emits h.fresh g.emits f
           still (omega arith) (λ ts w. refl) (omega (arith, needs_one s)) (omega arith) (λ w. omega arith);
+      leads = record {
+        by = λ ss c o.
+            let u = h.leads.by ss c (o.0, tt) in
+            let v = g.leads.by ss u.0.closed (subst (λ z. AllOpen ss b (exit_nodes z)) (sym q)
+            (u.1.1.0, (u.0.opens x.next o.0, (u.1.1.0, (u.0.opens x.returns o.1.1.1.0, tt))))) in
+            let w = filled_open f still v.0.closed (v.1.0, tt) in
+            (closed_then u.0 (closed_then v.0 w), (w.opens start (v.0.opens start u.1.1.0), tt));
+      };
       stands = λ p v k.
           let fg = filled_fills f still k in (
             turn,
@@ -74,12 +86,20 @@ while_code {vs = vs} {e = e} {s = s} {turn = turn} {n = n} h q g f =
 pub do_code : {vs : List Variable} {a b c d : Emitter} {e : Expression} {s : Statement} {turn start n : ℕ} {x y : Exits}
     → HeadCode a b e turn start x.next → exits_of y ≡ in_loop (exits_of x) start → StatementCode vs b c s n y
     → Filled c d turn (tac.Turn None n) → StatementCode vs a d (do_while s e) turn x
-do_code {vs = vs} {e = e} {s = s} {turn = turn} {start = start} {n = n} h q g f =
+do_code {vs = vs} {b = b} {e = e} {s = s} {turn = turn} {start = start} {n = n} {x = x} h q g f =
     let still = g.emits.kept.code turn tac.Reserved h.waits.by in
     record {
       emits = filled_emits (max (height e) (statement_height s))
           (statement_weight vs (do_while s e)) h.emits h.fresh g.emits f
           still (omega arith) (λ ts w. refl) (omega (arith, needs_one s)) (omega arith) (λ w. omega arith);
+      leads = record {
+        by = λ ss c o.
+            let u = h.leads.by ss c (o.0, tt) in
+            let v = g.leads.by ss u.0.closed (subst (λ z. AllOpen ss b (exit_nodes z)) (sym q)
+            (u.1.1.0, (u.0.opens x.next o.0, (u.1.1.0, (u.0.opens x.returns o.1.1.1.0, tt))))) in
+            let w = filled_open f still v.0.closed (v.1.0, tt) in
+            (closed_then u.0 (closed_then v.0 w), (w.opens turn (v.0.opens turn u.1.0), tt));
+      };
       stands = λ p v k.
           let fg = filled_fills f still k in (
             n,
@@ -90,15 +110,27 @@ do_code {vs = vs} {e = e} {s = s} {turn = turn} {start = start} {n = n} h q g f 
           );
     }
 
-pub for_code : {vs : List Variable} {a b c d : Emitter} {numbers : List ℕ} {line : ℕ} {first : First}
+-- as the code has counted them
+
+abbrev span_of : (start end : ℕ) → Span
+span_of s e = record { start = s; end = e }
+
+pub span_between : (b c : Emitter) {s e : ℕ} → s ≡ length b.code.items → e ≡ length c.code.items
+    → span_of s e ≡ nodes_between b c
+span_between b c {s = s} es ee =
+    ap {B = Span} (λ n. record { start = s; end = n }) ee
+    ∙ ap {B = Span} (λ n. record { start = n; end = length c.code.items }) es
+
+pub for_code : {vs : List Variable} {a b c d : Emitter} {numbers : List ℕ} {line : ℕ} {first : First} {nodes : Span}
     {test step : Option Expression} {s : Statement} {h : ForHead} {parts : Option CountedParts} {n body : ℕ} {x y :
     Exits}
     → numbers ≡ first_variables first → ForHeadCode vs a b numbers test step h x
     → exits_of y ≡ in_loop (exits_of h.inside.exits) h.step → StatementCode vs b c s body y
-    → parts ≡ counted_parts first test step s → ForTailCode c d line first parts h body n
+    → parts ≡ counted_parts first test step s → ForTailCode c d line first parts h body nodes n
+    → nodes ≡ nodes_between b c
     → StatementCode vs a d (for line first test step s) n x
-for_code {vs = vs} {b = b} {c = c} {line = line} {first = first} {test = test} {step = step} {s = s} {h = h} {n = n}
-    {body = body} {x = x} same k q g ranged t = record {
+for_code {vs = vs} {b = b} {c = c} {line = line} {first = first} {nodes = nodes} {test = test} {step = step} {s = s} {h = h} {n = n}
+    {body = body} {x = x} same k q g ranged t span = record {
       emits = record {
         kept = t.grows.keeps _ (keeps_on k.emits.kept g.emits.kept) k.fresh;
         fits = λ limit le f.
@@ -110,6 +142,18 @@ for_code {vs = vs} {b = b} {c = c} {line = line} {first = first} {test = test} {
             weighs_then _ _ _ (weighs_then _ _ _ (k.emits.grown w ts sk) (g.emits.grown w ts sg) refl)
             (t.grows.grown w ts later)
             (omega (arith, ap (λ ns. block_weight vs ns w) same, k.weighs w));
+      };
+      leads = record {
+        by = λ ss s o.
+            let u = k.leads.by ss s o in
+            let v = g.leads.by ss u.0.closed (subst (λ z. AllOpen ss b (exit_nodes z)) (sym q)
+            (u.1.1.1.0, (u.1.1.1.1.0, (u.1.1.1.0, (u.1.1.1.1.1.1.1.0, tt))))) in
+            let within = subst (λ z. AreClosed (z ∷ ss) c) (sym span)
+            (added_closed g.emits.kept u.0.closed v.0.closed) in
+            let outside : (m : ℕ) → IsOpen ss b m → IsOpen (nodes ∷ ss) c m =
+            λ m w. subst (λ z. IsOpen (z ∷ ss) c m) (sym span) (added_open v.0 w) in
+            let w = t.closes ss v.0.closed within v.1.0 (outside h.condition u.1.1.0) in
+            (record { closed = w.closed; opens = λ m z. w.opens m (outside m (u.0.opens m z)) }, (w.start, tt));
       };
       stands = λ p v f.
           let fg = t.grows.fills p f in

@@ -14,6 +14,8 @@ use Rattle.program_lowering.specs.declared.expressions.emitter.Emitter.{Emitter}
 use Rattle.program_lowering.specs.ExpressionCode.Weights.{returning_weight}
 use Rattle.program_lowering.specs.ExpressionCode.Emitted.{Added, ExpressionCode}
 use Rattle.program_lowering.specs.ExpressionCode.Last.{TakingCode}
+use Rattle.program_lowering.proofs.ExpressionCode.Leading.{leads_first, leads_more, leads_then, leads_added}
+use Rattle.program_lowering.proofs.ExpressionCode.Leading.{stays_closed}
 use Rattle.program_lowering.proofs.ExpressionCode.Growing.{emits_none, emits_then, emits_within, added_emits}
 use Rattle.program_lowering.proofs.ExpressionCode.Growing.{added_holds}
 use Rattle.program_lowering.proofs.ExpressionCode.Growing.{fills_before}
@@ -28,21 +30,30 @@ pub evaluated_code : {vs : List Variable} {a b : Emitter} {e : Expression} {n : 
     → ExpressionCode a b e 0 n x.next → StatementCode vs a b (expression_statement e) n x
 evaluated_code {e = e} h = record {
   emits = evaluated_emits e (max 1 (height e)) h (omega arith);
+  leads = leads_more h.leads;
   stands = λ c v f. h.stands c f;
 }
 
 pub declared_code : {vs : List Variable} {a b : Emitter} {ds : List DeclaredVariable} {n : ℕ} {x : Exits}
     → DeclaredCode a b ds n x.next → StatementCode vs a b (declaration ds) n x
-declared_code h = record { emits = h.emits; stands = λ c v f. h.stands c f }
+declared_code h = record { emits = h.emits; leads = leads_more h.leads; stands = λ c v f. h.stands c f }
 
 pub empty_code : {vs : List Variable} {a : Emitter} {x : Exits} → StatementCode vs a a empty x.next x
-empty_code = record { emits = emits_none 1 (λ w. refl); stands = λ c v f. refl }
+empty_code = record { emits = emits_none 1 (λ w. refl); leads = leads_first; stands = λ c v f. refl }
 
 pub break_code : {vs : List Variable} {a : Emitter} {x : Exits} → StatementCode vs a a break x.breaks x
-break_code = record { emits = emits_none 1 (λ w. refl); stands = λ c v f. refl }
+break_code = record {
+  emits = emits_none 1 (λ w. refl);
+  leads = record { by = λ ss s o. (stays_closed s, (o.1.0, tt)) };
+  stands = λ c v f. refl;
+}
 
 pub continue_code : {vs : List Variable} {a : Emitter} {x : Exits} → StatementCode vs a a continue x.continues x
-continue_code = record { emits = emits_none 1 (λ w. refl); stands = λ c v f. refl }
+continue_code = record {
+  emits = emits_none 1 (λ w. refl);
+  leads = record { by = λ ss s o. (stays_closed s, (o.1.1.0, tt)) };
+  stands = λ c v f. refl;
+}
 
 -- a result, whose contents are taken behind its value
 pub result_code : {a b c : Emitter} {n k m : ℕ} (e : CodeExpression) → TakingCode a b e.kind e.line 0 k m
@@ -54,6 +65,7 @@ result_code {k = k} {m = m} e t h =
     record {
       emits = emits_then top (result_weight (expression_of e)) (t.returns refl) value (omega arith) (omega arith)
           (λ w. omega (arith, ap (λ k. returning_weight (kind_of k) w) view));
+      leads = leads_then t.leads h.leads;
       stands = λ p f.
           let taken = t.stands p (fills_before h.emits f) in (
             k,
@@ -65,12 +77,17 @@ result_code {k = k} {m = m} e t h =
 
 pub returned_none : {vs : List Variable} {a b : Emitter} {n : ℕ} {x : Exits} → Added a b n (tac.Constant 0 0 x.returns)
     → StatementCode vs a b (return None) n x
-returned_none h = record { emits = added_emits 1 h (omega arith) (λ ts w. refl); stands = λ c v f. added_holds h tt f }
+returned_none h = record {
+  emits = added_emits 1 h (omega arith) (λ ts w. refl);
+  leads = record { by = λ ss s o. (leads_added h).by ss s (o.1.1.1.0, tt) };
+  stands = λ c v f. added_holds h tt f;
+}
 
 pub returned_some : {vs : List Variable} {a b : Emitter} {n : ℕ} {x : Exits} {e : Expression}
     → ResultCode a b e n x.returns → StatementCode vs a b (return (Some e)) n x
 returned_some {e = e} h = record {
   emits = emits_within (most (value_content e ∷ [])) (result_weight e) h.emits (omega arith) (λ w. omega arith);
+  leads = record { by = λ ss s o. h.leads.by ss s (o.1.1.1.0, tt) };
   stands = λ c v f. h.stands c f;
 }
 

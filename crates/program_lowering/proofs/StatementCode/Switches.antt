@@ -9,23 +9,26 @@ use Rattle.c_tree.specs.Room.{height}
 use Rattle.c_tree.specs.Tree.{Expression}
 use Rattle.c_tree.specs.Statements.{SwitchItems, no_items, items, items_in, switch}
 use Rattle.c_tree.specs.View.{statement_of}
+use Rattle.tac_ir.specs.declared.function.Span.{Span}
 use Rattle.c_lower.specs.Placed.{Placed}
 use Rattle.c_lower.specs.Statements.{Exits as Left, LowersStatement, LowersItems, HasNumber}
 use Rattle.c_lower.specs.Statements.{has_objects_of, LowersLabels, in_switch, any_default, has_default}
 use Rattle.program_lowering.specs.declared.expressions.emitter.Emitter.{Emitter}
 use Rattle.program_lowering.specs.ExpressionCode.Weights.{Weights}
 use Rattle.program_lowering.specs.ExpressionCode.Emitted.{ExpressionCode}
+use Rattle.program_lowering.proofs.ExpressionCode.Leading.{leads_first, closed_then, all_open}
+use Rattle.program_lowering.specs.ExpressionCode.Enclosed.{Leads, IsOpen, AllOpen}
 use Rattle.program_lowering.proofs.ExpressionCode.Growing.{emits_none, emits_then, fills_before}
 use Rattle.program_lowering.specs.declared.parts.exits.Exits.{Exits}
 use Rattle.program_lowering.specs.declared.parts.exits.BlockExits.{BlockExits}
 use Rattle.program_lowering.specs.StatementParts.Items.{item_of}
-use Rattle.program_lowering.specs.StatementParts.Leaving.{exits_of, before}
+use Rattle.program_lowering.specs.StatementParts.Leaving.{exits_of, exit_nodes, before}
 use Rattle.program_lowering.specs.StatementParts.Weights.{left_weight, block_weight}
 use Rattle.program_lowering.specs.StatementParts.Code.{EntryCode, LeavingCode}
 use Rattle.program_lowering.proofs.StatementParts.InitializerParts.{drop_before, evaluated_emits}
 use Rattle.program_lowering.specs.StatementCode.Weights.{statement_weight, items_weight}
 use Rattle.program_lowering.specs.StatementCode.Code.{StatementCode, ItemsFrom, ItemsCode, TestsCode, bodies_weight}
-use Rattle.program_lowering.specs.StatementCode.Code.{tests_weight}
+use Rattle.program_lowering.specs.StatementCode.Code.{tests_weight, begins}
 use Rattle.program_lowering.specs.StatementCode.Sizes.{statement_height, items_height}
 use Rattle.program_lowering.specs.StatementCode.Switches.{has_one_default, default_start, LowersBodies, LowersTests}
 use Rattle.program_lowering.specs.StatementCode.Switches.{DefaultsBegin}
@@ -36,18 +39,25 @@ use Rattle.program_lowering.proofs.StatementCode.Heights.{items_need_one}
 
 pub no_items_code : {vs : List Variable} {a : Emitter} {x : Exits} (starts : List ℕ)
     → ItemsFrom vs a a no_items starts x.next x
-no_items_code starts = record { emits = emits_none 1 (λ w. refl); stands = λ c v f. refl }
+no_items_code starts = record { emits = emits_none 1 (λ w. refl); leads = leads_first; stands = λ c v f. refl }
 
 more_items : {vs : List Variable} {a b c : Emitter} {n k : ℕ} {x y : Exits} (i : CodeItem) (is : SwitchItems)
     (starts : List ℕ) → exits_of y ≡ before (exits_of x) k → ItemsFrom vs a b is starts k x
     → StatementCode vs b c (statement_of i.statement) n y
     → ItemsFrom vs a c (items (item_of i).0 (item_of i).1 is) (n ∷ starts) n x
-more_items {vs = vs} {a = a} {c = c} {n = n} {k = k} {x = x} i is starts e hs h =
+more_items {vs = vs} {a = a} {b = b} {c = c} {n = n} {k = k} {x = x} i is starts e hs h =
     let s = statement_of i.statement in
     let code : ItemsFrom vs a c (items (item_of i).0 s is) (n ∷ starts) n x = record {
       emits = emits_then (max (statement_height s) (items_height is))
           (λ w. statement_weight vs s w + bodies_weight vs is w) hs.emits h.emits
           (omega arith) (omega arith) (λ w. omega arith);
+      leads = record {
+        by = λ ss w o.
+            let u = hs.leads.by ss w o in
+            let rest = all_open (exit_nodes (exits_of x)) u.0 o in
+            let v = h.leads.by ss u.0.closed (subst (λ z. AllOpen ss b (exit_nodes z)) (sym e) (u.1.0, rest.1)) in
+            (closed_then u.0 v.0, (v.1.0, (v.1.0, all_open (begins is starts) v.0 u.1.1)));
+      };
       stands = λ p v f.
           (refl, k, subst (LowersStatement p s n) e (h.stands p v f), hs.stands p v (fills_before h.emits f));
     } in
@@ -109,6 +119,19 @@ defaults_begin (items labels s is) (b ∷ bs) end e = by (any_default labels) (h
     by true false q e rest = (λ r. refl, none_begin is bs b q)
     by false h q e rest = (λ r. cc, rest e)
 
+-- where it goes on is open
+default_open : {ss : List Span} {c : Emitter} (is : SwitchItems) (starts : List ℕ) (end : ℕ)
+    → AllOpen ss c (begins is starts) → IsOpen ss c end → IsOpen ss c (default_start is starts end)
+default_open no_items starts end h o = o
+default_open (items labels s is) [] end h o = o
+default_open {ss = ss} {c = c} (items labels s is) (b ∷ bs) end h o =
+    by (any_default labels) (default_open is bs end h.1 o)
+  where
+    by : (d : Bool) → IsOpen ss c (default_start is bs end)
+        → IsOpen ss c (if d then b else default_start is bs end)
+    by true rest = h.0
+    by false rest = rest
+
 -- items with the tests of their labels
 
 both_stand : (c : Placed) (is : SwitchItems) (starts : List ℕ) (t0 n0 other : ℕ) (x : Left)
@@ -152,6 +175,18 @@ switch_code {vs = vs} {b = b} {c = c} {numbers = numbers} {starts = starts} {lin
     record {
       emits = emits_then top (statement_weight vs (switch e line is)) entered evaluated (omega arith) (omega arith)
           (λ w. omega (arith, weight_of_both vs is w, ap (λ ns. block_weight vs ns w) same));
+      leads = record {
+        by = λ ss s o.
+            let u = l.leads.by ss s o in
+            let v = h.from.leads.by ss u.0.closed (subst (λ x. AllOpen ss b (exit_nodes x)) (sym q)
+            (u.1.0, (u.1.0, (u.1.1.1.0, (u.1.1.1.1.0, tt))))) in
+            let first = subst (IsOpen ss c) (sym goes)
+            (default_open is starts y.exits.next v.1.1 (v.0.opens y.exits.next u.1.0)) in
+            let w = r.leads.by ss v.0.closed (first, v.1.1) in
+            let i = entry.leads.by ss w.0.closed w.1 in
+            let j = value.leads.by ss i.0.closed i.1 in
+            (closed_then u.0 (closed_then v.0 (closed_then w.0 (closed_then i.0 j.0))), j.1);
+      };
       stands = λ p v f.
           let fe = fills_before value.emits f in
           let fr = fills_before entry.emits fe in

@@ -9,6 +9,7 @@ use Rattle.c_lower.specs.Placed.{Placed}
 use Rattle.c_lower.specs.Statements.{HasNumber, has_objects_of}
 use Rattle.program_lowering.specs.declared.expressions.emitter.Emitter.{Emitter}
 use Rattle.program_lowering.specs.ExpressionCode.Emitted.{Added}
+use Rattle.program_lowering.proofs.ExpressionCode.Leading.{leads_none, leads_all, leads_added, leads_behind, added_stays, closed_then}
 use Rattle.program_lowering.proofs.ExpressionCode.Growing.{emits_none, emits_then, added_emits, added_holds}
 use Rattle.program_lowering.proofs.ExpressionCode.Growing.{fills_before}
 use Rattle.program_lowering.proofs.ExpressionCode.Growing.{same_emits, stays_by, one_more, has_last}
@@ -23,6 +24,7 @@ block_added a b numbers n code keys blocks loops texts literals at = record {
   emits = same_emits a b code (stays_by a.keys.items b.keys.items keys)
       (one_more a.blocks.items b.blocks.items numbers blocks)
       (stays_by a.loops.items b.loops.items loops) (stays_by a.texts.items b.texts.items texts) literals;
+  same = record { code = code; loops = loops };
   is = λ c f. f.blocks n numbers (has_last a.blocks.items b.blocks.items numbers n blocks at);
 }
 
@@ -39,7 +41,11 @@ weight_by vs numbers h n e q t = ap (λ o. weight_where o n) (sym t ∙ e)
 
 entry_there : {a b : Emitter} {block line n next : ℕ} → Added a b n (tac.EnterBlock block line next)
     → EntryCode a b (Some block) line n next
-entry_there i = record { emits = added_emits 0 i (omega arith) (λ ts w. refl); stands = λ p f. added_holds i tt f }
+entry_there i = record {
+  emits = added_emits 0 i (omega arith) (λ ts w. refl);
+  leads = leads_added i;
+  stands = λ p f. added_holds i tt f;
+}
 
 pub entry_of : {a b : Emitter} {block line n next : ℕ} {o : Option ℕ} → o ≡ Some block
     → Added a b n (tac.EnterBlock block line next) → EntryCode a b o line n next
@@ -47,12 +53,12 @@ entry_of {a = a} {b = b} {line = line} {n = n} {next = next} e i =
     subst (λ q. EntryCode a b q line n next) (sym e) (entry_there i)
 
 pub entry_none : {a : Emitter} {line next : ℕ} → EntryCode a a None line next next
-entry_none = record { emits = emits_none 0 (λ w. refl); stands = λ p f. refl }
+entry_none = record { emits = emits_none 0 (λ w. refl); leads = leads_none; stands = λ p f. refl }
 
 pub ways_out : {a b c d e : Emitter} {block : ℕ} {y x : Exits} → Added a b y.next (tac.LeaveBlock block x.next)
     → Added b c y.breaks (tac.LeaveBlock block x.breaks) → Added c d y.continues (tac.LeaveBlock block x.continues)
     → Added d e y.returns (tac.LeaveBlock block x.returns) → WaysOut a e block x y
-ways_out i j k l =
+ways_out {y = y} {x = x} i j k l =
     let ej = added_emits 0 j (omega arith) (λ ts w. refl) in
     let ek = added_emits 0 k (omega arith) (λ ts w. refl) in
     let el = added_emits 0 l (omega arith) (λ ts w. refl) in
@@ -61,6 +67,21 @@ ways_out i j k l =
     let three = emits_then 0 (λ w. 3 * w.leave_block) two ek (omega arith) (omega arith) (λ w. omega arith) in
     record {
       emits = emits_then 0 (λ w. 4 * w.leave_block) three el (omega arith) (omega arith) (λ w. omega arith);
+      leads = record {
+        by = λ ss s o.
+            let p = added_stays i s (o.0, tt) in
+            let q = added_stays j p.0.closed (p.0.opens x.breaks o.1.0, tt) in
+            let two' = closed_then p.0 q.0 in
+            let r = added_stays k q.0.closed (two'.opens x.continues o.1.1.0, tt) in
+            let three' = closed_then two' r.0 in
+            let t = added_stays l r.0.closed (three'.opens x.returns o.1.1.1.0, tt) in (
+              closed_then three' t.0,
+              (
+                t.0.opens y.next (r.0.opens y.next (q.0.opens y.next p.1)),
+                (t.0.opens y.breaks (r.0.opens y.breaks q.1), (t.0.opens y.continues r.1, (t.1, tt))),
+              ),
+            );
+      };
       stands = λ p f.
           let fl = fills_before el f in
           let fk = fills_before ek fl in
@@ -74,6 +95,7 @@ pub leave_there : {vs : List Variable} {numbers : List ℕ} {h : Bool} {a b c : 
 leave_there {vs = vs} {numbers = numbers} {h = h} {block = block} q t k l = record {
   emits = emits_then 0 (left_weight vs numbers) k.emits l.emits (omega arith) (omega arith)
       (λ w. omega (arith, weight_by vs numbers h (4 * w.leave_block) q true t));
+  leads = leads_behind k.same l.leads;
   numbered = λ p v f.
       subst (λ o. HasNumber p o numbers (Some block)) (sym t ∙ same_objects vs numbers h p q v)
       (k.is p (fills_before l.emits f));
@@ -86,6 +108,7 @@ pub leave_none : {vs : List Variable} {numbers : List ℕ} {h : Bool} {a : Emitt
     → LeavingCode vs a a numbers x (record { block = None; exits = x })
 leave_none {vs = vs} {numbers = numbers} {h = h} q t = record {
   emits = emits_none 0 (λ w. sym (weight_by vs numbers h (4 * w.leave_block) q false t));
+  leads = leads_all;
   numbered = λ p v f. subst (λ o. HasNumber p o numbers None) (sym t ∙ same_objects vs numbers h p q v) tt;
   stands = λ p f. refl;
   weighs = λ w. weight_by vs numbers h w.enter_block q false t;

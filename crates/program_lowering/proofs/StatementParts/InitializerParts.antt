@@ -19,6 +19,8 @@ use Rattle.program_lowering.specs.declared.expressions.emitter.Emitter.{Emitter}
 use Rattle.program_lowering.specs.ExpressionCode.Weights.{expression_weight}
 use Rattle.program_lowering.specs.ExpressionCode.Emitted.{Added, Stays, Emits, ExpressionCode}
 use Rattle.program_lowering.specs.ExpressionCode.Last.{TextAdded}
+use Rattle.program_lowering.proofs.ExpressionCode.Leading.{leads_none, leads_first, leads_added, leads_then, leads_behind, added_stays}
+use Rattle.program_lowering.proofs.ExpressionCode.Leading.{closed_then}
 use Rattle.program_lowering.proofs.ExpressionCode.Growing.{emits_none, emits_then, emits_within, added_by}
 use Rattle.program_lowering.proofs.ExpressionCode.Growing.{added_emits}
 use Rattle.program_lowering.proofs.ExpressionCode.Growing.{added_holds}
@@ -59,6 +61,7 @@ value_code {x = x} {o = o} {k = k} {m = m} e h hx =
     record {
       emits = emits_then top (content_weight (value_content (expression_of e))) store value (omega arith) (omega arith)
           (λ w. omega (arith, ap (λ x. w.store_part (kind_of x)) view));
+      leads = leads_then (leads_added h) hx.leads;
       stands = λ p f.
           let held = added_holds h tt (fills_before hx.emits f) in (
             k,
@@ -77,11 +80,12 @@ literal_code {t = t} {bytes = bytes} ht h =
     (λ w ts s. ap w.store_text (ht.is ts (subst (λ us. Stays us ts) h.texts s))) in
     record {
       emits = emits_then 1 weight ht.emits store (omega arith) (omega arith) (λ w. omega arith);
+      leads = leads_behind ht.same (leads_added h);
       stands = λ p f. (t, ht.is p.texts (fills_before store f).texts, added_holds h tt f);
     }
 
 pub parts_none : {a : Emitter} {x n : ℕ} → PartsCode a a x [] n n
-parts_none = record { emits = emits_none 1 (λ w. refl); stands = λ p f. refl }
+parts_none = record { emits = emits_none 1 (λ w. refl); leads = leads_none; stands = λ p f. refl }
 
 parts_more : {a b c : Emitter} {x n k m : ℕ} (q : Part) (qs : List Part) → PartsCode a b x qs k m
     → ContentCode b c x q.offset q.content n k → PartsCode a c x (q ∷ qs) n m
@@ -89,6 +93,7 @@ parts_more {k = k} q qs hs h =
     let top = most (contents_in (q ∷ qs)) in
     record {
       emits = emits_then top (parts_weight (q ∷ qs)) hs.emits h.emits (omega arith) (omega arith) (λ w. omega arith);
+      leads = leads_then hs.leads h.leads;
       stands = λ p f. (k, h.stands p f, hs.stands p (fills_before h.emits f));
     }
 
@@ -115,7 +120,7 @@ part_height (y ∷ qs) (suc k) q lt e = omega (arith, part_height qs k q (omega 
 -- initializers
 
 pub initializer_none : {a : Emitter} {x n : ℕ} → InitializerCode a a x None n n
-initializer_none = record { emits = emits_none 1 (λ w. refl); stands = λ p f. refl }
+initializer_none = record { emits = emits_none 1 (λ w. refl); leads = leads_none; stands = λ p f. refl }
 
 pub initializer_plain : {a b c : Emitter} {x n k m : ℕ} {e : Expression} → Added a b k (tac.SetPlain x 0 m)
     → ExpressionCode b c e 0 n k → InitializerCode a c x (Some (of_plain e)) n m
@@ -126,6 +131,7 @@ initializer_plain {k = k} {e = e} h hx =
     record {
       emits = emits_then top (initializer_weight (Some (of_plain e))) set value (omega arith) (omega arith)
           (λ w. omega arith);
+      leads = leads_then (leads_added h) hx.leads;
       stands = λ p f. (k, hx.stands p f, added_holds h tt (fills_before hx.emits f));
     }
 
@@ -137,11 +143,12 @@ initializer_object {k = k} {qs = qs} hs h =
     record {
       emits = emits_then top (initializer_weight (Some (of_object qs))) hs.emits clear (omega arith) (omega arith)
           (λ w. omega arith);
+      leads = leads_then hs.leads (leads_added h);
       stands = λ p f. (k, added_holds h tt f, hs.stands p (fills_before clear f));
     }
 
 pub declared_none : {a : Emitter} {n : ℕ} → DeclaredCode a a [] n n
-declared_none = record { emits = emits_none 1 (λ w. refl); stands = λ p f. refl }
+declared_none = record { emits = emits_none 1 (λ w. refl); leads = leads_none; stands = λ p f. refl }
 
 declared_more : {a b c : Emitter} {n k m : ℕ} (d : DeclaredVariable) (ds : List DeclaredVariable)
     → DeclaredCode a b ds k m
@@ -152,6 +159,7 @@ declared_more {k = k} d ds hs h =
     record {
       emits = emits_then top (declared_weight (d ∷ ds)) hs.emits h.emits (omega (arith, both)) (omega (arith, both))
           (λ w. omega arith);
+      leads = leads_then hs.leads h.leads;
       stands = λ p f. (k, h.stands p f, hs.stands p (fills_before h.emits f));
     }
 
@@ -179,21 +187,22 @@ declared_height (y ∷ ds) (suc k) d lt e =
 -- the parts of a `for`
 
 pub first_nothing : {a : Emitter} {n : ℕ} → FirstCode a a nothing n n
-first_nothing = record { emits = emits_none 1 (λ w. refl); stands = λ p f. refl }
+first_nothing = record { emits = emits_none 1 (λ w. refl); leads = leads_none; stands = λ p f. refl }
 
 pub first_value : {a b : Emitter} {n m : ℕ} {e : Expression} → ExpressionCode a b e 0 n m
     → FirstCode a b (first_expression e) n m
 first_value {e = e} h = record {
   emits = evaluated_emits e (most (value_content e ∷ [])) h (omega arith);
+  leads = h.leads;
   stands = h.stands;
 }
 
 pub first_declared : {a b : Emitter} {n m : ℕ} {ds : List DeclaredVariable} → DeclaredCode a b ds n m
     → FirstCode a b (first_declaration ds) n m
-first_declared h = record { emits = h.emits; stands = h.stands }
+first_declared h = record { emits = h.emits; leads = h.leads; stands = h.stands }
 
 pub condition_none : {a : Emitter} {n m : ℕ} → ConditionCode a a None n n m
-condition_none = record { emits = emits_none 1 (λ w. refl); stands = λ p f. refl }
+condition_none = record { emits = emits_none 1 (λ w. refl); leads = leads_first; stands = λ p f. refl }
 
 pub condition_some : {a b c : Emitter} {n k t u : ℕ} {e : Expression} → Added a b k (tac.Branch 0 t u)
     → ExpressionCode b c e 0 n k → ConditionCode a c (Some e) n t u
@@ -203,15 +212,17 @@ condition_some {k = k} {e = e} h hx =
     let value = evaluated_emits e top hx (omega arith) in
     record {
       emits = emits_then top (condition_weight (Some e)) branch value (omega arith) (omega arith) (λ w. omega arith);
+      leads = leads_then (leads_added h) hx.leads;
       stands = λ p f. (k, hx.stands p f, added_holds h tt (fills_before hx.emits f));
     }
 
 pub part_none : {a : Emitter} {n : ℕ} → PartCode a a None n n
-part_none = record { emits = emits_none 1 (λ w. refl); stands = λ p f. refl }
+part_none = record { emits = emits_none 1 (λ w. refl); leads = leads_none; stands = λ p f. refl }
 
 pub part_some : {a b : Emitter} {n m : ℕ} {e : Expression} → ExpressionCode a b e 0 n m → PartCode a b (Some e) n m
 part_some {e = e} h = record {
   emits = evaluated_emits e (most (value_content e ∷ [])) h (omega arith);
+  leads = h.leads;
   stands = h.stands;
 }
 

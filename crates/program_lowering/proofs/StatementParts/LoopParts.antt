@@ -4,6 +4,7 @@ use Rattle.std.proofs.Common.{length, Option, Some, None, refl, sym, ap, ◌∙�
 use Rattle.std.proofs.lemmas.Bool.{eqb-true, eqb-false}
 use Rattle.std.proofs.lemmas.Option.{same_Some, slice_get_within}
 use Rattle.std.specs.Prelude.{slice_get, slice_set, max, ◌==◌}
+use mathlib.Core.Logic.{inl, inr}
 use Rattle.c_tree.specs.declared.program.Variable.{Variable}
 use Rattle.c_tree.specs.Tree.{Expression}
 use Rattle.c_tree.specs.Statements.{First}
@@ -12,12 +13,18 @@ use Rattle.c_tree.specs.Blocks.{if_any, first_contents}
 use Rattle.tac_ir.specs.declared.instruction.Instruction.{Instruction}
 use Rattle.tac_ir.specs.declared.instruction.Instruction.TheVariants as tac
 use Rattle.tac_ir.specs.declared.function.Span.{Span}
+use Rattle.tac_ir.specs.declared.function.CountedLoop.{CountedLoop}
+use Rattle.tac_ir.specs.Bodies.{no_nodes}
+use Rattle.tac_ir.specs.Edges.{LeadsTo}
 use Rattle.tac_ir.specs.Temporaries.{temporaries}
 use Rattle.c_lower.specs.Counted.{CountedParts}
 use Rattle.c_lower.specs.Placed.{Placed, Holds, HasAt}
 use Rattle.program_lowering.specs.declared.expressions.emitter.Emitter.{Emitter}
 use Rattle.program_lowering.specs.ExpressionCode.Weights.{Weights, weight_of, code_weight, expression_weight}
 use Rattle.program_lowering.specs.ExpressionCode.Emitted.{Has, Added, Stays, Keeps, IsReal, Fills, Fits, ExpressionCode}
+use Rattle.program_lowering.proofs.ExpressionCode.Leading.{leads_then, added_stays, closed_then, all_open}
+use Rattle.program_lowering.proofs.StatementParts.Closing.{filled_other, filled_here, filled_stays, fewer_open, there}
+use Rattle.program_lowering.proofs.StatementParts.Closing.{MayLead, no_loop_closes, loop_closes}
 use Rattle.program_lowering.proofs.ExpressionCode.Growing.{weighs_from, weighs_then}
 use Rattle.program_lowering.proofs.ExpressionCode.Growing.{emits_none, emits_then, added_emits, added_has, added_holds}
 use Rattle.program_lowering.proofs.ExpressionCode.Growing.{fills_before, keeps_on, same_emits, stays_by, one_more}
@@ -30,30 +37,12 @@ use Rattle.program_lowering.specs.StatementParts.Weights.{first_weight, conditio
 use Rattle.program_lowering.specs.StatementParts.Code.{most, ConditionCode, PartCode, FirstCode, EntryCode, LeavingCode}
 use Rattle.program_lowering.specs.StatementParts.Counting.{parts_with}
 use Rattle.program_lowering.specs.StatementParts.Loops.{Waits, Filled, HeadCode, ForHeadCode, LoopAdded, ForTailCode}
+use Rattle.program_lowering.specs.ExpressionCode.Enclosed.{IsOpen}
+use Rattle.program_lowering.specs.StatementParts.Loops.{ClosesBody}
+use Rattle.program_lowering.specs.StatementParts.Leaving.{exits_of, exit_nodes}
 use Rattle.program_lowering.proofs.StatementParts.InitializerParts.{evaluated_emits, room_for}
 
--- lists of which one element is set
-
-set_same : {A : Type 0} (xs : List A) (n : ℕ) (x y : A) → HasAt xs n x → HasAt (slice_set xs n y) n y
-set_same [] n x y h = cc
-set_same (z ∷ xs) zero x y h = refl
-set_same (z ∷ xs) (suc n) x y h = set_same xs n x y h
-
-set_other : {A : Type 0} (xs : List A) (n m : ℕ) (y : A) → m ≢ n → slice_get (slice_set xs n y) m ≡ slice_get xs m
-set_other [] n m y ne = refl
-set_other (z ∷ xs) zero zero y ne = absurd (ne refl)
-set_other (z ∷ xs) zero (suc m) y ne = refl
-set_other (z ∷ xs) (suc n) zero y ne = refl
-set_other (z ∷ xs) (suc n) (suc m) y ne = set_other xs n m y (λ e. ne (ap suc e))
-
 -- a node that is filled
-
-filled_other : {a b : Emitter} {n : ℕ} {i : Instruction} → Filled a b n i → (m : ℕ) → m ≢ n
-    → slice_get b.code.items m ≡ slice_get a.code.items m
-filled_other {a = a} {n = n} {i = i} f m ne = ap (λ l. slice_get l m) f.code ∙ set_other a.code.items n m i ne
-
-filled_here : {a b : Emitter} {n : ℕ} {i : Instruction} → Filled a b n i → Has a n tac.Reserved → Has b n i
-filled_here {a = a} {n = n} {i = i} f h = ap (λ l. slice_get l n) f.code ∙ set_same a.code.items n tac.Reserved i h
 
 pub filled_fills : {a b : Emitter} {n : ℕ} {i : Instruction} {c : Placed} → Filled a b n i → Has a n tac.Reserved
     → Fills b c
@@ -121,11 +110,6 @@ filled_holds {n = n} {i = i} f h r g = g.code n i r (filled_here f h)
 
 -- what is kept makes no list shorter
 
-there : (xs : List Instruction) (n : ℕ) → n < length xs → (i : Instruction) × HasAt xs n i
-there [] n lt = absurd (omega (arith, lt))
-there (x ∷ xs) zero lt = (x, refl)
-there (x ∷ xs) (suc n) lt = there xs n (omega (arith, lt))
-
 long_by : (n : ℕ) (xs ys : List Instruction) → Stays xs ys → n ≤ length xs → n ≤ length ys
 long_by zero xs ys s le = omega arith
 long_by (suc n) xs ys s le =
@@ -139,7 +123,7 @@ longer {a = a} {b = b} k = long_by (length a.code.items) a.code.items b.code.ite
 
 pub head_code : {a b c e : Emitter} {x : Expression} {turn k start fails : ℕ} → Added a b turn tac.Reserved
     → Added b c k (tac.Branch 0 turn fails) → ExpressionCode c e x 0 start k → HeadCode a e x turn start fails
-head_code {a = a} {e = e} {x = x} {turn = turn} {k = k} h t v =
+head_code {a = a} {e = e} {x = x} {turn = turn} {k = k} {fails = fails} h t v =
     let top = max 1 (height x) in
     let first = added_emits top h (omega arith) (λ ts w. refl) in
     let second = added_emits top t (omega arith) (λ ts w. refl) in
@@ -148,6 +132,13 @@ head_code {a = a} {e = e} {x = x} {turn = turn} {k = k} h t v =
     record {
       emits = emits_then top (λ w. expression_weight x w + (w.branch + w.turn)) both value (omega arith) (omega arith)
           (λ w. omega arith);
+      leads = record {
+        by = λ ss s o.
+            let p = added_stays h s tt in
+            let q = added_stays t p.0.closed (p.1, (p.0.opens fails o.0, tt)) in
+            let r = v.leads.by ss q.0.closed (q.1, tt) in
+            (closed_then p.0 (closed_then q.0 r.0), (r.0.opens turn (q.0.opens turn p.1), r.1));
+      };
       fresh = omega (arith, h.place);
       waits = record { by = v.emits.kept.code turn tac.Reserved (second.kept.code turn tac.Reserved (added_has h)) };
       stands = λ p f. (k, v.stands p f, added_holds t tt (fills_before v.emits f));
@@ -157,7 +148,8 @@ pub for_head_code : {vs : List Variable} {a b c d e : Emitter} {numbers : List �
     {y : BlockExits} {x : Exits} {turn h s : ℕ} → LeavingCode vs a b numbers x y → Added b c turn tac.Reserved
     → ConditionCode c d test h turn y.exits.next → PartCode d e step s h
     → ForHeadCode vs a e numbers test step (record { inside = y; turn = turn; condition = h; step = s }) x
-for_head_code {vs = vs} {a = a} {b = b} {numbers = numbers} {test = test} {step = step} {turn = turn} l r t p =
+for_head_code {vs = vs} {a = a} {b = b} {numbers = numbers} {test = test} {step = step} {y = y} {turn =
+    turn} {h = h} l r t p =
     let top = max (most (if_any test)) (most (if_any step)) in
     let reserved = added_emits top r (omega arith) (λ ts w. refl) in
     let one = emits_then top (λ w. left_weight vs numbers w + w.turn) l.emits reserved (omega arith)
@@ -169,6 +161,21 @@ for_head_code {vs = vs} {a = a} {b = b} {numbers = numbers} {test = test} {step 
       emits = emits_then top
           (λ w. left_weight vs numbers w + (w.turn + (condition_weight test w + part_weight step w)))
           two p.emits (omega arith) (omega arith) (λ w. omega arith);
+      leads = record {
+        by = λ ss k o.
+            let u = l.leads.by ss k o in
+            let v = added_stays r u.0.closed tt in
+            let w = t.leads.by ss v.0.closed (v.1, (v.0.opens y.exits.next u.1.0, tt)) in
+            let z = p.leads.by ss w.0.closed w.1 in
+            let last = closed_then w.0 z.0 in
+            let all = closed_then v.0 last in (
+              closed_then u.0 all,
+              (
+                last.opens turn v.1,
+                (z.0.opens h w.1.0, (z.1.0, all_open (exit_nodes (exits_of y.exits)) all u.1)),
+              ),
+            );
+      };
       fresh = omega (arith, r.place, longer l.emits.kept);
       waits = record { by = p.emits.kept.code turn tac.Reserved (t.emits.kept.code turn tac.Reserved (added_has r)) };
       numbered = λ q v f. l.numbered q v (fills_before reserved (fills_before t.emits (fills_before p.emits f)));
@@ -180,10 +187,10 @@ for_head_code {vs = vs} {a = a} {b = b} {numbers = numbers} {test = test} {step 
 
 -- counted loops
 
-pub no_loop : {a : Emitter} {n : ℕ} {h : ForHead} → LoopAdded a a None n h None
-no_loop = record { emits = emits_none 0 (λ w. refl); is = λ p f. tt }
+pub no_loop : {a : Emitter} {n : ℕ} {h : ForHead} {body : Span} → LoopAdded a a None n h body None
+no_loop = record { emits = emits_none 0 (λ w. refl); code = refl; closes = no_loop_closes; is = λ p f. tt }
 
-pub some_loop : (a b : Emitter) (r : Range) (n setting : ℕ) (h : ForHead) (body added : Span) → b.code.items ≡ a.code.items
+pub some_loop : (a b : Emitter) (r : Range) (n setting : ℕ) (h : ForHead) (body : Span) → b.code.items ≡ a.code.items
     → b.keys.items ≡ a.keys.items → b.blocks.items ≡ a.blocks.items
     → b.loops.items ≡ a.loops.items ++ record {
       variable = r.variable;
@@ -194,22 +201,33 @@ pub some_loop : (a b : Emitter) (r : Range) (n setting : ℕ) (h : ForHead) (bod
       turn = h.turn;
       step = h.step;
       body = body;
-      added = added;
+      added = no_nodes;
     } ∷ [] → b.texts.items ≡ a.texts.items → b.literals.items ≡ a.literals.items → n ≡ length a.loops.items
-    → LoopAdded a b (parts_with (Some r)) setting h (Some n)
-some_loop a b r n setting h body added code keys blocks loops texts literals at = record {
+    → LoopAdded a b (parts_with (Some r)) setting h body (Some n)
+some_loop a b r n setting h body code keys blocks loops texts literals at = record {
   emits = same_emits a b code (stays_by a.keys.items b.keys.items keys) (stays_by a.blocks.items b.blocks.items blocks)
       (one_more a.loops.items b.loops.items _ loops)
       (stays_by a.texts.items b.texts.items texts) literals;
-  is = λ c f. (body, added, f.loops n _ (has_last a.loops.items b.loops.items _ n loops at));
+  code = code;
+  closes = loop_closes _ code loops at refl;
+  is = λ c f. (body, no_nodes, f.loops n _ (has_last a.loops.items b.loops.items _ n loops at));
 }
 
-pub for_tail_code : {a b c d e : Emitter} {line setting body n : ℕ} {first : First} {parts : Option CountedParts}
+-- where the turn leads
+turn_leads : (b c : Emitter) (nodes : Span) (counted : Option ℕ) (ss : List Span) (body : ℕ)
+    → ClosesBody b c nodes counted → c.code.items ≡ b.code.items → IsOpen ss b body → (m : ℕ)
+    → LeadsTo (tac.Turn counted body) m → MayLead ss c (tac.Turn counted body) m
+turn_leads b c nodes counted ss body closes code o m (inl e) = subst (MayLead ss c (tac.Turn counted body)) (sym e)
+    (subst (λ is. body < length is) (sym code) o.within, λ k s g here. closes.turns ss body o k s g here)
+turn_leads b c nodes counted ss body closes code o m (inr e) = absurd e
+
+pub for_tail_code : {a b c d e : Emitter} {line setting body n : ℕ} {nodes : Span} {first : First} {parts : Option CountedParts}
     {h : ForHead} {counted : Option ℕ} → Waits a h.turn
-    → FirstCode a b first setting h.condition → LoopAdded b c parts setting h counted
+    → FirstCode a b first setting h.condition → LoopAdded b c parts setting h nodes counted
     → Filled c d h.turn (tac.Turn counted body) → EntryCode d e h.inside.block line n setting
-    → ForTailCode a e line first parts h body n
-for_tail_code {a = a} {d = d} {setting = setting} {first = first} {h = h} {counted = counted} waits s l f y =
+    → ForTailCode a e line first parts h body nodes n
+for_tail_code {a = a} {b = b} {c = c} {d = d} {setting = setting} {body = body} {nodes = nodes} {first = first} {h =
+    h} {counted = counted} waits s l f y =
     let top = most (first_contents first) in
     let grown = emits_then top (first_weight first) s.emits l.emits (omega arith) (omega arith) (λ w. omega arith) in
     let still = grown.kept.code h.turn tac.Reserved waits.by in
@@ -226,6 +244,17 @@ for_tail_code {a = a} {d = d} {setting = setting} {first = first} {h = h} {count
             weighs_then _ _ _ (weighs_from (filled_weight f still ts w refl) (grown.grown w ts (filled_texts ts f sy)))
             (y.emits.grown w ts t) (omega arith);
       };
+      closes = λ ss closed within inner outer.
+          let u = s.leads.by (nodes ∷ ss) within (outer, tt) in
+          let v = s.leads.by ss closed (fewer_open outer, tt) in
+          let w = filled_stays f still (l.closes.closed ss u.0.closed)
+          (turn_leads b c nodes counted ss body l.closes l.code (v.0.opens body inner)) in
+          let z = y.leads.by ss w.closed (w.opens setting (l.closes.opens ss setting u.1.0), tt) in
+          record {
+            closed = z.0.closed;
+            opens = λ k o. z.0.opens k (w.opens k (l.closes.opens ss k (u.0.opens k o)));
+            start = z.1.0;
+          };
       setting = setting;
       counted = counted;
       enters = λ p g. y.stands p g;
@@ -239,8 +268,8 @@ for_tail_code {a = a} {d = d} {setting = setting} {first = first} {h = h} {count
 pub waits_first : {a b : Emitter} {first : First} {n s h : ℕ} → Waits a n → FirstCode a b first s h → Waits b n
 waits_first w e = record { by = e.emits.kept.code _ _ w.by }
 
-pub waits_loop : {a b : Emitter} {parts : Option CountedParts} {n s : ℕ} {h : ForHead} {c : Option ℕ} → Waits a n
-    → LoopAdded a b parts s h c → Waits b n
+pub waits_loop : {a b : Emitter} {parts : Option CountedParts} {n s : ℕ} {h : ForHead} {body : Span} {c : Option ℕ} → Waits a n
+    → LoopAdded a b parts s h body c → Waits b n
 waits_loop w e = record { by = e.emits.kept.code _ _ w.by }
 
 pub waits_has : {a : Emitter} (n : ℕ) → Waits a n → slice_get a.code.items n ≡ Some tac.Reserved

@@ -1,5 +1,5 @@
 -- What an expression or an lvalue itself does, once its operands are there: one instruction, or none.
-use Rattle.std.specs.Prelude.{◌≡◌, ℕ, ◌+◌, ◌*◌, Bool, List, Option, Some, None}
+use Rattle.std.specs.Prelude.{◌≡◌, ℕ, ◌+◌, ◌*◌, Bool, List, [], ◌∷◌, Option, Some, None}
 use Rattle.c_tree.specs.declared.expression.Kind.{Kind}
 use Rattle.c_tree.specs.declared.expression.Fixity.TheVariants.{Prefix}
 use Rattle.c_tree.specs.Tree.{Node, constant, function, plain, read}
@@ -18,6 +18,7 @@ use Rattle.c_lower.specs.Keys.{read_key, write_key}
 use Rattle.c_lower.specs.Placed.{Placed, HasAt}
 use Rattle.c_lower.specs.Values.{KeyIs, LowersTaking, mode_for, count}
 use Rattle.program_lowering.specs.declared.expressions.emitter.Emitter.{Emitter}
+use Rattle.program_lowering.specs.ExpressionCode.Enclosed.{Leads, SameNodes}
 use Rattle.program_lowering.specs.ExpressionCode.Weights.{no_weight, taking_weight, returning_weight}
 use Rattle.program_lowering.specs.ExpressionCode.Emitted.{Stays, Fills, Emits}
 
@@ -82,11 +83,13 @@ last_at (parenthesized_lvalue p) d m = None
 -- the number of a key in the table
 pub record KeyAdded (before after : Emitter) (key : Option Key) (number : Option ℕ) : Type 0 where
   pub emits : Emits before after 0 no_weight
+  pub same : SameNodes before after
   pub is : (c : Placed) → Fills after c → KeyIs c.keys number key
 
 -- the number of a format or a literal among the texts, whatever texts come later
 pub record TextAdded (before after : Emitter) (text : List ℕ) (number : ℕ) : Type 0 where
   pub emits : Emits before after 0 no_weight
+  pub same : SameNodes before after
   pub is : (texts : List (List ℕ)) → Stays after.texts.items texts → HasAt texts number text
 
 abbrev pub TextIs : (texts : List (List ℕ)) → Node → (number : ℕ) → Type 0
@@ -96,17 +99,20 @@ TextIs texts node n = Unit {0}
 -- of an expression that has a format
 pub record FormatAdded (before after : Emitter) (node : Node) (number : ℕ) : Type 0 where
   pub emits : Emits before after 0 no_weight
+  pub same : SameNodes before after
   pub is : (texts : List (List ℕ)) → Stays after.texts.items texts → TextIs texts node number
 
 -- the contents of a structure are taken, as those of a value that a function returns are into the first temporary
 pub record TakingCode (before after : Emitter) (kind : Kind) (line d n0 n1 : ℕ) : Type 0 where
   pub emits : Emits before after (d + 1) (taking_weight kind)
+  pub leads : Leads before after (n0 ∷ []) (n1 ∷ [])
   pub returns : d ≡ 0 → Emits before after (d + 1) (returning_weight kind)
   pub stands : (c : Placed) → Fills after c → LowersTaking c kind line d n0 n1
 
 -- where both operands of `&&` or `||` lead: its values, and the test of the second operand
 pub record Outcomes (before after : Emitter) (d zero one test next : ℕ) : Type 0 where
   pub emits : Emits before after (d + 1) (λ w. w.branch + 2 * w.constant)
+  pub leads : Leads before after (zero ∷ one ∷ test ∷ []) (next ∷ [])
   pub gives_zero : (c : Placed) → Fills after c → HasAt c.code zero (tac.Constant d 0 next)
   pub gives_one : (c : Placed) → Fills after c → HasAt c.code one (tac.Constant d 1 next)
   pub tests : (c : Placed) → Fills after c → HasAt c.code test (tac.Branch d one zero)

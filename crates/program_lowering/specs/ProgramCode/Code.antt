@@ -1,5 +1,5 @@
 -- The code of functions, whatever texts the program gets besides.
-use Rattle.std.specs.Prelude.{◌≡◌, ◌≤◌, ℕ, Bool, List, Some, slice_get}
+use Rattle.std.specs.Prelude.{◌≡◌, ◌≤◌, ℕ, Bool, List, [], Some, slice_get}
 use Rattle.c_tree.specs.declared.expression.Kind.{Kind}
 use Rattle.c_tree.specs.declared.program.Variable.{Variable}
 use Rattle.c_tree.specs.Programs.{Function}
@@ -7,12 +7,14 @@ use Rattle.c_tree.specs.Statements.{Statements}
 use Rattle.source_meaning.specs.Calls.{header_of}
 use Rattle.tac_ir.specs.declared.instruction.Instruction.{Instruction}
 use Rattle.tac_ir.specs.declared.function.CodeFunction.{CodeFunction}
+use Rattle.tac_ir.specs.Bodies.{HasClosedBodies, HasNoneAdded}
 use Rattle.tac_ir.specs.Temporaries.{temporaries}
 use Rattle.tac_ir.specs.Meaning.{header_of_code}
 use Rattle.c_lower.specs.Placed.{Placed}
 use Rattle.c_lower.specs.Programs.{LowersBody, placed_in}
 use Rattle.program_lowering.specs.declared.expressions.emitter.Emitter.{Emitter}
 use Rattle.program_lowering.specs.ExpressionCode.Weights.{Weights, Weighs, code_weight}
+use Rattle.program_lowering.specs.ExpressionCode.Enclosed.{AreClosed, IsOpen}
 use Rattle.program_lowering.specs.ExpressionCode.Emitted.{Fills, Fits, Stays}
 use Rattle.program_lowering.specs.StatementCode.Sizes.{each_height}
 use Rattle.program_lowering.specs.declared.programs.body.Body.{Body}
@@ -26,6 +28,8 @@ pub record BodyCode (vs : List Variable) (ss : Statements) (result : Kind) (text
   pub texts_stay : Stays texts emitter.texts.items
   pub literals_same : emitter.literals.items ≡ literals
   pub homes : Fits (each_height ss) emitter
+  pub closed : AreClosed [] emitter
+  pub begins : IsOpen [] emitter entry
   pub weight : (w : Weights) (later : List (List ℕ)) → Stays emitter.texts.items later
       → Weighs w (code_weight later emitter.code.items w) (body_weight vs result ss w)
   pub stands : (c : Placed) → c.variables ≡ vs → Fills emitter c → LowersBody c result entry ss
@@ -53,6 +57,8 @@ pub record IsFunction (texts : List (List ℕ)) (literals : List Bool) (result :
     (c : CodeFunction) : Type 0 where
   pub header : header_of_code c ≡ header_of function
   pub homes : (n : ℕ) (i : Instruction) → slice_get c.code n ≡ Some i → temporaries i ≤ each_height function.body
+  pub closed : HasClosedBodies c
+  pub none_added : HasNoneAdded c
   pub weight : (w : Weights) → Weighs w (code_weight texts c.code w) (function_weight result function w)
   pub body : LowersBody (placed_in texts literals function c) result c.entry function.body
 

@@ -110,7 +110,7 @@ fn add_loop(
     h: ForHead,
     body: Span,
 ) -> Result<Option<usize>, AllocError>
-    ensures { IfOk result (λ n. LoopAdded code.old code.new (parts_with range) setting h n) }
+    ensures { IfOk result (λ n. LoopAdded code.old code.new (parts_with range) setting h body n) }
 {
     match range {
         None => Ok(None),
@@ -144,7 +144,7 @@ pub fn for_tail(
     requires height { greatest_height (first_contents (first_of clauses.now.first.now)) < 2 ^ 64 }
     requires waits { Waits code.old h.turn }
     ensures { IfOk result (λ n. ForTailCode code.old code.new clauses.now.line (first_of clauses.now.first.now)
-        (parts_with range) h body.entry n) }
+        (parts_with range) h body.entry body.nodes n) }
 {
     let setting = first(code, clauses.first, h.condition)?;
     let counted = add_loop(code, range, setting, h, body.nodes)?;

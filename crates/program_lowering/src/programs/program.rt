@@ -12,6 +12,7 @@ ghost use Rattle.program_lowering.specs.ProgramCode.Whole.{is_ready, AreFunction
 ghost use Rattle.program_lowering.specs.ProgramCode.Weights.{IsWeighed, program_weight, instruction_count, each_one};
 ghost use Rattle.program_lowering.specs.ProgramCode.Checks.{AwaitsChecks};
 ghost use Rattle.program_lowering.specs.ProgramCode.Structures.{room_for_structures};
+ghost use Rattle.tac_ir.specs.Bodies.{HaveClosedBodies, HaveNoneAdded};
 ghost use Rattle.tac_ir.specs.Structures.{AreasFit};
 
 use crate::programs::function::lower_function;
@@ -136,8 +137,8 @@ fn assembled(
 
 /// Lowers a valid program that has at most 4096 functions, where its static objects take at most 4 MiB and their
 /// initializers are constant. The text of the program says which instructions its code has, how many they are, and how
-/// many checks are to come. The room of each function has areas for the structures of its temporaries. An error comes
-/// where there is no memory for its code.
+/// many checks are to come. The room of each function has areas for the structures of its temporaries. The bodies of
+/// counted loops are closed, and no checks are added to them yet. An error comes where there is no memory for its code.
 pub fn lower(alloc: Global, program: &Program) -> Result<Tac, AllocError>
     requires valid { is_valid_program (program_of program.now) ≡ true }
     requires constant { first_not_constant (program_of program.now) ≡ None }
@@ -149,6 +150,8 @@ pub fn lower(alloc: Global, program: &Program) -> Result<Tac, AllocError>
         (λ t. instruction_count t.functions ≡ program_weight (program_of program.now) each_one) }
     ensures checks { IfOk result (λ t. AwaitsChecks (program_of program.now) t) }
     ensures areas { IfOk result (λ t. AreasFit t (room_for_structures (program_of program.now))) }
+    ensures closed { IfOk result (λ t. HaveClosedBodies t) }
+    ensures none_added { IfOk result (λ t. HaveNoneAdded t) }
 {
     let objects = program.statics.as_slice();
     let types = program.function_types.as_slice();

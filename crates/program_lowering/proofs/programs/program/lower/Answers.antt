@@ -6,6 +6,7 @@ use Rattle.source_meaning.specs.Meaning.{statics_end}
 use Rattle.program_lowering.specs.ProgramCode.Whole.{AreFunctions, is_ready, results_of}
 use Rattle.program_lowering.proofs.ProgramCode.InTurn.{program_from, weighed_from, whole_in}
 use Rattle.program_lowering.proofs.ProgramCode.Areas.{areas_fit}
+use Rattle.program_lowering.proofs.ProgramCode.ClosedBodies.{programs_closed, programs_bare}
 use Rattle.program_lowering.proofs.ProgramCode.Ready.{all_ready}
 use Rattle.program_lowering.proofs.ProgramCode.Checks.{counted_by, awaits}
 use Rattle.program_lowering.proofs.programs.program.lower.Goals as goal
@@ -32,11 +33,14 @@ returns c =
     ∙ ap (λ os. statics_end (map static_of os) 0) c.as_slice-objects.ensures in
     let results = c.in_ok-results.ensures ∙ ap (λ ts. results_of (map function_type_of ts)) c.as_slice-types.ensures in
     let weighs = weighed_from p c.assembled.ensures results all in
+    let made = whole_in p c.assembled.ensures all in
     let lowered = program_from p c.assembled.ensures refl bytes c.in_ok-statics.ensures results all in
     record {
       code = lowered;
       weighed = weighs;
       count = counted_by p c.assembled.result weighs;
       checks = awaits p c.assembled.result weighs;
-      areas = areas_fit p c.assembled.result c.requires.valid lowered (whole_in p c.assembled.ensures all);
+      areas = areas_fit p c.assembled.result c.requires.valid lowered made;
+      closed = programs_closed (literals_of p.statics) p.functions c.assembled.result made;
+      none_added = programs_bare (literals_of p.statics) p.functions c.assembled.result made;
     }

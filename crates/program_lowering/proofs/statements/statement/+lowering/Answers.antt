@@ -4,7 +4,7 @@ use Rattle.std.specs.Prelude.{get_or}
 use Rattle.program_lowering.proofs.StatementCode.Compound.{next_statement, block_code, if_code, if_else_code}
 use Rattle.program_lowering.proofs.StatementCode.Elements.{get_any, height_at, nodes_at, decided_at, item_height_at}
 use Rattle.program_lowering.proofs.StatementCode.Elements.{item_nodes_at, item_decided_at}
-use Rattle.program_lowering.proofs.StatementCode.Loops.{while_code, do_code, for_code}
+use Rattle.program_lowering.proofs.StatementCode.Loops.{while_code, do_code, for_code, span_between}
 use Rattle.program_lowering.proofs.StatementParts.InitializerParts.{room_for}
 use Rattle.program_lowering.proofs.StatementCode.Switches.{next_item, switch_code}
 use Rattle.program_lowering.proofs.statements.statement.+lowering.Goals as goal
@@ -77,8 +77,13 @@ do_while-returns t c = do_code c.in_ok-head.ensures c.in_loop.ensures c.in_ok-fi
 
 pub for_loop-returns : goal.for_loop-returns
 for_loop-returns t c =
+    let first : c.len-start.result ≡ length c.for_parts.new.code.code.items =
+    c.len-start.ensures ∙ c.for_parts.new.code.code.ok.0 in
+    let last : c.len-end.result ≡ length c.statement.new.code.code.items =
+    c.len-end.ensures ∙ c.statement.new.code.code.ok.0 in
     for_code (c.as_slice-numbers.ensures.value ∙ c.in_ok-declared.ensures) c.in_ok-head.ensures c.in_loop.ensures
     c.in_ok-turn.ensures c.counted_parts-range.ensures c.in_ok-entry.ensures
+    (span_between c.for_parts.new.code c.statement.new.code first last)
 
 pub switch-returns : goal.switch-returns
 switch-returns t c =

@@ -129,7 +129,7 @@ pub added_stays : {spans : List Span} {a b : Emitter} {k : ℕ} {i : Instruction
 added_stays {spans = spans} {a = a} {b = b} {k = k} {i = i} h s o =
     let long = one_longer h in
     let same : (number : Option ℕ) (x : Span) → IsClosed spans (bodies_in b.loops.items) number x
-        → IsClosed spans (bodies_in a.loops.items) number x =
+    → IsClosed spans (bodies_in a.loops.items) number x =
     λ number x c. subst (λ ls. IsClosed spans (bodies_in ls) number x) h.loops c in (
       record {
         closed = record {
@@ -160,6 +160,7 @@ added_stays {spans = spans} {a = a} {b = b} {k = k} {i = i} h s o =
         → m < length b.code.items
     below n m j to (inl at) = omega (arith, one_longer h, s.leads n m j at to)
     below n m j to (inr w) = omega (arith, one_longer h, w.within)
+
     entered : (number : Option ℕ) (x : Span) → IsClosed spans (bodies_in a.loops.items) number x
         → (n m : ℕ) (j : Instruction) → LeadsTo j m → IsIn x m → HasAt a.code.items n j ⊎ IsOpen spans a m
         → IsIn x n ⊎ IsTurnIn number j

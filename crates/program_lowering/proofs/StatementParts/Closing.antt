@@ -69,7 +69,7 @@ pub filled_stays : {spans : List Span} {a b : Emitter} {n : ℕ} {i : Instructio
 filled_stays {spans = spans} {a = a} {b = b} {n = n} {i = i} f h s may =
     let long = filled_length f in
     let same : (k : Option ℕ) (x : Span) → IsClosed spans (bodies_in b.loops.items) k x
-        → IsClosed spans (bodies_in a.loops.items) k x =
+    → IsClosed spans (bodies_in a.loops.items) k x =
     λ k x c. subst (λ ls. IsClosed spans (bodies_in ls) k x) f.loops c in
     record {
       closed = record {
@@ -90,6 +90,7 @@ filled_stays {spans = spans} {a = a} {b = b} {n = n} {i = i} f h s may =
     below : (m o : ℕ) (j : Instruction) → LeadsTo j o → (j ≡ i) ⊎ Has a m j → o < length b.code.items
     below m o j to (inl e) = omega (arith, filled_length f, (may o (subst (λ y. LeadsTo y o) e to)).0)
     below m o j to (inr at) = omega (arith, filled_length f, s.leads m o j at to)
+
     entered : (k : Option ℕ) (x : Span) → IsClosed spans (bodies_in a.loops.items) k x → (m o : ℕ) (j : Instruction)
         → LeadsTo j o → IsIn x o → (j ≡ i) ⊎ Has a m j → IsIn x m ⊎ IsTurnIn k j
     entered k x c m o j to here (inl e) =
@@ -163,6 +164,7 @@ added_closed {spans = spans} {a = a} {b = b} k s t = record {
       within = omega arith;
       enters = λ n m i at to here. enters_added k s n m i at to here.0 (least (length a.code.items) n);
     }
+
     by : (number : Option ℕ) (x : Span)
         → IsClosed (nodes_between a b ∷ spans) (bodies_in b.loops.items) number x
         → Encloses b.code.items number x
@@ -242,14 +244,17 @@ loop_closes {a = a} {b = b} {n = n} l code loops at none = record {
         inside : {A B : Type 0} → A ⊎ ⊥ → A ⊎ B
         inside (inl w) = inl w
         inside (inr w) = absurd w
+
     unchecked : (ss : List Span) → AreClosed (l.body ∷ ss) a → (k : ℕ) (m : CountedLoop)
         → HasAt a.loops.items k m ⊎ ((k ≡ length a.loops.items) × (m ≡ l)) → m.added ≡ no_nodes
     unchecked ss h k m (inl g) = h.none_added k m g
     unchecked ss h k m (inr e) = ap (λ (x : CountedLoop). x.added) e.1 ∙ none
+
     out : (ss : List Span) (m : ℕ) → IsOpen (l.body ∷ ss) a m → (k : Option ℕ) (x : Span) → IsIn x m
         → IsClosed ss (bodies_in a.loops.items) k x ⊎ ((k ≡ Some (length a.loops.items)) × (x ≡ l.body)) → ⊥
     out ss m o k x here (inl c) = o.outside k x (more_closed ss (bodies_in a.loops.items) l.body k x c) here
     out ss m o k x here (inr e) = o.outside None l.body (0, refl) (subst (λ y. IsIn y m) e.1 here)
+
     turn : (ss : List Span) (m : ℕ) → IsOpen ss a m → (k : Option ℕ) (x : Span) → IsIn x m
         → IsClosed ss (bodies_in a.loops.items) k x ⊎ ((k ≡ Some (length a.loops.items)) × (x ≡ l.body))
         → IsTurnIn k (tac.Turn (Some n) m)

@@ -1,5 +1,5 @@
 -- A call of a function whose routine is an action.
-use Rattle.std.proofs.Common.{◌≡◌, ℕ, ◌+◌, ◌-◌, ◌*◌, ◌<◌, ◌≤◌, ◌^◌, inl, inr, Bool, true, false, List, [], ◌∷◌}
+use Rattle.std.proofs.Common.{◌≡◌, ℕ, ◌+◌, ◌-◌, ◌*◌, ◌<◌, ◌≤◌, ◌^◌, ◌⊎◌, inl, inr, Bool, true, false, List, [], ◌∷◌}
 use Rattle.std.proofs.Common.{length, Option, Some, None, refl, sym, ap, ◌∙◌, subst, arith}
 use Rattle.std.specs.Prelude.{map, nat_lt, ◌==◌, if◌then◌else◌}
 use Rattle.std.proofs.lemmas.Bool.{lt-ltb, le-ltb}
@@ -43,7 +43,7 @@ use Rattle.runtime_functions.specs.Calls.{Exited, IsCalled, ComesOfCall}
 use Rattle.runtime_functions.specs.Actions.{over_registers, argument_register, result_register, AreParameters}
 use Rattle.runtime_functions.specs.Actions.{AreResults, AreTaken, Interface, price_of, IsActionFunction}
 use Rattle.runtime_functions.specs.Actions.{IsReady, work_of_call, IsBehind, IsServed}
-use Rattle.runtime_functions.specs.Actions.{ComesBehind, steps_of, ServesCall}
+use Rattle.runtime_functions.specs.Actions.{HasTold, HasExited, ComesBehind, steps_of, ServesCall}
 use Rattle.runtime_functions.proofs.Calls.{comes_of_call, weight_is, no_report, some_report}
 
 -- ---- endings
@@ -92,7 +92,7 @@ same_kind line (ending.Stack l) = (refl, refl)
 same_kind line (ending.Keys l) = (refl, refl)
 same_kind line (ending.Abort l) = (refl, refl)
 
-same_state : {A : Type 0} (line : ℕ) (o : Completed A) → state_of (outcome_at line o) ≡ state_of o
+pub same_state : {A : Type 0} (line : ℕ) (o : Completed A) → state_of (outcome_at line o) ≡ state_of o
 same_state line (Gives v x) = refl
 same_state line (Ended e x) = refl
 same_state line (Paused x) = refl
@@ -120,15 +120,15 @@ priced_run c r one steps s place x comes = by (has_input_output r) refl
 
 -- ---- registers
 
-none_of_results : (a n : ℕ) (xs : List ℕ) → AreResults a n xs → IsNoneOf a xs
+pub none_of_results : (a n : ℕ) (xs : List ℕ) → AreResults a n xs → IsNoneOf a xs
 none_of_results a n [] h = tt
 none_of_results a n (x ∷ xs) h = ((λ e. let l = h.0.0 in omega (arith, e)), none_of_results a n xs h.1)
 
 module _ (s : CallSite) (a : ℕ) where
-  argument_is : (r : ℕ) → r < a → (begins_in s a).values r ≡ s.state.values (argument_register s r)
+  pub argument_is : (r : ℕ) → r < a → (begins_in s a).values r ≡ s.state.values (argument_register s r)
   argument_is r l = ap (λ b. if b then s.state.values (s.first + r) else 0) (lt-ltb r a l)
 
-  status_is_zero : (begins_in s a).values a ≡ 0
+  pub status_is_zero : (begins_in s a).values a ≡ 0
   status_is_zero = ap (λ b. if b then s.state.values (s.first + a) else 0) (le-ltb a a (omega arith))
 
   pub begins_of_words : IsOfWords s.state → IsOfWords (begins_in s a)
@@ -141,7 +141,7 @@ module _ (s : CallSite) (a : ℕ) where
       by true v l = l
       by false v l = omega arith
 
-  begins_for : (g : Views) (k : Keys) (IsGood : Bytes → Type 0) (x : Source) → IsFor g k IsGood x s.state
+  pub begins_for : (g : Views) (k : Keys) (IsGood : Bytes → Type 0) (x : Source) → IsFor g k IsGood x s.state
       → IsFor g k IsGood x (begins_in s a)
   begins_for g k IsGood x h = for_still g k IsGood x s.state (begins_in s a) refl
       (record { input = refl; output = refl; taken = refl; accesses = refl; turns = refl }) h
@@ -172,7 +172,7 @@ module _ (s : CallSite) (a : ℕ) where
       (argument_held g k objects o v l.0 h.0, arguments_held g k objects os vs l.1 h.1)
 
   module _ (n status : ℕ) (left : State) (stage : Stage) (h : HasReturned s a n status left stage) where
-    result_is : (r : ℕ) → (a < r) × (r ≤ a + n) → h.after.values (result_register s a r) ≡ left.values r
+    pub result_is : (r : ℕ) → (a < r) × (r ≤ a + n) → h.after.values (result_register s a r) ≡ left.values r
     result_is r l =
         let above = l.0 in let below = l.1 in
         let here : s.into + (r - a) ≡ s.into + 1 + (r - a - 1) = omega arith in
@@ -191,10 +191,10 @@ module _ (s : CallSite) (a : ℕ) where
           ∙ e.tag;
     }
 
-    memory_is : h.after.memory ≡ left.memory
+    pub memory_is : h.after.memory ≡ left.memory
     memory_is = ap (λ (q : State). q.memory) h.rest
 
-    turns_are : h.after.turns ≡ left.turns
+    pub turns_are : h.after.turns ≡ left.turns
     turns_are = ap (λ (q : State). q.turns) h.rest
 
     same_shown : ShowsNothing left h.after
@@ -206,11 +206,11 @@ module _ (s : CallSite) (a : ℕ) where
       turns = turns_are;
     }
 
-    returned_for : (g : Views) (k : Keys) (IsGood : Bytes → Type 0) (x : Source) → IsFor g k IsGood x left
+    pub returned_for : (g : Views) (k : Keys) (IsGood : Bytes → Type 0) (x : Source) → IsFor g k IsGood x left
         → IsFor g k IsGood x h.after
     returned_for g k IsGood x f = for_still g k IsGood x left h.after memory_is same_shown f
 
-    abbrev behind : (bound : ℕ) → left.turns ≡ s.state.turns → left.work + (8 + 2 * (1 + n)) ≤ s.state.work + bound
+    abbrev pub behind : (bound : ℕ) → left.turns ≡ s.state.turns → left.work + (8 + 2 * (1 + n)) ≤ s.state.work + bound
         → IsBehind s n bound stage
     behind bound t w = record {
       state = h.after;
@@ -258,6 +258,60 @@ module _ (m : MapSizes) (p : FlatProgram) (s : CallSite) (fn : FlatFunction) (r 
         work = omega arith;
       }
 
+-- ---- a run that is ended
+
+-- the work of a call: the values handed over, the status, and the routine's
+module _ (s : CallSite) (a n line w : ℕ) where
+  abbrev ended_cost : ℕ
+  ended_cost = 16 + 2 * (a + (1 + n)) + 1 + w
+
+  pub told : (e : Ending) (x' : Source) (status : ℕ) (report : List ℕ) (z : State) (stage : Stage)
+      → HasEnded e x' status report (begins_in s a) z → Reports s a n status report z stage
+      → z.work ≤ (begins_in s a).work + (w + length report)
+      → HasTold (at_line_of line e) line s n ended_cost x' stage ⊎ HasExited (at_line_of line e) x' stage
+  told e x' status report z stage ended (Returned e' r is code same y t back) work = by (return_status e) refl
+    where
+      words : length (report_of e) ≡ length (report_of e')
+      words = ap length (sym ended.report_is ∙ same)
+
+      shown : IsShown x' back.after
+      shown = shown_still x' y back.after (same_shown s a n (status_number r) y stage back)
+          (shown_still x' z y (record {
+            input = ap (λ (q : State). q.input) t.same;
+            output = ap (λ (q : State). q.output) t.same;
+            taken = ap (λ (q : State). q.taken) t.same;
+            accesses = ap (λ (q : State). q.accesses) t.same;
+            turns = ap (λ (q : State). q.turns) t.same;
+          }) ended.shown)
+
+      by : (o : Option ReturnStatus) → return_status e ≡ o → HasTold (at_line_of line e) line s n ended_cost x' stage ⊎ HasExited (at_line_of line e) x' stage
+      by None none =
+          let some = some_report e' r is in
+          let empty : length (report_of e) ≡ 0 = ap length (no_report e none) in
+          absurd (omega (arith, words))
+      by (Some q) kind = inl (record {
+        behind = behind s a n (status_number r) y stage back ended_cost (ap (λ (q : State). q.turns) t.same ∙ ended.turns)
+            (let less = t.less in omega arith);
+        kind = q;
+        status = back.status_is ∙ same_number e e' q r kind is (sym ended.status_is ∙ code);
+        ending_is = told_at line e q kind;
+        shown = shown;
+      })
+  told e x' status report z stage ended (Exited empty over) work = by (return_status e) refl
+    where
+      by : (o : Option ReturnStatus) → return_status e ≡ o → HasTold (at_line_of line e) line s n ended_cost x' stage ⊎ HasExited (at_line_of line e) x' stage
+      by None none = inr (record {
+        state = z;
+        no_status = (same_kind line e).0 ∙ none;
+        over = over ∙ ap (λ q. Over q report z) (ended.status_is ∙ sym (same_kind line e).1)
+            ∙ ap (λ q. Over (code_of (at_line_of line e)) q z) empty;
+        shown = ended.shown;
+      })
+      by (Some q) kind =
+          let some = some_report e q kind in
+          let none : length (report_of e) ≡ 0 = ap length (sym ended.report_is ∙ empty) in
+          absurd (omega (arith, some))
+
 -- ---- an action
 
 module _ (m : MapSizes) (entry : View) (IsGood : Bytes → Type 0) (P : Source → List Value → Type 0)
@@ -304,60 +358,13 @@ module _ (m : MapSizes) (entry : View) (IsGood : Bytes → Type 0) (P : Source �
         };
       }
 
-  -- ---- it ended the run
-
-  told : (e : Ending) (x' : Source) (status : ℕ) (report : List ℕ) (z : State) (stage : Stage)
-      → HasEnded e x' status report f z → Reports s a n status report z stage
-      → z.work ≤ f.work + (face.price * steps + length report) → Q (Ended (at_line_of line e) x') stage
-  told e x' status report z stage ended (Returned e' r is code same y t back) work = by (return_status e) refl
-    where
-      words : length (report_of e) ≡ length (report_of e')
-      words = ap length (sym ended.report_is ∙ same)
-
-      shown : IsShown x' back.after
-      shown = shown_still x' y back.after (same_shown s a n (status_number r) y stage back)
-          (shown_still x' z y (record {
-            input = ap (λ (q : State). q.input) t.same;
-            output = ap (λ (q : State). q.output) t.same;
-            taken = ap (λ (q : State). q.taken) t.same;
-            accesses = ap (λ (q : State). q.accesses) t.same;
-            turns = ap (λ (q : State). q.turns) t.same;
-          }) ended.shown)
-
-      by : (o : Option ReturnStatus) → return_status e ≡ o → Q (Ended (at_line_of line e) x') stage
-      by None none =
-          let some = some_report e' r is in
-          let empty : length (report_of e) ≡ 0 = ap length (no_report e none) in
-          absurd (omega (arith, words))
-      by (Some q) kind = inl (record {
-        behind = behind s a n (status_number r) y stage back cost (ap (λ (q : State). q.turns) t.same ∙ ended.turns)
-            (let less = t.less in omega arith);
-        kind = q;
-        status = back.status_is ∙ same_number e e' q r kind is (sym ended.status_is ∙ code);
-        ending_is = told_at line e q kind;
-        shown = shown;
-      })
-  told e x' status report z stage ended (Exited empty over) work = by (return_status e) refl
-    where
-      by : (o : Option ReturnStatus) → return_status e ≡ o → Q (Ended (at_line_of line e) x') stage
-      by None none = inr (record {
-        state = z;
-        no_status = (same_kind line e).0 ∙ none;
-        over = over ∙ ap (λ q. Over q report z) (ended.status_is ∙ sym (same_kind line e).1)
-            ∙ ap (λ q. Over (code_of (at_line_of line e)) q z) empty;
-        shown = ended.shown;
-      })
-      by (Some q) kind =
-          let some = some_report e q kind in
-          let none : length (report_of e) ≡ 0 = ap length (sym ended.report_is ∙ empty) in
-          absurd (omega (arith, some))
-
   by_outcome : (o : Completed Value) (out : Outcome) (stage : Stage)
       → Leaves g k IsGood face.result face.scratch x f o out
       → work_left out ≤ f.work + (face.price * steps + report_length out) → IsCalled s a n out stage
       → Q (outcome_at line o) stage
   by_outcome (Gives v x') (Continues z) stage l w called = completed v x' z stage l called w
-  by_outcome (Ended e x') (Halts status report z) stage l w called = told e x' status report z stage l called w
+  by_outcome (Ended e x') (Halts status report z) stage l w called =
+      told s a n line (face.price * steps) e x' status report z stage l called w
   by_outcome (Gives v x') (Halts status report z) stage l w called = absurd l
   by_outcome (Ended e x') (Continues z) stage l w called = absurd l
   by_outcome (Paused x') out stage l w called = absurd l
@@ -368,7 +375,7 @@ module _ (m : MapSizes) (entry : View) (IsGood : Bytes → Type 0) (P : Source �
   own = context m p s.function (waits_at s)
 
   of_runtime : is_runtime_function (function_in p s.function) ≡ true
-  of_runtime = ap is_runtime_function h.found ∙ h.is.of_runtime
+  of_runtime = ap is_runtime_function h.calls.found ∙ h.is.of_runtime
 
   does : Does own act.routine
       (λ f. IsFor g k IsGood x f × AreHeldBy g k x.objects face.arguments vs f.values × P x vs)

@@ -160,17 +160,17 @@ module _ (m : MapSizes) (p : FlatProgram) (s : CallSite) (fn : FlatFunction) (r 
   begin = Stands s.caller s.place s.state s.frames
 
   body_is : body_of (function_in p f) ≡ body
-  body_is = ap body_of h.found ∙ h.is.body
+  body_is = ap body_of h.calls.found ∙ h.is.body
 
   parameters_are : parameters_of (function_in p f) ≡ a
-  parameters_are = ap parameters_of h.found ∙ h.is.parameters
+  parameters_are = ap parameters_of h.calls.found ∙ h.is.parameters
 
   results_are : results_of (function_in p f) ≡ 1 + n
-  results_are = ap results_of h.found ∙ h.is.results_are
+  results_are = ap results_of h.calls.found ∙ h.is.results_are
 
   pub weight_is : weight_of (function_in p f) ≡ 1
   weight_is =
-      ap weight_of h.found ∙ ap (λ b. if b then 1 else 2) (le-leb fn.room (2 ^ 11) h.is.room)
+      ap weight_of h.calls.found ∙ ap (λ b. if b then 1 else 2) (le-leb fn.room (2 ^ 11) h.is.room)
 
   rooms_behind : (b : Bool) (x : Frame) (xs : List Frame)
       → rooms b p (x ∷ xs) ≡ room_if b (function_in p x.function) + rooms b p xs
@@ -183,7 +183,7 @@ module _ (m : MapSizes) (p : FlatProgram) (s : CallSite) (fn : FlatFunction) (r 
       let own : room_if true (Some fn) ≡ fn.room = ap (λ b. if b then fn.room else 0) h.is.of_runtime in
       let behind : rooms false p frames ≡ room_if false (function_in p s.caller) + rooms false p s.frames = rooms_behind
       false _ s.frames in
-      let fits = h.fits in let room = h.room in
+      let fits = h.calls.fits in let room = h.calls.room in
       and_from (nat_le (room_if false (Some fn) + rooms false p frames) m.budgets.calls)
       (nat_le (room_if true (Some fn) + rooms true p frames) (region_size m RuntimeCalls))
       (le-leb (room_if false (Some fn) + rooms false p frames) m.budgets.calls (omega arith))
@@ -196,8 +196,8 @@ module _ (m : MapSizes) (p : FlatProgram) (s : CallSite) (fn : FlatFunction) (r 
       let test = and_from (fn.parameters == fn.parameters) ((fn.results == fn.results) && has_room m p frames fn)
       (eq-eqb fn.parameters fn.parameters refl)
       (and_from (fn.results == fn.results) (has_room m p frames fn) (eq-eqb fn.results fn.results refl) has) in
-      ap (λ o. at_instruction m p o s.caller s.place s.state s.frames) h.at
-      ∙ ap (λ o. enters m p f s.first (parameters_of o) (results_of o) o frames state) h.found
+      ap (λ o. at_instruction m p o s.caller s.place s.state s.frames) h.calls.at
+      ∙ ap (λ o. enters m p f s.first (parameters_of o) (results_of o) o frames state) h.calls.found
       ∙ ap (λ b. if b then Stands f 0 (record state { values = arguments s.first fn.parameters s.state.values }) frames
       else Stuck) test
       ∙ ap (λ j. Stands f 0 (record state { values = arguments s.first j s.state.values }) frames) h.is.parameters

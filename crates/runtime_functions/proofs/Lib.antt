@@ -1,3 +1,5 @@
 pub mod Stubs
 pub mod Calls
 pub mod Actions
+pub mod LibraryCalls
+pub mod Entering

@@ -39,14 +39,19 @@ begins_in s a = record s.state {
   work = s.state.work + (8 + 2 * a);
 }
 
--- such a function is called, with room for its record
-pub record CallsRuntime (map : MapSizes) (program : FlatProgram) (site : CallSite) (function : FlatFunction)
-    (routine : List FlatInstruction) (parameters results : ℕ) : Type 0 where
+-- a function is called, with room for its record in the region of those of the runtime
+pub record CallsFunction (map : MapSizes) (program : FlatProgram) (site : CallSite) (function : FlatFunction)
+    : Type 0 where
   pub at : instruction_at program site.caller site.place ≡ Some (Call site.function site.first site.into)
   pub found : function_in program site.function ≡ Some function
-  pub is : IsRuntimeFunction routine parameters results function
   pub fits : charged program site.caller site.frames ≤ map.budgets.calls
   pub room : function.room + rooms true program (waits_at site) ≤ region_size map RuntimeCalls
+
+-- it is that of a routine
+pub record CallsRuntime (map : MapSizes) (program : FlatProgram) (site : CallSite) (function : FlatFunction)
+    (routine : List FlatInstruction) (parameters results : ℕ) : Type 0 where
+  pub calls : CallsFunction map program site function
+  pub is : IsRuntimeFunction routine parameters results function
 
 -- The run stands behind the call: the status and the results are in the registers for them, all others as they were,
 -- and all else as it was at the return, but for the work of the return.

@@ -9,7 +9,24 @@ ghost use Rattle.flat_meaning.specs.declared.function.FlatProgram.{FlatProgram};
 ghost use Rattle.flat_meaning.specs.Meaning.{Goes, context};
 ghost use Rattle.flat_routines.specs.Local.{local_run};
 ghost use Rattle.flat_routines.specs.Routine.{Outcome, left_at};
-ghost use Rattle.runtime_functions.specs.Calls.{CallSite, CallsRuntime, ComesOfCall, begins_in, waits_at};
+ghost use Rattle.obj_memory.specs.declared.value.Value.{Value};
+ghost use Rattle.c_tree.specs.declared.program.Variable.{Variable};
+ghost use Rattle.source_meaning.specs.State.{State as Source, Setting};
+ghost use Rattle.source_meaning.specs.Library.{routine};
+ghost use Rattle.flat_routines.specs.Objects.StandsFor.{Keys};
+ghost use Rattle.flat_actions.specs.Actions.{views_of};
+ghost use Rattle.object_routines.specs.AllocatingRoutines.Premises.{AreStanding};
+ghost use Rattle.runtime_functions.specs.declared.library.LibraryFunction.{LibraryFunction};
+ghost use Rattle.runtime_functions.specs.declared.runtime.RuntimeFunction.TheVariants.{Library, Enter};
+ghost use Rattle.runtime_functions.specs.Calls.{CallSite, CallsFunction, CallsRuntime, ComesOfCall, begins_in};
+ghost use Rattle.runtime_functions.specs.Calls.{waits_at};
+ghost use Rattle.runtime_functions.specs.Actions.{IsReady, ServesCall};
+ghost use Rattle.runtime_functions.specs.Library.{library_interface, parameters_of, results_of, routine_of};
+ghost use Rattle.runtime_functions.specs.Runtime.{IsOfRuntime};
+ghost use Rattle.runtime_functions.specs.Entering.{IsToEnter, ServesBlock};
+
+use shadow_space::ShadowForm;
+use source_meaning::laws::lines::runs_do_the_same_at_each_line;
 
 /// The call of a function of the runtime does what its routine does, in three more steps at most: the status and the
 /// results are in the registers for them, the caller's others stay, and all else is as the routine leaves it. The work
@@ -20,3 +37,29 @@ pub fn calls_do_what_routines_do()
         → local_run (context m p s.function (waits_at s)) r k (Goes 0 (begins_in s a)) ≡ left_at (length r) x
         → ComesOfCall m p s a n (k + 3) x }
 {}
+
+/// The call of a routine of the library, at any line, does what the routine does there, from a state that stands for one
+/// of the source: where it goes on the status is 0, the state stands for the one that the routine leaves and its result
+/// is held, and where it ends the run the status tells its ending.
+pub fn calls_of_the_library_do_what_it_does<S: ShadowForm>()
+    ensures { (m : MapSizes) (set : Setting) → set.sizes ≡ m
+        → (p : FlatProgram) (s : CallSite) (f : LibraryFunction) (fn : FlatFunction)
+        → IsOfRuntime m S.entry (S.IsGood m) (Library f) fn → CallsFunction m p s fn
+        → (functions : ℕ) (types : ℕ → ℕ) (k : Keys) (x : Source) (vs : List Value) (line : ℕ)
+        → IsReady (views_of m functions types S.entry) k (S.IsGood m) (library_interface f) s x vs → AreStanding m x
+        → ServesCall m p (views_of m functions types S.entry) k (S.IsGood m) (library_interface f) s (parameters_of f)
+        (results_of f) line x (routine set (routine_of f) vs line) }
+{
+    runs_do_the_same_at_each_line();
+}
+
+/// The call that makes the objects of a block does at any line what entering the block does there.
+pub fn calls_of_enter_make_the_objects_of_a_block<S: ShadowForm>()
+    ensures { (m : MapSizes) (set : Setting) → set.sizes ≡ m → (p : FlatProgram) (s : CallSite) (fn : FlatFunction)
+        → IsOfRuntime m S.entry (S.IsGood m) Enter fn → CallsFunction m p s fn
+        → (functions : ℕ) (types : ℕ → ℕ) (k : Keys) (x : Source) (vs : List Variable) (line : ℕ)
+        → IsToEnter m (views_of m functions types S.entry) k (S.IsGood m) s x vs
+        → ServesBlock m p (views_of m functions types S.entry) k (S.IsGood m) s set vs line x }
+{
+    runs_do_the_same_at_each_line();
+}

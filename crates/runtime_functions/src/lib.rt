@@ -7,8 +7,12 @@
 
 pub mod function;
 pub mod laws;
+pub mod library;
 mod list;
+pub mod runtime;
 pub mod status;
 
 pub use crate::function::{RuntimeFrame, runtime_function};
+pub use crate::library::LibraryFunction;
+pub use crate::runtime::{RuntimeFunction, all_functions, runtime_function_of};
 pub use crate::status::ReturnStatus;

@@ -1,5 +1,5 @@
 -- The routine of a block that is left.
-use Rattle.std.proofs.Common.{ℕ, ◌+◌, inl, inr, List, true, length, arith}
+use Rattle.std.proofs.Common.{ℕ, ◌+◌, inl, inr, List, length, arith}
 use Rattle.addr_map.specs.Places.{MapSizes, AreMapped}
 use Rattle.source_meaning.specs.Blocks.{leave_block}
 use Rattle.flat_meaning.specs.declared.instruction.FlatInstruction.{FlatInstruction}
@@ -24,13 +24,13 @@ use Rattle.object_routines.proofs.AllocatingRoutines.BlockDeaths.{lock_not_globa
 pub leave_does : (map : MapSizes) → AreMapped map → (entry : View) (IsGood : Bytes → Type 0)
     → IsLocal map entry IsGood → (lock t : ℕ) (r : List FlatInstruction) → IsReleaseRoutine map lock t r
     → IsLeaveRoutine map entry IsGood lock t r
-leave_does map mapped entry IsGood local lock t r releases functions types k x b charge weight = record {
+leave_does map mapped entry IsGood local lock t r releases runtime functions types k x b charge weight = record {
   from = λ code pc s has w p.
-      let c = context_of map true charge weight in
+      let c = context_of map runtime charge weight in
       weaken c code 11 11 (Goes pc s) (pc + length r) (Either (HasReleased map lock t s) Never)
       (Either (HasLeft (views_of map functions types entry) k IsGood t (leave_block b x) s) Never) (omega arith)
       (by s p.0 p.1)
-      ((releases true charge weight).from code pc s has w (record {
+      ((releases runtime charge weight).from code pc s has w (record {
         good = p.0.spaces.locks;
         lock = lock_is_one (views_of map functions types entry) k x b.homes (s.values lock) s.memory p.0.objects p.1;
         not_global = lock_not_global (views_of map functions types entry) k x b.homes (s.values lock) s.memory

@@ -1,6 +1,6 @@
 -- Blocks that are entered and left, in flat code: all objects of a block are born under one lock word with one key, and
 -- die together.
-use Rattle.std.specs.Prelude.{◌≡◌, ℕ, ◌+◌, ◌*◌, ◌<◌, ◌≤◌, ◌⊎◌, true, List, [], ◌∷◌, ◌++◌, length}
+use Rattle.std.specs.Prelude.{◌≡◌, ℕ, ◌+◌, ◌*◌, ◌<◌, ◌≤◌, ◌⊎◌, Bool, true, List, [], ◌∷◌, ◌++◌, length}
 use Rattle.sb_base.specs.declared.ending.Ending.TheVariants.{Stack as StackSpent}
 use Rattle.rv_isa.specs.declared.instruction.BranchOp.TheVariants.{Bgeu}
 use Rattle.rv_isa.specs.declared.instruction.RegOp.TheVariants.{Add, Sub, Sll, Srl}
@@ -153,11 +153,12 @@ pub record HasLeft (views : Views) (keys : Keys) (IsGood : Bytes
     pub behind : (a : ℕ) → region_start views.sizes StructureValues ≤ a → after.memory a ≡ before.memory a
     pub others : OthersStay [] scratch before after
 
--- a register holds the lock word of the block: within 11 steps its objects die
+-- A register holds the lock word of the block: within 11 steps its objects die, in functions of the program and of the
+-- runtime.
 abbrev pub IsLeaveRoutine : MapSizes → View → (Bytes → Type 0) → (lock scratch : ℕ) → List FlatInstruction → Type 0
 IsLeaveRoutine map entry IsGood lock t r =
-    (functions : ℕ) (types : ℕ → ℕ) (k : Keys) (x : Source) (b : Block) (charge weight : ℕ) →
+    (runtime : Bool) (functions : ℕ) (types : ℕ → ℕ) (k : Keys) (x : Source) (b : Block) (charge weight : ℕ) →
     let g = views_of map functions types entry in
-    Does (context_in (runtime_basis map entry IsGood) charge weight) r
+    Does (record { sizes = map; is_runtime = runtime; charge = charge; weight = weight }) r
     (λ f. IsFor g k IsGood x f × AreOfLock k x b.homes (f.values lock)) (λ f. 11)
     (λ f. Either (HasLeft g k IsGood t (leave_block b x) f) Never)

@@ -85,8 +85,8 @@ pub fn enter<S: ShadowForm>(
     Ok(r)
 }
 
-/// Leaves a block whose lock word is in `lock`: all its objects die. It may write the registers from `scratch` on, takes
-/// no input and puts no output. The only refusal is that memory fails.
+/// Leaves a block whose lock word is in `lock`, in a function of the program or of the runtime: all its objects die. It
+/// may write the registers from `scratch` on, takes no input and puts no output. The only refusal is that memory fails.
 pub fn leave<S: ShadowForm>(
     alloc: Global,
     map: &AddrMap,

@@ -1,6 +1,7 @@
 //! Where the code of an image stands in its file.
 
-ghost use Rattle.std.specs.Prelude.{◌≡◌, ◌≤◌, ◌*◌, ◌&&◌, ◌∷◌, ◌++◌, [], None, length, if◌then◌else◌, IfOk, OnOk};
+ghost use Rattle.std.specs.Prelude.{◌≡◌, ◌≤◌, ◌*◌, ◌&&◌, ◌∷◌, ◌++◌, [], None, length, if◌then◌else◌};
+ghost use Rattle.std.specs.Prelude.{IfOk, OnOk};
 ghost use Rattle.elf_image.specs.Layout.{is_load, is_executable, loads, ranges_of, code_ranges};
 ghost use Rattle.elf_image.specs.Tests.{image_fault};
 

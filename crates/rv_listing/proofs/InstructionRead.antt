@@ -1,5 +1,6 @@
 -- The line of an instruction is read back.
-use Rattle.std.proofs.Common.{rules, ◌≡◌, ℕ, ◌*◌, ◌<◌, ◌≤◌, ◌^◌, Bool, true, false, not, ◌==◌, List, [], ◌∷◌}
+use Rattle.std.proofs.Common.{rules, ◌≡◌, ℕ, ◌*◌, ◌<◌, ◌≤◌, ◌^◌, Bool, true, false, not, ◌==◌, List, []}
+use Rattle.std.proofs.Common.{◌∷◌}
 use Rattle.std.proofs.Common.{◌++◌, refl}
 use Rattle.std.proofs.Common.{ap, ◌∙◌, arith, Some, Ok}
 use Rattle.std.proofs.lemmas.List.{append-nil}

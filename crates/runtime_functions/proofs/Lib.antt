@@ -3,3 +3,4 @@ pub mod Calls
 pub mod Actions
 pub mod LibraryCalls
 pub mod Entering
+mod Listed

@@ -97,3 +97,10 @@ pub record IsOfRuntime (map : MapSizes) (entry : View) (IsGood : Bytes → Type 
   pub routine : List FlatInstruction
   pub is : IsRuntimeFunction routine (argument_count f) (result_count f) function
   pub code : IsRuntimeCode map entry IsGood f 1 routine
+
+-- the functions of a list, in its order
+abbrev pub AreOfRuntime : MapSizes → View → (Bytes → Type 0) → List RuntimeFunction → List FlatFunction → Type 0
+AreOfRuntime map entry IsGood [] [] = Unit {0}
+AreOfRuntime map entry IsGood (f ∷ fs) (g ∷ gs) =
+    IsOfRuntime map entry IsGood f g × AreOfRuntime map entry IsGood fs gs
+AreOfRuntime map entry IsGood _ _ = ⊥

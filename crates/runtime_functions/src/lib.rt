@@ -14,5 +14,5 @@ pub mod status;
 
 pub use crate::function::{RuntimeFrame, runtime_function};
 pub use crate::library::LibraryFunction;
-pub use crate::runtime::{RuntimeFunction, all_functions, runtime_function_of};
+pub use crate::runtime::{RuntimeFunction, all_functions, runtime_function_of, runtime_functions};
 pub use crate::status::ReturnStatus;

@@ -4,7 +4,7 @@ ghost use Rattle.std.specs.Prelude.{◌≡◌, ◌+◌, ◌≤◌, IfOk};
 ghost use Rattle.addr_map.specs.Places.{AreMapped};
 ghost use Rattle.runtime_functions.specs.Functions.{IsRuntimeFunction};
 ghost use Rattle.runtime_functions.specs.Runtime.{runtime_list, argument_count, result_count, IsRuntimeCode};
-ghost use Rattle.runtime_functions.specs.Runtime.{IsOfRuntime};
+ghost use Rattle.runtime_functions.specs.Runtime.{IsOfRuntime, AreOfRuntime};
 
 use crate::function::{RuntimeFrame, runtime_function};
 use crate::library::{LibraryFunction, library_code};
@@ -178,4 +178,32 @@ pub fn runtime_function_of<S: ShadowForm>(
         registers: REGISTERS,
     };
     function_of(alloc, &routine, frame)
+}
+
+// The functions of a list, in its order.
+fn functions_of<S: ShadowForm>(
+    alloc: Global,
+    map: &AddrMap,
+    list: &[RuntimeFunction],
+) -> Result<Vec<FlatFunction>, AllocError>
+    requires map { AreMapped map.now }
+    ensures { IfOk result (λ r. AreOfRuntime map.now S.entry (S.IsGood map.now) list.now r.items) }
+{
+    let mut functions = Vec::new(alloc);
+    for function in list {
+        let next = runtime_function_of::<S>(alloc, map, *function)?;
+        functions.push(next)?;
+    }
+    Ok(functions)
+}
+
+/// All functions of the runtime, in the order of their numbers. The only refusal is that memory fails.
+pub fn runtime_functions<S: ShadowForm>(
+    alloc: Global,
+    map: &AddrMap,
+) -> Result<Vec<FlatFunction>, AllocError>
+    requires map { AreMapped map.now }
+    ensures { IfOk result (λ r. AreOfRuntime map.now S.entry (S.IsGood map.now) runtime_list r.items) }
+{
+    functions_of::<S>(alloc, map, all_functions())
 }

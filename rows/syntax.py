@@ -1,6 +1,6 @@
 #!/usr/bin/env python3
-"""Prints the syntax tree of a C text (C99 6.5 to 6.9), as the worked rows of crates/unit_rows have it: the terms of
-crates/c_syntax/specs, with the line of each token, by the short words of crates/unit_rows/proofs/Sources.antt. The parser takes the
+"""Prints the syntax tree of a C text (C99 6.5 to 6.9), as the worked rows of crates/typing_rows have it: the terms of
+crates/c_syntax/specs, with the line of each token, by the short words of crates/typing_rows/proofs/Units/Sources.antt. The parser takes the
 grammar of docs/LANGUAGE.md and judges nothing.
 
 usage: python3 rows/syntax.py FILE.c

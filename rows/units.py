@@ -1,5 +1,5 @@
 #!/usr/bin/env python3
-"""Writes the worked rows of the typing of files (crates/unit_rows/proofs), each from a C text and what is expected of it: the
+"""Writes the worked rows of the typing of files (`crates/typing_rows`), each from a C text and what is expected of it: the
 typed program (whether it is valid, its static objects, its functions), or the first violated rule and its line, or what there is
 too much of. The trees are made by rows/syntax.py; what is expected was worked out by hand from C99 and docs/LANGUAGE.md.
 
@@ -281,8 +281,8 @@ use Rattle.c_current_object.specs.Subobjects.{element_number, member_number, num
 use Rattle.c_initializer_rules.specs.Initializing.{closed, opened, with_literal, with_value}
 use Rattle.c_initializer_rules.specs.Placed.{without}
 use Rattle.c_unit_typing.specs.Typed.{typed_unit}
-use Rattle.unit_rows.proofs.Sources.{accepted, at, bytes, declaration, declarators, designation, function, init_declarator}
-use Rattle.unit_rows.proofs.Sources.{inconstant, large, number, other, refused, source, spelled, word}
+use Rattle.typing_rows.proofs.Units.Sources.{accepted, at, bytes, declaration, declarators, designation, function, init_declarator}
+use Rattle.typing_rows.proofs.Units.Sources.{inconstant, large, number, other, refused, source, spelled, word}
 """
 OPAQUE = """balanced_type common_type fit is_signed mixed_type promoted rank size_of unsigned_of binary_value shift_amount unary_value
 constant_in constant_of greatest_of suffix_of typed types_of bytes_of_literal character_value characters_of escaped literal_step
@@ -337,7 +337,7 @@ if __name__ == "__main__":
     if sys.argv[1:] == ["gcc"]:
         compare()
     else:
-        here = os.path.join(os.path.dirname(os.path.abspath(__file__)), "..", "crates", "unit_rows", "proofs")
+        here = os.path.join(os.path.dirname(os.path.abspath(__file__)), "..", "crates", "typing_rows", "proofs", "Units")
         for subject in ROWS:
             with open(os.path.join(here, subject + ".antt"), "w", encoding="utf-8") as out:
                 out.write(rows_of(subject))

@@ -1,5 +1,5 @@
 #!/usr/bin/env python3
-"""Writes the worked rows of the violations of typing rules (crates/violation_rows/proofs), each from a C text and all rules that it
+"""Writes the worked rows of the violations of typing rules (crates/typing_rows/proofs/Violations), each from a C text and all rules that it
 violates, with their lines, in the order in which they are judged: that of the tokens, but in storage_of_a_later_declarator. The trees
 are made by rows/syntax.py; what is expected was worked out by hand from C99 and docs/LANGUAGE.md.
 
@@ -72,11 +72,11 @@ def rows():
         faults = " ∷ ".join([f"(rule.{rule}, {line})" for rule, line in expected] + ["[]"])
         body.append(f"{comment}\n{name} :\n{wrapped(source_of(text), 4)}\n{wrapped('≡ ' + faults, 4)}\n"
                     f"{wrapped('unfolding ' + SEEN, 0, 112).replace(chr(10), chr(10) + '    ')}\n{name} = refl\n")
-    others = ("unit_rows", "room", "is_valid_program", "typed_unit")
+    others = ("typing_rows", "room", "is_valid_program", "typed_unit")
     imports = "".join(line + "\n" for line in IMPORTS.strip().split("\n") if not any(word in line for word in others))
     imports = imports.replace(", literal_step, next_character}", ", literal_step}\nuse Rattle.c_lexer.specs.Literals.{next_character}")
-    imports += "use Rattle.unit_rows.proofs.Sources.{at, declaration, declarators, designation, init_declarator, spelled, word}\n"
-    imports += "use Rattle.violation_rows.proofs.Sources.{source}\n"
+    imports += "use Rattle.typing_rows.proofs.Units.Sources.{at, declaration, declarators, designation, init_declarator, spelled, word}\n"
+    imports += "use Rattle.typing_rows.proofs.Violations.Sources.{source}\n"
     apart = ", ".join(name for name, _, _, same in ROWS if not same)
     about = wrapped("-- gcc 12.2.0 (-std=c99 -pedantic-errors -fsyntax-only) has errors on just these lines in the texts of all rows but of these: "
                     + apart + ".", 0, 112).replace("\n", "\n-- ") + "\n"
@@ -96,6 +96,6 @@ if __name__ == "__main__":
     if sys.argv[1:] == ["gcc"]:
         compare()
         sys.exit()
-    here = os.path.join(os.path.dirname(os.path.abspath(__file__)), "..", "crates", "violation_rows", "proofs")
+    here = os.path.join(os.path.dirname(os.path.abspath(__file__)), "..", "crates", "typing_rows", "proofs", "Violations")
     with open(os.path.join(here, "Rows.antt"), "w", encoding="utf-8") as out:
         out.write(rows())

@@ -1,2 +1,3 @@
-pub mod Samples
-mod Rows
+mod Expressions
+pub mod Units
+mod Violations

@@ -14,8 +14,7 @@ use Rattle.obj_memory.specs.Integers.{balanced_type, common_type, fit, is_signed
 use Rattle.obj_memory.specs.Integers.{unsigned_of}
 use Rattle.obj_memory.specs.Operators.{binary_value, shift_amount, unary_value}
 use Rattle.c_lexer.specs.Constants.{constant_in, constant_of, greatest_of, suffix_of, typed, types_of}
-use Rattle.c_lexer.specs.Literals.{bytes_of_literal, character_value, characters_of, escaped, literal_step}
-use Rattle.c_lexer.specs.Literals.{next_character}
+use Rattle.c_lexer.specs.Literals.{bytes_of_literal, character_value, characters_of, escaped, literal_step, next_character}
 use Rattle.c_tree.specs.Extents.{extent_of}
 use Rattle.c_tree.specs.Layout.{array_size, member_offsets, structure_of, union_of}
 use Rattle.c_tree.specs.Room.{room}
@@ -39,8 +38,8 @@ use Rattle.c_current_object.specs.Subobjects.{element_number, member_number, num
 use Rattle.c_initializer_rules.specs.Initializing.{closed, opened, with_literal, with_value}
 use Rattle.c_initializer_rules.specs.Placed.{without}
 use Rattle.c_unit_typing.specs.Typed.{typed_unit}
-use Rattle.unit_rows.proofs.Sources.{accepted, at, declaration, declarators, function, init_declarator}
-use Rattle.unit_rows.proofs.Sources.{inconstant, large, number, refused, source, spelled, word}
+use Rattle.typing_rows.proofs.Units.Sources.{accepted, at, declaration, declarators, function, init_declarator}
+use Rattle.typing_rows.proofs.Units.Sources.{inconstant, large, number, refused, source, spelled, word}
 
 -- int x=
 -- y;
@@ -61,12 +60,12 @@ first_of_two :
     (s.return (at 3) (Some (t.integer (spelled (codes "0") 3))) (at 3))) s.no_items) (at 3))) ∷ []) 3)
     ≡ refused rule.Undeclared 2
 unfolding balanced_type common_type fit is_signed mixed_type promoted rank size_of unsigned_of binary_value
-    shift_amount unary_value constant_in constant_of greatest_of suffix_of typed types_of bytes_of_literal
-    character_value characters_of escaped literal_step next_character extent_of array_size member_offsets structure_of
-    union_of room is_valid_program constant_word binary assigned cast row_of comma combined unary dereferenced indexed
-    size_of_words assignment compound stepped condition conditional switch_value called called_through routine_words
-    composite judged start reached reached_by reached_in element_number member_number number_behind part closed opened
-    with_literal with_value without first_not_constant typed_unit
+    shift_amount unary_value constant_in constant_of greatest_of suffix_of typed types_of bytes_of_literal character_value
+    characters_of escaped literal_step next_character extent_of array_size member_offsets structure_of union_of room
+    is_valid_program constant_word binary assigned cast row_of comma combined unary dereferenced indexed size_of_words
+    assignment compound stepped condition conditional switch_value called called_through routine_words composite judged
+    start reached reached_by reached_in element_number member_number number_behind part closed opened with_literal
+    with_value without first_not_constant typed_unit
 first_of_two = refl
 
 -- int x;char
@@ -82,12 +81,12 @@ name_before_initializer :
     s.no_items) (at 3))) ∷ []) 3)
     ≡ refused rule.Redeclared 2
 unfolding balanced_type common_type fit is_signed mixed_type promoted rank size_of unsigned_of binary_value
-    shift_amount unary_value constant_in constant_of greatest_of suffix_of typed types_of bytes_of_literal
-    character_value characters_of escaped literal_step next_character extent_of array_size member_offsets structure_of
-    union_of room is_valid_program constant_word binary assigned cast row_of comma combined unary dereferenced indexed
-    size_of_words assignment compound stepped condition conditional switch_value called called_through routine_words
-    composite judged start reached reached_by reached_in element_number member_number number_behind part closed opened
-    with_literal with_value without first_not_constant typed_unit
+    shift_amount unary_value constant_in constant_of greatest_of suffix_of typed types_of bytes_of_literal character_value
+    characters_of escaped literal_step next_character extent_of array_size member_offsets structure_of union_of room
+    is_valid_program constant_word binary assigned cast row_of comma combined unary dereferenced indexed size_of_words
+    assignment compound stepped condition conditional switch_value called called_through routine_words composite judged
+    start reached reached_by reached_in element_number member_number number_behind part closed opened with_literal
+    with_value without first_not_constant typed_unit
 name_before_initializer = refl
 
 -- int x;char
@@ -103,12 +102,12 @@ size_before_name :
     s.no_items) (at 3))) ∷ []) 3)
     ≡ refused rule.Undeclared 3
 unfolding balanced_type common_type fit is_signed mixed_type promoted rank size_of unsigned_of binary_value
-    shift_amount unary_value constant_in constant_of greatest_of suffix_of typed types_of bytes_of_literal
-    character_value characters_of escaped literal_step next_character extent_of array_size member_offsets structure_of
-    union_of room is_valid_program constant_word binary assigned cast row_of comma combined unary dereferenced indexed
-    size_of_words assignment compound stepped condition conditional switch_value called called_through routine_words
-    composite judged start reached reached_by reached_in element_number member_number number_behind part closed opened
-    with_literal with_value without first_not_constant typed_unit
+    shift_amount unary_value constant_in constant_of greatest_of suffix_of typed types_of bytes_of_literal character_value
+    characters_of escaped literal_step next_character extent_of array_size member_offsets structure_of union_of room
+    is_valid_program constant_word binary assigned cast row_of comma combined unary dereferenced indexed size_of_words
+    assignment compound stepped condition conditional switch_value called called_through routine_words composite judged
+    start reached reached_by reached_in element_number member_number number_behind part closed opened with_literal
+    with_value without first_not_constant typed_unit
 size_before_name = refl
 
 -- int x;
@@ -124,12 +123,12 @@ specifiers_before_name :
     (at 3))) ∷ []) 3)
     ≡ refused rule.MisplacedStorage 2
 unfolding balanced_type common_type fit is_signed mixed_type promoted rank size_of unsigned_of binary_value
-    shift_amount unary_value constant_in constant_of greatest_of suffix_of typed types_of bytes_of_literal
-    character_value characters_of escaped literal_step next_character extent_of array_size member_offsets structure_of
-    union_of room is_valid_program constant_word binary assigned cast row_of comma combined unary dereferenced indexed
-    size_of_words assignment compound stepped condition conditional switch_value called called_through routine_words
-    composite judged start reached reached_by reached_in element_number member_number number_behind part closed opened
-    with_literal with_value without first_not_constant typed_unit
+    shift_amount unary_value constant_in constant_of greatest_of suffix_of typed types_of bytes_of_literal character_value
+    characters_of escaped literal_step next_character extent_of array_size member_offsets structure_of union_of room
+    is_valid_program constant_word binary assigned cast row_of comma combined unary dereferenced indexed size_of_words
+    assignment compound stepped condition conditional switch_value called called_through routine_words composite judged
+    start reached reached_by reached_in element_number member_number number_behind part closed opened with_literal
+    with_value without first_not_constant typed_unit
 specifiers_before_name = refl
 
 -- int x;
@@ -143,12 +142,12 @@ lowest_at_a_name :
     (Some (t.integer (spelled (codes "0") 2))) (at 2))) s.no_items) (at 2))) ∷ []) 2)
     ≡ refused rule.Redeclared 2
 unfolding balanced_type common_type fit is_signed mixed_type promoted rank size_of unsigned_of binary_value
-    shift_amount unary_value constant_in constant_of greatest_of suffix_of typed types_of bytes_of_literal
-    character_value characters_of escaped literal_step next_character extent_of array_size member_offsets structure_of
-    union_of room is_valid_program constant_word binary assigned cast row_of comma combined unary dereferenced indexed
-    size_of_words assignment compound stepped condition conditional switch_value called called_through routine_words
-    composite judged start reached reached_by reached_in element_number member_number number_behind part closed opened
-    with_literal with_value without first_not_constant typed_unit
+    shift_amount unary_value constant_in constant_of greatest_of suffix_of typed types_of bytes_of_literal character_value
+    characters_of escaped literal_step next_character extent_of array_size member_offsets structure_of union_of room
+    is_valid_program constant_word binary assigned cast row_of comma combined unary dereferenced indexed size_of_words
+    assignment compound stepped condition conditional switch_value called called_through routine_words composite judged
+    start reached reached_by reached_in element_number member_number number_behind part closed opened with_literal
+    with_value without first_not_constant typed_unit
 lowest_at_a_name = refl
 
 -- struct S;
@@ -164,12 +163,12 @@ array_of_functions :
     (at 3) (Some (t.integer (spelled (codes "0") 3))) (at 3))) s.no_items) (at 3))) ∷ []) 3)
     ≡ refused rule.MisplacedFunction 3
 unfolding balanced_type common_type fit is_signed mixed_type promoted rank size_of unsigned_of binary_value
-    shift_amount unary_value constant_in constant_of greatest_of suffix_of typed types_of bytes_of_literal
-    character_value characters_of escaped literal_step next_character extent_of array_size member_offsets structure_of
-    union_of room is_valid_program constant_word binary assigned cast row_of comma combined unary dereferenced indexed
-    size_of_words assignment compound stepped condition conditional switch_value called called_through routine_words
-    composite judged start reached reached_by reached_in element_number member_number number_behind part closed opened
-    with_literal with_value without first_not_constant typed_unit
+    shift_amount unary_value constant_in constant_of greatest_of suffix_of typed types_of bytes_of_literal character_value
+    characters_of escaped literal_step next_character extent_of array_size member_offsets structure_of union_of room
+    is_valid_program constant_word binary assigned cast row_of comma combined unary dereferenced indexed size_of_words
+    assignment compound stepped condition conditional switch_value called called_through routine_words composite judged
+    start reached reached_by reached_in element_number member_number number_behind part closed opened with_literal
+    with_value without first_not_constant typed_unit
 array_of_functions = refl
 
 -- int f(void){return
@@ -186,12 +185,12 @@ body_before_the_next :
     (at 3) (Some (t.integer (spelled (codes "0") 3))) (at 3))) s.no_items) (at 3))) ∷ []) 3)
     ≡ refused rule.Undeclared 2
 unfolding balanced_type common_type fit is_signed mixed_type promoted rank size_of unsigned_of binary_value
-    shift_amount unary_value constant_in constant_of greatest_of suffix_of typed types_of bytes_of_literal
-    character_value characters_of escaped literal_step next_character extent_of array_size member_offsets structure_of
-    union_of room is_valid_program constant_word binary assigned cast row_of comma combined unary dereferenced indexed
-    size_of_words assignment compound stepped condition conditional switch_value called called_through routine_words
-    composite judged start reached reached_by reached_in element_number member_number number_behind part closed opened
-    with_literal with_value without first_not_constant typed_unit
+    shift_amount unary_value constant_in constant_of greatest_of suffix_of typed types_of bytes_of_literal character_value
+    characters_of escaped literal_step next_character extent_of array_size member_offsets structure_of union_of room
+    is_valid_program constant_word binary assigned cast row_of comma combined unary dereferenced indexed size_of_words
+    assignment compound stepped condition conditional switch_value called called_through routine_words composite judged
+    start reached reached_by reached_in element_number member_number number_behind part closed opened with_literal
+    with_value without first_not_constant typed_unit
 body_before_the_next = refl
 
 -- int f(void){return 0;}
@@ -208,12 +207,12 @@ declarator_before_body :
     (at 3) (Some (t.integer (spelled (codes "0") 3))) (at 3))) s.no_items) (at 3))) ∷ []) 3)
     ≡ refused rule.Redeclared 2
 unfolding balanced_type common_type fit is_signed mixed_type promoted rank size_of unsigned_of binary_value
-    shift_amount unary_value constant_in constant_of greatest_of suffix_of typed types_of bytes_of_literal
-    character_value characters_of escaped literal_step next_character extent_of array_size member_offsets structure_of
-    union_of room is_valid_program constant_word binary assigned cast row_of comma combined unary dereferenced indexed
-    size_of_words assignment compound stepped condition conditional switch_value called called_through routine_words
-    composite judged start reached reached_by reached_in element_number member_number number_behind part closed opened
-    with_literal with_value without first_not_constant typed_unit
+    shift_amount unary_value constant_in constant_of greatest_of suffix_of typed types_of bytes_of_literal character_value
+    characters_of escaped literal_step next_character extent_of array_size member_offsets structure_of union_of room
+    is_valid_program constant_word binary assigned cast row_of comma combined unary dereferenced indexed size_of_words
+    assignment compound stepped condition conditional switch_value called called_through routine_words composite judged
+    start reached reached_by reached_in element_number member_number number_behind part closed opened with_literal
+    with_value without first_not_constant typed_unit
 declarator_before_body = refl
 
 -- int a[1]={1,
@@ -233,12 +232,12 @@ initializer_before_the_next :
     ) ∷ []))) (at 3))) ∷ []) 3)
     ≡ refused rule.MisplacedItem 1
 unfolding balanced_type common_type fit is_signed mixed_type promoted rank size_of unsigned_of binary_value
-    shift_amount unary_value constant_in constant_of greatest_of suffix_of typed types_of bytes_of_literal
-    character_value characters_of escaped literal_step next_character extent_of array_size member_offsets structure_of
-    union_of room is_valid_program constant_word binary assigned cast row_of comma combined unary dereferenced indexed
-    size_of_words assignment compound stepped condition conditional switch_value called called_through routine_words
-    composite judged start reached reached_by reached_in element_number member_number number_behind part closed opened
-    with_literal with_value without first_not_constant typed_unit
+    shift_amount unary_value constant_in constant_of greatest_of suffix_of typed types_of bytes_of_literal character_value
+    characters_of escaped literal_step next_character extent_of array_size member_offsets structure_of union_of room
+    is_valid_program constant_word binary assigned cast row_of comma combined unary dereferenced indexed size_of_words
+    assignment compound stepped condition conditional switch_value called called_through routine_words composite judged
+    start reached reached_by reached_in element_number member_number number_behind part closed opened with_literal
+    with_value without first_not_constant typed_unit
 initializer_before_the_next = refl
 
 -- int f(void){return 0;}
@@ -249,12 +248,12 @@ no_main :
     (t.integer (spelled (codes "0") 1))) (at 1))) s.no_items) (at 1))) ∷ []) 2)
     ≡ refused rule.NoMain 2
 unfolding balanced_type common_type fit is_signed mixed_type promoted rank size_of unsigned_of binary_value
-    shift_amount unary_value constant_in constant_of greatest_of suffix_of typed types_of bytes_of_literal
-    character_value characters_of escaped literal_step next_character extent_of array_size member_offsets structure_of
-    union_of room is_valid_program constant_word binary assigned cast row_of comma combined unary dereferenced indexed
-    size_of_words assignment compound stepped condition conditional switch_value called called_through routine_words
-    composite judged start reached reached_by reached_in element_number member_number number_behind part closed opened
-    with_literal with_value without first_not_constant typed_unit
+    shift_amount unary_value constant_in constant_of greatest_of suffix_of typed types_of bytes_of_literal character_value
+    characters_of escaped literal_step next_character extent_of array_size member_offsets structure_of union_of room
+    is_valid_program constant_word binary assigned cast row_of comma combined unary dereferenced indexed size_of_words
+    assignment compound stepped condition conditional switch_value called called_through routine_words composite judged
+    start reached reached_by reached_in element_number member_number number_behind part closed opened with_literal
+    with_value without first_not_constant typed_unit
 no_main = refl
 
 -- void main(void){}
@@ -264,12 +263,12 @@ main_of_another_type :
     "main") 1)) (at 1) (t.void_parameters (at 1)) (at 1)) (s.block (at 1) s.no_items (at 1))) ∷ []) 2)
     ≡ refused rule.NoMain 2
 unfolding balanced_type common_type fit is_signed mixed_type promoted rank size_of unsigned_of binary_value
-    shift_amount unary_value constant_in constant_of greatest_of suffix_of typed types_of bytes_of_literal
-    character_value characters_of escaped literal_step next_character extent_of array_size member_offsets structure_of
-    union_of room is_valid_program constant_word binary assigned cast row_of comma combined unary dereferenced indexed
-    size_of_words assignment compound stepped condition conditional switch_value called called_through routine_words
-    composite judged start reached reached_by reached_in element_number member_number number_behind part closed opened
-    with_literal with_value without first_not_constant typed_unit
+    shift_amount unary_value constant_in constant_of greatest_of suffix_of typed types_of bytes_of_literal character_value
+    characters_of escaped literal_step next_character extent_of array_size member_offsets structure_of union_of room
+    is_valid_program constant_word binary assigned cast row_of comma combined unary dereferenced indexed size_of_words
+    assignment compound stepped condition conditional switch_value called called_through routine_words composite judged
+    start reached reached_by reached_in element_number member_number number_behind part closed opened with_literal
+    with_value without first_not_constant typed_unit
 main_of_another_type = refl
 
 -- int main(void);
@@ -280,12 +279,12 @@ main_only_declared :
     [])) (at 1))) ∷ []) 2)
     ≡ refused rule.NoMain 2
 unfolding balanced_type common_type fit is_signed mixed_type promoted rank size_of unsigned_of binary_value
-    shift_amount unary_value constant_in constant_of greatest_of suffix_of typed types_of bytes_of_literal
-    character_value characters_of escaped literal_step next_character extent_of array_size member_offsets structure_of
-    union_of room is_valid_program constant_word binary assigned cast row_of comma combined unary dereferenced indexed
-    size_of_words assignment compound stepped condition conditional switch_value called called_through routine_words
-    composite judged start reached reached_by reached_in element_number member_number number_behind part closed opened
-    with_literal with_value without first_not_constant typed_unit
+    shift_amount unary_value constant_in constant_of greatest_of suffix_of typed types_of bytes_of_literal character_value
+    characters_of escaped literal_step next_character extent_of array_size member_offsets structure_of union_of room
+    is_valid_program constant_word binary assigned cast row_of comma combined unary dereferenced indexed size_of_words
+    assignment compound stepped condition conditional switch_value called called_through routine_words composite judged
+    start reached reached_by reached_in element_number member_number number_behind part closed opened with_literal
+    with_value without first_not_constant typed_unit
 main_only_declared = refl
 
 -- int f(void);int g(void){return f();}
@@ -299,12 +298,12 @@ main_before_uses :
     2)
     ≡ refused rule.NoMain 2
 unfolding balanced_type common_type fit is_signed mixed_type promoted rank size_of unsigned_of binary_value
-    shift_amount unary_value constant_in constant_of greatest_of suffix_of typed types_of bytes_of_literal
-    character_value characters_of escaped literal_step next_character extent_of array_size member_offsets structure_of
-    union_of room is_valid_program constant_word binary assigned cast row_of comma combined unary dereferenced indexed
-    size_of_words assignment compound stepped condition conditional switch_value called called_through routine_words
-    composite judged start reached reached_by reached_in element_number member_number number_behind part closed opened
-    with_literal with_value without first_not_constant typed_unit
+    shift_amount unary_value constant_in constant_of greatest_of suffix_of typed types_of bytes_of_literal character_value
+    characters_of escaped literal_step next_character extent_of array_size member_offsets structure_of union_of room
+    is_valid_program constant_word binary assigned cast row_of comma combined unary dereferenced indexed size_of_words
+    assignment compound stepped condition conditional switch_value called called_through routine_words composite judged
+    start reached reached_by reached_in element_number member_number number_behind part closed opened with_literal
+    with_value without first_not_constant typed_unit
 main_before_uses = refl
 
 -- int f(void);int g(void);int main(void){return
@@ -322,12 +321,12 @@ first_use :
     3)
     ≡ refused rule.UndefinedFunction 2
 unfolding balanced_type common_type fit is_signed mixed_type promoted rank size_of unsigned_of binary_value
-    shift_amount unary_value constant_in constant_of greatest_of suffix_of typed types_of bytes_of_literal
-    character_value characters_of escaped literal_step next_character extent_of array_size member_offsets structure_of
-    union_of room is_valid_program constant_word binary assigned cast row_of comma combined unary dereferenced indexed
-    size_of_words assignment compound stepped condition conditional switch_value called called_through routine_words
-    composite judged start reached reached_by reached_in element_number member_number number_behind part closed opened
-    with_literal with_value without first_not_constant typed_unit
+    shift_amount unary_value constant_in constant_of greatest_of suffix_of typed types_of bytes_of_literal character_value
+    characters_of escaped literal_step next_character extent_of array_size member_offsets structure_of union_of room
+    is_valid_program constant_word binary assigned cast row_of comma combined unary dereferenced indexed size_of_words
+    assignment compound stepped condition conditional switch_value called called_through routine_words composite judged
+    start reached reached_by reached_in element_number member_number number_behind part closed opened with_literal
+    with_value without first_not_constant typed_unit
 first_use = refl
 
 -- int f(void);int(*p)(void)=
@@ -343,12 +342,12 @@ use_in_an_initializer :
     (t.integer (spelled (codes "0") 2))) (at 2))) s.no_items) (at 2))) ∷ []) 2)
     ≡ refused rule.UndefinedFunction 2
 unfolding balanced_type common_type fit is_signed mixed_type promoted rank size_of unsigned_of binary_value
-    shift_amount unary_value constant_in constant_of greatest_of suffix_of typed types_of bytes_of_literal
-    character_value characters_of escaped literal_step next_character extent_of array_size member_offsets structure_of
-    union_of room is_valid_program constant_word binary assigned cast row_of comma combined unary dereferenced indexed
-    size_of_words assignment compound stepped condition conditional switch_value called called_through routine_words
-    composite judged start reached reached_by reached_in element_number member_number number_behind part closed opened
-    with_literal with_value without first_not_constant typed_unit
+    shift_amount unary_value constant_in constant_of greatest_of suffix_of typed types_of bytes_of_literal character_value
+    characters_of escaped literal_step next_character extent_of array_size member_offsets structure_of union_of room
+    is_valid_program constant_word binary assigned cast row_of comma combined unary dereferenced indexed size_of_words
+    assignment compound stepped condition conditional switch_value called called_through routine_words composite judged
+    start reached reached_by reached_in element_number member_number number_behind part closed opened with_literal
+    with_value without first_not_constant typed_unit
 use_in_an_initializer = refl
 
 -- int f(void);int main(void){return sizeof f();}
@@ -361,12 +360,12 @@ not_evaluated :
     (at 1))) s.no_items) (at 1))) ∷ []) 1)
     ≡ accepted true [] (function 1 0 [] [] (number 4 ∷ []) ∷ [])
 unfolding balanced_type common_type fit is_signed mixed_type promoted rank size_of unsigned_of binary_value
-    shift_amount unary_value constant_in constant_of greatest_of suffix_of typed types_of bytes_of_literal
-    character_value characters_of escaped literal_step next_character extent_of array_size member_offsets structure_of
-    union_of room is_valid_program constant_word binary assigned cast row_of comma combined unary dereferenced indexed
-    size_of_words assignment compound stepped condition conditional switch_value called called_through routine_words
-    composite judged start reached reached_by reached_in element_number member_number number_behind part closed opened
-    with_literal with_value without first_not_constant typed_unit
+    shift_amount unary_value constant_in constant_of greatest_of suffix_of typed types_of bytes_of_literal character_value
+    characters_of escaped literal_step next_character extent_of array_size member_offsets structure_of union_of room
+    is_valid_program constant_word binary assigned cast row_of comma combined unary dereferenced indexed size_of_words
+    assignment compound stepped condition conditional switch_value called called_through routine_words composite judged
+    start reached reached_by reached_in element_number member_number number_behind part closed opened with_literal
+    with_value without first_not_constant typed_unit
 not_evaluated = refl
 
 -- char a[4194305];int main(void){return 0;}
@@ -378,12 +377,12 @@ globals :
     (at 1) (Some (t.integer (spelled (codes "0") 1))) (at 1))) s.no_items) (at 1))) ∷ []) 1)
     ≡ large limited.Globals 4198400
 unfolding balanced_type common_type fit is_signed mixed_type promoted rank size_of unsigned_of binary_value
-    shift_amount unary_value constant_in constant_of greatest_of suffix_of typed types_of bytes_of_literal
-    character_value characters_of escaped literal_step next_character extent_of array_size member_offsets structure_of
-    union_of room is_valid_program constant_word binary assigned cast row_of comma combined unary dereferenced indexed
-    size_of_words assignment compound stepped condition conditional switch_value called called_through routine_words
-    composite judged start reached reached_by reached_in element_number member_number number_behind part closed opened
-    with_literal with_value without first_not_constant typed_unit
+    shift_amount unary_value constant_in constant_of greatest_of suffix_of typed types_of bytes_of_literal character_value
+    characters_of escaped literal_step next_character extent_of array_size member_offsets structure_of union_of room
+    is_valid_program constant_word binary assigned cast row_of comma combined unary dereferenced indexed size_of_words
+    assignment compound stepped condition conditional switch_value called called_through routine_words composite judged
+    start reached reached_by reached_in element_number member_number number_behind part closed opened with_literal
+    with_value without first_not_constant typed_unit
 globals = refl
 
 -- char a[4194304];int main(void){return 0;}
@@ -395,12 +394,12 @@ globals_that_fit :
     (at 1) (Some (t.integer (spelled (codes "0") 1))) (at 1))) s.no_items) (at 1))) ∷ []) 1)
     ≡ accepted true ((4194304, (None, [])) ∷ []) (function 1 0 [] [] (number 0 ∷ []) ∷ [])
 unfolding balanced_type common_type fit is_signed mixed_type promoted rank size_of unsigned_of binary_value
-    shift_amount unary_value constant_in constant_of greatest_of suffix_of typed types_of bytes_of_literal
-    character_value characters_of escaped literal_step next_character extent_of array_size member_offsets structure_of
-    union_of room is_valid_program constant_word binary assigned cast row_of comma combined unary dereferenced indexed
-    size_of_words assignment compound stepped condition conditional switch_value called called_through routine_words
-    composite judged start reached reached_by reached_in element_number member_number number_behind part closed opened
-    with_literal with_value without first_not_constant typed_unit
+    shift_amount unary_value constant_in constant_of greatest_of suffix_of typed types_of bytes_of_literal character_value
+    characters_of escaped literal_step next_character extent_of array_size member_offsets structure_of union_of room
+    is_valid_program constant_word binary assigned cast row_of comma combined unary dereferenced indexed size_of_words
+    assignment compound stepped condition conditional switch_value called called_through routine_words composite judged
+    start reached reached_by reached_in element_number member_number number_behind part closed opened with_literal
+    with_value without first_not_constant typed_unit
 globals_that_fit = refl
 
 -- char a[4194289];char b;int main(void){return 0;}
@@ -414,12 +413,12 @@ rounded :
     1))) s.no_items) (at 1))) ∷ []) 1)
     ≡ large limited.Globals 4198400
 unfolding balanced_type common_type fit is_signed mixed_type promoted rank size_of unsigned_of binary_value
-    shift_amount unary_value constant_in constant_of greatest_of suffix_of typed types_of bytes_of_literal
-    character_value characters_of escaped literal_step next_character extent_of array_size member_offsets structure_of
-    union_of room is_valid_program constant_word binary assigned cast row_of comma combined unary dereferenced indexed
-    size_of_words assignment compound stepped condition conditional switch_value called called_through routine_words
-    composite judged start reached reached_by reached_in element_number member_number number_behind part closed opened
-    with_literal with_value without first_not_constant typed_unit
+    shift_amount unary_value constant_in constant_of greatest_of suffix_of typed types_of bytes_of_literal character_value
+    characters_of escaped literal_step next_character extent_of array_size member_offsets structure_of union_of room
+    is_valid_program constant_word binary assigned cast row_of comma combined unary dereferenced indexed size_of_words
+    assignment compound stepped condition conditional switch_value called called_through routine_words composite judged
+    start reached reached_by reached_in element_number member_number number_behind part closed opened with_literal
+    with_value without first_not_constant typed_unit
 rounded = refl
 
 -- char a[4194305];int f(void){return 1;}int x=f();int main(void){return 0;}
@@ -436,12 +435,12 @@ not_constant_first :
     (Some (t.integer (spelled (codes "0") 1))) (at 1))) s.no_items) (at 1))) ∷ []) 1)
     ≡ inconstant 1
 unfolding balanced_type common_type fit is_signed mixed_type promoted rank size_of unsigned_of binary_value
-    shift_amount unary_value constant_in constant_of greatest_of suffix_of typed types_of bytes_of_literal
-    character_value characters_of escaped literal_step next_character extent_of array_size member_offsets structure_of
-    union_of room is_valid_program constant_word binary assigned cast row_of comma combined unary dereferenced indexed
-    size_of_words assignment compound stepped condition conditional switch_value called called_through routine_words
-    composite judged start reached reached_by reached_in element_number member_number number_behind part closed opened
-    with_literal with_value without first_not_constant typed_unit
+    shift_amount unary_value constant_in constant_of greatest_of suffix_of typed types_of bytes_of_literal character_value
+    characters_of escaped literal_step next_character extent_of array_size member_offsets structure_of union_of room
+    is_valid_program constant_word binary assigned cast row_of comma combined unary dereferenced indexed size_of_words
+    assignment compound stepped condition conditional switch_value called called_through routine_words composite judged
+    start reached reached_by reached_in element_number member_number number_behind part closed opened with_literal
+    with_value without first_not_constant typed_unit
 not_constant_first = refl
 
 -- int f(int,int,int,int,int,int,int,int,int,int,int,int,int,int,int,int,int,int,int,int,int,int,int,in ..
@@ -576,19 +575,18 @@ parameters :
     (t.more_parameters (at 1) (t.typed (t.specifiers (word keyword.Int 1) t.no_specifiers) t.unnamed)
     (t.more_parameters (at 1) (t.typed (t.specifiers (word keyword.Int 1) t.no_specifiers) t.unnamed)
     (t.more_parameters (at 1) (t.typed (t.specifiers (word keyword.Int 1) t.no_specifiers) t.unnamed)
-    t.end_of_parameters)))))))))))))))))))))))))))))))))))))))))))))))))))))))))))))))))))))))))))))))))))))))))))
-    )))))))))))))))))))))))))))))))))))))
+    t.end_of_parameters))))))))))))))))))))))))))))))))))))))))))))))))))))))))))))))))))))))))))))))))))))))))))))))))))))))))))))))))))))))))))))))))
     (at 1)) None) [])) (at 1))) ∷ (s.definition (t.specifiers (word keyword.Int 1) t.no_specifiers) (t.function
     (t.named (spelled (codes "main") 1)) (at 1) (t.void_parameters (at 1)) (at 1)) (s.block (at 1) (s.items (s.inner
     (s.return (at 1) (Some (t.integer (spelled (codes "0") 1))) (at 1))) s.no_items) (at 1))) ∷ []) 1)
     ≡ large limited.Parameters 128
 unfolding balanced_type common_type fit is_signed mixed_type promoted rank size_of unsigned_of binary_value
-    shift_amount unary_value constant_in constant_of greatest_of suffix_of typed types_of bytes_of_literal
-    character_value characters_of escaped literal_step next_character extent_of array_size member_offsets structure_of
-    union_of room is_valid_program constant_word binary assigned cast row_of comma combined unary dereferenced indexed
-    size_of_words assignment compound stepped condition conditional switch_value called called_through routine_words
-    composite judged start reached reached_by reached_in element_number member_number number_behind part closed opened
-    with_literal with_value without first_not_constant typed_unit
+    shift_amount unary_value constant_in constant_of greatest_of suffix_of typed types_of bytes_of_literal character_value
+    characters_of escaped literal_step next_character extent_of array_size member_offsets structure_of union_of room
+    is_valid_program constant_word binary assigned cast row_of comma combined unary dereferenced indexed size_of_words
+    assignment compound stepped condition conditional switch_value called called_through routine_words composite judged
+    start reached reached_by reached_in element_number member_number number_behind part closed opened with_literal
+    with_value without first_not_constant typed_unit
 parameters = refl
 
 -- char a[4194305];int f(int,int,int,int,int,int,int,int,int,int,int,int,int,int,int,int,int,int,int,in ..
@@ -726,17 +724,16 @@ parameters_before_globals :
     (t.more_parameters (at 1) (t.typed (t.specifiers (word keyword.Int 1) t.no_specifiers) t.unnamed)
     (t.more_parameters (at 1) (t.typed (t.specifiers (word keyword.Int 1) t.no_specifiers) t.unnamed)
     (t.more_parameters (at 1) (t.typed (t.specifiers (word keyword.Int 1) t.no_specifiers) t.unnamed)
-    t.end_of_parameters)))))))))))))))))))))))))))))))))))))))))))))))))))))))))))))))))))))))))))))))))))))))))))
-    ))))))))))))))))))))))))))))))))))))))
+    t.end_of_parameters)))))))))))))))))))))))))))))))))))))))))))))))))))))))))))))))))))))))))))))))))))))))))))))))))))))))))))))))))))))))))))))))))
     (at 1)) None) [])) (at 1))) ∷ (s.definition (t.specifiers (word keyword.Int 1) t.no_specifiers) (t.function
     (t.named (spelled (codes "main") 1)) (at 1) (t.void_parameters (at 1)) (at 1)) (s.block (at 1) (s.items (s.inner
     (s.return (at 1) (Some (t.integer (spelled (codes "0") 1))) (at 1))) s.no_items) (at 1))) ∷ []) 1)
     ≡ large limited.Parameters 129
 unfolding balanced_type common_type fit is_signed mixed_type promoted rank size_of unsigned_of binary_value
-    shift_amount unary_value constant_in constant_of greatest_of suffix_of typed types_of bytes_of_literal
-    character_value characters_of escaped literal_step next_character extent_of array_size member_offsets structure_of
-    union_of room is_valid_program constant_word binary assigned cast row_of comma combined unary dereferenced indexed
-    size_of_words assignment compound stepped condition conditional switch_value called called_through routine_words
-    composite judged start reached reached_by reached_in element_number member_number number_behind part closed opened
-    with_literal with_value without first_not_constant typed_unit
+    shift_amount unary_value constant_in constant_of greatest_of suffix_of typed types_of bytes_of_literal character_value
+    characters_of escaped literal_step next_character extent_of array_size member_offsets structure_of union_of room
+    is_valid_program constant_word binary assigned cast row_of comma combined unary dereferenced indexed size_of_words
+    assignment compound stepped condition conditional switch_value called called_through routine_words composite judged
+    start reached reached_by reached_in element_number member_number number_behind part closed opened with_literal
+    with_value without first_not_constant typed_unit
 parameters_before_globals = refl

@@ -10,8 +10,7 @@ use Rattle.obj_memory.specs.Integers.{balanced_type, common_type, fit, is_signed
 use Rattle.obj_memory.specs.Integers.{unsigned_of}
 use Rattle.obj_memory.specs.Operators.{binary_value, shift_amount, unary_value}
 use Rattle.c_lexer.specs.Constants.{constant_in, constant_of, greatest_of, suffix_of, typed, types_of}
-use Rattle.c_lexer.specs.Literals.{bytes_of_literal, character_value, characters_of, escaped, literal_step}
-use Rattle.c_lexer.specs.Literals.{next_character}
+use Rattle.c_lexer.specs.Literals.{bytes_of_literal, character_value, characters_of, escaped, literal_step, next_character}
 use Rattle.c_tree.specs.Extents.{extent_of}
 use Rattle.c_tree.specs.Layout.{array_size, member_offsets, structure_of, union_of}
 use Rattle.c_tree.specs.Room.{room}
@@ -35,8 +34,8 @@ use Rattle.c_current_object.specs.Subobjects.{element_number, member_number, num
 use Rattle.c_initializer_rules.specs.Initializing.{closed, opened, with_literal, with_value}
 use Rattle.c_initializer_rules.specs.Placed.{without}
 use Rattle.c_unit_typing.specs.Typed.{typed_unit}
-use Rattle.unit_rows.proofs.Sources.{accepted, at, bytes, declaration, declarators, designation, function}
-use Rattle.unit_rows.proofs.Sources.{init_declarator, number, other, source, spelled, word}
+use Rattle.typing_rows.proofs.Units.Sources.{accepted, at, bytes, declaration, declarators, designation, function, init_declarator}
+use Rattle.typing_rows.proofs.Units.Sources.{number, other, source, spelled, word}
 
 -- int a[2][2]={1,2,3};int main(void){return 0;}
 elided :
@@ -45,10 +44,8 @@ elided :
     (at 1)) (at 1) (t.integer (spelled (codes "2") 1)) (at 1)) (Some (
       (at 1),
       (t.braced (at 1) (t.item None (t.value
-          (t.integer (spelled (codes "1") 1)))) (t.more_items (at 1)
-          (t.item None (t.value (t.integer (spelled (codes "2")
-          1)))) (t.more_items (at 1) (t.item None (t.value (t.integer (spelled (codes "3") 1)))) t.end_of_items))
-          None (at
+          (t.integer (spelled (codes "1") 1)))) (t.more_items (at 1) (t.item None (t.value (t.integer (spelled (codes "2")
+          1)))) (t.more_items (at 1) (t.item None (t.value (t.integer (spelled (codes "3") 1)))) t.end_of_items)) None (at
           1)),
     ))) [])) (at 1))) ∷ (s.definition (t.specifiers (word keyword.Int 1) t.no_specifiers) (t.function (t.named
     (spelled (codes "main") 1)) (at 1) (t.void_parameters (at 1)) (at 1)) (s.block (at 1) (s.items (s.inner (s.return
@@ -56,12 +53,12 @@ elided :
     ≡ accepted true ((16, (None, ((0, number 1) ∷ (4, number 2) ∷ (8, number 3) ∷ []))) ∷ []) (function 1 0 [] []
     (number 0 ∷ []) ∷ [])
 unfolding balanced_type common_type fit is_signed mixed_type promoted rank size_of unsigned_of binary_value
-    shift_amount unary_value constant_in constant_of greatest_of suffix_of typed types_of bytes_of_literal
-    character_value characters_of escaped literal_step next_character extent_of array_size member_offsets structure_of
-    union_of room is_valid_program constant_word binary assigned cast row_of comma combined unary dereferenced indexed
-    size_of_words assignment compound stepped condition conditional switch_value called called_through routine_words
-    composite judged start reached reached_by reached_in element_number member_number number_behind part closed opened
-    with_literal with_value without first_not_constant typed_unit
+    shift_amount unary_value constant_in constant_of greatest_of suffix_of typed types_of bytes_of_literal character_value
+    characters_of escaped literal_step next_character extent_of array_size member_offsets structure_of union_of room
+    is_valid_program constant_word binary assigned cast row_of comma combined unary dereferenced indexed size_of_words
+    assignment compound stepped condition conditional switch_value called called_through routine_words composite judged
+    start reached reached_by reached_in element_number member_number number_behind part closed opened with_literal
+    with_value without first_not_constant typed_unit
 elided = refl
 
 -- struct{int a[2];char b;}s[2]={1,2,3,{{4},5}};int main(void){return 0;}
@@ -75,8 +72,7 @@ elided_within :
       (at 1),
       (t.braced (at
           1) (t.item None (t.value (t.integer (spelled (codes "1") 1)))) (t.more_items (at 1) (t.item None (t.value
-          (t.integer (spelled (codes "2") 1)))) (t.more_items (at 1)
-          (t.item None (t.value (t.integer (spelled (codes "3")
+          (t.integer (spelled (codes "2") 1)))) (t.more_items (at 1) (t.item None (t.value (t.integer (spelled (codes "3")
           1)))) (t.more_items (at 1) (t.item None (t.braced (at 1) (t.item None (t.braced (at 1) (t.item None (t.value
           (t.integer (spelled (codes "4") 1)))) t.end_of_items None (at 1))) (t.more_items (at 1) (t.item None (t.value
           (t.integer (spelled (codes "5") 1)))) t.end_of_items) None (at 1))) t.end_of_items))) None (at 1)),
@@ -93,12 +89,12 @@ elided_within :
       ),
     ) ∷ []) (function 1 0 [] [] (number 0 ∷ []) ∷ [])
 unfolding balanced_type common_type fit is_signed mixed_type promoted rank size_of unsigned_of binary_value
-    shift_amount unary_value constant_in constant_of greatest_of suffix_of typed types_of bytes_of_literal
-    character_value characters_of escaped literal_step next_character extent_of array_size member_offsets structure_of
-    union_of room is_valid_program constant_word binary assigned cast row_of comma combined unary dereferenced indexed
-    size_of_words assignment compound stepped condition conditional switch_value called called_through routine_words
-    composite judged start reached reached_by reached_in element_number member_number number_behind part closed opened
-    with_literal with_value without first_not_constant typed_unit
+    shift_amount unary_value constant_in constant_of greatest_of suffix_of typed types_of bytes_of_literal character_value
+    characters_of escaped literal_step next_character extent_of array_size member_offsets structure_of union_of room
+    is_valid_program constant_word binary assigned cast row_of comma combined unary dereferenced indexed size_of_words
+    assignment compound stepped condition conditional switch_value called called_through routine_words composite judged
+    start reached reached_by reached_in element_number member_number number_behind part closed opened with_literal
+    with_value without first_not_constant typed_unit
 elided_within = refl
 
 -- int a[3]={[2]=7,[0]=1,2,[2]=3};int main(void){return 0;}
@@ -111,8 +107,7 @@ designated_twice :
           (at 1)) ∷ []) (at 1))) (t.value (t.integer (spelled (codes "7") 1)))) (t.more_items (at 1) (t.item (Some
           (designation ((t.element (at 1) (t.integer (spelled (codes "0") 1)) (at 1)) ∷ []) (at 1))) (t.value (t.integer
           (spelled (codes "1") 1)))) (t.more_items (at 1) (t.item None (t.value (t.integer (spelled (codes "2") 1))))
-          (t.more_items (at 1) (t.item (Some (designation
-          ((t.element (at 1) (t.integer (spelled (codes "2") 1)) (at 1)) ∷
+          (t.more_items (at 1) (t.item (Some (designation ((t.element (at 1) (t.integer (spelled (codes "2") 1)) (at 1)) ∷
           []) (at 1))) (t.value (t.integer (spelled (codes "3") 1)))) t.end_of_items))) None (at 1)),
     ))) [])) (at 1))) ∷
     (s.definition (t.specifiers (word keyword.Int 1) t.no_specifiers) (t.function (t.named (spelled (codes "main") 1))
@@ -121,12 +116,12 @@ designated_twice :
     ≡ accepted true ((12, (None, ((0, number 1) ∷ (4, number 2) ∷ (8, number 3) ∷ []))) ∷ []) (function 1 0 [] []
     (number 0 ∷ []) ∷ [])
 unfolding balanced_type common_type fit is_signed mixed_type promoted rank size_of unsigned_of binary_value
-    shift_amount unary_value constant_in constant_of greatest_of suffix_of typed types_of bytes_of_literal
-    character_value characters_of escaped literal_step next_character extent_of array_size member_offsets structure_of
-    union_of room is_valid_program constant_word binary assigned cast row_of comma combined unary dereferenced indexed
-    size_of_words assignment compound stepped condition conditional switch_value called called_through routine_words
-    composite judged start reached reached_by reached_in element_number member_number number_behind part closed opened
-    with_literal with_value without first_not_constant typed_unit
+    shift_amount unary_value constant_in constant_of greatest_of suffix_of typed types_of bytes_of_literal character_value
+    characters_of escaped literal_step next_character extent_of array_size member_offsets structure_of union_of room
+    is_valid_program constant_word binary assigned cast row_of comma combined unary dereferenced indexed size_of_words
+    assignment compound stepped condition conditional switch_value called called_through routine_words composite judged
+    start reached reached_by reached_in element_number member_number number_behind part closed opened with_literal
+    with_value without first_not_constant typed_unit
 designated_twice = refl
 
 -- union{int i;char c[2];}u={.i=0x01020304,.c[0]=5};int main(void){return 0;}
@@ -140,8 +135,7 @@ another_member :
       (at 1),
       (t.braced (at 1) (t.item (Some (designation ((t.member_named (at 1) (spelled (codes "i") 1)) ∷
           []) (at 1))) (t.value (t.integer (spelled (codes "0x01020304") 1)))) (t.more_items (at 1) (t.item (Some
-          (designation ((t.member_named (at 1) (spelled (codes "c") 1))
-          ∷ (t.element (at 1) (t.integer (spelled (codes "0")
+          (designation ((t.member_named (at 1) (spelled (codes "c") 1)) ∷ (t.element (at 1) (t.integer (spelled (codes "0")
           1)) (at 1)) ∷ []) (at 1))) (t.value (t.integer (spelled (codes "5") 1)))) t.end_of_items) None (at 1)),
     ))) [])) (at
     1))) ∷ (s.definition (t.specifiers (word keyword.Int 1) t.no_specifiers) (t.function (t.named (spelled (codes
@@ -149,12 +143,12 @@ another_member :
     (t.integer (spelled (codes "0") 1))) (at 1))) s.no_items) (at 1))) ∷ []) 1)
     ≡ accepted true ((4, (None, ((0, number 5) ∷ []))) ∷ []) (function 1 0 [] [] (number 0 ∷ []) ∷ [])
 unfolding balanced_type common_type fit is_signed mixed_type promoted rank size_of unsigned_of binary_value
-    shift_amount unary_value constant_in constant_of greatest_of suffix_of typed types_of bytes_of_literal
-    character_value characters_of escaped literal_step next_character extent_of array_size member_offsets structure_of
-    union_of room is_valid_program constant_word binary assigned cast row_of comma combined unary dereferenced indexed
-    size_of_words assignment compound stepped condition conditional switch_value called called_through routine_words
-    composite judged start reached reached_by reached_in element_number member_number number_behind part closed opened
-    with_literal with_value without first_not_constant typed_unit
+    shift_amount unary_value constant_in constant_of greatest_of suffix_of typed types_of bytes_of_literal character_value
+    characters_of escaped literal_step next_character extent_of array_size member_offsets structure_of union_of room
+    is_valid_program constant_word binary assigned cast row_of comma combined unary dereferenced indexed size_of_words
+    assignment compound stepped condition conditional switch_value called called_through routine_words composite judged
+    start reached reached_by reached_in element_number member_number number_behind part closed opened with_literal
+    with_value without first_not_constant typed_unit
 another_member = refl
 
 -- struct{int a[4];int b;}s={1,2,3,4,5,.a={9}};int main(void){return 0;}
@@ -168,11 +162,9 @@ list_overrides :
       (at 1),
       (t.braced (at 1) (t.item None (t.value (t.integer (spelled (codes "1")
           1)))) (t.more_items (at 1) (t.item None (t.value (t.integer (spelled (codes "2") 1)))) (t.more_items (at 1)
-          (t.item None (t.value (t.integer (spelled (codes "3") 1))))
-          (t.more_items (at 1) (t.item None (t.value (t.integer
+          (t.item None (t.value (t.integer (spelled (codes "3") 1)))) (t.more_items (at 1) (t.item None (t.value (t.integer
           (spelled (codes "4") 1)))) (t.more_items (at 1) (t.item None (t.value (t.integer (spelled (codes "5") 1))))
-          (t.more_items (at 1) (t.item (Some (designation ((t.member_named (at 1) (spelled (codes "a") 1))
-          ∷ []) (at 1)))
+          (t.more_items (at 1) (t.item (Some (designation ((t.member_named (at 1) (spelled (codes "a") 1)) ∷ []) (at 1)))
           (t.braced (at 1) (t.item None (t.value (t.integer (spelled (codes "9") 1)))) t.end_of_items None (at 1)))
           t.end_of_items))))) None (at 1)),
     ))) [])) (at 1))) ∷ (s.definition (t.specifiers (word keyword.Int 1)
@@ -182,12 +174,12 @@ list_overrides :
     ≡ accepted true ((20, (None, ((16, number 5) ∷ (0, number 9) ∷ []))) ∷ []) (function 1 0 [] [] (number 0 ∷ []) ∷
     [])
 unfolding balanced_type common_type fit is_signed mixed_type promoted rank size_of unsigned_of binary_value
-    shift_amount unary_value constant_in constant_of greatest_of suffix_of typed types_of bytes_of_literal
-    character_value characters_of escaped literal_step next_character extent_of array_size member_offsets structure_of
-    union_of room is_valid_program constant_word binary assigned cast row_of comma combined unary dereferenced indexed
-    size_of_words assignment compound stepped condition conditional switch_value called called_through routine_words
-    composite judged start reached reached_by reached_in element_number member_number number_behind part closed opened
-    with_literal with_value without first_not_constant typed_unit
+    shift_amount unary_value constant_in constant_of greatest_of suffix_of typed types_of bytes_of_literal character_value
+    characters_of escaped literal_step next_character extent_of array_size member_offsets structure_of union_of room
+    is_valid_program constant_word binary assigned cast row_of comma combined unary dereferenced indexed size_of_words
+    assignment compound stepped condition conditional switch_value called called_through routine_words composite judged
+    start reached reached_by reached_in element_number member_number number_behind part closed opened with_literal
+    with_value without first_not_constant typed_unit
 list_overrides = refl
 
 -- struct{int a[4];int b;}s={1,2,3,4,5,.a[0]=9};int main(void){return 0;}
@@ -201,11 +193,9 @@ first_overrides :
       (at 1),
       (t.braced (at 1) (t.item None (t.value (t.integer (spelled (codes "1")
           1)))) (t.more_items (at 1) (t.item None (t.value (t.integer (spelled (codes "2") 1)))) (t.more_items (at 1)
-          (t.item None (t.value (t.integer (spelled (codes "3") 1))))
-          (t.more_items (at 1) (t.item None (t.value (t.integer
+          (t.item None (t.value (t.integer (spelled (codes "3") 1)))) (t.more_items (at 1) (t.item None (t.value (t.integer
           (spelled (codes "4") 1)))) (t.more_items (at 1) (t.item None (t.value (t.integer (spelled (codes "5") 1))))
-          (t.more_items (at 1) (t.item (Some (designation ((t.member_named (at 1) (spelled (codes "a") 1))
-          ∷ (t.element (at
+          (t.more_items (at 1) (t.item (Some (designation ((t.member_named (at 1) (spelled (codes "a") 1)) ∷ (t.element (at
           1) (t.integer (spelled (codes "0") 1)) (at 1)) ∷ []) (at 1))) (t.value (t.integer (spelled (codes "9") 1))))
           t.end_of_items))))) None (at 1)),
     ))) [])) (at 1))) ∷ (s.definition (t.specifiers (word keyword.Int 1)
@@ -221,12 +211,12 @@ first_overrides :
       ),
     ) ∷ []) (function 1 0 [] [] (number 0 ∷ []) ∷ [])
 unfolding balanced_type common_type fit is_signed mixed_type promoted rank size_of unsigned_of binary_value
-    shift_amount unary_value constant_in constant_of greatest_of suffix_of typed types_of bytes_of_literal
-    character_value characters_of escaped literal_step next_character extent_of array_size member_offsets structure_of
-    union_of room is_valid_program constant_word binary assigned cast row_of comma combined unary dereferenced indexed
-    size_of_words assignment compound stepped condition conditional switch_value called called_through routine_words
-    composite judged start reached reached_by reached_in element_number member_number number_behind part closed opened
-    with_literal with_value without first_not_constant typed_unit
+    shift_amount unary_value constant_in constant_of greatest_of suffix_of typed types_of bytes_of_literal character_value
+    characters_of escaped literal_step next_character extent_of array_size member_offsets structure_of union_of room
+    is_valid_program constant_word binary assigned cast row_of comma combined unary dereferenced indexed size_of_words
+    assignment compound stepped condition conditional switch_value called called_through routine_words composite judged
+    start reached reached_by reached_in element_number member_number number_behind part closed opened with_literal
+    with_value without first_not_constant typed_unit
 first_overrides = refl
 
 -- struct{char c;struct{short h;int i;}n;int k;}s={.n.i=2,3};int main(void){return 0;}
@@ -253,12 +243,12 @@ member_behind :
     ≡ accepted true ((16, (None, ((8, number 2) ∷ (12, number 3) ∷ []))) ∷ []) (function 1 0 [] [] (number 0 ∷ []) ∷
     [])
 unfolding balanced_type common_type fit is_signed mixed_type promoted rank size_of unsigned_of binary_value
-    shift_amount unary_value constant_in constant_of greatest_of suffix_of typed types_of bytes_of_literal
-    character_value characters_of escaped literal_step next_character extent_of array_size member_offsets structure_of
-    union_of room is_valid_program constant_word binary assigned cast row_of comma combined unary dereferenced indexed
-    size_of_words assignment compound stepped condition conditional switch_value called called_through routine_words
-    composite judged start reached reached_by reached_in element_number member_number number_behind part closed opened
-    with_literal with_value without first_not_constant typed_unit
+    shift_amount unary_value constant_in constant_of greatest_of suffix_of typed types_of bytes_of_literal character_value
+    characters_of escaped literal_step next_character extent_of array_size member_offsets structure_of union_of room
+    is_valid_program constant_word binary assigned cast row_of comma combined unary dereferenced indexed size_of_words
+    assignment compound stepped condition conditional switch_value called called_through routine_words composite judged
+    start reached reached_by reached_in element_number member_number number_behind part closed opened with_literal
+    with_value without first_not_constant typed_unit
 member_behind = refl
 
 -- char s[]="abc";char t[3]="abc";char u[2]={"a"};char*p="x";int main(void){return 0;}
@@ -307,12 +297,12 @@ literals :
       ),
     ) ∷ []) (function 1 0 [] [] (number 0 ∷ []) ∷ [])
 unfolding balanced_type common_type fit is_signed mixed_type promoted rank size_of unsigned_of binary_value
-    shift_amount unary_value constant_in constant_of greatest_of suffix_of typed types_of bytes_of_literal
-    character_value characters_of escaped literal_step next_character extent_of array_size member_offsets structure_of
-    union_of room is_valid_program constant_word binary assigned cast row_of comma combined unary dereferenced indexed
-    size_of_words assignment compound stepped condition conditional switch_value called called_through routine_words
-    composite judged start reached reached_by reached_in element_number member_number number_behind part closed opened
-    with_literal with_value without first_not_constant typed_unit
+    shift_amount unary_value constant_in constant_of greatest_of suffix_of typed types_of bytes_of_literal character_value
+    characters_of escaped literal_step next_character extent_of array_size member_offsets structure_of union_of room
+    is_valid_program constant_word binary assigned cast row_of comma combined unary dereferenced indexed size_of_words
+    assignment compound stepped condition conditional switch_value called called_through routine_words composite judged
+    start reached reached_by reached_in element_number member_number number_behind part closed opened with_literal
+    with_value without first_not_constant typed_unit
 literals = refl
 
 -- int a[]={[3]=1,2};int main(void){return 0;}
@@ -321,10 +311,8 @@ counted :
     (init_declarator (t.open_array (t.named (spelled (codes "a") 1)) (at 1) (at 1)) (Some (
       (at 1),
       (t.braced (at 1)
-          (t.item (Some (designation ((t.element (at 1) (t.integer (spelled (codes "3") 1)) (at 1)) ∷ []) (at 1)))
-          (t.value
-          (t.integer (spelled (codes "1") 1)))) (t.more_items (at 1)
-          (t.item None (t.value (t.integer (spelled (codes "2")
+          (t.item (Some (designation ((t.element (at 1) (t.integer (spelled (codes "3") 1)) (at 1)) ∷ []) (at 1))) (t.value
+          (t.integer (spelled (codes "1") 1)))) (t.more_items (at 1) (t.item None (t.value (t.integer (spelled (codes "2")
           1)))) t.end_of_items) None (at 1)),
     ))) [])) (at 1))) ∷ (s.definition (t.specifiers (word keyword.Int 1)
     t.no_specifiers) (t.function (t.named (spelled (codes "main") 1)) (at 1) (t.void_parameters (at 1)) (at 1))
@@ -333,12 +321,12 @@ counted :
     ≡ accepted true ((20, (None, ((12, number 1) ∷ (16, number 2) ∷ []))) ∷ []) (function 1 0 [] [] (number 0 ∷ []) ∷
     [])
 unfolding balanced_type common_type fit is_signed mixed_type promoted rank size_of unsigned_of binary_value
-    shift_amount unary_value constant_in constant_of greatest_of suffix_of typed types_of bytes_of_literal
-    character_value characters_of escaped literal_step next_character extent_of array_size member_offsets structure_of
-    union_of room is_valid_program constant_word binary assigned cast row_of comma combined unary dereferenced indexed
-    size_of_words assignment compound stepped condition conditional switch_value called called_through routine_words
-    composite judged start reached reached_by reached_in element_number member_number number_behind part closed opened
-    with_literal with_value without first_not_constant typed_unit
+    shift_amount unary_value constant_in constant_of greatest_of suffix_of typed types_of bytes_of_literal character_value
+    characters_of escaped literal_step next_character extent_of array_size member_offsets structure_of union_of room
+    is_valid_program constant_word binary assigned cast row_of comma combined unary dereferenced indexed size_of_words
+    assignment compound stepped condition conditional switch_value called called_through routine_words composite judged
+    start reached reached_by reached_in element_number member_number number_behind part closed opened with_literal
+    with_value without first_not_constant typed_unit
 counted = refl
 
 -- unsigned char c=257;long l=-1;int main(void){return 0;}
@@ -360,12 +348,12 @@ converted :
     ≡ accepted true ((1, (None, ((0, number 1) ∷ []))) ∷ (8, (None, ((0, number 18446744073709551615) ∷ []))) ∷ [])
     (function 1 0 [] [] (number 0 ∷ []) ∷ [])
 unfolding balanced_type common_type fit is_signed mixed_type promoted rank size_of unsigned_of binary_value
-    shift_amount unary_value constant_in constant_of greatest_of suffix_of typed types_of bytes_of_literal
-    character_value characters_of escaped literal_step next_character extent_of array_size member_offsets structure_of
-    union_of room is_valid_program constant_word binary assigned cast row_of comma combined unary dereferenced indexed
-    size_of_words assignment compound stepped condition conditional switch_value called called_through routine_words
-    composite judged start reached reached_by reached_in element_number member_number number_behind part closed opened
-    with_literal with_value without first_not_constant typed_unit
+    shift_amount unary_value constant_in constant_of greatest_of suffix_of typed types_of bytes_of_literal character_value
+    characters_of escaped literal_step next_character extent_of array_size member_offsets structure_of union_of room
+    is_valid_program constant_word binary assigned cast row_of comma combined unary dereferenced indexed size_of_words
+    assignment compound stepped condition conditional switch_value called called_through routine_words composite judged
+    start reached reached_by reached_in element_number member_number number_behind part closed opened with_literal
+    with_value without first_not_constant typed_unit
 converted = refl
 
 -- int x={{1}};int main(void){return 0;}
@@ -374,20 +362,19 @@ braces_of_a_scalar :
     (init_declarator (t.named (spelled (codes "x") 1)) (Some (
       (at 1),
       (t.braced (at 1) (t.item None (t.braced (at 1)
-          (t.item None (t.value (t.integer (spelled (codes "1") 1)))) t.end_of_items None (at 1))) t.end_of_items
-          None (at
+          (t.item None (t.value (t.integer (spelled (codes "1") 1)))) t.end_of_items None (at 1))) t.end_of_items None (at
           1)),
     ))) [])) (at 1))) ∷ (s.definition (t.specifiers (word keyword.Int 1) t.no_specifiers) (t.function (t.named
     (spelled (codes "main") 1)) (at 1) (t.void_parameters (at 1)) (at 1)) (s.block (at 1) (s.items (s.inner (s.return
     (at 1) (Some (t.integer (spelled (codes "0") 1))) (at 1))) s.no_items) (at 1))) ∷ []) 1)
     ≡ accepted true ((4, (None, ((0, number 1) ∷ []))) ∷ []) (function 1 0 [] [] (number 0 ∷ []) ∷ [])
 unfolding balanced_type common_type fit is_signed mixed_type promoted rank size_of unsigned_of binary_value
-    shift_amount unary_value constant_in constant_of greatest_of suffix_of typed types_of bytes_of_literal
-    character_value characters_of escaped literal_step next_character extent_of array_size member_offsets structure_of
-    union_of room is_valid_program constant_word binary assigned cast row_of comma combined unary dereferenced indexed
-    size_of_words assignment compound stepped condition conditional switch_value called called_through routine_words
-    composite judged start reached reached_by reached_in element_number member_number number_behind part closed opened
-    with_literal with_value without first_not_constant typed_unit
+    shift_amount unary_value constant_in constant_of greatest_of suffix_of typed types_of bytes_of_literal character_value
+    characters_of escaped literal_step next_character extent_of array_size member_offsets structure_of union_of room
+    is_valid_program constant_word binary assigned cast row_of comma combined unary dereferenced indexed size_of_words
+    assignment compound stepped condition conditional switch_value called called_through routine_words composite judged
+    start reached reached_by reached_in element_number member_number number_behind part closed opened with_literal
+    with_value without first_not_constant typed_unit
 braces_of_a_scalar = refl
 
 -- int main(void){int x={3};int a[]={1,2};int y=x;return a[0]+y;}
@@ -412,12 +399,12 @@ automatic :
     ≡ accepted true [] (function 1 0 [] ((4, false) ∷ (8, true) ∷ (4, false) ∷ []) (number 3 ∷ number 1 ∷ number 2 ∷
     other ∷ other ∷ []) ∷ [])
 unfolding balanced_type common_type fit is_signed mixed_type promoted rank size_of unsigned_of binary_value
-    shift_amount unary_value constant_in constant_of greatest_of suffix_of typed types_of bytes_of_literal
-    character_value characters_of escaped literal_step next_character extent_of array_size member_offsets structure_of
-    union_of room is_valid_program constant_word binary assigned cast row_of comma combined unary dereferenced indexed
-    size_of_words assignment compound stepped condition conditional switch_value called called_through routine_words
-    composite judged start reached reached_by reached_in element_number member_number number_behind part closed opened
-    with_literal with_value without first_not_constant typed_unit
+    shift_amount unary_value constant_in constant_of greatest_of suffix_of typed types_of bytes_of_literal character_value
+    characters_of escaped literal_step next_character extent_of array_size member_offsets structure_of union_of room
+    is_valid_program constant_word binary assigned cast row_of comma combined unary dereferenced indexed size_of_words
+    assignment compound stepped condition conditional switch_value called called_through routine_words composite judged
+    start reached reached_by reached_in element_number member_number number_behind part closed opened with_literal
+    with_value without first_not_constant typed_unit
 automatic = refl
 
 -- struct P{int a,b;};struct Q{struct P p;int c;};int main(void){struct P p={1,2};struct Q q={p,3};return q.c;}
@@ -443,18 +430,17 @@ whole_structure :
     (t.named (spelled (codes "q") 1)) (Some (
       (at 1),
       (t.braced (at 1) (t.item None (t.value (t.identifier (spelled
-          (codes "p") 1)))) (t.more_items (at 1) (t.item None (t.value (t.integer (spelled (codes "3") 1))))
-          t.end_of_items)
+          (codes "p") 1)))) (t.more_items (at 1) (t.item None (t.value (t.integer (spelled (codes "3") 1)))) t.end_of_items)
           None (at 1)),
     ))) [])) (at 1))) (s.items (s.inner (s.return (at 1) (Some (t.member (t.identifier (spelled (codes
     "q") 1)) sign.Dot (at 1) (spelled (codes "c") 1))) (at 1))) s.no_items))) (at 1))) ∷ []) 1)
     ≡ accepted true [] (function 1 0 [] ((8, true) ∷ (12, true) ∷ []) (number 1 ∷ number 2 ∷ other ∷ number 3 ∷ other
     ∷ []) ∷ [])
 unfolding balanced_type common_type fit is_signed mixed_type promoted rank size_of unsigned_of binary_value
-    shift_amount unary_value constant_in constant_of greatest_of suffix_of typed types_of bytes_of_literal
-    character_value characters_of escaped literal_step next_character extent_of array_size member_offsets structure_of
-    union_of room is_valid_program constant_word binary assigned cast row_of comma combined unary dereferenced indexed
-    size_of_words assignment compound stepped condition conditional switch_value called called_through routine_words
-    composite judged start reached reached_by reached_in element_number member_number number_behind part closed opened
-    with_literal with_value without first_not_constant typed_unit
+    shift_amount unary_value constant_in constant_of greatest_of suffix_of typed types_of bytes_of_literal character_value
+    characters_of escaped literal_step next_character extent_of array_size member_offsets structure_of union_of room
+    is_valid_program constant_word binary assigned cast row_of comma combined unary dereferenced indexed size_of_words
+    assignment compound stepped condition conditional switch_value called called_through routine_words composite judged
+    start reached reached_by reached_in element_number member_number number_behind part closed opened with_literal
+    with_value without first_not_constant typed_unit
 whole_structure = refl

@@ -12,8 +12,7 @@ use Rattle.obj_memory.specs.Integers.{balanced_type, common_type, fit, is_signed
 use Rattle.obj_memory.specs.Integers.{unsigned_of}
 use Rattle.obj_memory.specs.Operators.{binary_value, shift_amount, unary_value}
 use Rattle.c_lexer.specs.Constants.{constant_in, constant_of, greatest_of, suffix_of, typed, types_of}
-use Rattle.c_lexer.specs.Literals.{bytes_of_literal, character_value, characters_of, escaped, literal_step}
-use Rattle.c_lexer.specs.Literals.{next_character}
+use Rattle.c_lexer.specs.Literals.{bytes_of_literal, character_value, characters_of, escaped, literal_step, next_character}
 use Rattle.c_tree.specs.Extents.{extent_of}
 use Rattle.c_tree.specs.Layout.{array_size, member_offsets, structure_of, union_of}
 use Rattle.c_tree.specs.Room.{room}
@@ -37,8 +36,8 @@ use Rattle.c_current_object.specs.Subobjects.{element_number, member_number, num
 use Rattle.c_initializer_rules.specs.Initializing.{closed, opened, with_literal, with_value}
 use Rattle.c_initializer_rules.specs.Placed.{without}
 use Rattle.c_unit_typing.specs.Typed.{typed_unit}
-use Rattle.unit_rows.proofs.Sources.{at, declaration, declarators, init_declarator}
-use Rattle.unit_rows.proofs.Sources.{refused, source, spelled, word}
+use Rattle.typing_rows.proofs.Units.Sources.{at, declaration, declarators, function, init_declarator}
+use Rattle.typing_rows.proofs.Units.Sources.{refused, source, spelled, word}
 
 -- static int a[];int main(void){return 0;}
 static_of_unknown_size :
@@ -49,12 +48,12 @@ static_of_unknown_size :
     (at 1) (Some (t.integer (spelled (codes "0") 1))) (at 1))) s.no_items) (at 1))) ∷ []) 1)
     ≡ refused rule.Incomplete 1
 unfolding balanced_type common_type fit is_signed mixed_type promoted rank size_of unsigned_of binary_value
-    shift_amount unary_value constant_in constant_of greatest_of suffix_of typed types_of bytes_of_literal
-    character_value characters_of escaped literal_step next_character extent_of array_size member_offsets structure_of
-    union_of room is_valid_program constant_word binary assigned cast row_of comma combined unary dereferenced indexed
-    size_of_words assignment compound stepped condition conditional switch_value called called_through routine_words
-    composite judged start reached reached_by reached_in element_number member_number number_behind part closed opened
-    with_literal with_value without first_not_constant typed_unit
+    shift_amount unary_value constant_in constant_of greatest_of suffix_of typed types_of bytes_of_literal character_value
+    characters_of escaped literal_step next_character extent_of array_size member_offsets structure_of union_of room
+    is_valid_program constant_word binary assigned cast row_of comma combined unary dereferenced indexed size_of_words
+    assignment compound stepped condition conditional switch_value called called_through routine_words composite judged
+    start reached reached_by reached_in element_number member_number number_behind part closed opened with_literal
+    with_value without first_not_constant typed_unit
 static_of_unknown_size = refl
 
 -- struct S s;int n=
@@ -76,12 +75,12 @@ not_yet_complete :
     (at 2))) ∷ []) 2)
     ≡ refused rule.Incomplete 2
 unfolding balanced_type common_type fit is_signed mixed_type promoted rank size_of unsigned_of binary_value
-    shift_amount unary_value constant_in constant_of greatest_of suffix_of typed types_of bytes_of_literal
-    character_value characters_of escaped literal_step next_character extent_of array_size member_offsets structure_of
-    union_of room is_valid_program constant_word binary assigned cast row_of comma combined unary dereferenced indexed
-    size_of_words assignment compound stepped condition conditional switch_value called called_through routine_words
-    composite judged start reached reached_by reached_in element_number member_number number_behind part closed opened
-    with_literal with_value without first_not_constant typed_unit
+    shift_amount unary_value constant_in constant_of greatest_of suffix_of typed types_of bytes_of_literal character_value
+    characters_of escaped literal_step next_character extent_of array_size member_offsets structure_of union_of room
+    is_valid_program constant_word binary assigned cast row_of comma combined unary dereferenced indexed size_of_words
+    assignment compound stepped condition conditional switch_value called called_through routine_words composite judged
+    start reached reached_by reached_in element_number member_number number_behind part closed opened with_literal
+    with_value without first_not_constant typed_unit
 not_yet_complete = refl
 
 -- struct S s;int main(void){return 0;}
@@ -93,12 +92,12 @@ never_complete :
     (spelled (codes "0") 1))) (at 1))) s.no_items) (at 1))) ∷ []) 1)
     ≡ refused rule.Incomplete 1
 unfolding balanced_type common_type fit is_signed mixed_type promoted rank size_of unsigned_of binary_value
-    shift_amount unary_value constant_in constant_of greatest_of suffix_of typed types_of bytes_of_literal
-    character_value characters_of escaped literal_step next_character extent_of array_size member_offsets structure_of
-    union_of room is_valid_program constant_word binary assigned cast row_of comma combined unary dereferenced indexed
-    size_of_words assignment compound stepped condition conditional switch_value called called_through routine_words
-    composite judged start reached reached_by reached_in element_number member_number number_behind part closed opened
-    with_literal with_value without first_not_constant typed_unit
+    shift_amount unary_value constant_in constant_of greatest_of suffix_of typed types_of bytes_of_literal character_value
+    characters_of escaped literal_step next_character extent_of array_size member_offsets structure_of union_of room
+    is_valid_program constant_word binary assigned cast row_of comma combined unary dereferenced indexed size_of_words
+    assignment compound stepped condition conditional switch_value called called_through routine_words composite judged
+    start reached reached_by reached_in element_number member_number number_behind part closed opened with_literal
+    with_value without first_not_constant typed_unit
 never_complete = refl
 
 -- struct S s;int f(void){
@@ -117,8 +116,7 @@ read_before_its_members :
     (s.return (at 2) (Some (t.integer (spelled (codes "0") 2))) (at 2))) s.no_items) (at 2))) ∷ []) 2)
     ≡ refused rule.Incomplete 2
 unfolding balanced_type common_type fit is_signed mixed_type promoted rank size_of unsigned_of binary_value
-    shift_amount unary_value constant_in constant_of greatest_of suffix_of typed types_of bytes_of_literal
-    character_value
+    shift_amount unary_value constant_in constant_of greatest_of suffix_of typed types_of bytes_of_literal character_value
     characters_of escaped literal_step next_character extent_of array_size member_offsets structure_of union_of room
     is_valid_program constant_word binary assigned cast row_of comma combined unary dereferenced indexed size_of_words
     assignment compound stepped condition conditional switch_value called called_through routine_words composite judged
@@ -135,14 +133,11 @@ written_before_its_members :
     t.no_specifiers) (Some (declarators (init_declarator (t.named (spelled (codes "n") 1)) (Some (
       (at 1),
       (t.value
-          (t.parenthesized (at 1) (t.binary (t.assignment (t.identifier (spelled (codes "s") 1)) sign.Assign (at 2)
-          (t.unary
+          (t.parenthesized (at 1) (t.binary (t.assignment (t.identifier (spelled (codes "s") 1)) sign.Assign (at 2) (t.unary
           sign.Star (at 2) (t.cast (at 2) (t.typed (t.specifiers (t.structure_body keyword.Struct (at 2) (Some (spelled
           (codes "S") 2)) (at 2) (t.members (t.member_declaration (t.specifiers (word keyword.Int 2) t.no_specifiers)
-          (t.named (spelled (codes "a") 2)) t.end_of_declarators (at 2)) t.no_members) (at 2)) t.no_specifiers)
-          (t.pointer
-          (at 2) [] t.unnamed)) (at 2) (t.integer (spelled (codes "0") 2))))) sign.Comma (at 2) (t.integer (spelled
-          (codes
+          (t.named (spelled (codes "a") 2)) t.end_of_declarators (at 2)) t.no_members) (at 2)) t.no_specifiers) (t.pointer
+          (at 2) [] t.unnamed)) (at 2) (t.integer (spelled (codes "0") 2))))) sign.Comma (at 2) (t.integer (spelled (codes
           "1") 2))) (at 2))),
     ))) [])) (at 2))) ∷ (s.declaration (declaration (t.specifiers (t.structure keyword.Struct (at 2)
     (spelled (codes "S") 2)) t.no_specifiers) (Some (declarators (init_declarator (t.named (spelled (codes "s") 2))
@@ -151,8 +146,7 @@ written_before_its_members :
     (at 2) (Some (t.integer (spelled (codes "0") 2))) (at 2))) s.no_items) (at 2))) ∷ []) 2)
     ≡ refused rule.Incomplete 2
 unfolding balanced_type common_type fit is_signed mixed_type promoted rank size_of unsigned_of binary_value
-    shift_amount unary_value constant_in constant_of greatest_of suffix_of typed types_of bytes_of_literal
-    character_value
+    shift_amount unary_value constant_in constant_of greatest_of suffix_of typed types_of bytes_of_literal character_value
     characters_of escaped literal_step next_character extent_of array_size member_offsets structure_of union_of room
     is_valid_program constant_word binary assigned cast row_of comma combined unary dereferenced indexed size_of_words
     assignment compound stepped condition conditional switch_value called called_through routine_words composite judged
@@ -170,12 +164,12 @@ of_void :
     (at 2))) ∷ []) 2)
     ≡ refused rule.Incomplete 2
 unfolding balanced_type common_type fit is_signed mixed_type promoted rank size_of unsigned_of binary_value
-    shift_amount unary_value constant_in constant_of greatest_of suffix_of typed types_of bytes_of_literal
-    character_value characters_of escaped literal_step next_character extent_of array_size member_offsets structure_of
-    union_of room is_valid_program constant_word binary assigned cast row_of comma combined unary dereferenced indexed
-    size_of_words assignment compound stepped condition conditional switch_value called called_through routine_words
-    composite judged start reached reached_by reached_in element_number member_number number_behind part closed opened
-    with_literal with_value without first_not_constant typed_unit
+    shift_amount unary_value constant_in constant_of greatest_of suffix_of typed types_of bytes_of_literal character_value
+    characters_of escaped literal_step next_character extent_of array_size member_offsets structure_of union_of room
+    is_valid_program constant_word binary assigned cast row_of comma combined unary dereferenced indexed size_of_words
+    assignment compound stepped condition conditional switch_value called called_through routine_words composite judged
+    start reached reached_by reached_in element_number member_number number_behind part closed opened with_literal
+    with_value without first_not_constant typed_unit
 of_void = refl
 
 -- int x;
@@ -189,12 +183,12 @@ other_type :
     (Some (t.integer (spelled (codes "0") 2))) (at 2))) s.no_items) (at 2))) ∷ []) 2)
     ≡ refused rule.Redeclared 2
 unfolding balanced_type common_type fit is_signed mixed_type promoted rank size_of unsigned_of binary_value
-    shift_amount unary_value constant_in constant_of greatest_of suffix_of typed types_of bytes_of_literal
-    character_value characters_of escaped literal_step next_character extent_of array_size member_offsets structure_of
-    union_of room is_valid_program constant_word binary assigned cast row_of comma combined unary dereferenced indexed
-    size_of_words assignment compound stepped condition conditional switch_value called called_through routine_words
-    composite judged start reached reached_by reached_in element_number member_number number_behind part closed opened
-    with_literal with_value without first_not_constant typed_unit
+    shift_amount unary_value constant_in constant_of greatest_of suffix_of typed types_of bytes_of_literal character_value
+    characters_of escaped literal_step next_character extent_of array_size member_offsets structure_of union_of room
+    is_valid_program constant_word binary assigned cast row_of comma combined unary dereferenced indexed size_of_words
+    assignment compound stepped condition conditional switch_value called called_through routine_words composite judged
+    start reached reached_by reached_in element_number member_number number_behind part closed opened with_literal
+    with_value without first_not_constant typed_unit
 other_type = refl
 
 -- const int x;
@@ -209,12 +203,12 @@ other_qualifier :
     s.no_items) (at 2))) ∷ []) 2)
     ≡ refused rule.Redeclared 2
 unfolding balanced_type common_type fit is_signed mixed_type promoted rank size_of unsigned_of binary_value
-    shift_amount unary_value constant_in constant_of greatest_of suffix_of typed types_of bytes_of_literal
-    character_value characters_of escaped literal_step next_character extent_of array_size member_offsets structure_of
-    union_of room is_valid_program constant_word binary assigned cast row_of comma combined unary dereferenced indexed
-    size_of_words assignment compound stepped condition conditional switch_value called called_through routine_words
-    composite judged start reached reached_by reached_in element_number member_number number_behind part closed opened
-    with_literal with_value without first_not_constant typed_unit
+    shift_amount unary_value constant_in constant_of greatest_of suffix_of typed types_of bytes_of_literal character_value
+    characters_of escaped literal_step next_character extent_of array_size member_offsets structure_of union_of room
+    is_valid_program constant_word binary assigned cast row_of comma combined unary dereferenced indexed size_of_words
+    assignment compound stepped condition conditional switch_value called called_through routine_words composite judged
+    start reached reached_by reached_in element_number member_number number_behind part closed opened with_literal
+    with_value without first_not_constant typed_unit
 other_qualifier = refl
 
 -- int f(void){return 0;}
@@ -230,12 +224,12 @@ defined_twice :
     (t.integer (spelled (codes "0") 2))) (at 2))) s.no_items) (at 2))) ∷ []) 2)
     ≡ refused rule.Redeclared 2
 unfolding balanced_type common_type fit is_signed mixed_type promoted rank size_of unsigned_of binary_value
-    shift_amount unary_value constant_in constant_of greatest_of suffix_of typed types_of bytes_of_literal
-    character_value characters_of escaped literal_step next_character extent_of array_size member_offsets structure_of
-    union_of room is_valid_program constant_word binary assigned cast row_of comma combined unary dereferenced indexed
-    size_of_words assignment compound stepped condition conditional switch_value called called_through routine_words
-    composite judged start reached reached_by reached_in element_number member_number number_behind part closed opened
-    with_literal with_value without first_not_constant typed_unit
+    shift_amount unary_value constant_in constant_of greatest_of suffix_of typed types_of bytes_of_literal character_value
+    characters_of escaped literal_step next_character extent_of array_size member_offsets structure_of union_of room
+    is_valid_program constant_word binary assigned cast row_of comma combined unary dereferenced indexed size_of_words
+    assignment compound stepped condition conditional switch_value called called_through routine_words composite judged
+    start reached reached_by reached_in element_number member_number number_behind part closed opened with_literal
+    with_value without first_not_constant typed_unit
 defined_twice = refl
 
 -- int
@@ -250,12 +244,12 @@ library_defined :
     s.no_items) (at 2))) ∷ []) 2)
     ≡ refused rule.Redeclared 2
 unfolding balanced_type common_type fit is_signed mixed_type promoted rank size_of unsigned_of binary_value
-    shift_amount unary_value constant_in constant_of greatest_of suffix_of typed types_of bytes_of_literal
-    character_value characters_of escaped literal_step next_character extent_of array_size member_offsets structure_of
-    union_of room is_valid_program constant_word binary assigned cast row_of comma combined unary dereferenced indexed
-    size_of_words assignment compound stepped condition conditional switch_value called called_through routine_words
-    composite judged start reached reached_by reached_in element_number member_number number_behind part closed opened
-    with_literal with_value without first_not_constant typed_unit
+    shift_amount unary_value constant_in constant_of greatest_of suffix_of typed types_of bytes_of_literal character_value
+    characters_of escaped literal_step next_character extent_of array_size member_offsets structure_of union_of room
+    is_valid_program constant_word binary assigned cast row_of comma combined unary dereferenced indexed size_of_words
+    assignment compound stepped condition conditional switch_value called called_through routine_words composite judged
+    start reached reached_by reached_in element_number member_number number_behind part closed opened with_literal
+    with_value without first_not_constant typed_unit
 library_defined = refl
 
 -- int f(int x,
@@ -271,12 +265,12 @@ parameters_of_one_name :
     s.no_items) (at 2))) ∷ []) 2)
     ≡ refused rule.Redeclared 2
 unfolding balanced_type common_type fit is_signed mixed_type promoted rank size_of unsigned_of binary_value
-    shift_amount unary_value constant_in constant_of greatest_of suffix_of typed types_of bytes_of_literal
-    character_value characters_of escaped literal_step next_character extent_of array_size member_offsets structure_of
-    union_of room is_valid_program constant_word binary assigned cast row_of comma combined unary dereferenced indexed
-    size_of_words assignment compound stepped condition conditional switch_value called called_through routine_words
-    composite judged start reached reached_by reached_in element_number member_number number_behind part closed opened
-    with_literal with_value without first_not_constant typed_unit
+    shift_amount unary_value constant_in constant_of greatest_of suffix_of typed types_of bytes_of_literal character_value
+    characters_of escaped literal_step next_character extent_of array_size member_offsets structure_of union_of room
+    is_valid_program constant_word binary assigned cast row_of comma combined unary dereferenced indexed size_of_words
+    assignment compound stepped condition conditional switch_value called called_through routine_words composite judged
+    start reached reached_by reached_in element_number member_number number_behind part closed opened with_literal
+    with_value without first_not_constant typed_unit
 parameters_of_one_name = refl
 
 -- int x;int main(void){int x;
@@ -292,12 +286,12 @@ local_and_extern :
     (t.integer (spelled (codes "0") 2))) (at 2))) s.no_items))) (at 2))) ∷ []) 2)
     ≡ refused rule.Redeclared 2
 unfolding balanced_type common_type fit is_signed mixed_type promoted rank size_of unsigned_of binary_value
-    shift_amount unary_value constant_in constant_of greatest_of suffix_of typed types_of bytes_of_literal
-    character_value characters_of escaped literal_step next_character extent_of array_size member_offsets structure_of
-    union_of room is_valid_program constant_word binary assigned cast row_of comma combined unary dereferenced indexed
-    size_of_words assignment compound stepped condition conditional switch_value called called_through routine_words
-    composite judged start reached reached_by reached_in element_number member_number number_behind part closed opened
-    with_literal with_value without first_not_constant typed_unit
+    shift_amount unary_value constant_in constant_of greatest_of suffix_of typed types_of bytes_of_literal character_value
+    characters_of escaped literal_step next_character extent_of array_size member_offsets structure_of union_of room
+    is_valid_program constant_word binary assigned cast row_of comma combined unary dereferenced indexed size_of_words
+    assignment compound stepped condition conditional switch_value called called_through routine_words composite judged
+    start reached reached_by reached_in element_number member_number number_behind part closed opened with_literal
+    with_value without first_not_constant typed_unit
 local_and_extern = refl
 
 -- int f(int x){
@@ -313,12 +307,12 @@ parameter_and_local :
     (t.integer (spelled (codes "0") 2))) (at 2))) s.no_items) (at 2))) ∷ []) 2)
     ≡ refused rule.Redeclared 2
 unfolding balanced_type common_type fit is_signed mixed_type promoted rank size_of unsigned_of binary_value
-    shift_amount unary_value constant_in constant_of greatest_of suffix_of typed types_of bytes_of_literal
-    character_value characters_of escaped literal_step next_character extent_of array_size member_offsets structure_of
-    union_of room is_valid_program constant_word binary assigned cast row_of comma combined unary dereferenced indexed
-    size_of_words assignment compound stepped condition conditional switch_value called called_through routine_words
-    composite judged start reached reached_by reached_in element_number member_number number_behind part closed opened
-    with_literal with_value without first_not_constant typed_unit
+    shift_amount unary_value constant_in constant_of greatest_of suffix_of typed types_of bytes_of_literal character_value
+    characters_of escaped literal_step next_character extent_of array_size member_offsets structure_of union_of room
+    is_valid_program constant_word binary assigned cast row_of comma combined unary dereferenced indexed size_of_words
+    assignment compound stepped condition conditional switch_value called called_through routine_words composite judged
+    start reached reached_by reached_in element_number member_number number_behind part closed opened with_literal
+    with_value without first_not_constant typed_unit
 parameter_and_local = refl
 
 -- void f(void){extern char x;}
@@ -334,12 +328,12 @@ types_of_an_entity :
     (s.return (at 2) (Some (t.integer (spelled (codes "0") 2))) (at 2))) s.no_items) (at 2))) ∷ []) 2)
     ≡ refused rule.Redeclared 2
 unfolding balanced_type common_type fit is_signed mixed_type promoted rank size_of unsigned_of binary_value
-    shift_amount unary_value constant_in constant_of greatest_of suffix_of typed types_of bytes_of_literal
-    character_value characters_of escaped literal_step next_character extent_of array_size member_offsets structure_of
-    union_of room is_valid_program constant_word binary assigned cast row_of comma combined unary dereferenced indexed
-    size_of_words assignment compound stepped condition conditional switch_value called called_through routine_words
-    composite judged start reached reached_by reached_in element_number member_number number_behind part closed opened
-    with_literal with_value without first_not_constant typed_unit
+    shift_amount unary_value constant_in constant_of greatest_of suffix_of typed types_of bytes_of_literal character_value
+    characters_of escaped literal_step next_character extent_of array_size member_offsets structure_of union_of room
+    is_valid_program constant_word binary assigned cast row_of comma combined unary dereferenced indexed size_of_words
+    assignment compound stepped condition conditional switch_value called called_through routine_words composite judged
+    start reached reached_by reached_in element_number member_number number_behind part closed opened with_literal
+    with_value without first_not_constant typed_unit
 types_of_an_entity = refl
 
 -- struct S{int a;};
@@ -355,12 +349,12 @@ tag_of_another_kind :
     (Some (t.integer (spelled (codes "0") 2))) (at 2))) s.no_items) (at 2))) ∷ []) 2)
     ≡ refused rule.MistakenTag 2
 unfolding balanced_type common_type fit is_signed mixed_type promoted rank size_of unsigned_of binary_value
-    shift_amount unary_value constant_in constant_of greatest_of suffix_of typed types_of bytes_of_literal
-    character_value characters_of escaped literal_step next_character extent_of array_size member_offsets structure_of
-    union_of room is_valid_program constant_word binary assigned cast row_of comma combined unary dereferenced indexed
-    size_of_words assignment compound stepped condition conditional switch_value called called_through routine_words
-    composite judged start reached reached_by reached_in element_number member_number number_behind part closed opened
-    with_literal with_value without first_not_constant typed_unit
+    shift_amount unary_value constant_in constant_of greatest_of suffix_of typed types_of bytes_of_literal character_value
+    characters_of escaped literal_step next_character extent_of array_size member_offsets structure_of union_of room
+    is_valid_program constant_word binary assigned cast row_of comma combined unary dereferenced indexed size_of_words
+    assignment compound stepped condition conditional switch_value called called_through routine_words composite judged
+    start reached reached_by reached_in element_number member_number number_behind part closed opened with_literal
+    with_value without first_not_constant typed_unit
 tag_of_another_kind = refl
 
 -- int f(void)[2];int main(void){return 0;}
@@ -373,12 +367,12 @@ result_is_an_array :
     s.no_items) (at 1))) ∷ []) 1)
     ≡ refused rule.MisplacedFunction 1
 unfolding balanced_type common_type fit is_signed mixed_type promoted rank size_of unsigned_of binary_value
-    shift_amount unary_value constant_in constant_of greatest_of suffix_of typed types_of bytes_of_literal
-    character_value characters_of escaped literal_step next_character extent_of array_size member_offsets structure_of
-    union_of room is_valid_program constant_word binary assigned cast row_of comma combined unary dereferenced indexed
-    size_of_words assignment compound stepped condition conditional switch_value called called_through routine_words
-    composite judged start reached reached_by reached_in element_number member_number number_behind part closed opened
-    with_literal with_value without first_not_constant typed_unit
+    shift_amount unary_value constant_in constant_of greatest_of suffix_of typed types_of bytes_of_literal character_value
+    characters_of escaped literal_step next_character extent_of array_size member_offsets structure_of union_of room
+    is_valid_program constant_word binary assigned cast row_of comma combined unary dereferenced indexed size_of_words
+    assignment compound stepped condition conditional switch_value called called_through routine_words composite judged
+    start reached reached_by reached_in element_number member_number number_behind part closed opened with_literal
+    with_value without first_not_constant typed_unit
 result_is_an_array = refl
 
 -- struct S;
@@ -393,12 +387,12 @@ result_is_incomplete :
     2)
     ≡ refused rule.Incomplete 2
 unfolding balanced_type common_type fit is_signed mixed_type promoted rank size_of unsigned_of binary_value
-    shift_amount unary_value constant_in constant_of greatest_of suffix_of typed types_of bytes_of_literal
-    character_value characters_of escaped literal_step next_character extent_of array_size member_offsets structure_of
-    union_of room is_valid_program constant_word binary assigned cast row_of comma combined unary dereferenced indexed
-    size_of_words assignment compound stepped condition conditional switch_value called called_through routine_words
-    composite judged start reached reached_by reached_in element_number member_number number_behind part closed opened
-    with_literal with_value without first_not_constant typed_unit
+    shift_amount unary_value constant_in constant_of greatest_of suffix_of typed types_of bytes_of_literal character_value
+    characters_of escaped literal_step next_character extent_of array_size member_offsets structure_of union_of room
+    is_valid_program constant_word binary assigned cast row_of comma combined unary dereferenced indexed size_of_words
+    assignment compound stepped condition conditional switch_value called called_through routine_words composite judged
+    start reached reached_by reached_in element_number member_number number_behind part closed opened with_literal
+    with_value without first_not_constant typed_unit
 result_is_incomplete = refl
 
 -- struct S;int f(struct S s){return 0;}int main(void){return 0;}
@@ -413,12 +407,12 @@ parameter_is_incomplete :
     (spelled (codes "0") 1))) (at 1))) s.no_items) (at 1))) ∷ []) 1)
     ≡ refused rule.Incomplete 1
 unfolding balanced_type common_type fit is_signed mixed_type promoted rank size_of unsigned_of binary_value
-    shift_amount unary_value constant_in constant_of greatest_of suffix_of typed types_of bytes_of_literal
-    character_value characters_of escaped literal_step next_character extent_of array_size member_offsets structure_of
-    union_of room is_valid_program constant_word binary assigned cast row_of comma combined unary dereferenced indexed
-    size_of_words assignment compound stepped condition conditional switch_value called called_through routine_words
-    composite judged start reached reached_by reached_in element_number member_number number_behind part closed opened
-    with_literal with_value without first_not_constant typed_unit
+    shift_amount unary_value constant_in constant_of greatest_of suffix_of typed types_of bytes_of_literal character_value
+    characters_of escaped literal_step next_character extent_of array_size member_offsets structure_of union_of room
+    is_valid_program constant_word binary assigned cast row_of comma combined unary dereferenced indexed size_of_words
+    assignment compound stepped condition conditional switch_value called called_through routine_words composite judged
+    start reached reached_by reached_in element_number member_number number_behind part closed opened with_literal
+    with_value without first_not_constant typed_unit
 parameter_is_incomplete = refl
 
 -- int n;int a[
@@ -433,12 +427,12 @@ no_size :
     s.no_items) (at 2))) ∷ []) 2)
     ≡ refused rule.NoConstant 1
 unfolding balanced_type common_type fit is_signed mixed_type promoted rank size_of unsigned_of binary_value
-    shift_amount unary_value constant_in constant_of greatest_of suffix_of typed types_of bytes_of_literal
-    character_value characters_of escaped literal_step next_character extent_of array_size member_offsets structure_of
-    union_of room is_valid_program constant_word binary assigned cast row_of comma combined unary dereferenced indexed
-    size_of_words assignment compound stepped condition conditional switch_value called called_through routine_words
-    composite judged start reached reached_by reached_in element_number member_number number_behind part closed opened
-    with_literal with_value without first_not_constant typed_unit
+    shift_amount unary_value constant_in constant_of greatest_of suffix_of typed types_of bytes_of_literal character_value
+    characters_of escaped literal_step next_character extent_of array_size member_offsets structure_of union_of room
+    is_valid_program constant_word binary assigned cast row_of comma combined unary dereferenced indexed size_of_words
+    assignment compound stepped condition conditional switch_value called called_through routine_words composite judged
+    start reached reached_by reached_in element_number member_number number_behind part closed opened with_literal
+    with_value without first_not_constant typed_unit
 no_size = refl
 
 -- char a[4294967297];int main(void){return 0;}
@@ -450,12 +444,12 @@ large_array :
     (s.return (at 1) (Some (t.integer (spelled (codes "0") 1))) (at 1))) s.no_items) (at 1))) ∷ []) 1)
     ≡ refused rule.LargeType 1
 unfolding balanced_type common_type fit is_signed mixed_type promoted rank size_of unsigned_of binary_value
-    shift_amount unary_value constant_in constant_of greatest_of suffix_of typed types_of bytes_of_literal
-    character_value characters_of escaped literal_step next_character extent_of array_size member_offsets structure_of
-    union_of room is_valid_program constant_word binary assigned cast row_of comma combined unary dereferenced indexed
-    size_of_words assignment compound stepped condition conditional switch_value called called_through routine_words
-    composite judged start reached reached_by reached_in element_number member_number number_behind part closed opened
-    with_literal with_value without first_not_constant typed_unit
+    shift_amount unary_value constant_in constant_of greatest_of suffix_of typed types_of bytes_of_literal character_value
+    characters_of escaped literal_step next_character extent_of array_size member_offsets structure_of union_of room
+    is_valid_program constant_word binary assigned cast row_of comma combined unary dereferenced indexed size_of_words
+    assignment compound stepped condition conditional switch_value called called_through routine_words composite judged
+    start reached reached_by reached_in element_number member_number number_behind part closed opened with_literal
+    with_value without first_not_constant typed_unit
 large_array = refl
 
 -- auto
@@ -468,12 +462,12 @@ auto_in_a_file :
     (spelled (codes "0") 2))) (at 2))) s.no_items) (at 2))) ∷ []) 2)
     ≡ refused rule.MisplacedStorage 1
 unfolding balanced_type common_type fit is_signed mixed_type promoted rank size_of unsigned_of binary_value
-    shift_amount unary_value constant_in constant_of greatest_of suffix_of typed types_of bytes_of_literal
-    character_value characters_of escaped literal_step next_character extent_of array_size member_offsets structure_of
-    union_of room is_valid_program constant_word binary assigned cast row_of comma combined unary dereferenced indexed
-    size_of_words assignment compound stepped condition conditional switch_value called called_through routine_words
-    composite judged start reached reached_by reached_in element_number member_number number_behind part closed opened
-    with_literal with_value without first_not_constant typed_unit
+    shift_amount unary_value constant_in constant_of greatest_of suffix_of typed types_of bytes_of_literal character_value
+    characters_of escaped literal_step next_character extent_of array_size member_offsets structure_of union_of room
+    is_valid_program constant_word binary assigned cast row_of comma combined unary dereferenced indexed size_of_words
+    assignment compound stepped condition conditional switch_value called called_through routine_words composite judged
+    start reached reached_by reached_in element_number member_number number_behind part closed opened with_literal
+    with_value without first_not_constant typed_unit
 auto_in_a_file = refl
 
 -- static extern
@@ -486,12 +480,12 @@ two_storages :
     (s.return (at 2) (Some (t.integer (spelled (codes "0") 2))) (at 2))) s.no_items) (at 2))) ∷ []) 2)
     ≡ refused rule.MisplacedStorage 1
 unfolding balanced_type common_type fit is_signed mixed_type promoted rank size_of unsigned_of binary_value
-    shift_amount unary_value constant_in constant_of greatest_of suffix_of typed types_of bytes_of_literal
-    character_value characters_of escaped literal_step next_character extent_of array_size member_offsets structure_of
-    union_of room is_valid_program constant_word binary assigned cast row_of comma combined unary dereferenced indexed
-    size_of_words assignment compound stepped condition conditional switch_value called called_through routine_words
-    composite judged start reached reached_by reached_in element_number member_number number_behind part closed opened
-    with_literal with_value without first_not_constant typed_unit
+    shift_amount unary_value constant_in constant_of greatest_of suffix_of typed types_of bytes_of_literal character_value
+    characters_of escaped literal_step next_character extent_of array_size member_offsets structure_of union_of room
+    is_valid_program constant_word binary assigned cast row_of comma combined unary dereferenced indexed size_of_words
+    assignment compound stepped condition conditional switch_value called called_through routine_words composite judged
+    start reached reached_by reached_in element_number member_number number_behind part closed opened with_literal
+    with_value without first_not_constant typed_unit
 two_storages = refl
 
 -- extern int
@@ -504,12 +498,12 @@ extern_undefined :
     (spelled (codes "0") 2))) (at 2))) s.no_items) (at 2))) ∷ []) 2)
     ≡ refused rule.MisplacedStorage 2
 unfolding balanced_type common_type fit is_signed mixed_type promoted rank size_of unsigned_of binary_value
-    shift_amount unary_value constant_in constant_of greatest_of suffix_of typed types_of bytes_of_literal
-    character_value characters_of escaped literal_step next_character extent_of array_size member_offsets structure_of
-    union_of room is_valid_program constant_word binary assigned cast row_of comma combined unary dereferenced indexed
-    size_of_words assignment compound stepped condition conditional switch_value called called_through routine_words
-    composite judged start reached reached_by reached_in element_number member_number number_behind part closed opened
-    with_literal with_value without first_not_constant typed_unit
+    shift_amount unary_value constant_in constant_of greatest_of suffix_of typed types_of bytes_of_literal character_value
+    characters_of escaped literal_step next_character extent_of array_size member_offsets structure_of union_of room
+    is_valid_program constant_word binary assigned cast row_of comma combined unary dereferenced indexed size_of_words
+    assignment compound stepped condition conditional switch_value called called_through routine_words composite judged
+    start reached reached_by reached_in element_number member_number number_behind part closed opened with_literal
+    with_value without first_not_constant typed_unit
 extern_undefined = refl
 
 -- int x;int main(void){extern int x=
@@ -527,12 +521,12 @@ extern_with_initializer :
     (t.integer (spelled (codes "0") 2))) (at 2))) s.no_items)) (at 2))) ∷ []) 2)
     ≡ refused rule.MisplacedStorage 2
 unfolding balanced_type common_type fit is_signed mixed_type promoted rank size_of unsigned_of binary_value
-    shift_amount unary_value constant_in constant_of greatest_of suffix_of typed types_of bytes_of_literal
-    character_value characters_of escaped literal_step next_character extent_of array_size member_offsets structure_of
-    union_of room is_valid_program constant_word binary assigned cast row_of comma combined unary dereferenced indexed
-    size_of_words assignment compound stepped condition conditional switch_value called called_through routine_words
-    composite judged start reached reached_by reached_in element_number member_number number_behind part closed opened
-    with_literal with_value without first_not_constant typed_unit
+    shift_amount unary_value constant_in constant_of greatest_of suffix_of typed types_of bytes_of_literal character_value
+    characters_of escaped literal_step next_character extent_of array_size member_offsets structure_of union_of room
+    is_valid_program constant_word binary assigned cast row_of comma combined unary dereferenced indexed size_of_words
+    assignment compound stepped condition conditional switch_value called called_through routine_words composite judged
+    start reached reached_by reached_in element_number member_number number_behind part closed opened with_literal
+    with_value without first_not_constant typed_unit
 extern_with_initializer = refl
 
 -- typedef int T=
@@ -549,12 +543,12 @@ typedef_with_initializer :
     (at 2))) ∷ []) 2)
     ≡ refused rule.MisplacedStorage 2
 unfolding balanced_type common_type fit is_signed mixed_type promoted rank size_of unsigned_of binary_value
-    shift_amount unary_value constant_in constant_of greatest_of suffix_of typed types_of bytes_of_literal
-    character_value characters_of escaped literal_step next_character extent_of array_size member_offsets structure_of
-    union_of room is_valid_program constant_word binary assigned cast row_of comma combined unary dereferenced indexed
-    size_of_words assignment compound stepped condition conditional switch_value called called_through routine_words
-    composite judged start reached reached_by reached_in element_number member_number number_behind part closed opened
-    with_literal with_value without first_not_constant typed_unit
+    shift_amount unary_value constant_in constant_of greatest_of suffix_of typed types_of bytes_of_literal character_value
+    characters_of escaped literal_step next_character extent_of array_size member_offsets structure_of union_of room
+    is_valid_program constant_word binary assigned cast row_of comma combined unary dereferenced indexed size_of_words
+    assignment compound stepped condition conditional switch_value called called_through routine_words composite judged
+    start reached reached_by reached_in element_number member_number number_behind part closed opened with_literal
+    with_value without first_not_constant typed_unit
 typedef_with_initializer = refl
 
 -- int main(void){
@@ -569,12 +563,12 @@ static_function_in_a_block :
     3)
     ≡ refused rule.MisplacedStorage 2
 unfolding balanced_type common_type fit is_signed mixed_type promoted rank size_of unsigned_of binary_value
-    shift_amount unary_value constant_in constant_of greatest_of suffix_of typed types_of bytes_of_literal
-    character_value characters_of escaped literal_step next_character extent_of array_size member_offsets structure_of
-    union_of room is_valid_program constant_word binary assigned cast row_of comma combined unary dereferenced indexed
-    size_of_words assignment compound stepped condition conditional switch_value called called_through routine_words
-    composite judged start reached reached_by reached_in element_number member_number number_behind part closed opened
-    with_literal with_value without first_not_constant typed_unit
+    shift_amount unary_value constant_in constant_of greatest_of suffix_of typed types_of bytes_of_literal character_value
+    characters_of escaped literal_step next_character extent_of array_size member_offsets structure_of union_of room
+    is_valid_program constant_word binary assigned cast row_of comma combined unary dereferenced indexed size_of_words
+    assignment compound stepped condition conditional switch_value called called_through routine_words composite judged
+    start reached reached_by reached_in element_number member_number number_behind part closed opened with_literal
+    with_value without first_not_constant typed_unit
 static_function_in_a_block = refl
 
 -- typedef
@@ -588,12 +582,12 @@ typedef_of_a_definition :
     (codes "0") 2))) (at 2))) s.no_items) (at 2))) ∷ []) 2)
     ≡ refused rule.MisplacedStorage 1
 unfolding balanced_type common_type fit is_signed mixed_type promoted rank size_of unsigned_of binary_value
-    shift_amount unary_value constant_in constant_of greatest_of suffix_of typed types_of bytes_of_literal
-    character_value characters_of escaped literal_step next_character extent_of array_size member_offsets structure_of
-    union_of room is_valid_program constant_word binary assigned cast row_of comma combined unary dereferenced indexed
-    size_of_words assignment compound stepped condition conditional switch_value called called_through routine_words
-    composite judged start reached reached_by reached_in element_number member_number number_behind part closed opened
-    with_literal with_value without first_not_constant typed_unit
+    shift_amount unary_value constant_in constant_of greatest_of suffix_of typed types_of bytes_of_literal character_value
+    characters_of escaped literal_step next_character extent_of array_size member_offsets structure_of union_of room
+    is_valid_program constant_word binary assigned cast row_of comma combined unary dereferenced indexed size_of_words
+    assignment compound stepped condition conditional switch_value called called_through routine_words composite judged
+    start reached reached_by reached_in element_number member_number number_behind part closed opened with_literal
+    with_value without first_not_constant typed_unit
 typedef_of_a_definition = refl
 
 -- int main(void){for(
@@ -610,12 +604,12 @@ static_in_a_for :
     s.no_items) (at 2))) ∷ []) 2)
     ≡ refused rule.MisplacedStorage 2
 unfolding balanced_type common_type fit is_signed mixed_type promoted rank size_of unsigned_of binary_value
-    shift_amount unary_value constant_in constant_of greatest_of suffix_of typed types_of bytes_of_literal
-    character_value characters_of escaped literal_step next_character extent_of array_size member_offsets structure_of
-    union_of room is_valid_program constant_word binary assigned cast row_of comma combined unary dereferenced indexed
-    size_of_words assignment compound stepped condition conditional switch_value called called_through routine_words
-    composite judged start reached reached_by reached_in element_number member_number number_behind part closed opened
-    with_literal with_value without first_not_constant typed_unit
+    shift_amount unary_value constant_in constant_of greatest_of suffix_of typed types_of bytes_of_literal character_value
+    characters_of escaped literal_step next_character extent_of array_size member_offsets structure_of union_of room
+    is_valid_program constant_word binary assigned cast row_of comma combined unary dereferenced indexed size_of_words
+    assignment compound stepped condition conditional switch_value called called_through routine_words composite judged
+    start reached reached_by reached_in element_number member_number number_behind part closed opened with_literal
+    with_value without first_not_constant typed_unit
 static_in_a_for = refl
 
 -- int main(void){for(
@@ -628,10 +622,10 @@ function_in_a_for :
     (at 2) None (at 2) (s.expression None (at 2)))) s.no_items) (at 2))) ∷ []) 2)
     ≡ refused rule.MisplacedStorage 2
 unfolding balanced_type common_type fit is_signed mixed_type promoted rank size_of unsigned_of binary_value
-    shift_amount unary_value constant_in constant_of greatest_of suffix_of typed types_of bytes_of_literal
-    character_value characters_of escaped literal_step next_character extent_of array_size member_offsets structure_of
-    union_of room is_valid_program constant_word binary assigned cast row_of comma combined unary dereferenced indexed
-    size_of_words assignment compound stepped condition conditional switch_value called called_through routine_words
-    composite judged start reached reached_by reached_in element_number member_number number_behind part closed opened
-    with_literal with_value without first_not_constant typed_unit
+    shift_amount unary_value constant_in constant_of greatest_of suffix_of typed types_of bytes_of_literal character_value
+    characters_of escaped literal_step next_character extent_of array_size member_offsets structure_of union_of room
+    is_valid_program constant_word binary assigned cast row_of comma combined unary dereferenced indexed size_of_words
+    assignment compound stepped condition conditional switch_value called called_through routine_words composite judged
+    start reached reached_by reached_in element_number member_number number_behind part closed opened with_literal
+    with_value without first_not_constant typed_unit
 function_in_a_for = refl

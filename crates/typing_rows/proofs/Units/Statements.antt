@@ -12,8 +12,7 @@ use Rattle.obj_memory.specs.Integers.{balanced_type, common_type, fit, is_signed
 use Rattle.obj_memory.specs.Integers.{unsigned_of}
 use Rattle.obj_memory.specs.Operators.{binary_value, shift_amount, unary_value}
 use Rattle.c_lexer.specs.Constants.{constant_in, constant_of, greatest_of, suffix_of, typed, types_of}
-use Rattle.c_lexer.specs.Literals.{bytes_of_literal, character_value, characters_of, escaped, literal_step}
-use Rattle.c_lexer.specs.Literals.{next_character}
+use Rattle.c_lexer.specs.Literals.{bytes_of_literal, character_value, characters_of, escaped, literal_step, next_character}
 use Rattle.c_tree.specs.Extents.{extent_of}
 use Rattle.c_tree.specs.Layout.{array_size, member_offsets, structure_of, union_of}
 use Rattle.c_tree.specs.Room.{room}
@@ -37,8 +36,8 @@ use Rattle.c_current_object.specs.Subobjects.{element_number, member_number, num
 use Rattle.c_initializer_rules.specs.Initializing.{closed, opened, with_literal, with_value}
 use Rattle.c_initializer_rules.specs.Placed.{without}
 use Rattle.c_unit_typing.specs.Typed.{typed_unit}
-use Rattle.unit_rows.proofs.Sources.{accepted, at, declaration, declarators, function, init_declarator}
-use Rattle.unit_rows.proofs.Sources.{number, other, refused, source, spelled, word}
+use Rattle.typing_rows.proofs.Units.Sources.{accepted, at, declaration, declarators, function, init_declarator}
+use Rattle.typing_rows.proofs.Units.Sources.{number, other, refused, source, spelled, word}
 
 -- int main(void){int n=0;for(int i=0;i<3;i++){if(i==1)continue;n+=i;}while(n)n--;do n++;while(n<2);return n;}
 loops :
@@ -62,12 +61,12 @@ loops :
     ≡ accepted true [] (function 1 0 [] ((4, false) ∷ (4, false) ∷ []) (number 0 ∷ number 0 ∷ other ∷ other ∷ other ∷
     other ∷ other ∷ other ∷ other ∷ other ∷ other ∷ []) ∷ [])
 unfolding balanced_type common_type fit is_signed mixed_type promoted rank size_of unsigned_of binary_value
-    shift_amount unary_value constant_in constant_of greatest_of suffix_of typed types_of bytes_of_literal
-    character_value characters_of escaped literal_step next_character extent_of array_size member_offsets structure_of
-    union_of room is_valid_program constant_word binary assigned cast row_of comma combined unary dereferenced indexed
-    size_of_words assignment compound stepped condition conditional switch_value called called_through routine_words
-    composite judged start reached reached_by reached_in element_number member_number number_behind part closed opened
-    with_literal with_value without first_not_constant typed_unit
+    shift_amount unary_value constant_in constant_of greatest_of suffix_of typed types_of bytes_of_literal character_value
+    characters_of escaped literal_step next_character extent_of array_size member_offsets structure_of union_of room
+    is_valid_program constant_word binary assigned cast row_of comma combined unary dereferenced indexed size_of_words
+    assignment compound stepped condition conditional switch_value called called_through routine_words composite judged
+    start reached reached_by reached_in element_number member_number number_behind part closed opened with_literal
+    with_value without first_not_constant typed_unit
 loops = refl
 
 -- int main(void){int x=2;switch(x){case 1:case 2:x=5;break;default:{int y=7;x=y;}}return x;}
@@ -89,12 +88,12 @@ labels :
     ≡ accepted true [] (function 1 0 [] ((4, false) ∷ (4, false) ∷ []) (number 2 ∷ other ∷ other ∷ number 7 ∷ other ∷
     other ∷ []) ∷ [])
 unfolding balanced_type common_type fit is_signed mixed_type promoted rank size_of unsigned_of binary_value
-    shift_amount unary_value constant_in constant_of greatest_of suffix_of typed types_of bytes_of_literal
-    character_value characters_of escaped literal_step next_character extent_of array_size member_offsets structure_of
-    union_of room is_valid_program constant_word binary assigned cast row_of comma combined unary dereferenced indexed
-    size_of_words assignment compound stepped condition conditional switch_value called called_through routine_words
-    composite judged start reached reached_by reached_in element_number member_number number_behind part closed opened
-    with_literal with_value without first_not_constant typed_unit
+    shift_amount unary_value constant_in constant_of greatest_of suffix_of typed types_of bytes_of_literal character_value
+    characters_of escaped literal_step next_character extent_of array_size member_offsets structure_of union_of room
+    is_valid_program constant_word binary assigned cast row_of comma combined unary dereferenced indexed size_of_words
+    assignment compound stepped condition conditional switch_value called called_through routine_words composite judged
+    start reached reached_by reached_in element_number member_number number_behind part closed opened with_literal
+    with_value without first_not_constant typed_unit
 labels = refl
 
 -- int main(void){int x=2;while(x){switch(x){case 1:continue;case 3:break;}x--;}return x;}
@@ -112,12 +111,12 @@ jumps_of_a_switch :
     []) 1)
     ≡ accepted true [] (function 1 0 [] ((4, false) ∷ []) (number 2 ∷ other ∷ other ∷ other ∷ other ∷ []) ∷ [])
 unfolding balanced_type common_type fit is_signed mixed_type promoted rank size_of unsigned_of binary_value
-    shift_amount unary_value constant_in constant_of greatest_of suffix_of typed types_of bytes_of_literal
-    character_value characters_of escaped literal_step next_character extent_of array_size member_offsets structure_of
-    union_of room is_valid_program constant_word binary assigned cast row_of comma combined unary dereferenced indexed
-    size_of_words assignment compound stepped condition conditional switch_value called called_through routine_words
-    composite judged start reached reached_by reached_in element_number member_number number_behind part closed opened
-    with_literal with_value without first_not_constant typed_unit
+    shift_amount unary_value constant_in constant_of greatest_of suffix_of typed types_of bytes_of_literal character_value
+    characters_of escaped literal_step next_character extent_of array_size member_offsets structure_of union_of room
+    is_valid_program constant_word binary assigned cast row_of comma combined unary dereferenced indexed size_of_words
+    assignment compound stepped condition conditional switch_value called called_through routine_words composite judged
+    start reached reached_by reached_in element_number member_number number_behind part closed opened with_literal
+    with_value without first_not_constant typed_unit
 jumps_of_a_switch = refl
 
 -- void f(void){return;}char g(void){return 300;}int main(void){f();return g();}
@@ -134,12 +133,12 @@ results :
     ≡ accepted true [] (function 1 0 [] [] [] ∷ function 1 1 [] [] (number 44 ∷ []) ∷ function 1 2 [] [] (other ∷
     other ∷ []) ∷ [])
 unfolding balanced_type common_type fit is_signed mixed_type promoted rank size_of unsigned_of binary_value
-    shift_amount unary_value constant_in constant_of greatest_of suffix_of typed types_of bytes_of_literal
-    character_value characters_of escaped literal_step next_character extent_of array_size member_offsets structure_of
-    union_of room is_valid_program constant_word binary assigned cast row_of comma combined unary dereferenced indexed
-    size_of_words assignment compound stepped condition conditional switch_value called called_through routine_words
-    composite judged start reached reached_by reached_in element_number member_number number_behind part closed opened
-    with_literal with_value without first_not_constant typed_unit
+    shift_amount unary_value constant_in constant_of greatest_of suffix_of typed types_of bytes_of_literal character_value
+    characters_of escaped literal_step next_character extent_of array_size member_offsets structure_of union_of room
+    is_valid_program constant_word binary assigned cast row_of comma combined unary dereferenced indexed size_of_words
+    assignment compound stepped condition conditional switch_value called called_through routine_words composite judged
+    start reached reached_by reached_in element_number member_number number_behind part closed opened with_literal
+    with_value without first_not_constant typed_unit
 results = refl
 
 -- int main(void){if(sizeof(enum{A})){}return
@@ -153,12 +152,12 @@ tags_of_a_branch :
     2))) s.no_items)) (at 2))) ∷ []) 2)
     ≡ refused rule.Undeclared 2
 unfolding balanced_type common_type fit is_signed mixed_type promoted rank size_of unsigned_of binary_value
-    shift_amount unary_value constant_in constant_of greatest_of suffix_of typed types_of bytes_of_literal
-    character_value characters_of escaped literal_step next_character extent_of array_size member_offsets structure_of
-    union_of room is_valid_program constant_word binary assigned cast row_of comma combined unary dereferenced indexed
-    size_of_words assignment compound stepped condition conditional switch_value called called_through routine_words
-    composite judged start reached reached_by reached_in element_number member_number number_behind part closed opened
-    with_literal with_value without first_not_constant typed_unit
+    shift_amount unary_value constant_in constant_of greatest_of suffix_of typed types_of bytes_of_literal character_value
+    characters_of escaped literal_step next_character extent_of array_size member_offsets structure_of union_of room
+    is_valid_program constant_word binary assigned cast row_of comma combined unary dereferenced indexed size_of_words
+    assignment compound stepped condition conditional switch_value called called_through routine_words composite judged
+    start reached reached_by reached_in element_number member_number number_behind part closed opened with_literal
+    with_value without first_not_constant typed_unit
 tags_of_a_branch = refl
 
 -- int main(void){do{int x;}while(
@@ -172,12 +171,12 @@ tags_of_a_body :
     (t.integer (spelled (codes "0") 2))) (at 2))) s.no_items)) (at 2))) ∷ []) 2)
     ≡ refused rule.Undeclared 2
 unfolding balanced_type common_type fit is_signed mixed_type promoted rank size_of unsigned_of binary_value
-    shift_amount unary_value constant_in constant_of greatest_of suffix_of typed types_of bytes_of_literal
-    character_value characters_of escaped literal_step next_character extent_of array_size member_offsets structure_of
-    union_of room is_valid_program constant_word binary assigned cast row_of comma combined unary dereferenced indexed
-    size_of_words assignment compound stepped condition conditional switch_value called called_through routine_words
-    composite judged start reached reached_by reached_in element_number member_number number_behind part closed opened
-    with_literal with_value without first_not_constant typed_unit
+    shift_amount unary_value constant_in constant_of greatest_of suffix_of typed types_of bytes_of_literal character_value
+    characters_of escaped literal_step next_character extent_of array_size member_offsets structure_of union_of room
+    is_valid_program constant_word binary assigned cast row_of comma combined unary dereferenced indexed size_of_words
+    assignment compound stepped condition conditional switch_value called called_through routine_words composite judged
+    start reached reached_by reached_in element_number member_number number_behind part closed opened with_literal
+    with_value without first_not_constant typed_unit
 tags_of_a_body = refl
 
 -- struct S{int a;}s;int main(void){
@@ -194,12 +193,12 @@ condition_of_a_structure :
     (t.integer (spelled (codes "0") 3))) (at 3))) s.no_items)) (at 3))) ∷ []) 3)
     ≡ refused rule.NoCondition 2
 unfolding balanced_type common_type fit is_signed mixed_type promoted rank size_of unsigned_of binary_value
-    shift_amount unary_value constant_in constant_of greatest_of suffix_of typed types_of bytes_of_literal
-    character_value characters_of escaped literal_step next_character extent_of array_size member_offsets structure_of
-    union_of room is_valid_program constant_word binary assigned cast row_of comma combined unary dereferenced indexed
-    size_of_words assignment compound stepped condition conditional switch_value called called_through routine_words
-    composite judged start reached reached_by reached_in element_number member_number number_behind part closed opened
-    with_literal with_value without first_not_constant typed_unit
+    shift_amount unary_value constant_in constant_of greatest_of suffix_of typed types_of bytes_of_literal character_value
+    characters_of escaped literal_step next_character extent_of array_size member_offsets structure_of union_of room
+    is_valid_program constant_word binary assigned cast row_of comma combined unary dereferenced indexed size_of_words
+    assignment compound stepped condition conditional switch_value called called_through routine_words composite judged
+    start reached reached_by reached_in element_number member_number number_behind part closed opened with_literal
+    with_value without first_not_constant typed_unit
 condition_of_a_structure = refl
 
 -- void f(void){}int main(void){
@@ -214,12 +213,12 @@ void_condition :
     (s.inner (s.return (at 3) (Some (t.integer (spelled (codes "0") 3))) (at 3))) s.no_items)) (at 3))) ∷ []) 3)
     ≡ refused rule.NoCondition 2
 unfolding balanced_type common_type fit is_signed mixed_type promoted rank size_of unsigned_of binary_value
-    shift_amount unary_value constant_in constant_of greatest_of suffix_of typed types_of bytes_of_literal
-    character_value characters_of escaped literal_step next_character extent_of array_size member_offsets structure_of
-    union_of room is_valid_program constant_word binary assigned cast row_of comma combined unary dereferenced indexed
-    size_of_words assignment compound stepped condition conditional switch_value called called_through routine_words
-    composite judged start reached reached_by reached_in element_number member_number number_behind part closed opened
-    with_literal with_value without first_not_constant typed_unit
+    shift_amount unary_value constant_in constant_of greatest_of suffix_of typed types_of bytes_of_literal character_value
+    characters_of escaped literal_step next_character extent_of array_size member_offsets structure_of union_of room
+    is_valid_program constant_word binary assigned cast row_of comma combined unary dereferenced indexed size_of_words
+    assignment compound stepped condition conditional switch_value called called_through routine_words composite judged
+    start reached reached_by reached_in element_number member_number number_behind part closed opened with_literal
+    with_value without first_not_constant typed_unit
 void_condition = refl
 
 -- struct S{int a;}s;int main(void){
@@ -238,12 +237,12 @@ do_before_its_body :
     (spelled (codes "0") 4))) (at 4))) s.no_items)) (at 4))) ∷ []) 4)
     ≡ refused rule.NoCondition 2
 unfolding balanced_type common_type fit is_signed mixed_type promoted rank size_of unsigned_of binary_value
-    shift_amount unary_value constant_in constant_of greatest_of suffix_of typed types_of bytes_of_literal
-    character_value characters_of escaped literal_step next_character extent_of array_size member_offsets structure_of
-    union_of room is_valid_program constant_word binary assigned cast row_of comma combined unary dereferenced indexed
-    size_of_words assignment compound stepped condition conditional switch_value called called_through routine_words
-    composite judged start reached reached_by reached_in element_number member_number number_behind part closed opened
-    with_literal with_value without first_not_constant typed_unit
+    shift_amount unary_value constant_in constant_of greatest_of suffix_of typed types_of bytes_of_literal character_value
+    characters_of escaped literal_step next_character extent_of array_size member_offsets structure_of union_of room
+    is_valid_program constant_word binary assigned cast row_of comma combined unary dereferenced indexed size_of_words
+    assignment compound stepped condition conditional switch_value called called_through routine_words composite judged
+    start reached reached_by reached_in element_number member_number number_behind part closed opened with_literal
+    with_value without first_not_constant typed_unit
 do_before_its_body = refl
 
 -- int main(void){do
@@ -257,12 +256,12 @@ body_before_the_condition :
     (s.return (at 3) (Some (t.integer (spelled (codes "0") 3))) (at 3))) s.no_items)) (at 3))) ∷ []) 3)
     ≡ refused rule.Undeclared 2
 unfolding balanced_type common_type fit is_signed mixed_type promoted rank size_of unsigned_of binary_value
-    shift_amount unary_value constant_in constant_of greatest_of suffix_of typed types_of bytes_of_literal
-    character_value characters_of escaped literal_step next_character extent_of array_size member_offsets structure_of
-    union_of room is_valid_program constant_word binary assigned cast row_of comma combined unary dereferenced indexed
-    size_of_words assignment compound stepped condition conditional switch_value called called_through routine_words
-    composite judged start reached reached_by reached_in element_number member_number number_behind part closed opened
-    with_literal with_value without first_not_constant typed_unit
+    shift_amount unary_value constant_in constant_of greatest_of suffix_of typed types_of bytes_of_literal character_value
+    characters_of escaped literal_step next_character extent_of array_size member_offsets structure_of union_of room
+    is_valid_program constant_word binary assigned cast row_of comma combined unary dereferenced indexed size_of_words
+    assignment compound stepped condition conditional switch_value called called_through routine_words composite judged
+    start reached reached_by reached_in element_number member_number number_behind part closed opened with_literal
+    with_value without first_not_constant typed_unit
 body_before_the_condition = refl
 
 -- int main(void){int x=1;do
@@ -278,12 +277,12 @@ body_alone :
     (s.return (at 3) (Some (t.integer (spelled (codes "0") 3))) (at 3))) s.no_items))) (at 3))) ∷ []) 3)
     ≡ refused rule.Undeclared 2
 unfolding balanced_type common_type fit is_signed mixed_type promoted rank size_of unsigned_of binary_value
-    shift_amount unary_value constant_in constant_of greatest_of suffix_of typed types_of bytes_of_literal
-    character_value characters_of escaped literal_step next_character extent_of array_size member_offsets structure_of
-    union_of room is_valid_program constant_word binary assigned cast row_of comma combined unary dereferenced indexed
-    size_of_words assignment compound stepped condition conditional switch_value called called_through routine_words
-    composite judged start reached reached_by reached_in element_number member_number number_behind part closed opened
-    with_literal with_value without first_not_constant typed_unit
+    shift_amount unary_value constant_in constant_of greatest_of suffix_of typed types_of bytes_of_literal character_value
+    characters_of escaped literal_step next_character extent_of array_size member_offsets structure_of union_of room
+    is_valid_program constant_word binary assigned cast row_of comma combined unary dereferenced indexed size_of_words
+    assignment compound stepped condition conditional switch_value called called_through routine_words composite judged
+    start reached reached_by reached_in element_number member_number number_behind part closed opened with_literal
+    with_value without first_not_constant typed_unit
 body_alone = refl
 
 -- int main(void){do{}
@@ -296,12 +295,12 @@ condition_alone :
     ∷ []) 2)
     ≡ refused rule.Undeclared 2
 unfolding balanced_type common_type fit is_signed mixed_type promoted rank size_of unsigned_of binary_value
-    shift_amount unary_value constant_in constant_of greatest_of suffix_of typed types_of bytes_of_literal
-    character_value characters_of escaped literal_step next_character extent_of array_size member_offsets structure_of
-    union_of room is_valid_program constant_word binary assigned cast row_of comma combined unary dereferenced indexed
-    size_of_words assignment compound stepped condition conditional switch_value called called_through routine_words
-    composite judged start reached reached_by reached_in element_number member_number number_behind part closed opened
-    with_literal with_value without first_not_constant typed_unit
+    shift_amount unary_value constant_in constant_of greatest_of suffix_of typed types_of bytes_of_literal character_value
+    characters_of escaped literal_step next_character extent_of array_size member_offsets structure_of union_of room
+    is_valid_program constant_word binary assigned cast row_of comma combined unary dereferenced indexed size_of_words
+    assignment compound stepped condition conditional switch_value called called_through routine_words composite judged
+    start reached reached_by reached_in element_number member_number number_behind part closed opened with_literal
+    with_value without first_not_constant typed_unit
 condition_alone = refl
 
 -- struct S{int a;}s;int main(void){
@@ -320,12 +319,12 @@ do_before_a_break :
     (s.inner (s.return (at 4) (Some (t.integer (spelled (codes "0") 4))) (at 4))) s.no_items)) (at 4))) ∷ []) 4)
     ≡ refused rule.NoCondition 2
 unfolding balanced_type common_type fit is_signed mixed_type promoted rank size_of unsigned_of binary_value
-    shift_amount unary_value constant_in constant_of greatest_of suffix_of typed types_of bytes_of_literal
-    character_value characters_of escaped literal_step next_character extent_of array_size member_offsets structure_of
-    union_of room is_valid_program constant_word binary assigned cast row_of comma combined unary dereferenced indexed
-    size_of_words assignment compound stepped condition conditional switch_value called called_through routine_words
-    composite judged start reached reached_by reached_in element_number member_number number_behind part closed opened
-    with_literal with_value without first_not_constant typed_unit
+    shift_amount unary_value constant_in constant_of greatest_of suffix_of typed types_of bytes_of_literal character_value
+    characters_of escaped literal_step next_character extent_of array_size member_offsets structure_of union_of room
+    is_valid_program constant_word binary assigned cast row_of comma combined unary dereferenced indexed size_of_words
+    assignment compound stepped condition conditional switch_value called called_through routine_words composite judged
+    start reached reached_by reached_in element_number member_number number_behind part closed opened with_literal
+    with_value without first_not_constant typed_unit
 do_before_a_break = refl
 
 -- struct S{int a;}s;int main(void){
@@ -344,12 +343,12 @@ nested_do :
     3))) ∷ []) 3)
     ≡ refused rule.NoCondition 3
 unfolding balanced_type common_type fit is_signed mixed_type promoted rank size_of unsigned_of binary_value
-    shift_amount unary_value constant_in constant_of greatest_of suffix_of typed types_of bytes_of_literal
-    character_value characters_of escaped literal_step next_character extent_of array_size member_offsets structure_of
-    union_of room is_valid_program constant_word binary assigned cast row_of comma combined unary dereferenced indexed
-    size_of_words assignment compound stepped condition conditional switch_value called called_through routine_words
-    composite judged start reached reached_by reached_in element_number member_number number_behind part closed opened
-    with_literal with_value without first_not_constant typed_unit
+    shift_amount unary_value constant_in constant_of greatest_of suffix_of typed types_of bytes_of_literal character_value
+    characters_of escaped literal_step next_character extent_of array_size member_offsets structure_of union_of room
+    is_valid_program constant_word binary assigned cast row_of comma combined unary dereferenced indexed size_of_words
+    assignment compound stepped condition conditional switch_value called called_through routine_words composite judged
+    start reached reached_by reached_in element_number member_number number_behind part closed opened with_literal
+    with_value without first_not_constant typed_unit
 nested_do = refl
 
 -- struct S{int a;}s;int main(void){
@@ -368,12 +367,12 @@ for_before_its_body :
     (t.integer (spelled (codes "0") 4))) (at 4))) s.no_items)) (at 4))) ∷ []) 4)
     ≡ refused rule.NoCondition 2
 unfolding balanced_type common_type fit is_signed mixed_type promoted rank size_of unsigned_of binary_value
-    shift_amount unary_value constant_in constant_of greatest_of suffix_of typed types_of bytes_of_literal
-    character_value characters_of escaped literal_step next_character extent_of array_size member_offsets structure_of
-    union_of room is_valid_program constant_word binary assigned cast row_of comma combined unary dereferenced indexed
-    size_of_words assignment compound stepped condition conditional switch_value called called_through routine_words
-    composite judged start reached reached_by reached_in element_number member_number number_behind part closed opened
-    with_literal with_value without first_not_constant typed_unit
+    shift_amount unary_value constant_in constant_of greatest_of suffix_of typed types_of bytes_of_literal character_value
+    characters_of escaped literal_step next_character extent_of array_size member_offsets structure_of union_of room
+    is_valid_program constant_word binary assigned cast row_of comma combined unary dereferenced indexed size_of_words
+    assignment compound stepped condition conditional switch_value called called_through routine_words composite judged
+    start reached reached_by reached_in element_number member_number number_behind part closed opened with_literal
+    with_value without first_not_constant typed_unit
 for_before_its_body = refl
 
 -- struct S{int a;}s;int main(void){for(;s;
@@ -390,12 +389,12 @@ step_before_for :
     2)
     ≡ refused rule.Undeclared 2
 unfolding balanced_type common_type fit is_signed mixed_type promoted rank size_of unsigned_of binary_value
-    shift_amount unary_value constant_in constant_of greatest_of suffix_of typed types_of bytes_of_literal
-    character_value characters_of escaped literal_step next_character extent_of array_size member_offsets structure_of
-    union_of room is_valid_program constant_word binary assigned cast row_of comma combined unary dereferenced indexed
-    size_of_words assignment compound stepped condition conditional switch_value called called_through routine_words
-    composite judged start reached reached_by reached_in element_number member_number number_behind part closed opened
-    with_literal with_value without first_not_constant typed_unit
+    shift_amount unary_value constant_in constant_of greatest_of suffix_of typed types_of bytes_of_literal character_value
+    characters_of escaped literal_step next_character extent_of array_size member_offsets structure_of union_of room
+    is_valid_program constant_word binary assigned cast row_of comma combined unary dereferenced indexed size_of_words
+    assignment compound stepped condition conditional switch_value called called_through routine_words composite judged
+    start reached reached_by reached_in element_number member_number number_behind part closed opened with_literal
+    with_value without first_not_constant typed_unit
 step_before_for = refl
 
 -- struct S{int a;}s;int main(void){for(int i=
@@ -416,12 +415,12 @@ declaration_before_for :
     (codes "0") 2))) (at 2))) s.no_items)) (at 2))) ∷ []) 2)
     ≡ refused rule.Undeclared 2
 unfolding balanced_type common_type fit is_signed mixed_type promoted rank size_of unsigned_of binary_value
-    shift_amount unary_value constant_in constant_of greatest_of suffix_of typed types_of bytes_of_literal
-    character_value characters_of escaped literal_step next_character extent_of array_size member_offsets structure_of
-    union_of room is_valid_program constant_word binary assigned cast row_of comma combined unary dereferenced indexed
-    size_of_words assignment compound stepped condition conditional switch_value called called_through routine_words
-    composite judged start reached reached_by reached_in element_number member_number number_behind part closed opened
-    with_literal with_value without first_not_constant typed_unit
+    shift_amount unary_value constant_in constant_of greatest_of suffix_of typed types_of bytes_of_literal character_value
+    characters_of escaped literal_step next_character extent_of array_size member_offsets structure_of union_of room
+    is_valid_program constant_word binary assigned cast row_of comma combined unary dereferenced indexed size_of_words
+    assignment compound stepped condition conditional switch_value called called_through routine_words composite judged
+    start reached reached_by reached_in element_number member_number number_behind part closed opened with_literal
+    with_value without first_not_constant typed_unit
 declaration_before_for = refl
 
 -- int main(void){for(int i=0;i<1;i++);return
@@ -437,12 +436,12 @@ for_is_a_scope :
     2))) ∷ []) 2)
     ≡ refused rule.Undeclared 2
 unfolding balanced_type common_type fit is_signed mixed_type promoted rank size_of unsigned_of binary_value
-    shift_amount unary_value constant_in constant_of greatest_of suffix_of typed types_of bytes_of_literal
-    character_value characters_of escaped literal_step next_character extent_of array_size member_offsets structure_of
-    union_of room is_valid_program constant_word binary assigned cast row_of comma combined unary dereferenced indexed
-    size_of_words assignment compound stepped condition conditional switch_value called called_through routine_words
-    composite judged start reached reached_by reached_in element_number member_number number_behind part closed opened
-    with_literal with_value without first_not_constant typed_unit
+    shift_amount unary_value constant_in constant_of greatest_of suffix_of typed types_of bytes_of_literal character_value
+    characters_of escaped literal_step next_character extent_of array_size member_offsets structure_of union_of room
+    is_valid_program constant_word binary assigned cast row_of comma combined unary dereferenced indexed size_of_words
+    assignment compound stepped condition conditional switch_value called called_through routine_words composite judged
+    start reached reached_by reached_in element_number member_number number_behind part closed opened with_literal
+    with_value without first_not_constant typed_unit
 for_is_a_scope = refl
 
 -- int main(void){for(int i=0;i<1;i++){int i=2;i++;}return 0;}
@@ -461,12 +460,12 @@ body_of_for_is_a_scope :
     ≡ accepted true [] (function 1 0 [] ((4, false) ∷ (4, false) ∷ []) (number 0 ∷ other ∷ other ∷ number 2 ∷ other ∷
     number 0 ∷ []) ∷ [])
 unfolding balanced_type common_type fit is_signed mixed_type promoted rank size_of unsigned_of binary_value
-    shift_amount unary_value constant_in constant_of greatest_of suffix_of typed types_of bytes_of_literal
-    character_value characters_of escaped literal_step next_character extent_of array_size member_offsets structure_of
-    union_of room is_valid_program constant_word binary assigned cast row_of comma combined unary dereferenced indexed
-    size_of_words assignment compound stepped condition conditional switch_value called called_through routine_words
-    composite judged start reached reached_by reached_in element_number member_number number_behind part closed opened
-    with_literal with_value without first_not_constant typed_unit
+    shift_amount unary_value constant_in constant_of greatest_of suffix_of typed types_of bytes_of_literal character_value
+    characters_of escaped literal_step next_character extent_of array_size member_offsets structure_of union_of room
+    is_valid_program constant_word binary assigned cast row_of comma combined unary dereferenced indexed size_of_words
+    assignment compound stepped condition conditional switch_value called called_through routine_words composite judged
+    start reached reached_by reached_in element_number member_number number_behind part closed opened with_literal
+    with_value without first_not_constant typed_unit
 body_of_for_is_a_scope = refl
 
 -- int main(void){int*p=0;
@@ -481,12 +480,12 @@ switch_of_a_pointer :
     []) 2)
     ≡ refused rule.NoCondition 2
 unfolding balanced_type common_type fit is_signed mixed_type promoted rank size_of unsigned_of binary_value
-    shift_amount unary_value constant_in constant_of greatest_of suffix_of typed types_of bytes_of_literal
-    character_value characters_of escaped literal_step next_character extent_of array_size member_offsets structure_of
-    union_of room is_valid_program constant_word binary assigned cast row_of comma combined unary dereferenced indexed
-    size_of_words assignment compound stepped condition conditional switch_value called called_through routine_words
-    composite judged start reached reached_by reached_in element_number member_number number_behind part closed opened
-    with_literal with_value without first_not_constant typed_unit
+    shift_amount unary_value constant_in constant_of greatest_of suffix_of typed types_of bytes_of_literal character_value
+    characters_of escaped literal_step next_character extent_of array_size member_offsets structure_of union_of room
+    is_valid_program constant_word binary assigned cast row_of comma combined unary dereferenced indexed size_of_words
+    assignment compound stepped condition conditional switch_value called called_through routine_words composite judged
+    start reached reached_by reached_in element_number member_number number_behind part closed opened with_literal
+    with_value without first_not_constant typed_unit
 switch_of_a_pointer = refl
 
 -- int main(void){int x=0;switch(x){case 1:;
@@ -503,12 +502,12 @@ equal_labels :
     s.no_items))) (at 2))) ∷ []) 2)
     ≡ refused rule.MisplacedLabel 2
 unfolding balanced_type common_type fit is_signed mixed_type promoted rank size_of unsigned_of binary_value
-    shift_amount unary_value constant_in constant_of greatest_of suffix_of typed types_of bytes_of_literal
-    character_value characters_of escaped literal_step next_character extent_of array_size member_offsets structure_of
-    union_of room is_valid_program constant_word binary assigned cast row_of comma combined unary dereferenced indexed
-    size_of_words assignment compound stepped condition conditional switch_value called called_through routine_words
-    composite judged start reached reached_by reached_in element_number member_number number_behind part closed opened
-    with_literal with_value without first_not_constant typed_unit
+    shift_amount unary_value constant_in constant_of greatest_of suffix_of typed types_of bytes_of_literal character_value
+    characters_of escaped literal_step next_character extent_of array_size member_offsets structure_of union_of room
+    is_valid_program constant_word binary assigned cast row_of comma combined unary dereferenced indexed size_of_words
+    assignment compound stepped condition conditional switch_value called called_through routine_words composite judged
+    start reached reached_by reached_in element_number member_number number_behind part closed opened with_literal
+    with_value without first_not_constant typed_unit
 equal_labels = refl
 
 -- int main(void){int x=0;switch(x){case 0:;
@@ -524,12 +523,12 @@ equal_once_converted :
     (Some (t.integer (spelled (codes "0") 2))) (at 2))) s.no_items))) (at 2))) ∷ []) 2)
     ≡ refused rule.MisplacedLabel 2
 unfolding balanced_type common_type fit is_signed mixed_type promoted rank size_of unsigned_of binary_value
-    shift_amount unary_value constant_in constant_of greatest_of suffix_of typed types_of bytes_of_literal
-    character_value characters_of escaped literal_step next_character extent_of array_size member_offsets structure_of
-    union_of room is_valid_program constant_word binary assigned cast row_of comma combined unary dereferenced indexed
-    size_of_words assignment compound stepped condition conditional switch_value called called_through routine_words
-    composite judged start reached reached_by reached_in element_number member_number number_behind part closed opened
-    with_literal with_value without first_not_constant typed_unit
+    shift_amount unary_value constant_in constant_of greatest_of suffix_of typed types_of bytes_of_literal character_value
+    characters_of escaped literal_step next_character extent_of array_size member_offsets structure_of union_of room
+    is_valid_program constant_word binary assigned cast row_of comma combined unary dereferenced indexed size_of_words
+    assignment compound stepped condition conditional switch_value called called_through routine_words composite judged
+    start reached reached_by reached_in element_number member_number number_behind part closed opened with_literal
+    with_value without first_not_constant typed_unit
 equal_once_converted = refl
 
 -- int main(void){long x=0;switch(x){case 0:;case 4294967296:;}return 0;}
@@ -544,12 +543,12 @@ different_in_long :
     (Some (t.integer (spelled (codes "0") 1))) (at 1))) s.no_items))) (at 1))) ∷ []) 1)
     ≡ accepted true [] (function 1 0 [] ((8, false) ∷ []) (number 0 ∷ other ∷ number 0 ∷ []) ∷ [])
 unfolding balanced_type common_type fit is_signed mixed_type promoted rank size_of unsigned_of binary_value
-    shift_amount unary_value constant_in constant_of greatest_of suffix_of typed types_of bytes_of_literal
-    character_value characters_of escaped literal_step next_character extent_of array_size member_offsets structure_of
-    union_of room is_valid_program constant_word binary assigned cast row_of comma combined unary dereferenced indexed
-    size_of_words assignment compound stepped condition conditional switch_value called called_through routine_words
-    composite judged start reached reached_by reached_in element_number member_number number_behind part closed opened
-    with_literal with_value without first_not_constant typed_unit
+    shift_amount unary_value constant_in constant_of greatest_of suffix_of typed types_of bytes_of_literal character_value
+    characters_of escaped literal_step next_character extent_of array_size member_offsets structure_of union_of room
+    is_valid_program constant_word binary assigned cast row_of comma combined unary dereferenced indexed size_of_words
+    assignment compound stepped condition conditional switch_value called called_through routine_words composite judged
+    start reached reached_by reached_in element_number member_number number_behind part closed opened with_literal
+    with_value without first_not_constant typed_unit
 different_in_long = refl
 
 -- int main(void){int x=0;switch(x){default:;
@@ -565,12 +564,12 @@ two_defaults :
     2))) ∷ []) 2)
     ≡ refused rule.MisplacedLabel 2
 unfolding balanced_type common_type fit is_signed mixed_type promoted rank size_of unsigned_of binary_value
-    shift_amount unary_value constant_in constant_of greatest_of suffix_of typed types_of bytes_of_literal
-    character_value characters_of escaped literal_step next_character extent_of array_size member_offsets structure_of
-    union_of room is_valid_program constant_word binary assigned cast row_of comma combined unary dereferenced indexed
-    size_of_words assignment compound stepped condition conditional switch_value called called_through routine_words
-    composite judged start reached reached_by reached_in element_number member_number number_behind part closed opened
-    with_literal with_value without first_not_constant typed_unit
+    shift_amount unary_value constant_in constant_of greatest_of suffix_of typed types_of bytes_of_literal character_value
+    characters_of escaped literal_step next_character extent_of array_size member_offsets structure_of union_of room
+    is_valid_program constant_word binary assigned cast row_of comma combined unary dereferenced indexed size_of_words
+    assignment compound stepped condition conditional switch_value called called_through routine_words composite judged
+    start reached reached_by reached_in element_number member_number number_behind part closed opened with_literal
+    with_value without first_not_constant typed_unit
 two_defaults = refl
 
 -- int main(void){int x=0;switch(x){{
@@ -586,12 +585,12 @@ label_in_an_inner_block :
     "0") 2))) (at 2))) s.no_items))) (at 2))) ∷ []) 2)
     ≡ refused rule.MisplacedLabel 2
 unfolding balanced_type common_type fit is_signed mixed_type promoted rank size_of unsigned_of binary_value
-    shift_amount unary_value constant_in constant_of greatest_of suffix_of typed types_of bytes_of_literal
-    character_value characters_of escaped literal_step next_character extent_of array_size member_offsets structure_of
-    union_of room is_valid_program constant_word binary assigned cast row_of comma combined unary dereferenced indexed
-    size_of_words assignment compound stepped condition conditional switch_value called called_through routine_words
-    composite judged start reached reached_by reached_in element_number member_number number_behind part closed opened
-    with_literal with_value without first_not_constant typed_unit
+    shift_amount unary_value constant_in constant_of greatest_of suffix_of typed types_of bytes_of_literal character_value
+    characters_of escaped literal_step next_character extent_of array_size member_offsets structure_of union_of room
+    is_valid_program constant_word binary assigned cast row_of comma combined unary dereferenced indexed size_of_words
+    assignment compound stepped condition conditional switch_value called called_through routine_words composite judged
+    start reached reached_by reached_in element_number member_number number_behind part closed opened with_literal
+    with_value without first_not_constant typed_unit
 label_in_an_inner_block = refl
 
 -- int main(void){int x=0;switch(x){case 1:if(x)
@@ -607,12 +606,12 @@ label_in_a_branch :
     (s.return (at 2) (Some (t.integer (spelled (codes "0") 2))) (at 2))) s.no_items))) (at 2))) ∷ []) 2)
     ≡ refused rule.MisplacedLabel 2
 unfolding balanced_type common_type fit is_signed mixed_type promoted rank size_of unsigned_of binary_value
-    shift_amount unary_value constant_in constant_of greatest_of suffix_of typed types_of bytes_of_literal
-    character_value characters_of escaped literal_step next_character extent_of array_size member_offsets structure_of
-    union_of room is_valid_program constant_word binary assigned cast row_of comma combined unary dereferenced indexed
-    size_of_words assignment compound stepped condition conditional switch_value called called_through routine_words
-    composite judged start reached reached_by reached_in element_number member_number number_behind part closed opened
-    with_literal with_value without first_not_constant typed_unit
+    shift_amount unary_value constant_in constant_of greatest_of suffix_of typed types_of bytes_of_literal character_value
+    characters_of escaped literal_step next_character extent_of array_size member_offsets structure_of union_of room
+    is_valid_program constant_word binary assigned cast row_of comma combined unary dereferenced indexed size_of_words
+    assignment compound stepped condition conditional switch_value called called_through routine_words composite judged
+    start reached reached_by reached_in element_number member_number number_behind part closed opened with_literal
+    with_value without first_not_constant typed_unit
 label_in_a_branch = refl
 
 -- int main(void){
@@ -624,12 +623,12 @@ label_outside :
     (spelled (codes "0") 2))) (at 2))) s.no_items)) (at 2))) ∷ []) 2)
     ≡ refused rule.MisplacedLabel 2
 unfolding balanced_type common_type fit is_signed mixed_type promoted rank size_of unsigned_of binary_value
-    shift_amount unary_value constant_in constant_of greatest_of suffix_of typed types_of bytes_of_literal
-    character_value characters_of escaped literal_step next_character extent_of array_size member_offsets structure_of
-    union_of room is_valid_program constant_word binary assigned cast row_of comma combined unary dereferenced indexed
-    size_of_words assignment compound stepped condition conditional switch_value called called_through routine_words
-    composite judged start reached reached_by reached_in element_number member_number number_behind part closed opened
-    with_literal with_value without first_not_constant typed_unit
+    shift_amount unary_value constant_in constant_of greatest_of suffix_of typed types_of bytes_of_literal character_value
+    characters_of escaped literal_step next_character extent_of array_size member_offsets structure_of union_of room
+    is_valid_program constant_word binary assigned cast row_of comma combined unary dereferenced indexed size_of_words
+    assignment compound stepped condition conditional switch_value called called_through routine_words composite judged
+    start reached reached_by reached_in element_number member_number number_behind part closed opened with_literal
+    with_value without first_not_constant typed_unit
 label_outside = refl
 
 -- int main(void){int x=0;switch(x){
@@ -645,12 +644,12 @@ label_no_constant :
     3) (Some (t.integer (spelled (codes "0") 3))) (at 3))) s.no_items))) (at 3))) ∷ []) 3)
     ≡ refused rule.NoConstant 2
 unfolding balanced_type common_type fit is_signed mixed_type promoted rank size_of unsigned_of binary_value
-    shift_amount unary_value constant_in constant_of greatest_of suffix_of typed types_of bytes_of_literal
-    character_value characters_of escaped literal_step next_character extent_of array_size member_offsets structure_of
-    union_of room is_valid_program constant_word binary assigned cast row_of comma combined unary dereferenced indexed
-    size_of_words assignment compound stepped condition conditional switch_value called called_through routine_words
-    composite judged start reached reached_by reached_in element_number member_number number_behind part closed opened
-    with_literal with_value without first_not_constant typed_unit
+    shift_amount unary_value constant_in constant_of greatest_of suffix_of typed types_of bytes_of_literal character_value
+    characters_of escaped literal_step next_character extent_of array_size member_offsets structure_of union_of room
+    is_valid_program constant_word binary assigned cast row_of comma combined unary dereferenced indexed size_of_words
+    assignment compound stepped condition conditional switch_value called called_through routine_words composite judged
+    start reached reached_by reached_in element_number member_number number_behind part closed opened with_literal
+    with_value without first_not_constant typed_unit
 label_no_constant = refl
 
 -- int main(void){int x=0;
@@ -664,12 +663,12 @@ label_of_two_rules :
     (Some (t.integer (spelled (codes "0") 2))) (at 2))) s.no_items))) (at 2))) ∷ []) 2)
     ≡ refused rule.NoConstant 2
 unfolding balanced_type common_type fit is_signed mixed_type promoted rank size_of unsigned_of binary_value
-    shift_amount unary_value constant_in constant_of greatest_of suffix_of typed types_of bytes_of_literal
-    character_value characters_of escaped literal_step next_character extent_of array_size member_offsets structure_of
-    union_of room is_valid_program constant_word binary assigned cast row_of comma combined unary dereferenced indexed
-    size_of_words assignment compound stepped condition conditional switch_value called called_through routine_words
-    composite judged start reached reached_by reached_in element_number member_number number_behind part closed opened
-    with_literal with_value without first_not_constant typed_unit
+    shift_amount unary_value constant_in constant_of greatest_of suffix_of typed types_of bytes_of_literal character_value
+    characters_of escaped literal_step next_character extent_of array_size member_offsets structure_of union_of room
+    is_valid_program constant_word binary assigned cast row_of comma combined unary dereferenced indexed size_of_words
+    assignment compound stepped condition conditional switch_value called called_through routine_words composite judged
+    start reached reached_by reached_in element_number member_number number_behind part closed opened with_literal
+    with_value without first_not_constant typed_unit
 label_of_two_rules = refl
 
 -- int main(void){case
@@ -681,12 +680,12 @@ label_undeclared :
     (Some (t.integer (spelled (codes "0") 2))) (at 2))) s.no_items)) (at 2))) ∷ []) 2)
     ≡ refused rule.Undeclared 2
 unfolding balanced_type common_type fit is_signed mixed_type promoted rank size_of unsigned_of binary_value
-    shift_amount unary_value constant_in constant_of greatest_of suffix_of typed types_of bytes_of_literal
-    character_value characters_of escaped literal_step next_character extent_of array_size member_offsets structure_of
-    union_of room is_valid_program constant_word binary assigned cast row_of comma combined unary dereferenced indexed
-    size_of_words assignment compound stepped condition conditional switch_value called called_through routine_words
-    composite judged start reached reached_by reached_in element_number member_number number_behind part closed opened
-    with_literal with_value without first_not_constant typed_unit
+    shift_amount unary_value constant_in constant_of greatest_of suffix_of typed types_of bytes_of_literal character_value
+    characters_of escaped literal_step next_character extent_of array_size member_offsets structure_of union_of room
+    is_valid_program constant_word binary assigned cast row_of comma combined unary dereferenced indexed size_of_words
+    assignment compound stepped condition conditional switch_value called called_through routine_words composite judged
+    start reached reached_by reached_in element_number member_number number_behind part closed opened with_literal
+    with_value without first_not_constant typed_unit
 label_undeclared = refl
 
 -- int main(void){
@@ -697,12 +696,12 @@ break_outside :
     s.no_items) (at 2))) ∷ []) 2)
     ≡ refused rule.MisplacedLabel 2
 unfolding balanced_type common_type fit is_signed mixed_type promoted rank size_of unsigned_of binary_value
-    shift_amount unary_value constant_in constant_of greatest_of suffix_of typed types_of bytes_of_literal
-    character_value characters_of escaped literal_step next_character extent_of array_size member_offsets structure_of
-    union_of room is_valid_program constant_word binary assigned cast row_of comma combined unary dereferenced indexed
-    size_of_words assignment compound stepped condition conditional switch_value called called_through routine_words
-    composite judged start reached reached_by reached_in element_number member_number number_behind part closed opened
-    with_literal with_value without first_not_constant typed_unit
+    shift_amount unary_value constant_in constant_of greatest_of suffix_of typed types_of bytes_of_literal character_value
+    characters_of escaped literal_step next_character extent_of array_size member_offsets structure_of union_of room
+    is_valid_program constant_word binary assigned cast row_of comma combined unary dereferenced indexed size_of_words
+    assignment compound stepped condition conditional switch_value called called_through routine_words composite judged
+    start reached reached_by reached_in element_number member_number number_behind part closed opened with_literal
+    with_value without first_not_constant typed_unit
 break_outside = refl
 
 -- int main(void){switch(1){case 1:
@@ -715,12 +714,12 @@ continue_in_a_switch :
     (t.integer (spelled (codes "0") 2))) (at 2))) s.no_items)) (at 2))) ∷ []) 2)
     ≡ refused rule.MisplacedLabel 2
 unfolding balanced_type common_type fit is_signed mixed_type promoted rank size_of unsigned_of binary_value
-    shift_amount unary_value constant_in constant_of greatest_of suffix_of typed types_of bytes_of_literal
-    character_value characters_of escaped literal_step next_character extent_of array_size member_offsets structure_of
-    union_of room is_valid_program constant_word binary assigned cast row_of comma combined unary dereferenced indexed
-    size_of_words assignment compound stepped condition conditional switch_value called called_through routine_words
-    composite judged start reached reached_by reached_in element_number member_number number_behind part closed opened
-    with_literal with_value without first_not_constant typed_unit
+    shift_amount unary_value constant_in constant_of greatest_of suffix_of typed types_of bytes_of_literal character_value
+    characters_of escaped literal_step next_character extent_of array_size member_offsets structure_of union_of room
+    is_valid_program constant_word binary assigned cast row_of comma combined unary dereferenced indexed size_of_words
+    assignment compound stepped condition conditional switch_value called called_through routine_words composite judged
+    start reached reached_by reached_in element_number member_number number_behind part closed opened with_literal
+    with_value without first_not_constant typed_unit
 continue_in_a_switch = refl
 
 -- void f(void){
@@ -735,12 +734,12 @@ value_of_void :
     (at 3))) ∷ []) 3)
     ≡ refused rule.MistakenReturn 2
 unfolding balanced_type common_type fit is_signed mixed_type promoted rank size_of unsigned_of binary_value
-    shift_amount unary_value constant_in constant_of greatest_of suffix_of typed types_of bytes_of_literal
-    character_value characters_of escaped literal_step next_character extent_of array_size member_offsets structure_of
-    union_of room is_valid_program constant_word binary assigned cast row_of comma combined unary dereferenced indexed
-    size_of_words assignment compound stepped condition conditional switch_value called called_through routine_words
-    composite judged start reached reached_by reached_in element_number member_number number_behind part closed opened
-    with_literal with_value without first_not_constant typed_unit
+    shift_amount unary_value constant_in constant_of greatest_of suffix_of typed types_of bytes_of_literal character_value
+    characters_of escaped literal_step next_character extent_of array_size member_offsets structure_of union_of room
+    is_valid_program constant_word binary assigned cast row_of comma combined unary dereferenced indexed size_of_words
+    assignment compound stepped condition conditional switch_value called called_through routine_words composite judged
+    start reached reached_by reached_in element_number member_number number_behind part closed opened with_literal
+    with_value without first_not_constant typed_unit
 value_of_void = refl
 
 -- int f(void){
@@ -753,12 +752,12 @@ no_value :
     (at 2) (Some (t.integer (spelled (codes "0") 2))) (at 2))) s.no_items) (at 2))) ∷ []) 2)
     ≡ refused rule.MistakenReturn 2
 unfolding balanced_type common_type fit is_signed mixed_type promoted rank size_of unsigned_of binary_value
-    shift_amount unary_value constant_in constant_of greatest_of suffix_of typed types_of bytes_of_literal
-    character_value characters_of escaped literal_step next_character extent_of array_size member_offsets structure_of
-    union_of room is_valid_program constant_word binary assigned cast row_of comma combined unary dereferenced indexed
-    size_of_words assignment compound stepped condition conditional switch_value called called_through routine_words
-    composite judged start reached reached_by reached_in element_number member_number number_behind part closed opened
-    with_literal with_value without first_not_constant typed_unit
+    shift_amount unary_value constant_in constant_of greatest_of suffix_of typed types_of bytes_of_literal character_value
+    characters_of escaped literal_step next_character extent_of array_size member_offsets structure_of union_of room
+    is_valid_program constant_word binary assigned cast row_of comma combined unary dereferenced indexed size_of_words
+    assignment compound stepped condition conditional switch_value called called_through routine_words composite judged
+    start reached reached_by reached_in element_number member_number number_behind part closed opened with_literal
+    with_value without first_not_constant typed_unit
 no_value = refl
 
 -- int*f(void){
@@ -773,10 +772,10 @@ no_result :
     (codes "0") 3))) (at 3))) s.no_items) (at 3))) ∷ []) 3)
     ≡ refused rule.NoConversion 2
 unfolding balanced_type common_type fit is_signed mixed_type promoted rank size_of unsigned_of binary_value
-    shift_amount unary_value constant_in constant_of greatest_of suffix_of typed types_of bytes_of_literal
-    character_value characters_of escaped literal_step next_character extent_of array_size member_offsets structure_of
-    union_of room is_valid_program constant_word binary assigned cast row_of comma combined unary dereferenced indexed
-    size_of_words assignment compound stepped condition conditional switch_value called called_through routine_words
-    composite judged start reached reached_by reached_in element_number member_number number_behind part closed opened
-    with_literal with_value without first_not_constant typed_unit
+    shift_amount unary_value constant_in constant_of greatest_of suffix_of typed types_of bytes_of_literal character_value
+    characters_of escaped literal_step next_character extent_of array_size member_offsets structure_of union_of room
+    is_valid_program constant_word binary assigned cast row_of comma combined unary dereferenced indexed size_of_words
+    assignment compound stepped condition conditional switch_value called called_through routine_words composite judged
+    start reached reached_by reached_in element_number member_number number_behind part closed opened with_literal
+    with_value without first_not_constant typed_unit
 no_result = refl

@@ -25,10 +25,10 @@ use Rattle.c_assignment_rules.specs.Assignments.{assignment, stepped}
 use Rattle.c_condition_rules.specs.Conditions.{conditional}
 use Rattle.c_call_rules.specs.Calls.{called, called_through}
 use Rattle.c_scope.specs.Declaring.{judged}
-use Rattle.typing_rows.proofs.Samples.{alone, array_of, assigning, at, before, between, calling, casting, declared}
-use Rattle.typing_rows.proofs.Samples.{indexing}
-use Rattle.typing_rows.proofs.Samples.{member, members, name, number, of_type, size_of_type, spelled, type_shown}
-use Rattle.typing_rows.proofs.Samples.{word as word_of, marks_shown, word_shown}
+use Rattle.typing_rows.proofs.Expressions.Samples.{alone, array_of, assigning, at, before, between, calling, casting, declared}
+use Rattle.typing_rows.proofs.Expressions.Samples.{indexing}
+use Rattle.typing_rows.proofs.Expressions.Samples.{member, members, name, number, of_type, size_of_type, spelled, type_shown}
+use Rattle.typing_rows.proofs.Expressions.Samples.{word as word_of, marks_shown, word_shown}
 
 -- `0x80000000`, `'a'`, `"ab" "c"`, `x+1L`, `p+1`, `p-p`, `*p`, `1[p]`, `x=1`, `f()`, `(f)()`
 types : map (type_shown (Some []))

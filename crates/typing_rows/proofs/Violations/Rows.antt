@@ -17,6 +17,7 @@ use Rattle.c_lexer.specs.Literals.{bytes_of_literal, character_value, characters
 use Rattle.c_lexer.specs.Literals.{next_character}
 use Rattle.c_tree.specs.Extents.{extent_of}
 use Rattle.c_tree.specs.Layout.{array_size, member_offsets, structure_of, union_of}
+use Rattle.c_const.specs.Initializers.{first_not_constant}
 use Rattle.c_const.specs.Integers.{constant_word}
 use Rattle.c_rules.specs.Binary.{binary}
 use Rattle.c_rules.specs.Conversions.{assigned, cast}
@@ -34,8 +35,8 @@ use Rattle.c_current_object.specs.CurrentObject.{reached, reached_by, reached_in
 use Rattle.c_current_object.specs.Subobjects.{element_number, member_number, number_behind, part}
 use Rattle.c_initializer_rules.specs.Initializing.{closed, opened, with_literal, with_value}
 use Rattle.c_initializer_rules.specs.Placed.{without}
-use Rattle.unit_rows.proofs.Sources.{at, declaration, declarators, init_declarator, spelled, word}
-use Rattle.violation_rows.proofs.Sources.{source}
+use Rattle.typing_rows.proofs.Units.Sources.{at, declaration, declarators, init_declarator, spelled, word}
+use Rattle.typing_rows.proofs.Violations.Sources.{source}
 
 -- int x=
 -- y;
@@ -61,7 +62,7 @@ unfolding balanced_type common_type fit is_signed mixed_type promoted rank size_
     structure_of union_of constant_word binary assigned cast row_of comma combined unary dereferenced indexed
     size_of_words assignment compound stepped condition conditional switch_value called called_through routine_words
     composite judged start reached reached_by reached_in element_number member_number number_behind part closed
-    opened with_literal with_value without
+    opened with_literal with_value without first_not_constant
 declarations = refl
 
 -- int main(void){return a+
@@ -78,7 +79,7 @@ unfolding balanced_type common_type fit is_signed mixed_type promoted rank size_
     structure_of union_of constant_word binary assigned cast row_of comma combined unary dereferenced indexed
     size_of_words assignment compound stepped condition conditional switch_value called called_through routine_words
     composite judged start reached reached_by reached_in element_number member_number number_behind part closed
-    opened with_literal with_value without
+    opened with_literal with_value without first_not_constant
 operands = refl
 
 -- int main(void){int*p=0;return p*
@@ -99,7 +100,7 @@ unfolding balanced_type common_type fit is_signed mixed_type promoted rank size_
     structure_of union_of constant_word binary assigned cast row_of comma combined unary dereferenced indexed
     size_of_words assignment compound stepped condition conditional switch_value called called_through routine_words
     composite judged start reached reached_by reached_in element_number member_number number_behind part closed
-    opened with_literal with_value without
+    opened with_literal with_value without first_not_constant
 operator_before_another_operand = refl
 
 -- int main(void){return f(
@@ -118,7 +119,7 @@ unfolding balanced_type common_type fit is_signed mixed_type promoted rank size_
     structure_of union_of constant_word binary assigned cast row_of comma combined unary dereferenced indexed
     size_of_words assignment compound stepped condition conditional switch_value called called_through routine_words
     composite judged start reached reached_by reached_in element_number member_number number_behind part closed
-    opened with_literal with_value without
+    opened with_literal with_value without first_not_constant
 arguments_of_what_is_undeclared = refl
 
 -- int f(int*p,int n){return*p+n;}int main(void){return
@@ -145,7 +146,7 @@ unfolding balanced_type common_type fit is_signed mixed_type promoted rank size_
     structure_of union_of constant_word binary assigned cast row_of comma combined unary dereferenced indexed
     size_of_words assignment compound stepped condition conditional switch_value called called_through routine_words
     composite judged start reached reached_by reached_in element_number member_number number_behind part closed
-    opened with_literal with_value without
+    opened with_literal with_value without first_not_constant
 arguments = refl
 
 -- int main(void){
@@ -165,7 +166,7 @@ unfolding balanced_type common_type fit is_signed mixed_type promoted rank size_
     structure_of union_of constant_word binary assigned cast row_of comma combined unary dereferenced indexed
     size_of_words assignment compound stepped condition conditional switch_value called called_through routine_words
     composite judged start reached reached_by reached_in element_number member_number number_behind part closed
-    opened with_literal with_value without
+    opened with_literal with_value without first_not_constant
 statements = refl
 
 -- struct S{int a;}s;int main(void){
@@ -189,7 +190,7 @@ unfolding balanced_type common_type fit is_signed mixed_type promoted rank size_
     structure_of union_of constant_word binary assigned cast row_of comma combined unary dereferenced indexed
     size_of_words assignment compound stepped condition conditional switch_value called called_through routine_words
     composite judged start reached reached_by reached_in element_number member_number number_behind part closed
-    opened with_literal with_value without
+    opened with_literal with_value without first_not_constant
 do_before_its_body = refl
 
 -- int main(void){do
@@ -208,7 +209,7 @@ unfolding balanced_type common_type fit is_signed mixed_type promoted rank size_
     structure_of union_of constant_word binary assigned cast row_of comma combined unary dereferenced indexed
     size_of_words assignment compound stepped condition conditional switch_value called called_through routine_words
     composite judged start reached reached_by reached_in element_number member_number number_behind part closed
-    opened with_literal with_value without
+    opened with_literal with_value without first_not_constant
 body_before_its_condition = refl
 
 -- int main(void){for(int i=
@@ -230,7 +231,7 @@ unfolding balanced_type common_type fit is_signed mixed_type promoted rank size_
     structure_of union_of constant_word binary assigned cast row_of comma combined unary dereferenced indexed
     size_of_words assignment compound stepped condition conditional switch_value called called_through routine_words
     composite judged start reached reached_by reached_in element_number member_number number_behind part closed
-    opened with_literal with_value without
+    opened with_literal with_value without first_not_constant
 head_and_body_of_a_for = refl
 
 -- int main(void){int x=0;switch(x){case 1:y;
@@ -252,7 +253,7 @@ unfolding balanced_type common_type fit is_signed mixed_type promoted rank size_
     structure_of union_of constant_word binary assigned cast row_of comma combined unary dereferenced indexed
     size_of_words assignment compound stepped condition conditional switch_value called called_through routine_words
     composite judged start reached reached_by reached_in element_number member_number number_behind part closed
-    opened with_literal with_value without
+    opened with_literal with_value without first_not_constant
 labels = refl
 
 -- int main(void){switch(
@@ -273,7 +274,7 @@ unfolding balanced_type common_type fit is_signed mixed_type promoted rank size_
     structure_of union_of constant_word binary assigned cast row_of comma combined unary dereferenced indexed
     size_of_words assignment compound stepped condition conditional switch_value called called_through routine_words
     composite judged start reached reached_by reached_in element_number member_number number_behind part closed
-    opened with_literal with_value without
+    opened with_literal with_value without first_not_constant
 labels_without_a_value = refl
 
 -- struct{int a;int
@@ -301,7 +302,7 @@ unfolding balanced_type common_type fit is_signed mixed_type promoted rank size_
     structure_of union_of constant_word binary assigned cast row_of comma combined unary dereferenced indexed
     size_of_words assignment compound stepped condition conditional switch_value called called_through routine_words
     composite judged start reached reached_by reached_in element_number member_number number_behind part closed
-    opened with_literal with_value without
+    opened with_literal with_value without first_not_constant
 members = refl
 
 -- enum{A=
@@ -322,7 +323,7 @@ unfolding balanced_type common_type fit is_signed mixed_type promoted rank size_
     structure_of union_of constant_word binary assigned cast row_of comma combined unary dereferenced indexed
     size_of_words assignment compound stepped condition conditional switch_value called called_through routine_words
     composite judged start reached reached_by reached_in element_number member_number number_behind part closed
-    opened with_literal with_value without
+    opened with_literal with_value without first_not_constant
 enumerators = refl
 
 -- int f(int x,
@@ -345,7 +346,7 @@ unfolding balanced_type common_type fit is_signed mixed_type promoted rank size_
     structure_of union_of constant_word binary assigned cast row_of comma combined unary dereferenced indexed
     size_of_words assignment compound stepped condition conditional switch_value called called_through routine_words
     composite judged start reached reached_by reached_in element_number member_number number_behind part closed
-    opened with_literal with_value without
+    opened with_literal with_value without first_not_constant
 parameters = refl
 
 -- int a[2]={
@@ -370,7 +371,7 @@ unfolding balanced_type common_type fit is_signed mixed_type promoted rank size_
     structure_of union_of constant_word binary assigned cast row_of comma combined unary dereferenced indexed
     size_of_words assignment compound stepped condition conditional switch_value called called_through routine_words
     composite judged start reached reached_by reached_in element_number member_number number_behind part closed
-    opened with_literal with_value without
+    opened with_literal with_value without first_not_constant
 items = refl
 
 -- int x;char
@@ -391,7 +392,7 @@ unfolding balanced_type common_type fit is_signed mixed_type promoted rank size_
     structure_of union_of constant_word binary assigned cast row_of comma combined unary dereferenced indexed
     size_of_words assignment compound stepped condition conditional switch_value called called_through routine_words
     composite judged start reached reached_by reached_in element_number member_number number_behind part closed
-    opened with_literal with_value without
+    opened with_literal with_value without first_not_constant
 declarator_and_initializer = refl
 
 -- int f(void){return 0;}
@@ -413,7 +414,7 @@ unfolding balanced_type common_type fit is_signed mixed_type promoted rank size_
     structure_of union_of constant_word binary assigned cast row_of comma combined unary dereferenced indexed
     size_of_words assignment compound stepped condition conditional switch_value called called_through routine_words
     composite judged start reached reached_by reached_in element_number member_number number_behind part closed
-    opened with_literal with_value without
+    opened with_literal with_value without first_not_constant
 declarator_and_block = refl
 
 -- void
@@ -434,7 +435,7 @@ unfolding balanced_type common_type fit is_signed mixed_type promoted rank size_
     structure_of union_of constant_word binary assigned cast row_of comma combined unary dereferenced indexed
     size_of_words assignment compound stepped condition conditional switch_value called called_through routine_words
     composite judged start reached reached_by reached_in element_number member_number number_behind part closed
-    opened with_literal with_value without
+    opened with_literal with_value without first_not_constant
 not_declared_by_a_violation = refl
 
 -- int f(void);int g(void){return
@@ -454,7 +455,7 @@ unfolding balanced_type common_type fit is_signed mixed_type promoted rank size_
     structure_of union_of constant_word binary assigned cast row_of comma combined unary dereferenced indexed
     size_of_words assignment compound stepped condition conditional switch_value called called_through routine_words
     composite judged start reached reached_by reached_in element_number member_number number_behind part closed
-    opened with_literal with_value without
+    opened with_literal with_value without first_not_constant
 end = refl
 
 -- int main(void){return a?
@@ -472,7 +473,7 @@ unfolding balanced_type common_type fit is_signed mixed_type promoted rank size_
     structure_of union_of constant_word binary assigned cast row_of comma combined unary dereferenced indexed
     size_of_words assignment compound stepped condition conditional switch_value called called_through routine_words
     composite judged start reached reached_by reached_in element_number member_number number_behind part closed
-    opened with_literal with_value without
+    opened with_literal with_value without first_not_constant
 operands_of_a_condition = refl
 
 -- int main(void){return(int(*)[
@@ -492,7 +493,7 @@ unfolding balanced_type common_type fit is_signed mixed_type promoted rank size_
     structure_of union_of constant_word binary assigned cast row_of comma combined unary dereferenced indexed
     size_of_words assignment compound stepped condition conditional switch_value called called_through routine_words
     composite judged start reached reached_by reached_in element_number member_number number_behind part closed
-    opened with_literal with_value without
+    opened with_literal with_value without first_not_constant
 cast_and_its_operand = refl
 
 -- struct{void
@@ -513,7 +514,7 @@ unfolding balanced_type common_type fit is_signed mixed_type promoted rank size_
     structure_of union_of constant_word binary assigned cast row_of comma combined unary dereferenced indexed
     size_of_words assignment compound stepped condition conditional switch_value called called_through routine_words
     composite judged start reached reached_by reached_in element_number member_number number_behind part closed
-    opened with_literal with_value without
+    opened with_literal with_value without first_not_constant
 specifiers_and_declarator = refl
 
 -- struct S{int a;}s;int main(void){
@@ -536,7 +537,7 @@ unfolding balanced_type common_type fit is_signed mixed_type promoted rank size_
     structure_of union_of constant_word binary assigned cast row_of comma combined unary dereferenced indexed
     size_of_words assignment compound stepped condition conditional switch_value called called_through routine_words
     composite judged start reached reached_by reached_in element_number member_number number_behind part closed
-    opened with_literal with_value without
+    opened with_literal with_value without first_not_constant
 value_and_labels = refl
 
 -- int f(void){return
@@ -558,7 +559,7 @@ unfolding balanced_type common_type fit is_signed mixed_type promoted rank size_
     structure_of union_of constant_word binary assigned cast row_of comma combined unary dereferenced indexed
     size_of_words assignment compound stepped condition conditional switch_value called called_through routine_words
     composite judged start reached reached_by reached_in element_number member_number number_behind part closed
-    opened with_literal with_value without
+    opened with_literal with_value without first_not_constant
 blocks = refl
 
 -- int f(int x[
@@ -581,7 +582,7 @@ unfolding balanced_type common_type fit is_signed mixed_type promoted rank size_
     structure_of union_of constant_word binary assigned cast row_of comma combined unary dereferenced indexed
     size_of_words assignment compound stepped condition conditional switch_value called called_through routine_words
     composite judged start reached reached_by reached_in element_number member_number number_behind part closed
-    opened with_literal with_value without
+    opened with_literal with_value without first_not_constant
 block_behind_a_faulty_parameter = refl
 
 -- int f(void){
@@ -607,7 +608,7 @@ unfolding balanced_type common_type fit is_signed mixed_type promoted rank size_
     structure_of union_of constant_word binary assigned cast row_of comma combined unary dereferenced indexed
     size_of_words assignment compound stepped condition conditional switch_value called called_through routine_words
     composite judged start reached reached_by reached_in element_number member_number number_behind part closed
-    opened with_literal with_value without
+    opened with_literal with_value without first_not_constant
 results = refl
 
 -- struct S{int a;};
@@ -631,7 +632,7 @@ unfolding balanced_type common_type fit is_signed mixed_type promoted rank size_
     structure_of union_of constant_word binary assigned cast row_of comma combined unary dereferenced indexed
     size_of_words assignment compound stepped condition conditional switch_value called called_through routine_words
     composite judged start reached reached_by reached_in element_number member_number number_behind part closed
-    opened with_literal with_value without
+    opened with_literal with_value without first_not_constant
 tag_and_members = refl
 
 -- int main(void){
@@ -655,7 +656,7 @@ unfolding balanced_type common_type fit is_signed mixed_type promoted rank size_
     structure_of union_of constant_word binary assigned cast row_of comma combined unary dereferenced indexed
     size_of_words assignment compound stepped condition conditional switch_value called called_through routine_words
     composite judged start reached reached_by reached_in element_number member_number number_behind part closed
-    opened with_literal with_value without
+    opened with_literal with_value without first_not_constant
 storage_of_a_later_declarator = refl
 
 -- auto int a[
@@ -674,7 +675,7 @@ unfolding balanced_type common_type fit is_signed mixed_type promoted rank size_
     structure_of union_of constant_word binary assigned cast row_of comma combined unary dereferenced indexed
     size_of_words assignment compound stepped condition conditional switch_value called called_through routine_words
     composite judged start reached reached_by reached_in element_number member_number number_behind part closed
-    opened with_literal with_value without
+    opened with_literal with_value without first_not_constant
 storage_and_size = refl
 
 -- int f(static int a[
@@ -694,7 +695,7 @@ unfolding balanced_type common_type fit is_signed mixed_type promoted rank size_
     structure_of union_of constant_word binary assigned cast row_of comma combined unary dereferenced indexed
     size_of_words assignment compound stepped condition conditional switch_value called called_through routine_words
     composite judged start reached reached_by reached_in element_number member_number number_behind part closed
-    opened with_literal with_value without
+    opened with_literal with_value without first_not_constant
 storage_of_a_parameter = refl
 
 -- struct{static int a[
@@ -715,7 +716,7 @@ unfolding balanced_type common_type fit is_signed mixed_type promoted rank size_
     structure_of union_of constant_word binary assigned cast row_of comma combined unary dereferenced indexed
     size_of_words assignment compound stepped condition conditional switch_value called called_through routine_words
     composite judged start reached reached_by reached_in element_number member_number number_behind part closed
-    opened with_literal with_value without
+    opened with_literal with_value without first_not_constant
 storage_of_a_member = refl
 
 -- typedef int T={
@@ -737,7 +738,7 @@ unfolding balanced_type common_type fit is_signed mixed_type promoted rank size_
     structure_of union_of constant_word binary assigned cast row_of comma combined unary dereferenced indexed
     size_of_words assignment compound stepped condition conditional switch_value called called_through routine_words
     composite judged start reached reached_by reached_in element_number member_number number_behind part closed
-    opened with_literal with_value without
+    opened with_literal with_value without first_not_constant
 initializer_out_of_place = refl
 
 -- int main(void){return 0;}
@@ -752,5 +753,5 @@ unfolding balanced_type common_type fit is_signed mixed_type promoted rank size_
     structure_of union_of constant_word binary assigned cast row_of comma combined unary dereferenced indexed
     size_of_words assignment compound stepped condition conditional switch_value called called_through routine_words
     composite judged start reached reached_by reached_in element_number member_number number_behind part closed
-    opened with_literal with_value without
+    opened with_literal with_value without first_not_constant
 none = refl

@@ -11,8 +11,7 @@ use Rattle.obj_memory.specs.Integers.{balanced_type, common_type, fit, is_signed
 use Rattle.obj_memory.specs.Integers.{unsigned_of}
 use Rattle.obj_memory.specs.Operators.{binary_value, shift_amount, unary_value}
 use Rattle.c_lexer.specs.Constants.{constant_in, constant_of, greatest_of, suffix_of, typed, types_of}
-use Rattle.c_lexer.specs.Literals.{bytes_of_literal, character_value, characters_of, escaped, literal_step}
-use Rattle.c_lexer.specs.Literals.{next_character}
+use Rattle.c_lexer.specs.Literals.{bytes_of_literal, character_value, characters_of, escaped, literal_step, next_character}
 use Rattle.c_tree.specs.Extents.{extent_of}
 use Rattle.c_tree.specs.Layout.{array_size, member_offsets, structure_of, union_of}
 use Rattle.c_tree.specs.Room.{room}
@@ -36,8 +35,8 @@ use Rattle.c_current_object.specs.Subobjects.{element_number, member_number, num
 use Rattle.c_initializer_rules.specs.Initializing.{closed, opened, with_literal, with_value}
 use Rattle.c_initializer_rules.specs.Placed.{without}
 use Rattle.c_unit_typing.specs.Typed.{typed_unit}
-use Rattle.unit_rows.proofs.Sources.{accepted, at, bytes, declaration, declarators, function, init_declarator}
-use Rattle.unit_rows.proofs.Sources.{number, other, source, spelled, word}
+use Rattle.typing_rows.proofs.Units.Sources.{accepted, at, bytes, declaration, declarators, function, init_declarator}
+use Rattle.typing_rows.proofs.Units.Sources.{number, other, source, spelled, word}
 
 -- extern int a[3];int a[]={1,2};int main(void){return 0;}
 size_of_the_visible :
@@ -56,12 +55,12 @@ size_of_the_visible :
     ≡ accepted true ((12, (None, ((0, number 1) ∷ (4, number 2) ∷ []))) ∷ []) (function 1 0 [] [] (number 0 ∷ []) ∷
     [])
 unfolding balanced_type common_type fit is_signed mixed_type promoted rank size_of unsigned_of binary_value
-    shift_amount unary_value constant_in constant_of greatest_of suffix_of typed types_of bytes_of_literal
-    character_value characters_of escaped literal_step next_character extent_of array_size member_offsets structure_of
-    union_of room is_valid_program constant_word binary assigned cast row_of comma combined unary dereferenced indexed
-    size_of_words assignment compound stepped condition conditional switch_value called called_through routine_words
-    composite judged start reached reached_by reached_in element_number member_number number_behind part closed opened
-    with_literal with_value without first_not_constant typed_unit
+    shift_amount unary_value constant_in constant_of greatest_of suffix_of typed types_of bytes_of_literal character_value
+    characters_of escaped literal_step next_character extent_of array_size member_offsets structure_of union_of room
+    is_valid_program constant_word binary assigned cast row_of comma combined unary dereferenced indexed size_of_words
+    assignment compound stepped condition conditional switch_value called called_through routine_words composite judged
+    start reached reached_by reached_in element_number member_number number_behind part closed opened with_literal
+    with_value without first_not_constant typed_unit
 size_of_the_visible = refl
 
 -- int x;int x=3;int x;int main(void){return x;}
@@ -76,12 +75,12 @@ tentative :
     (s.return (at 1) (Some (t.identifier (spelled (codes "x") 1))) (at 1))) s.no_items) (at 1))) ∷ []) 1)
     ≡ accepted true ((4, (None, ((0, number 3) ∷ []))) ∷ []) (function 1 0 [] [] (other ∷ []) ∷ [])
 unfolding balanced_type common_type fit is_signed mixed_type promoted rank size_of unsigned_of binary_value
-    shift_amount unary_value constant_in constant_of greatest_of suffix_of typed types_of bytes_of_literal
-    character_value characters_of escaped literal_step next_character extent_of array_size member_offsets structure_of
-    union_of room is_valid_program constant_word binary assigned cast row_of comma combined unary dereferenced indexed
-    size_of_words assignment compound stepped condition conditional switch_value called called_through routine_words
-    composite judged start reached reached_by reached_in element_number member_number number_behind part closed opened
-    with_literal with_value without first_not_constant typed_unit
+    shift_amount unary_value constant_in constant_of greatest_of suffix_of typed types_of bytes_of_literal character_value
+    characters_of escaped literal_step next_character extent_of array_size member_offsets structure_of union_of room
+    is_valid_program constant_word binary assigned cast row_of comma combined unary dereferenced indexed size_of_words
+    assignment compound stepped condition conditional switch_value called called_through routine_words composite judged
+    start reached reached_by reached_in element_number member_number number_behind part closed opened with_literal
+    with_value without first_not_constant typed_unit
 tentative = refl
 
 -- int a[];int main(void){return 0;}
@@ -93,12 +92,12 @@ one_element :
     (spelled (codes "0") 1))) (at 1))) s.no_items) (at 1))) ∷ []) 1)
     ≡ accepted true ((4, (None, [])) ∷ []) (function 1 0 [] [] (number 0 ∷ []) ∷ [])
 unfolding balanced_type common_type fit is_signed mixed_type promoted rank size_of unsigned_of binary_value
-    shift_amount unary_value constant_in constant_of greatest_of suffix_of typed types_of bytes_of_literal
-    character_value characters_of escaped literal_step next_character extent_of array_size member_offsets structure_of
-    union_of room is_valid_program constant_word binary assigned cast row_of comma combined unary dereferenced indexed
-    size_of_words assignment compound stepped condition conditional switch_value called called_through routine_words
-    composite judged start reached reached_by reached_in element_number member_number number_behind part closed opened
-    with_literal with_value without first_not_constant typed_unit
+    shift_amount unary_value constant_in constant_of greatest_of suffix_of typed types_of bytes_of_literal character_value
+    characters_of escaped literal_step next_character extent_of array_size member_offsets structure_of union_of room
+    is_valid_program constant_word binary assigned cast row_of comma combined unary dereferenced indexed size_of_words
+    assignment compound stepped condition conditional switch_value called called_through routine_words composite judged
+    start reached reached_by reached_in element_number member_number number_behind part closed opened with_literal
+    with_value without first_not_constant typed_unit
 one_element = refl
 
 -- struct S s;struct S{int a;int b;};int main(void){return 0;}
@@ -114,12 +113,12 @@ completed_later :
     (s.return (at 1) (Some (t.integer (spelled (codes "0") 1))) (at 1))) s.no_items) (at 1))) ∷ []) 1)
     ≡ accepted true ((8, (None, [])) ∷ []) (function 1 0 [] [] (number 0 ∷ []) ∷ [])
 unfolding balanced_type common_type fit is_signed mixed_type promoted rank size_of unsigned_of binary_value
-    shift_amount unary_value constant_in constant_of greatest_of suffix_of typed types_of bytes_of_literal
-    character_value characters_of escaped literal_step next_character extent_of array_size member_offsets structure_of
-    union_of room is_valid_program constant_word binary assigned cast row_of comma combined unary dereferenced indexed
-    size_of_words assignment compound stepped condition conditional switch_value called called_through routine_words
-    composite judged start reached reached_by reached_in element_number member_number number_behind part closed opened
-    with_literal with_value without first_not_constant typed_unit
+    shift_amount unary_value constant_in constant_of greatest_of suffix_of typed types_of bytes_of_literal character_value
+    characters_of escaped literal_step next_character extent_of array_size member_offsets structure_of union_of room
+    is_valid_program constant_word binary assigned cast row_of comma combined unary dereferenced indexed size_of_words
+    assignment compound stepped condition conditional switch_value called called_through routine_words composite judged
+    start reached reached_by reached_in element_number member_number number_behind part closed opened with_literal
+    with_value without first_not_constant typed_unit
 completed_later = refl
 
 -- typedef int T;typedef T U[2];T x=2;U a={1};int main(void){return 0;}
@@ -143,12 +142,12 @@ typedefs :
     ≡ accepted true ((4, (None, ((0, number 2) ∷ []))) ∷ (8, (None, ((0, number 1) ∷ []))) ∷ []) (function 1 0 [] []
     (number 0 ∷ []) ∷ [])
 unfolding balanced_type common_type fit is_signed mixed_type promoted rank size_of unsigned_of binary_value
-    shift_amount unary_value constant_in constant_of greatest_of suffix_of typed types_of bytes_of_literal
-    character_value characters_of escaped literal_step next_character extent_of array_size member_offsets structure_of
-    union_of room is_valid_program constant_word binary assigned cast row_of comma combined unary dereferenced indexed
-    size_of_words assignment compound stepped condition conditional switch_value called called_through routine_words
-    composite judged start reached reached_by reached_in element_number member_number number_behind part closed opened
-    with_literal with_value without first_not_constant typed_unit
+    shift_amount unary_value constant_in constant_of greatest_of suffix_of typed types_of bytes_of_literal character_value
+    characters_of escaped literal_step next_character extent_of array_size member_offsets structure_of union_of room
+    is_valid_program constant_word binary assigned cast row_of comma combined unary dereferenced indexed size_of_words
+    assignment compound stepped condition conditional switch_value called called_through routine_words composite judged
+    start reached reached_by reached_in element_number member_number number_behind part closed opened with_literal
+    with_value without first_not_constant typed_unit
 typedefs = refl
 
 -- int f(int);int f(int x){return x;}int main(void){return f(1);}
@@ -165,12 +164,12 @@ prototype :
     (t.integer (spelled (codes "1") 1)) t.end_of_arguments) (at 1))) (at 1))) s.no_items) (at 1))) ∷ []) 1)
     ≡ accepted true [] (function 1 0 ((4, false) ∷ []) [] (other ∷ []) ∷ function 1 1 [] [] (other ∷ []) ∷ [])
 unfolding balanced_type common_type fit is_signed mixed_type promoted rank size_of unsigned_of binary_value
-    shift_amount unary_value constant_in constant_of greatest_of suffix_of typed types_of bytes_of_literal
-    character_value characters_of escaped literal_step next_character extent_of array_size member_offsets structure_of
-    union_of room is_valid_program constant_word binary assigned cast row_of comma combined unary dereferenced indexed
-    size_of_words assignment compound stepped condition conditional switch_value called called_through routine_words
-    composite judged start reached reached_by reached_in element_number member_number number_behind part closed opened
-    with_literal with_value without first_not_constant typed_unit
+    shift_amount unary_value constant_in constant_of greatest_of suffix_of typed types_of bytes_of_literal character_value
+    characters_of escaped literal_step next_character extent_of array_size member_offsets structure_of union_of room
+    is_valid_program constant_word binary assigned cast row_of comma combined unary dereferenced indexed size_of_words
+    assignment compound stepped condition conditional switch_value called called_through routine_words composite judged
+    start reached reached_by reached_in element_number member_number number_behind part closed opened with_literal
+    with_value without first_not_constant typed_unit
 prototype = refl
 
 -- int f(void){static int n=5;return n++;}
@@ -188,12 +187,12 @@ of_one_type :
     ≡ accepted true ((4, (Some 0, ((0, number 5) ∷ []))) ∷ []) (function 1 0 [] [] (other ∷ []) ∷ function 2 0 [] []
     (other ∷ []) ∷ [])
 unfolding balanced_type common_type fit is_signed mixed_type promoted rank size_of unsigned_of binary_value
-    shift_amount unary_value constant_in constant_of greatest_of suffix_of typed types_of bytes_of_literal
-    character_value characters_of escaped literal_step next_character extent_of array_size member_offsets structure_of
-    union_of room is_valid_program constant_word binary assigned cast row_of comma combined unary dereferenced indexed
-    size_of_words assignment compound stepped condition conditional switch_value called called_through routine_words
-    composite judged start reached reached_by reached_in element_number member_number number_behind part closed opened
-    with_literal with_value without first_not_constant typed_unit
+    shift_amount unary_value constant_in constant_of greatest_of suffix_of typed types_of bytes_of_literal character_value
+    characters_of escaped literal_step next_character extent_of array_size member_offsets structure_of union_of room
+    is_valid_program constant_word binary assigned cast row_of comma combined unary dereferenced indexed size_of_words
+    assignment compound stepped condition conditional switch_value called called_through routine_words composite judged
+    start reached reached_by reached_in element_number member_number number_behind part closed opened with_literal
+    with_value without first_not_constant typed_unit
 of_one_type = refl
 
 -- int f(void){extern int x;return x;}int x=2;int main(void){return f();}
@@ -214,12 +213,12 @@ extern_in_a_block :
     ≡ accepted true ((4, (None, ((0, number 2) ∷ []))) ∷ []) (function 1 0 [] [] (other ∷ []) ∷ function 1 0 [] []
     (other ∷ []) ∷ [])
 unfolding balanced_type common_type fit is_signed mixed_type promoted rank size_of unsigned_of binary_value
-    shift_amount unary_value constant_in constant_of greatest_of suffix_of typed types_of bytes_of_literal
-    character_value characters_of escaped literal_step next_character extent_of array_size member_offsets structure_of
-    union_of room is_valid_program constant_word binary assigned cast row_of comma combined unary dereferenced indexed
-    size_of_words assignment compound stepped condition conditional switch_value called called_through routine_words
-    composite judged start reached reached_by reached_in element_number member_number number_behind part closed opened
-    with_literal with_value without first_not_constant typed_unit
+    shift_amount unary_value constant_in constant_of greatest_of suffix_of typed types_of bytes_of_literal character_value
+    characters_of escaped literal_step next_character extent_of array_size member_offsets structure_of union_of room
+    is_valid_program constant_word binary assigned cast row_of comma combined unary dereferenced indexed size_of_words
+    assignment compound stepped condition conditional switch_value called called_through routine_words composite judged
+    start reached reached_by reached_in element_number member_number number_behind part closed opened with_literal
+    with_value without first_not_constant typed_unit
 extern_in_a_block = refl
 
 -- char*p(void){static int k;return "ab";}int z;int main(void){return*p();}
@@ -237,12 +236,12 @@ in_order :
     ≡ accepted true ((4, (Some 0, [])) ∷ (3, (Some 0, ((0, bytes (97 ∷ 98 ∷ 0 ∷ [])) ∷ []))) ∷ (4, (None, [])) ∷ [])
     (function 1 0 [] [] (other ∷ []) ∷ function 1 1 [] [] (other ∷ []) ∷ [])
 unfolding balanced_type common_type fit is_signed mixed_type promoted rank size_of unsigned_of binary_value
-    shift_amount unary_value constant_in constant_of greatest_of suffix_of typed types_of bytes_of_literal
-    character_value characters_of escaped literal_step next_character extent_of array_size member_offsets structure_of
-    union_of room is_valid_program constant_word binary assigned cast row_of comma combined unary dereferenced indexed
-    size_of_words assignment compound stepped condition conditional switch_value called called_through routine_words
-    composite judged start reached reached_by reached_in element_number member_number number_behind part closed opened
-    with_literal with_value without first_not_constant typed_unit
+    shift_amount unary_value constant_in constant_of greatest_of suffix_of typed types_of bytes_of_literal character_value
+    characters_of escaped literal_step next_character extent_of array_size member_offsets structure_of union_of room
+    is_valid_program constant_word binary assigned cast row_of comma combined unary dereferenced indexed size_of_words
+    assignment compound stepped condition conditional switch_value called called_through routine_words composite judged
+    start reached reached_by reached_in element_number member_number number_behind part closed opened with_literal
+    with_value without first_not_constant typed_unit
 in_order = refl
 
 -- int f(int a,int b){return*&b;}int main(void){int x=1;int*p=&x;return*p;}
@@ -268,12 +267,12 @@ address_taken :
       false,
     ) ∷ []) (number 1 ∷ other ∷ other ∷ []) ∷ [])
 unfolding balanced_type common_type fit is_signed mixed_type promoted rank size_of unsigned_of binary_value
-    shift_amount unary_value constant_in constant_of greatest_of suffix_of typed types_of bytes_of_literal
-    character_value characters_of escaped literal_step next_character extent_of array_size member_offsets structure_of
-    union_of room is_valid_program constant_word binary assigned cast row_of comma combined unary dereferenced indexed
-    size_of_words assignment compound stepped condition conditional switch_value called called_through routine_words
-    composite judged start reached reached_by reached_in element_number member_number number_behind part closed opened
-    with_literal with_value without first_not_constant typed_unit
+    shift_amount unary_value constant_in constant_of greatest_of suffix_of typed types_of bytes_of_literal character_value
+    characters_of escaped literal_step next_character extent_of array_size member_offsets structure_of union_of room
+    is_valid_program constant_word binary assigned cast row_of comma combined unary dereferenced indexed size_of_words
+    assignment compound stepped condition conditional switch_value called called_through routine_words composite judged
+    start reached reached_by reached_in element_number member_number number_behind part closed opened with_literal
+    with_value without first_not_constant typed_unit
 address_taken = refl
 
 -- int main(void){int x=1;return sizeof&x;}
@@ -286,12 +285,12 @@ address_not_evaluated :
     s.no_items)) (at 1))) ∷ []) 1)
     ≡ accepted true [] (function 1 0 [] ((4, false) ∷ []) (number 1 ∷ number 8 ∷ []) ∷ [])
 unfolding balanced_type common_type fit is_signed mixed_type promoted rank size_of unsigned_of binary_value
-    shift_amount unary_value constant_in constant_of greatest_of suffix_of typed types_of bytes_of_literal
-    character_value characters_of escaped literal_step next_character extent_of array_size member_offsets structure_of
-    union_of room is_valid_program constant_word binary assigned cast row_of comma combined unary dereferenced indexed
-    size_of_words assignment compound stepped condition conditional switch_value called called_through routine_words
-    composite judged start reached reached_by reached_in element_number member_number number_behind part closed opened
-    with_literal with_value without first_not_constant typed_unit
+    shift_amount unary_value constant_in constant_of greatest_of suffix_of typed types_of bytes_of_literal character_value
+    characters_of escaped literal_step next_character extent_of array_size member_offsets structure_of union_of room
+    is_valid_program constant_word binary assigned cast row_of comma combined unary dereferenced indexed size_of_words
+    assignment compound stepped condition conditional switch_value called called_through routine_words composite judged
+    start reached reached_by reached_in element_number member_number number_behind part closed opened with_literal
+    with_value without first_not_constant typed_unit
 address_not_evaluated = refl
 
 -- int main(void){int x=1;{int x=2;x=3;}return x;}
@@ -308,12 +307,12 @@ inner_block :
     ≡ accepted true [] (function 1 0 [] ((4, false) ∷ (4, false) ∷ []) (number 1 ∷ number 2 ∷ other ∷ other ∷ []) ∷
     [])
 unfolding balanced_type common_type fit is_signed mixed_type promoted rank size_of unsigned_of binary_value
-    shift_amount unary_value constant_in constant_of greatest_of suffix_of typed types_of bytes_of_literal
-    character_value characters_of escaped literal_step next_character extent_of array_size member_offsets structure_of
-    union_of room is_valid_program constant_word binary assigned cast row_of comma combined unary dereferenced indexed
-    size_of_words assignment compound stepped condition conditional switch_value called called_through routine_words
-    composite judged start reached reached_by reached_in element_number member_number number_behind part closed opened
-    with_literal with_value without first_not_constant typed_unit
+    shift_amount unary_value constant_in constant_of greatest_of suffix_of typed types_of bytes_of_literal character_value
+    characters_of escaped literal_step next_character extent_of array_size member_offsets structure_of union_of room
+    is_valid_program constant_word binary assigned cast row_of comma combined unary dereferenced indexed size_of_words
+    assignment compound stepped condition conditional switch_value called called_through routine_words composite judged
+    start reached reached_by reached_in element_number member_number number_behind part closed opened with_literal
+    with_value without first_not_constant typed_unit
 inner_block = refl
 
 -- int g(int a){return a;}int main(void){int(*p)(int)=g;return p(2);}
@@ -332,12 +331,12 @@ through_a_pointer :
     ≡ accepted true [] (function 1 0 ((4, false) ∷ []) [] (other ∷ []) ∷ function 1 1 [] ((8, false) ∷ []) (other ∷
     other ∷ []) ∷ [])
 unfolding balanced_type common_type fit is_signed mixed_type promoted rank size_of unsigned_of binary_value
-    shift_amount unary_value constant_in constant_of greatest_of suffix_of typed types_of bytes_of_literal
-    character_value characters_of escaped literal_step next_character extent_of array_size member_offsets structure_of
-    union_of room is_valid_program constant_word binary assigned cast row_of comma combined unary dereferenced indexed
-    size_of_words assignment compound stepped condition conditional switch_value called called_through routine_words
-    composite judged start reached reached_by reached_in element_number member_number number_behind part closed opened
-    with_literal with_value without first_not_constant typed_unit
+    shift_amount unary_value constant_in constant_of greatest_of suffix_of typed types_of bytes_of_literal character_value
+    characters_of escaped literal_step next_character extent_of array_size member_offsets structure_of union_of room
+    is_valid_program constant_word binary assigned cast row_of comma combined unary dereferenced indexed size_of_words
+    assignment compound stepped condition conditional switch_value called called_through routine_words composite judged
+    start reached reached_by reached_in element_number member_number number_behind part closed opened with_literal
+    with_value without first_not_constant typed_unit
 through_a_pointer = refl
 
 -- int f(struct T{int a;}*p){struct T t;t.a=1;return t.a;}int main(void){return 0;}
@@ -358,12 +357,12 @@ tag_of_a_parameter :
     ≡ accepted true [] (function 1 0 ((8, false) ∷ []) ((4, true) ∷ []) (other ∷ other ∷ []) ∷ function 1 1 [] []
     (number 0 ∷ []) ∷ [])
 unfolding balanced_type common_type fit is_signed mixed_type promoted rank size_of unsigned_of binary_value
-    shift_amount unary_value constant_in constant_of greatest_of suffix_of typed types_of bytes_of_literal
-    character_value characters_of escaped literal_step next_character extent_of array_size member_offsets structure_of
-    union_of room is_valid_program constant_word binary assigned cast row_of comma combined unary dereferenced indexed
-    size_of_words assignment compound stepped condition conditional switch_value called called_through routine_words
-    composite judged start reached reached_by reached_in element_number member_number number_behind part closed opened
-    with_literal with_value without first_not_constant typed_unit
+    shift_amount unary_value constant_in constant_of greatest_of suffix_of typed types_of bytes_of_literal character_value
+    characters_of escaped literal_step next_character extent_of array_size member_offsets structure_of union_of room
+    is_valid_program constant_word binary assigned cast row_of comma combined unary dereferenced indexed size_of_words
+    assignment compound stepped condition conditional switch_value called called_through routine_words composite judged
+    start reached reached_by reached_in element_number member_number number_behind part closed opened with_literal
+    with_value without first_not_constant typed_unit
 tag_of_a_parameter = refl
 
 -- int main(void){enum{A,B=5,C};return C;}
@@ -376,12 +375,12 @@ enumerators :
     1) (Some (t.identifier (spelled (codes "C") 1))) (at 1))) s.no_items)) (at 1))) ∷ []) 1)
     ≡ accepted true [] (function 1 0 [] [] (number 6 ∷ []) ∷ [])
 unfolding balanced_type common_type fit is_signed mixed_type promoted rank size_of unsigned_of binary_value
-    shift_amount unary_value constant_in constant_of greatest_of suffix_of typed types_of bytes_of_literal
-    character_value characters_of escaped literal_step next_character extent_of array_size member_offsets structure_of
-    union_of room is_valid_program constant_word binary assigned cast row_of comma combined unary dereferenced indexed
-    size_of_words assignment compound stepped condition conditional switch_value called called_through routine_words
-    composite judged start reached reached_by reached_in element_number member_number number_behind part closed opened
-    with_literal with_value without first_not_constant typed_unit
+    shift_amount unary_value constant_in constant_of greatest_of suffix_of typed types_of bytes_of_literal character_value
+    characters_of escaped literal_step next_character extent_of array_size member_offsets structure_of union_of room
+    is_valid_program constant_word binary assigned cast row_of comma combined unary dereferenced indexed size_of_words
+    assignment compound stepped condition conditional switch_value called called_through routine_words composite judged
+    start reached reached_by reached_in element_number member_number number_behind part closed opened with_literal
+    with_value without first_not_constant typed_unit
 enumerators = refl
 
 -- int a[];int f(void){return*a;}int a[3];int main(void){return 0;}
@@ -399,12 +398,12 @@ named_before_its_size :
     ≡ accepted true ((12, (None, [])) ∷ []) (function 1 0 [] [] (other ∷ []) ∷ function 1 0 [] [] (number 0 ∷ []) ∷
     [])
 unfolding balanced_type common_type fit is_signed mixed_type promoted rank size_of unsigned_of binary_value
-    shift_amount unary_value constant_in constant_of greatest_of suffix_of typed types_of bytes_of_literal
-    character_value characters_of escaped literal_step next_character extent_of array_size member_offsets structure_of
-    union_of room is_valid_program constant_word binary assigned cast row_of comma combined unary dereferenced indexed
-    size_of_words assignment compound stepped condition conditional switch_value called called_through routine_words
-    composite judged start reached reached_by reached_in element_number member_number number_behind part closed opened
-    with_literal with_value without first_not_constant typed_unit
+    shift_amount unary_value constant_in constant_of greatest_of suffix_of typed types_of bytes_of_literal character_value
+    characters_of escaped literal_step next_character extent_of array_size member_offsets structure_of union_of room
+    is_valid_program constant_word binary assigned cast row_of comma combined unary dereferenced indexed size_of_words
+    assignment compound stepped condition conditional switch_value called called_through routine_words composite judged
+    start reached reached_by reached_in element_number member_number number_behind part closed opened with_literal
+    with_value without first_not_constant typed_unit
 named_before_its_size = refl
 
 -- struct S s;struct S*f(void){return&s;}struct S{int a;};int main(void){return 0;}
@@ -420,15 +419,14 @@ named_before_its_members :
     1)) t.no_specifiers) None (at 1))) ∷ (s.definition (t.specifiers (word keyword.Int 1) t.no_specifiers) (t.function
     (t.named (spelled (codes "main") 1)) (at 1) (t.void_parameters (at 1)) (at 1)) (s.block (at 1) (s.items (s.inner
     (s.return (at 1) (Some (t.integer (spelled (codes "0") 1))) (at 1))) s.no_items) (at 1))) ∷ []) 1)
-    ≡ accepted true ((4, (None, [])) ∷ []) (function 1 0 [] [] (other ∷ []) ∷ function 1 1 [] [] (number 0 ∷ []) ∷
-    [])
+    ≡ accepted true ((4, (None, [])) ∷ []) (function 1 0 [] [] (other ∷ []) ∷ function 1 1 [] [] (number 0 ∷ []) ∷ [])
 unfolding balanced_type common_type fit is_signed mixed_type promoted rank size_of unsigned_of binary_value
-    shift_amount unary_value constant_in constant_of greatest_of suffix_of typed types_of bytes_of_literal
-    character_value characters_of escaped literal_step next_character extent_of array_size member_offsets structure_of
-    union_of room is_valid_program constant_word binary assigned cast row_of comma combined unary dereferenced indexed
-    size_of_words assignment compound stepped condition conditional switch_value called called_through routine_words
-    composite judged start reached reached_by reached_in element_number member_number number_behind part closed opened
-    with_literal with_value without first_not_constant typed_unit
+    shift_amount unary_value constant_in constant_of greatest_of suffix_of typed types_of bytes_of_literal character_value
+    characters_of escaped literal_step next_character extent_of array_size member_offsets structure_of union_of room
+    is_valid_program constant_word binary assigned cast row_of comma combined unary dereferenced indexed size_of_words
+    assignment compound stepped condition conditional switch_value called called_through routine_words composite judged
+    start reached reached_by reached_in element_number member_number number_behind part closed opened with_literal
+    with_value without first_not_constant typed_unit
 named_before_its_members = refl
 
 -- int main(void){int a[]={(int)(long)a};return a[0];}
@@ -439,21 +437,19 @@ named_in_its_initializer :
     "a") 1)) (at 1) (at 1)) (Some (
       (at 1),
       (t.braced (at 1) (t.item None (t.value (t.cast (at 1) (t.typed
-          (t.specifiers (word keyword.Int 1) t.no_specifiers) t.unnamed) (at 1)
-          (t.cast (at 1) (t.typed (t.specifiers (word
-          keyword.Long 1) t.no_specifiers) t.unnamed) (at 1) (t.identifier (spelled (codes "a") 1))))))
-          t.end_of_items None
+          (t.specifiers (word keyword.Int 1) t.no_specifiers) t.unnamed) (at 1) (t.cast (at 1) (t.typed (t.specifiers (word
+          keyword.Long 1) t.no_specifiers) t.unnamed) (at 1) (t.identifier (spelled (codes "a") 1)))))) t.end_of_items None
           (at 1)),
     ))) [])) (at 1))) (s.items (s.inner (s.return (at 1) (Some (t.subscript (t.identifier (spelled (codes "a")
     1)) (at 1) (t.integer (spelled (codes "0") 1)) (at 1))) (at 1))) s.no_items)) (at 1))) ∷ []) 1)
     ≡ accepted true [] (function 1 0 [] ((4, true) ∷ []) (other ∷ other ∷ []) ∷ [])
 unfolding balanced_type common_type fit is_signed mixed_type promoted rank size_of unsigned_of binary_value
-    shift_amount unary_value constant_in constant_of greatest_of suffix_of typed types_of bytes_of_literal
-    character_value characters_of escaped literal_step next_character extent_of array_size member_offsets structure_of
-    union_of room is_valid_program constant_word binary assigned cast row_of comma combined unary dereferenced indexed
-    size_of_words assignment compound stepped condition conditional switch_value called called_through routine_words
-    composite judged start reached reached_by reached_in element_number member_number number_behind part closed opened
-    with_literal with_value without first_not_constant typed_unit
+    shift_amount unary_value constant_in constant_of greatest_of suffix_of typed types_of bytes_of_literal character_value
+    characters_of escaped literal_step next_character extent_of array_size member_offsets structure_of union_of room
+    is_valid_program constant_word binary assigned cast row_of comma combined unary dereferenced indexed size_of_words
+    assignment compound stepped condition conditional switch_value called called_through routine_words composite judged
+    start reached reached_by reached_in element_number member_number number_behind part closed opened with_literal
+    with_value without first_not_constant typed_unit
 named_in_its_initializer = refl
 
 -- int main(void){putchar(65);return 0;}
@@ -465,12 +461,12 @@ of_the_library :
     1))) (at 1))) s.no_items)) (at 1))) ∷ []) 1)
     ≡ accepted true [] (function 1 0 [] [] (other ∷ number 0 ∷ []) ∷ [])
 unfolding balanced_type common_type fit is_signed mixed_type promoted rank size_of unsigned_of binary_value
-    shift_amount unary_value constant_in constant_of greatest_of suffix_of typed types_of bytes_of_literal
-    character_value characters_of escaped literal_step next_character extent_of array_size member_offsets structure_of
-    union_of room is_valid_program constant_word binary assigned cast row_of comma combined unary dereferenced indexed
-    size_of_words assignment compound stepped condition conditional switch_value called called_through routine_words
-    composite judged start reached reached_by reached_in element_number member_number number_behind part closed opened
-    with_literal with_value without first_not_constant typed_unit
+    shift_amount unary_value constant_in constant_of greatest_of suffix_of typed types_of bytes_of_literal character_value
+    characters_of escaped literal_step next_character extent_of array_size member_offsets structure_of union_of room
+    is_valid_program constant_word binary assigned cast row_of comma combined unary dereferenced indexed size_of_words
+    assignment compound stepped condition conditional switch_value called called_through routine_words composite judged
+    start reached reached_by reached_in element_number member_number number_behind part closed opened with_literal
+    with_value without first_not_constant typed_unit
 of_the_library = refl
 
 -- int putchar(int);int main(void){return putchar(65);}
@@ -484,10 +480,10 @@ library_declared :
     1))) (at 1))) s.no_items) (at 1))) ∷ []) 1)
     ≡ accepted true [] (function 1 0 [] [] (other ∷ []) ∷ [])
 unfolding balanced_type common_type fit is_signed mixed_type promoted rank size_of unsigned_of binary_value
-    shift_amount unary_value constant_in constant_of greatest_of suffix_of typed types_of bytes_of_literal
-    character_value characters_of escaped literal_step next_character extent_of array_size member_offsets structure_of
-    union_of room is_valid_program constant_word binary assigned cast row_of comma combined unary dereferenced indexed
-    size_of_words assignment compound stepped condition conditional switch_value called called_through routine_words
-    composite judged start reached reached_by reached_in element_number member_number number_behind part closed opened
-    with_literal with_value without first_not_constant typed_unit
+    shift_amount unary_value constant_in constant_of greatest_of suffix_of typed types_of bytes_of_literal character_value
+    characters_of escaped literal_step next_character extent_of array_size member_offsets structure_of union_of room
+    is_valid_program constant_word binary assigned cast row_of comma combined unary dereferenced indexed size_of_words
+    assignment compound stepped condition conditional switch_value called called_through routine_words composite judged
+    start reached reached_by reached_in element_number member_number number_behind part closed opened with_literal
+    with_value without first_not_constant typed_unit
 library_declared = refl

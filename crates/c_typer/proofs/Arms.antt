@@ -18,7 +18,7 @@ use Rattle.c_tree.specs.View as tree
 use Rattle.c_faults.specs.declared.fault.Refusal.{Refusal}
 use Rattle.c_faults.specs.Answer.{Gives}
 use Rattle.c_typing_state.specs.State.{State, Types, judged}
-use Rattle.c_typer.specs.FileState.{FileTypes}
+use Rattle.c_programs.specs.FileState.{FileTypes}
 use Rattle.c_unit_typing.specs.Constructs.{Around, Labels, case_label, controlled, default_label, do_typed}
 use Rattle.c_unit_typing.specs.Constructs.{expression_typed, for_typed, if_else_typed, if_typed, jump, looping}
 use Rattle.c_unit_typing.specs.Constructs.{no_labels, returned, switch_typed, switching, while_typed}

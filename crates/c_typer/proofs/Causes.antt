@@ -13,20 +13,23 @@ use Rattle.c_faults.specs.declared.fault.Refusal.{Refusal}
 use Rattle.c_faults.specs.declared.fault.Refusal.TheVariants as rules
 use Rattle.c_const.specs.Initializers.{first_not_constant}
 use Rattle.c_counts.specs.Counts.{counts_of}
-use Rattle.c_faults.specs.Answer.{Fails}
+use Rattle.c_faults.specs.Answer.{Answer, Fails}
 use Rattle.c_unit_typing.specs.declared.limits.Limited.{Limited}
 use Rattle.c_unit_typing.specs.Files.{File}
 use Rattle.c_unit_typing.specs.Programs.{program_of}
-use Rattle.c_unit_typing.specs.Typed.{TypedUnit, a_fault, a_program, limited_program, not_constant, too_large}
+use Rattle.c_unit_typing.specs.Typed.{TypedUnit, a_fault, a_program, limited_program, most_functions, not_constant}
+use Rattle.c_unit_typing.specs.Typed.{too_large}
 use Rattle.c_unit_typing.specs.Typed.{typed_as, typed_unit, unless_not_constant, within_limits}
 use Rattle.c_unit_typing.specs.Units.{file_in}
-use Rattle.c_unit_typing.proofs.Within.{unit_constant}
-use Rattle.c_typer.specs.Limits.{IsExcess}
-use Rattle.c_typer.specs.Outlines.{Outline, program_in}
-use Rattle.c_typer.specs.Rooms.{first_without_room}
+use Rattle.c_unit_typing.proofs.Within.{given_within, unit_constant}
+use Rattle.c_programs.specs.Limits.{IsExcess}
+use Rattle.c_programs.specs.Outlines.{Outline, program_in}
+use Rattle.c_programs.specs.Rooms.{first_without_room}
 use Rattle.program_laws.specs.TreeSizes.Nodes.{nodes_of}
+use Rattle.program_laws.proofs.Limits.Files.{unit_bounded}
 use Rattle.program_laws.proofs.ProgramSizes.Programs.{unit_words_program}
 use Rattle.program_laws.proofs.Programs.Units.{unit_valid}
+use Rattle.c_typer.specs.Limited.{IsWithinLimits}
 use Rattle.c_typer.specs.declared.unit.UnitRefusal.{UnitRefusal}
 use Rattle.c_typer.specs.declared.unit.UnitRefusal.TheVariants.{Fault as OfFault, Memory}
 use Rattle.c_typer.specs.Refused.{IsCauseOf, IsWithoutRoom, UnlessMemory, refusal_of}
@@ -107,7 +110,31 @@ pub few_nodes : (end : ℕ) (u : SyntaxUnit) (r : Result CodeProgram UnitRefusal
 few_nodes end u (Ok program) typed = unit_words_program end u (view.program_of program) typed
 few_nodes end u (Err e) typed = tt
 
--- and is valid
+-- is within the limits
+
+typed_few : (es : List External) (f : Answer File) (p : Program) → typed_as es f ≡ a_program p
+    → length p.functions ≤ most_functions
+typed_few es (Err fault) p e = absurd cc
+typed_few es (Ok file) p e =
+    let within = given_within es (program_of file) p e in
+    subst (λ x. length x.functions ≤ most_functions) within.same within.functions
+
+few_functions : (end : ℕ) (u : SyntaxUnit) (p : Program) → typed_unit end u ≡ a_program p
+    → length p.functions ≤ most_functions
+unfolding typed_unit
+few_functions end u p e = typed_few u.externals (file_in end u.externals) p e
+
+pub within_limits_of : (end : ℕ) (u : SyntaxUnit) (r : Result CodeProgram UnitRefusal)
+    → IfOk r (λ program. typed_unit end u ≡ a_program (view.program_of program))
+    → IfOk r (λ program. IsWithinLimits (view.program_of program))
+within_limits_of end u (Ok program) typed =
+    record {
+      functions = few_functions end u (view.program_of program) typed;
+      parameters = unit_bounded end u (view.program_of program) typed;
+    }
+within_limits_of end u (Err e) typed = tt
+
+-- is valid
 
 pub valid_program : (end : ℕ) (u : SyntaxUnit) (r : Result CodeProgram UnitRefusal)
     → IfOk r (λ program. typed_unit end u ≡ a_program (view.program_of program))

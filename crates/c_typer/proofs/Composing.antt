@@ -12,7 +12,7 @@ use Rattle.c_faults.specs.declared.fault.Refusal.{Refusal}
 use Rattle.c_faults.specs.Answer.{Answer, Fails, Gives, ◌>>=◌}
 use Rattle.c_typing_state.specs.State.{State, Types, Typing, judged}
 use Rattle.c_syntax_typing.proofs.Composing.{fails_on}
-use Rattle.c_typer.specs.FileState.{FileTypes}
+use Rattle.c_programs.specs.FileState.{FileTypes}
 use Rattle.c_unit_typing.specs.Constructs.{Around, Labels, evaluated, first_typed, in_scope, labelled}
 use Rattle.c_unit_typing.specs.Constructs.{scope_closed, scope_opened}
 use Rattle.c_unit_typing.specs.Files.{File, FileTyping, finished, in_state, ◌~>◌}

@@ -7,7 +7,7 @@ use Rattle.c_tree.specs.View.{statement_of}
 use Rattle.c_faults.specs.declared.fault.Refusal.{Refusal}
 use Rattle.c_faults.specs.Answer.{Answer, Fails}
 use Rattle.c_typing_state.specs.State.{State}
-use Rattle.c_typer.specs.FileState.{FileTypes}
+use Rattle.c_programs.specs.FileState.{FileTypes}
 use Rattle.c_unit_typing.specs.Constructs.{do_behind, do_typed, scope_closed, scope_opened}
 use Rattle.c_unit_typing.specs.Files.{File, FileTyping}
 use Rattle.c_typer.proofs.Composing.{scope_fails, scoped}

@@ -3,16 +3,10 @@ mod Causes
 mod Composing
 mod Designating
 mod DoScopes
-mod Files
-mod Filling
 mod Items
-mod Limiting
-mod Making
 mod Meaning
 mod Otherwise
-mod ParameterKinds
 mod Parameters
 mod Parts
-mod Placing
 mod Turns
 mod Views

@@ -5,7 +5,7 @@ use Rattle.c_tree.specs.Statements.{DeclaredVariable}
 use Rattle.c_faults.specs.declared.fault.Refusal.{Refusal}
 use Rattle.c_scope.specs.declared.meaning.Meaning.{Meaning}
 use Rattle.c_scope.specs.Names.{Name}
-use Rattle.c_typer.specs.FileState.{FileTypes}
+use Rattle.c_programs.specs.FileState.{FileTypes}
 use Rattle.c_unit_typing.specs.Declarations.{declared_with}
 use Rattle.c_unit_typing.specs.Files.{File}
 

@@ -7,7 +7,7 @@ use Rattle.c_tree.specs.Tree as typed_tree
 use Rattle.c_tree.specs.View.{statement_of}
 use Rattle.c_faults.specs.declared.fault.Refusal.{Refusal}
 use Rattle.c_faults.specs.Answer.{Answer, ◌>>=◌}
-use Rattle.c_typer.specs.FileState.{FileTypes}
+use Rattle.c_programs.specs.FileState.{FileTypes}
 use Rattle.c_unit_typing.specs.Constructs.{controlling, if_else_typed, scope_opened}
 use Rattle.c_unit_typing.specs.Files.{File, FileTyping, finished, in_state, ◌~>◌}
 use Rattle.c_typer.specs.Branches.{branch, closing, with_else}

@@ -1,13 +1,6 @@
 pub mod Around
 pub mod Branches
 pub mod Entering
-pub mod FileState
 pub mod Initialized
-pub mod Limits
-pub mod Outlines
-pub mod ProgramRefused
+pub mod Limited
 pub mod Refused
-pub mod Rooms
-pub mod Slots
-pub mod Statics
-pub mod Words

@@ -5,8 +5,8 @@ use Rattle.c_tree.specs.Programs.{Program}
 use Rattle.c_faults.specs.declared.fault.Refusal.{Refusal}
 use Rattle.c_faults.specs.declared.fault.Refusal.TheVariants as rules
 use Rattle.c_unit_typing.specs.Typed.{TypedUnit, a_fault, a_program, not_constant, too_large, within_limits}
-use Rattle.c_typer.specs.Outlines.{Outline, program_in}
-use Rattle.c_typer.specs.Rooms.{first_without_room}
+use Rattle.c_programs.specs.Outlines.{Outline, program_in}
+use Rattle.c_programs.specs.Rooms.{first_without_room}
 use Rattle.c_typer.specs.declared.unit.UnitRefusal.{UnitRefusal}
 use Rattle.c_typer.specs.declared.unit.UnitRefusal.TheVariants as refusal
 

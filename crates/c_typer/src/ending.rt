@@ -2,11 +2,11 @@
 
 ghost use Rattle.std.specs.Prelude.{◌≡◌, option_copied};
 ghost use Rattle.c_faults.specs.Answer.{Gives};
-ghost use Rattle.c_typer.specs.FileState.{file_of};
+ghost use Rattle.c_programs.specs.FileState.{file_of};
 ghost use Rattle.c_unit_typing.specs.Units.{all_defined, ended, is_main};
 
-use crate::state::FileTyper;
 use c_faults::{Fault, Refusal, Rule};
+use c_programs::state::FileTyper;
 use c_scope::meaning::Entity;
 use c_tree::{TypeWord, same_words};
 use obj_memory::IntType;

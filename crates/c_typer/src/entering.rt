@@ -8,14 +8,14 @@ ghost use Rattle.c_scope.specs.Names.{names_of};
 ghost use Rattle.c_scope.specs.Parameters.{scope_of};
 ghost use Rattle.c_operand_typing.specs.Calls.{with_type};
 ghost use Rattle.c_typing_state.specs.State.{state_of};
-ghost use Rattle.c_typer.specs.FileState.{file_of};
+ghost use Rattle.c_programs.specs.FileState.{file_of};
 ghost use Rattle.c_unit_typing.specs.Declarations.{variable_in};
 ghost use Rattle.c_unit_typing.specs.Units.{entered, left, marks_in, parameter_in, parameters_in};
 ghost use Rattle.c_typer.specs.Entering.{begun, parameter_if, parameter_of};
 
-use crate::place::place_among;
-use crate::state::{Definition, FileTyper};
 use c_operand_typing::primaries::{is_object, kind_of_place};
+use c_programs::place::place_among;
+use c_programs::state::{Definition, FileTyper};
 use c_scope::meaning::{Designated, Meaning};
 use c_scope::names::Names;
 use c_scope::parameters::ParameterScope;

@@ -4,14 +4,14 @@ ghost use Rattle.std.specs.Prelude.{◌≡◌, IfOk};
 ghost use Rattle.c_syntax.specs.StatementsView as views;
 ghost use Rattle.c_facts.specs.Facts.{facts_in};
 ghost use Rattle.c_faults.specs.Answer.{Gives};
-ghost use Rattle.c_typer.specs.FileState.{file_of};
+ghost use Rattle.c_programs.specs.FileState.{file_of};
 ghost use Rattle.c_unit_typing.specs.Units.{file_before, file_in, file_with};
 
 use crate::ending::ended;
 use crate::externals::externals;
-use crate::state::FileTyper;
 use c_facts::found::facts_in;
 use c_faults::Refusal;
+use c_programs::state::FileTyper;
 use c_rules::holding::beside;
 use c_scope::environment::Environment;
 use c_syntax::External;

@@ -8,11 +8,7 @@ pub mod entering;
 pub mod externals;
 pub mod file;
 pub mod initializers;
-pub mod kinds;
 pub mod naming;
-pub mod place;
-pub mod programs;
-pub mod state;
 pub mod statements;
 pub mod unit;
 

@@ -8,19 +8,20 @@ ghost use Rattle.c_tree.specs.ValidProgram.{is_valid_program};
 ghost use Rattle.c_tree.specs.View as view;
 ghost use Rattle.c_const.specs.Initializers.{first_not_constant};
 ghost use Rattle.program_laws.specs.TreeSizes.Nodes.{nodes_of};
-ghost use Rattle.c_typer.specs.FileState.{file_of};
+ghost use Rattle.c_programs.specs.FileState.{file_of};
 ghost use Rattle.c_unit_typing.specs.Programs.{program_of};
 ghost use Rattle.c_unit_typing.specs.Typed.{a_program, typed_unit, within_limits};
-ghost use Rattle.c_typer.specs.Outlines.{outline_of, program_in};
+ghost use Rattle.c_programs.specs.Outlines.{outline_of, program_in};
+ghost use Rattle.c_typer.specs.Limited.{IsWithinLimits};
 ghost use Rattle.c_typer.specs.Refused.{IsCauseOf, IsRefused, UnlessMemory, refusal_of};
 
 use crate::file::file_in;
-use crate::programs::constants::first_not_constant;
-use crate::programs::limits::excess;
-use crate::programs::outline::{Outline, complete, outlined};
-use crate::programs::refusal::ProgramRefusal;
-use crate::state::FileTyper;
 use c_faults::{Fault, Refusal};
+use c_programs::constants::first_not_constant;
+use c_programs::limits::excess;
+use c_programs::outline::{Outline, complete, outlined};
+use c_programs::refusal::ProgramRefusal;
+use c_programs::state::FileTyper;
 use c_syntax::Unit;
 use c_tree::Program;
 use c_unit_typing::limits::Limited;
@@ -114,13 +115,14 @@ fn program_in(alloc: Global, unit: &Unit, file: FileTyper) -> Result<Program, Un
 /// The typed program of a file whose text ends on a line (C99 6.9), or why there is none: a rule that it violates, else
 /// that an initializer of a static object is not constant (6.7.8 paragraph 4), else that it has too much of something,
 /// else that calls of a function take too much; or that there is no memory. The program has at most 3 nodes for each
-/// word of the file, the bytes of its literals aside. Its initializers are constant, and that of a well-formed file is
-/// valid.
+/// word of the file, the bytes of its literals aside, and no more functions and parameters of each than the limits. Its
+/// initializers are constant, and that of a well-formed file is valid.
 pub fn type_unit(alloc: Global, end: Line, unit: &Unit) -> Result<Program, UnitRefusal>
     ensures typed { IfOk result
         (λ program. typed_unit end (unit_of unit.now) ≡ a_program (view.program_of program)) }
     ensures small { IfOk result
         (λ program. nodes_of (view.program_of program) ≤ 3 * length (unit_words (unit_of unit.now))) }
+    ensures within { IfOk result (λ program. IsWithinLimits (view.program_of program)) }
     ensures valid { IfOk result (λ program. IsWellFormed (unit_of unit.now)
         → is_valid_program (view.program_of program) ≡ true) }
     ensures constant { IfOk result (λ program. first_not_constant (view.program_of program) ≡ None) }

@@ -17,7 +17,7 @@ use Rattle.sbcets_core.specs.declared.refusal.SourceRefusal.TheVariants.{Syntax,
 use Rattle.sbcets_core.specs.declared.refusal.Counted.TheVariants.{Source}
 use Rattle.sbcets_core.specs.Outcomes.{max_source}
 use Rattle.c_tree.specs.Programs.{Program}
-use Rattle.c_typer.specs.Rooms.{first_without_room}
+use Rattle.c_programs.specs.Rooms.{first_without_room}
 use Rattle.c_unit_typing.specs.Typed.{TypedUnit, a_program, a_fault, not_constant, too_large, typed_unit}
 use Rattle.compiled_programs.specs.Programs.{is_integer_program}
 use Rattle.sbcets_core.specs.Programs.{Judged, judged_program, judged_unit, unless_large}

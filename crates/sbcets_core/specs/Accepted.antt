@@ -1,5 +1,5 @@
 -- The program of an accepted source, or why the source is refused.
-use Rattle.std.specs.Prelude.{◌≡◌, ◌⊎◌, ℕ, ◌-◌, ◌^◌, min, nat_lt, true, false, List, length, Option, Some}
+use Rattle.std.specs.Prelude.{◌≡◌, ◌≤◌, ◌⊎◌, ℕ, ◌-◌, ◌^◌, min, nat_lt, true, false, List, length, Option, Some}
 use Rattle.std.specs.Prelude.{None, Result, Ok, Err, if◌then◌else◌}
 use Rattle.c_lexer.specs.declared.lexer.LexFault.{LexFault}
 use Rattle.c_lexer.specs.Spelled.{TokenList}
@@ -12,9 +12,13 @@ use Rattle.c_parser.specs.Unsupported.{told_as, first_unsupported}
 use Rattle.c_parser.specs.Parsed.{IsTreeOf, IsRefusedAt}
 use Rattle.sb_base.specs.Budgets.{BudgetSizes}
 use Rattle.c_tree.specs.Programs.{Program}
-use Rattle.c_unit_typing.specs.Typed.{a_program, typed_unit}
+use Rattle.c_tree.specs.ValidProgram.{is_valid_program}
+use Rattle.c_const.specs.Initializers.{first_not_constant}
+use Rattle.c_unit_typing.specs.Typed.{a_program, most_functions, typed_unit}
+use Rattle.c_typer.specs.Limited.{IsWithinLimits}
+use Rattle.compiled_programs.specs.Programs.{is_integer_program}
 use Rattle.program_lowering.specs.ProgramCode.Checks.{checks_of}
-use Rattle.image_laws.specs.Images.Images.{sizes_of, IsChecked, DoesWhatIsMeant}
+use Rattle.image_laws.specs.Images.Images.{sizes_of, HaveFewParameters, IsChecked, DoesWhatIsMeant}
 use Rattle.image_compiler.specs.declared.compiler.Built.{Built}
 use Rattle.image_compiler.specs.declared.error.CompileError.{CompileError}
 use Rattle.image_compiler.specs.declared.error.CompileError.TheVariants as compile
@@ -72,12 +76,23 @@ pub record IsTyped (list : TokenList) (judged : Judged) : Type 0 where
   pub written : IsTreeOf list.tokens tree
   pub as_typed : judged ≡ judged_unit list.end (typed_unit list.end tree)
 
--- none of the tokens is unsupported, and a tree of them is typed as this program
+-- none of the tokens is unsupported, and a tree of them is typed as this program, which is as typing leaves it
 pub record HasProgram (list : TokenList) (program : Program) : Type 0 where
   pub supported : first_unsupported list.tokens ≡ None
   pub tree : Tree
   pub written : IsTreeOf list.tokens tree
   pub typed : typed_unit list.end tree ≡ a_program program
+  pub valid : is_valid_program program ≡ true
+  pub constant : first_not_constant program ≡ None
+  pub within : IsWithinLimits program
+
+-- what the compiler asks of a program
+pub record IsFine (program : Program) : Type 0 where
+  pub integers : is_integer_program program ≡ true
+  pub valid : is_valid_program program ≡ true
+  pub constant : first_not_constant program ≡ None
+  pub few : length program.functions ≤ most_functions
+  pub parameters : HaveFewParameters program
 
 abbrev pub JudgesTokens : TokenList → Judged → Type 0
 JudgesTokens list (Ok program) = IsTyped list (Ok program)

@@ -4,7 +4,7 @@ use Rattle.c_tree.specs.Programs.{Program}
 use Rattle.c_unit_typing.specs.declared.limits.Limited.{Limited}
 use Rattle.c_unit_typing.specs.declared.limits.Limited.TheVariants as limited
 use Rattle.c_unit_typing.specs.Typed.{TypedUnit, a_program, a_fault, not_constant, too_large}
-use Rattle.c_typer.specs.Rooms.{first_without_room}
+use Rattle.c_programs.specs.Rooms.{first_without_room}
 use Rattle.compiled_programs.specs.Programs.{is_integer_program}
 use Rattle.sbcets_core.specs.declared.refusal.Counted.{Counted}
 use Rattle.sbcets_core.specs.declared.refusal.Counted.TheVariants as counted

@@ -7,7 +7,8 @@ ghost use Rattle.c_parser.specs.Unsupported.{first_unsupported};
 ghost use Rattle.c_tree.specs.View.{program_of};
 ghost use Rattle.c_typer.specs.Refused.{IsCauseOf, UnlessMemory as UnlessUntyped};
 ghost use Rattle.c_unit_typing.specs.Typed.{TypedUnit};
-ghost use Rattle.sbcets_core.specs.Accepted.{Compiles, HasProgram, JudgesReadable, Judges, UnlessMemory, IsOfSize};
+ghost use Rattle.sbcets_core.specs.Accepted.{Compiles, HasProgram, IsFine, JudgesReadable, Judges, UnlessMemory};
+ghost use Rattle.sbcets_core.specs.Accepted.{IsOfSize};
 ghost use Rattle.sbcets_core.specs.Accepted.{expanded_tokens, with_support};
 ghost use Rattle.sbcets_core.specs.Programs.{counted_as, judged_unit};
 
@@ -29,7 +30,6 @@ pub const MAX_SOURCE: u64 = 1_048_576;
 
 /// The image of a source, which does what the source means with these budgets, and the number of its checks; or why the
 /// source is refused, for the first of the causes in the order of `SourceRefusal`.
-#[tactic(auto, using(crate::proofs::Typing::accepted_is_fine))]
 pub fn compile(alloc: Global, source: &[u8], budgets: &Budgets) -> Result<Built, SourceRefusal>
     ensures { Compiles source.now budgets.now result }
 {
@@ -62,6 +62,7 @@ fn size_refusal(error: CompileError) -> SourceRefusal
 #[tactic(auto, using(crate::proofs::Judging::judging))]
 fn accepted(alloc: Global, source: &[u8]) -> Result<Program, SourceRefusal>
     ensures ok { IfOk result (λ program. Judges source.now (Ok (program_of program))) }
+    ensures fine { IfOk result (λ program. IsFine (program_of program)) }
     ensures err { IfErr result (λ refusal. UnlessMemory refusal (Judges source.now (Err refusal))) }
 {
     let tokens = match expanded_tokens(alloc, source) {
@@ -97,9 +98,11 @@ fn expanded_tokens<'a>(alloc: Global, source: &'a [u8]) -> Result<Tokens<'a>, So
 }
 
 // The program of expanded tokens that are accepted.
-#[tactic(auto, using(crate::proofs::Judging::program_judged, crate::proofs::Judging::program_refused))]
+#[tactic(auto, using(crate::proofs::Judging::program_judged, crate::proofs::Judging::program_refused,
+    crate::proofs::Typing::fine))]
 fn accepted_of(alloc: Global, tokens: &Tokens) -> Result<Program, SourceRefusal>
     ensures ok { IfOk result (λ program. JudgesReadable (with_support tokens.now) (Ok (program_of program))) }
+    ensures fine { IfOk result (λ program. IsFine (program_of program)) }
     ensures err { IfErr result
         (λ refusal. UnlessMemory refusal (JudgesReadable (with_support tokens.now) (Err refusal))) }
 {

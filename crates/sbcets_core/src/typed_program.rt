@@ -1,7 +1,7 @@
 //! What is tested of a typed program before it is compiled.
 ghost use Rattle.std.specs.Prelude.{◌≡◌, ◌^◌, nat_lt, true, None, Ok, Err, IfErr, OnOk, map};
 ghost use Rattle.c_tree.specs.View.{function_of, program_of};
-ghost use Rattle.c_typer.specs.Rooms.{first_without_room};
+ghost use Rattle.c_programs.specs.Rooms.{first_without_room};
 ghost use Rattle.sbcets_core.specs.Accepted.{UnlessMemory};
 ghost use Rattle.sbcets_core.specs.Programs.{judged_program};
 

@@ -10,16 +10,16 @@ ghost use Rattle.c_tree.specs.View.{declared_of, expression_of, first_of};
 ghost use Rattle.c_faults.specs.Answer.{Gives};
 ghost use Rattle.c_rules.specs.Values.{value_of};
 ghost use Rattle.c_typing_state.specs.State.{Types, state_of};
-ghost use Rattle.c_typer.specs.FileState.{FileTypes, file_of};
+ghost use Rattle.c_programs.specs.FileState.{FileTypes, file_of};
 ghost use Rattle.c_unit_typing.specs.Constructs as constructs;
 ghost use Rattle.c_unit_typing.specs.Files.{finished, in_state, ◌~>◌};
 ghost use Rattle.c_typer.specs.Around.{head_of};
 
 use crate::declarations::declarators::declaration;
-use crate::state::FileTyper;
 use crate::statements::allocated::Allocated;
 use crate::statements::controlling::{controls, evaluated, evaluated_if, valued_if};
 use c_faults::Refusal;
+use c_programs::state::FileTyper;
 use c_rules::TypedValue;
 use c_rules::holding::beside;
 use c_syntax::{Boxed, Declaration, Expression as ExpressionTree, ForHead, ForInit};

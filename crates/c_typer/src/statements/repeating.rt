@@ -9,16 +9,16 @@ ghost use Rattle.c_rules.specs.Values.{value_of};
 ghost use Rattle.c_expression_typing.specs.Constructs.{valued};
 ghost use Rattle.c_expression_typing.specs.Typed.{typed};
 ghost use Rattle.c_typing_state.specs.State.{State, Types, state_of};
-ghost use Rattle.c_typer.specs.FileState.{FileTypes, file_of};
+ghost use Rattle.c_programs.specs.FileState.{FileTypes, file_of};
 ghost use Rattle.c_unit_typing.specs.Files.{File, finished, in_state, ◌~>◌};
 ghost use Rattle.c_unit_typing.specs.Constructs as constructs;
 
 use crate::initializers::dropping::let_go;
-use crate::state::FileTyper;
 use crate::statements::allocated::Allocated;
 use crate::statements::building::do_while;
 use crate::statements::controlling::{allocated_value, controlling, controls};
 use c_faults::{Fault, Refusal};
+use c_programs::state::FileTyper;
 use c_rules::TypedValue;
 use c_rules::holding::beside;
 use c_syntax::Expression;

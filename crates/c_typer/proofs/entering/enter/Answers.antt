@@ -1,7 +1,7 @@
 use Rattle.std.proofs.Common.{ap}
 use Rattle.c_scope.specs.Names.{names_of}
 use Rattle.c_scope.specs.Parameters.{scope_of}
-use Rattle.c_typer.specs.FileState.{file_of}
+use Rattle.c_programs.specs.FileState.{file_of}
 use Rattle.c_unit_typing.specs.Files.{File}
 use Rattle.c_typer.proofs.Parameters.{same_parameters}
 use Rattle.c_typer.proofs.entering.enter.Goals as goal

@@ -1,6 +1,6 @@
 use Rattle.std.proofs.Common.{◌≡◌, drop}
 use Rattle.c_syntax.specs.StatementsView.{externals_in}
-use Rattle.c_typer.specs.FileState.{file_of}
+use Rattle.c_programs.specs.FileState.{file_of}
 use Rattle.c_unit_typing.specs.Units.{externals}
 use Rattle.c_typer.proofs.externals.externals.Given as goal
 

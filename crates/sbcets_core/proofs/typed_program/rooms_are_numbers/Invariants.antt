@@ -1,6 +1,6 @@
 use Rattle.std.proofs.Common.{◌≡◌, map, drop}
 use Rattle.c_tree.specs.View.{function_of}
-use Rattle.c_typer.specs.Rooms.{first_without_room}
+use Rattle.c_programs.specs.Rooms.{first_without_room}
 use Rattle.sbcets_core.proofs.typed_program.rooms_are_numbers.Given as goal
 
 abbrev pub invariant-loop-function : goal.invariant-loop-function

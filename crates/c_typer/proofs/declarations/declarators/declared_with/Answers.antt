@@ -1,7 +1,7 @@
 use Rattle.std.proofs.Common.{Some, option_copied, option_map, sym, ap}
 use Rattle.c_syntax.specs.StatementsView.{initializer_of}
 use Rattle.c_declarator_typing.specs.Declarators.{located}
-use Rattle.c_typer.specs.FileState.{file_of}
+use Rattle.c_programs.specs.FileState.{file_of}
 use Rattle.c_typer.proofs.Meaning.{means}
 use Rattle.c_typer.proofs.declarations.declarators.declared_with.Goals as goal
 

@@ -2,7 +2,7 @@ use Rattle.std.proofs.Common.{◌≡◌, drop, map}
 use Rattle.c_syntax.specs.StatementsView.{more_init_declarators_in}
 use Rattle.c_tree.specs.View.{declared_of}
 use Rattle.c_declarator_typing.specs.Specifications.{specification_of}
-use Rattle.c_typer.specs.FileState.{file_of}
+use Rattle.c_programs.specs.FileState.{file_of}
 use Rattle.c_unit_typing.specs.Declarations.{with_others}
 use Rattle.c_typer.proofs.declarations.declarators.with_others.Given as goal
 

@@ -1,7 +1,7 @@
 use Rattle.std.proofs.Common.{ap}
 use Rattle.c_syntax.specs.StatementsView.{optional_of}
 use Rattle.c_syntax.specs.View.{expression_of}
-use Rattle.c_typer.specs.FileState.{file_of}
+use Rattle.c_programs.specs.FileState.{file_of}
 use Rattle.c_typer.proofs.Composing.{first_evaluated}
 use Rattle.c_typer.proofs.statements.heads.first_evaluated.Goals as goal
 

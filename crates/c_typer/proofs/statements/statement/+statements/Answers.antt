@@ -3,7 +3,7 @@ use Rattle.c_syntax.specs.StatementsView.{block_item_of, items_in, statement_of}
 use Rattle.c_syntax.specs.View.{expression_of}
 use Rattle.c_tree.specs.Statements.{statements_in}
 use Rattle.c_tree.specs.View as tree
-use Rattle.c_typer.specs.FileState.{file_of}
+use Rattle.c_programs.specs.FileState.{file_of}
 use Rattle.c_unit_typing.specs.Constructs.{controlled, labels_on, no_labels}
 use Rattle.c_unit_typing.specs.Statements.{block_item, block_items, statement, switch_item, switch_items}
 use Rattle.c_typer.specs.Around.{around_of, item_of, labelled_of, labels_of}

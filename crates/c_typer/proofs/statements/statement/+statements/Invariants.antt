@@ -1,7 +1,7 @@
 use Rattle.std.proofs.Common.{◌≡◌, [], drop, map}
 use Rattle.c_syntax.specs.StatementsView.{items_in}
 use Rattle.c_tree.specs.View.{statement_of}
-use Rattle.c_typer.specs.FileState.{file_of}
+use Rattle.c_programs.specs.FileState.{file_of}
 use Rattle.c_unit_typing.specs.Statements.{block_items, switch_items}
 use Rattle.c_typer.specs.Around.{around_of, item_of}
 use Rattle.c_typer.proofs.Items.{items_behind, switch_items_behind}

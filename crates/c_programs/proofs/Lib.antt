@@ -1,0 +1,6 @@
+mod Files
+mod Filling
+mod Limiting
+mod Making
+mod ParameterKinds
+mod Placing

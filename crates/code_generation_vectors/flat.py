@@ -201,6 +201,7 @@ def rows():
             if op in ("add", "sub", "blt", "divw"):
                 yield "far_" + name, 65536, b"", [("0 0 400 program", BEGIN + [f"try {name}"] + END), SHOW]
     yield from constants()
+    yield from copies()
     yield from memory()
     yield from outside()
     yield from endings()
@@ -216,6 +217,21 @@ def constants():
     body = [line for n in numbers for line in (f"constant 3 {n}", "move 2 3", "call 1 2 0")]
     for name, names in (("constants", 4), ("far_constants", 300)):
         yield name, 65536, b"", [(f"0 0 {names} program", BEGIN + body + END), SHOW]
+
+
+def copies():
+    """Copies within one place and between two, and jumps to the next instruction, to one of which another leads."""
+    body = ["constant 1 7", "move 1 1", "move 2 1", "move 2 2", "forward 0", "addi 3 2 1", "forward 0", "forward 0",
+            "call 1 3 0", "constant 5 9", "move 3 5", "move 3 3", "call 1 3 0", "forward 1", "move 3 1", "call 1 3 0",
+            "constant 0 3", "forward 0", "turn", "move 3 0", "call 1 3 0", "move 4 0", "subi 4 4 1", "move 0 4",
+            "beqi 0 0 1", "back 8", "forward 0"]
+    for name, names in (("copies", 6), ("far_copies", 300)):
+        yield name, 65536, b"", [(f"0 0 {names} program", BEGIN + body + END), SHOW]
+    # names that wait in more places than registers, each copied to itself, and to the next one
+    for name, names in (("many_copies", 30), ("many_far_copies", 300)):
+        body = [f"fill 1 {names - 1}"] + [f"move {k} {k}" for k in range(1, names)]
+        body += [f"move {k} {k + 1}" for k in range(1, names - 1)] + ["constant 0 0", f"mix 1 {names - 1} 0", "move 1 0"]
+        yield name, 65536, b"", [(f"0 0 {names} program", BEGIN + body + ["call 1 1 0"] + END), SHOW]
 
 
 def memory():

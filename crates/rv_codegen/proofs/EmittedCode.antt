@@ -1,3 +1,4 @@
 pub mod Lists
 pub mod Saving
 pub mod Table
+pub mod Lookups

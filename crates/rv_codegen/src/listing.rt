@@ -4,8 +4,10 @@ ghost use Rattle.std.specs.Prelude.{◌≡◌, ◌+◌, ◌-◌, ◌<◌, ◌^�
 ghost use Rattle.rv_asm.specs.declared.item.Item.TheVariants as item;
 ghost use Rattle.flat_meaning.specs.Calls.{function_in};
 ghost use Rattle.flat_meaning.specs.Meaning.{body_of};
+ghost use Rattle.reg_plan.specs.Order.{IsLookupAt};
 ghost use Rattle.reg_plan.specs.Saves.Saves.{is_call, saved_at};
 ghost use Rattle.machine_laws.specs.Calls.Table.{source_count};
+ghost use Rattle.flat_meaning.specs.declared.instruction.FlatInstruction.TheVariants as flat;
 ghost use Rattle.machine_laws.specs.Following.Code.{keeping};
 ghost use Rattle.machine_laws.specs.Layout.Lists.{plain, label_for, tail_of, items_at, items_of};
 
@@ -14,8 +16,8 @@ use crate::emission::{
 };
 use addr_map::AddrMap;
 use flat_meaning::{FlatInstruction, FlatProgram};
-use reg_plan::FunctionPlan;
 use reg_plan::call_saves::call_saves;
+use reg_plan::{FunctionPlan, LiveLookup};
 use rv_asm::{Item, Label};
 use rv_isa::Instr;
 use std::alloc::{AllocError, Global};
@@ -108,6 +110,25 @@ pub(crate) fn label_for(count: u32, place: u64) -> u32
     }
 }
 
+// Puts the jump over so many instructions of a function, unless it leads to the next one.
+fn put_forward(
+    list: &mut Listing,
+    planned: &PlannedFunction,
+    count: u32,
+    place: u32,
+    past: u32,
+) -> Result<(), AllocError>
+    ensures { OnOk result (list.new ≡ list.old
+        ++ tail_of (keeping planned.now.program.now planned.now.plans.now planned.now.number) count place
+        (flat.JumpForward past)) }
+{
+    if past == 0 {
+        return Ok(());
+    }
+    list.put_jump(label_for(count, u64::from(place) + 1 + u64::from(past)))?;
+    Ok(())
+}
+
 // Puts the jump or the branch behind the block of an instruction of a function with so many.
 fn put_tail(
     list: &mut Listing,
@@ -134,9 +155,7 @@ fn put_tail(
             rs2: right_register(planned.program, planned.plans, planned.number, right),
             to: Label::new(label_for(count, u64::from(place) + 1 + u64::from(past))),
         }),
-        FlatInstruction::JumpForward { past } => {
-            list.put_jump(label_for(count, u64::from(place) + 1 + u64::from(past)))
-        }
+        FlatInstruction::JumpForward { past } => put_forward(list, planned, count, place, past),
         FlatInstruction::JumpBack { back } => {
             list.put_jump(label_for(count, u64::from(place.saturating_sub(back))))
         }
@@ -158,6 +177,7 @@ fn put_items(
     requires sources { planned.now.sources ≡ source_count planned.now.program.now }
     requires saved { is_call placed.now.instruction.now ≡ true → placed.now.saved.now
         ≡ saved_at planned.now.program.now planned.now.plans.now planned.now.number placed.now.place }
+    requires live { IsLookupAt placed.now.live planned.now.plans.now planned.now.number }
     ensures { OnOk result (list.new ≡ list.old
         ++ items_at map.now planned.now.program.now planned.now.plans.now planned.now.number count placed.now.place
         placed.now.instruction.now) }
@@ -167,6 +187,15 @@ fn put_items(
     list.put_label(placed.place)?;
     list.put_plain(&block)?;
     put_tail(list, planned, count, placed)
+}
+
+// How the plan of a function is looked up.
+#[tactic(auto, using(crate::proofs::EmittedCode::Lookups::lookup_from))]
+fn lookup_of(plans: &[FunctionPlan], number: u32) -> LiveLookup
+    requires { number < length plans.now }
+    ensures { IsLookupAt result plans.now number }
+{
+    LiveLookup::new(&plans[number as usize])
 }
 
 /// The labelled list of a function.
@@ -194,6 +223,7 @@ pub(crate) fn function_items(
         .body
         .as_slice();
     let count = body.len() as u32;
+    let live = lookup_of(plans, number);
     let saves = call_saves(alloc, program, plans, number)?;
     let mut entry = Vec::new(alloc);
     put_entry(&mut entry, program, plans, number)?;
@@ -204,6 +234,7 @@ pub(crate) fn function_items(
             place,
             instruction: &body[place as usize],
             saved: saves.at(u64::from(place)),
+            live,
         };
         put_items(&mut list, alloc, map, &planned, count, &placed)?;
     }

@@ -28,9 +28,9 @@ use Rattle.reg_plan.specs.Effects.{is_among, many}
 use Rattle.machine_laws.specs.declared.location.Location.{Location}
 use Rattle.machine_laws.specs.Blocks.Blocks.{constant, used, used_right, fetch, keep, fetch_right, operands}
 use Rattle.machine_laws.specs.Blocks.Blocks.{asks, received_block, operator_block, operate_block, operate32_block}
-use Rattle.machine_laws.specs.Blocks.Blocks.{local_block, wide, digits, load_at, store_at}
+use Rattle.machine_laws.specs.Blocks.Blocks.{local_block, wide, digits, load_at, store_at, is_same}
 use Rattle.machine_laws.specs.Blocks.Immediates.{is_immediate, immediate, immediate32, immediate_of, immediate32_of}
-use Rattle.machine_laws.proofs.Blocks.Lengths.{constant_length, fetch_length, keep_length}
+use Rattle.machine_laws.proofs.Blocks.Lengths.{constant_length, fetch_length, keep_length, choice}
 use Rattle.machine_laws.specs.Blocks.Tails.{end_block}
 use Rattle.machine_laws.specs.Calls.Table.{tails_address, row_address}
 use Rattle.machine_laws.specs.Calls.Calls.{Keeping, give, take, save, restore, advance, retreat, call_block}
@@ -149,8 +149,10 @@ module _ (place : ℕ → Location) (base begin : ℕ) where
       let c = length-append (constant (used (place x) 5) (low_bits 64 n)) (keep (place x) base 5) in
       omega arith
   local_length (flat.Move x y) p room r =
-      kept_length (fetch (place y) base 5) (OpImm Addi (used (place x) 5) (used (place y) 5) 0) (place x) base 5
-      3 (fetch_length (place y) base 5)
+      let copy = OpImm Addi (used (place x) 5) (used (place y) 5) 0 in
+      choice (is_same (place x) (place y)) [] (fetch (place y) base 5 ++ (copy ∷ keep (place x) base 5)) 7
+      (omega arith)
+      (kept_length (fetch (place y) base 5) copy (place x) base 5 3 (fetch_length (place y) base 5))
   local_length (flat.Operate op x y z) p room r = subst
       (λ n. length (operate_block place base op (place x) y z) ≤ n) (alike op (used (place x) 5) (used (place y) 5) z)
       (operator_length place base (place x) y z (immediate_of op (used (place x) 5) (used (place y) 5) z)

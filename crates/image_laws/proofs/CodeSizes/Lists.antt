@@ -1,5 +1,5 @@
 -- How many words the labelled list of a function has at most.
-use Rattle.std.proofs.Common.{◌≡◌, ℕ, suc, ◌+◌, ◌*◌, ◌≤◌, List, [], ◌∷◌, ◌++◌, length, Some, refl, ap}
+use Rattle.std.proofs.Common.{◌≡◌, ℕ, zero, suc, ◌+◌, ◌*◌, ◌≤◌, List, [], ◌∷◌, ◌++◌, length, Some, refl, ap}
 use Rattle.std.proofs.Common.{subst, arith, map, length-append}
 use Rattle.addr_map.specs.Places.{MapSizes}
 use Rattle.rv_isa.specs.declared.instruction.Instr.{Instr}
@@ -92,7 +92,8 @@ module _ (m : MapSizes) (p : FlatProgram) (plans : List FunctionPlan) (ok : AreA
       → length (block m p plans f pc i) + longest_size (tail_of (keeping p plans f) n pc i)
       ≤ instruction_words p (keeping p plans f).room (results_of (function_in p f)) i
   both_most n pc (flat.Branch op y z past) = let b = branch_most pc op y z past in omega arith
-  both_most n pc (flat.JumpForward past) = let b = forward_block pc past in omega arith
+  both_most n pc (flat.JumpForward zero) = let b = forward_block pc zero in omega arith
+  both_most n pc (flat.JumpForward (suc past)) = let b = forward_block pc (suc past) in omega arith
   both_most n pc (flat.JumpBack back) = let b = back_block pc back in omega arith
   both_most n pc (flat.Constant x v) = with_tail n pc (flat.Constant x v) refl
   both_most n pc (flat.Move x y) = with_tail n pc (flat.Move x y) refl

@@ -126,7 +126,8 @@ number_most w = by (w == 0)
 module _ (m : MapSizes) (p : FlatProgram) (plans : List FunctionPlan) (f n : ℕ) where
   tail_most : (k : Keeping) (pc : ℕ) (i : FlatInstruction) → length (tail_of k n pc i) ≤ 1
   tail_most k pc (flat.Branch op y z past) = omega arith
-  tail_most k pc (flat.JumpForward past) = omega arith
+  tail_most k pc (flat.JumpForward zero) = omega arith
+  tail_most k pc (flat.JumpForward (suc past)) = omega arith
   tail_most k pc (flat.JumpBack back) = omega arith
   tail_most k pc _ = omega arith
 

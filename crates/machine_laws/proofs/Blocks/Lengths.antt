@@ -17,7 +17,8 @@ use Rattle.machine_laws.specs.Blocks.Blocks.{operands}
 use Rattle.machine_laws.specs.Blocks.Blocks.{operator_block, IsShort, RightIsShort}
 use Rattle.machine_laws.specs.Blocks.Effects.{IsIn, RightIsIn}
 
-choice : (b : Bool) (is js : List Instr) (n : ℕ) → length is ≤ n → length js ≤ n → length (if b then is else js) ≤ n
+-- one of two lists
+pub choice : (b : Bool) (is js : List Instr) (n : ℕ) → length is ≤ n → length js ≤ n → length (if b then is else js) ≤ n
 choice true is js n h k = h
 choice false is js n h k = k
 

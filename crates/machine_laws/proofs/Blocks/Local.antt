@@ -3,7 +3,7 @@ use Rattle.std.proofs.Common.{◌≡◌, ◌≢◌, ℕ, ◌+◌, ◌-◌, ◌*�
 use Rattle.std.proofs.Common.{List, [], ◌∷◌, ◌++◌, length, Option, Some, None, Bool, true, false, refl, sym, ap, ◌∙◌}
 use Rattle.std.proofs.Common.{subst, arith, length-append, append_assoc}
 use Rattle.std.specs.Prelude.{◌==◌, if◌then◌else◌}
-use Rattle.std.proofs.lemmas.Bool.{eqb-true}
+use Rattle.std.proofs.lemmas.Bool.{eqb-true, false≢true}
 use Rattle.words.specs.TwosComplement.{low_bits}
 use Rattle.behaviours.specs.Shown.{Access, Read, Write}
 use Rattle.rv_isa.specs.declared.instruction.LoadOp.{LoadOp}
@@ -28,6 +28,7 @@ use Rattle.machine_laws.proofs.View.Leaving.{no_access}
 use Rattle.machine_laws.specs.declared.location.Location.{Location}
 use Rattle.machine_laws.specs.declared.location.Location.TheVariants.{Register, Frame}
 use Rattle.machine_laws.specs.Blocks.Blocks.{constant, used, fetch, keep, used_right, fetch_right, move_block, operands}
+use Rattle.machine_laws.specs.Blocks.Blocks.{is_same}
 use Rattle.machine_laws.specs.Blocks.Blocks.{charged_block, operator_block, operate_block, operate32_block}
 use Rattle.machine_laws.specs.Blocks.Immediates.{immediate, immediate_of, immediate32_of}
 use Rattle.machine_laws.specs.Blocks.Effects.{RightIsIn, RightIsKept, IsIn, kept, IsNoScratch, Readies, Puts, HasFrame}
@@ -139,10 +140,30 @@ module _ (o s base fp room : ℕ) (place : ℕ → Location) where
       (gives_computes o s (constant (used x 5) n) v (used x 5) n
       (constant_gives o s (used x 5) n v (used_nonzero room x h) nought small)) small f h
 
-  pub move_puts : (x y : Location) (n : ℕ) (v : View) → n < 2 ^ 64 → HasFrame s base fp room v → IsIn room x
-      → IsIn room y → kept fp v y ≡ n → Puts o s fp room (move_block x y base) v x n v.accesses
+  -- where both places are one, the value is there
+  same_place : (x y : Location) → is_same x y ≡ true → x ≡ y
+  same_place (Register a) (Register b) e = ap Register (eqb-true a b e)
+  same_place (Register a) (Frame b) e = absurd (false≢true e)
+  same_place (Frame a) (Register b) e = absurd (false≢true e)
+  same_place (Frame a) (Frame b) e = ap Frame (eqb-true a b e)
+
+  nothing_puts : (x y : Location) (n : ℕ) (v : View) → is_same x y ≡ true → kept fp v y ≡ n
+      → Puts o s fp room [] v x n v.accesses
+  nothing_puts x y n v e k = record {
+    go = tt;
+    pc = omega arith;
+    value = ap (kept fp v) (same_place x y e) ∙ k;
+    others = λ z i apart. refl;
+    low = λ r lt. refl;
+    memory = λ b beside. refl;
+    accesses_are = refl;
+  }
+
+  copy_puts : (x y : Location) (n : ℕ) (v : View) → n < 2 ^ 64 → HasFrame s base fp room v → IsIn room x
+      → IsIn room y → kept fp v y ≡ n
+      → Puts o s fp room (fetch y base 5 ++ (OpImm Addi (used x 5) (used y 5) 0 ∷ keep x base 5)) v x n v.accesses
   unfolding imm_result
-  move_puts x y n v small f hx hy k =
+  copy_puts x y n v small f hx hy k =
       let is = fetch y base 5 in
       let g = fetches o s y base 5 fp room v (omega arith) f hy in
       let w = performs is v in
@@ -150,6 +171,16 @@ module _ (o s base fp room : ℕ) (place : ℕ → Location) where
       (fetches_ready o s is v y 5 (kept fp v y) (inl refl) g) f hx
       (gets_is w (used x 5) (wrap (w.registers (used y 5) + sext 12 0)) n v.accesses
       (ap (λ q. wrap (q + 0)) (g.value ∙ k) ∙ omega arith) g.accesses) (tt, tt) small
+
+  pub move_puts : (x y : Location) (n : ℕ) (v : View) → n < 2 ^ 64 → HasFrame s base fp room v → IsIn room x
+      → IsIn room y → kept fp v y ≡ n → Puts o s fp room (move_block x y base) v x n v.accesses
+  move_puts x y n v small f hx hy k = by (is_same x y) refl
+    where
+      by : (b : Bool) → is_same x y ≡ b
+          → Puts o s fp room
+          (if b then [] else fetch y base 5 ++ (OpImm Addi (used x 5) (used y 5) 0 ∷ keep x base 5)) v x n v.accesses
+      by true e = nothing_puts x y n v e k
+      by false e = copy_puts x y n v small f hx hy k
 
   -- an operator: by its instruction with a number, where it has one, and else by that on two registers
   operator_puts : (short : Option Instr) (plain : Instr) (x : Location) (y : ℕ) (z : RightOperand) (n : ℕ) (v : View)

@@ -76,13 +76,13 @@ module _ (m : MapSizes) (p : FlatProgram) (plans : List FunctionPlan) (l : Layou
         let tail = b.tail_place in
         ap (λ z. begin f + 4 * place f z) index ∙ omega arith;
     forward = λ f pc past at.
-        let t = function_there p f pc (flat.JumpForward past) at in
-        subst (λ z. JumpStands l z (address_in m p plans begin place f (pc + 1 + past)))
+        let t = function_there p f pc (flat.JumpForward (suc past)) at in
+        subst (λ z. JumpStands l z (address_in m p plans begin place f (pc + 1 + suc past)))
         (told f t.0 t.1 (index_of m p plans f pc))
         (subst (λ z. JumpStands l (begin f + 4 * (ok.assembled f t.0 t.1).place (index_of m p plans f pc)) z)
-        (told f t.0 t.1 (index_of m p plans f (pc + 1 + past)))
-        (jump_stands m p plans l begin words place ok f t.0 t.1 (ok.assembled f t.0 t.1) pc (pc + 1 + past)
-        (flat.JumpForward past) at refl (forward_none m p plans f pc past)));
+        (told f t.0 t.1 (index_of m p plans f (pc + 1 + suc past)))
+        (jump_stands m p plans l begin words place ok f t.0 t.1 (ok.assembled f t.0 t.1) pc (pc + 1 + suc past)
+        (flat.JumpForward (suc past)) at refl (forward_none m p plans f pc (suc past))));
     back = λ f pc n at.
         let t = function_there p f pc (flat.JumpBack n) at in
         subst (λ z. JumpStands l z (address_in m p plans begin place f (pc - n)))

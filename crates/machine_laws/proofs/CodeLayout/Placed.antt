@@ -168,7 +168,8 @@ tail_none k n pc (flat.Exit x) h = refl
 tail_none k n pc (flat.End e) h = refl
 tail_none k n pc (flat.Charged x) h = refl
 tail_none k n pc (flat.Branch op y z past) h = absurd h
-tail_none k n pc (flat.JumpForward past) h = absurd h
+tail_none k n pc (flat.JumpForward zero) h = refl
+tail_none k n pc (flat.JumpForward (suc past)) h = absurd h
 tail_none k n pc (flat.JumpBack back) h = absurd h
 
 jumps_fit : (form : Form) (p t : ℕ) → AllOfTable (jump_instrs form 0 p t)

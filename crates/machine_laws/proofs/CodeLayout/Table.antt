@@ -38,7 +38,7 @@ use Rattle.machine_laws.specs.Blocks.Blocks.{wide, digits, constant, load_at, st
 use Rattle.machine_laws.specs.Blocks.Immediates.{is_immediate, with_immediate, with_shift, with_immediate32}
 use Rattle.machine_laws.specs.Blocks.Immediates.{with_shift32}
 use Rattle.machine_laws.specs.Blocks.Immediates.{immediate, immediate32, immediate_of, immediate32_of}
-use Rattle.machine_laws.specs.Blocks.Blocks.{fetch_right, operator_block}
+use Rattle.machine_laws.specs.Blocks.Blocks.{fetch_right, operator_block, is_same}
 use Rattle.machine_laws.specs.Blocks.Blocks.{operands, asks, received_block, local_block}
 use Rattle.machine_laws.specs.Blocks.Tails.{what_of, text_before, text_bytes, line_text, written, ended, tail_block}
 use Rattle.machine_laws.specs.Blocks.Tails.{reported, tails_of, tails, tails_before, jump_block, end_block}
@@ -290,6 +290,11 @@ asks_fit number descriptor count n d c = (
   ),
 )
 
+-- a list that stands or does not
+one_fits : (b : Bool) (is : List Instr) → AllOfTable is → AllOfTable (if b then [] else is)
+one_fits true is h = tt
+one_fits false is h = h
+
 local_fits : (places : ℕ → Location) (base begin : ℕ) (i : FlatInstruction) → base < 32
     → ((y : ℕ) → IsField (places y)) → AllOfTable (local_block places base begin i)
 local_fits places base begin (flat.Constant x n) b h =
@@ -297,10 +302,11 @@ local_fits places base begin (flat.Constant x n) b h =
     (constant_fits (used (places x) 5) (low_bits 64 n) (used_fits (places x) 5 (h x) (omega arith)))
     (keep_fits (places x) base 5 b (omega arith))
 local_fits places base begin (flat.Move x y) b h =
-    both (fetch (places y) base 5) _ (fetch_fits (places y) base 5 b (omega arith)) (
+    one_fits (is_same (places x) (places y)) _ (both (fetch (places y) base 5) _
+    (fetch_fits (places y) base 5 b (omega arith)) (
       (used_fits (places x) 5 (h x) (omega arith), used_fits (places y) 5 (h y) (omega arith), omega arith),
       keep_fits (places x) base 5 b (omega arith),
-    )
+    ))
 local_fits places base begin (flat.Operate op x y z) b h =
     let rd = used_fits (places x) 5 (h x) (omega arith) in
     let rs1 = used_fits (places y) 5 (h y) (omega arith) in

@@ -1,6 +1,6 @@
 -- How many instructions a block has at most: by how many reach a home in the function's record.
 use Rattle.std.proofs.Common.{◌≡◌, ℕ, ◌+◌, ◌-◌, ◌*◌, ◌%◌, ◌^◌, ◌<◌, ◌≤◌, inl, sym, ap, ◌∙◌, subst, Bool, true, false}
-use Rattle.std.proofs.Common.{List, [], ◌∷◌, length, Option, Some, None, arith, length-append}
+use Rattle.std.proofs.Common.{List, [], ◌∷◌, ◌++◌, length, Option, Some, None, arith, length-append}
 use Rattle.std.specs.Prelude.{nat_le, if◌then◌else◌}
 use Rattle.addr_map.specs.Places.{MapSizes}
 use Rattle.words.specs.TwosComplement.{low_bits}
@@ -24,10 +24,10 @@ use Rattle.flat_meaning.specs.Calls.{function_in}
 use Rattle.flat_meaning.specs.Meaning.{weight_of}
 use Rattle.reg_plan.specs.declared.plan.FunctionPlan.{FunctionPlan}
 use Rattle.machine_laws.specs.Blocks.Blocks.{IsShort, RightIsShort, constant, used, used_right, fetch, keep, operands}
-use Rattle.machine_laws.specs.Blocks.Blocks.{asks}
+use Rattle.machine_laws.specs.Blocks.Blocks.{asks, is_same}
 use Rattle.machine_laws.specs.Blocks.Immediates.{immediate_of, immediate32_of}
 use Rattle.machine_laws.specs.Blocks.Effects.{IsIn, RightIsIn}
-use Rattle.machine_laws.proofs.Blocks.Lengths.{short_constant_length, short_bits_length, home_reach}
+use Rattle.machine_laws.proofs.Blocks.Lengths.{short_constant_length, short_bits_length, home_reach, choice}
 use Rattle.machine_laws.proofs.Blocks.Lengths.{fetch_reach, keep_reach, operands_reach, operator_reach}
 use Rattle.machine_laws.specs.Following.Code.{keeping, block, charged_from}
 
@@ -85,9 +85,10 @@ module _ (m : MapSizes) (p : FlatProgram) (plans : List FunctionPlan) (f pc : �
       let k = keeping p plans f in
       let a = fetch_reach k.room (k.place y) k.base 5 hy in
       let b = keep_reach k.room (k.place x) k.base 5 hx in
-      let c = length-append (fetch (k.place y) k.base 5)
-      (OpImm Addi (used (k.place x) 5) (used (k.place y) 5) 0 ∷ keep (k.place x) k.base 5) in
-      omega arith
+      let copy = OpImm Addi (used (k.place x) 5) (used (k.place y) 5) 0 ∷ keep (k.place x) k.base 5 in
+      let c = length-append (fetch (k.place y) k.base 5) copy in
+      choice (is_same (k.place x) (k.place y)) [] (fetch (k.place y) k.base 5 ++ copy) (2 * home_reach k.room + 1)
+      (omega arith) (omega arith)
 
   pub operate_bound : (op : RegOp) (x y : ℕ) (z : RightOperand) → IsPlaced x → IsPlaced y → RightIsPlaced z
       → RightIsShort z

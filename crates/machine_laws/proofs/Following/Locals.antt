@@ -490,6 +490,18 @@ module _ (m : MapSizes) (p : FlatProgram) (plans : List FunctionPlan) (table cod
         same_steps q i 2 at leads makes b j.steps j.few j.view j.comes (j.pc ∙ sym t.to_is) (λ r no far. j.others r far)
         j.memory j.accesses
 
+    -- a jump to the next instruction
+    pub next_steps : instruction_at p f pc ≡ Some (flat.JumpForward zero) → Becomes s s' s.values s.memory s.accesses
+        → Steps f (pc + 1 + zero) s' frames c 0
+    unfolding block
+    next_steps at b =
+        let i = flat.JumpForward zero in
+        let same : pc + 1 ≡ pc + 1 + zero = omega arith in
+        let none : address f pc ≡ address f pc + 4 * length (block m p plans f pc i) = omega arith in
+        let go = straight_comes (layout_of m table code) fit [] c h.view tt tt h.shows in
+        same_steps (pc + 1 + zero) i 0 at (inl refl) refl b 0 (omega arith) h.view go
+        (h.pc_is ∙ none ∙ sym (laid.next f pc i at tt) ∙ ap (address f) same) (λ r no far. refl) refl refl
+
     pub turn_steps : instruction_at p f pc ≡ Some flat.Turn → Becomes s s' s.values s.memory s.accesses
         → Steps f (pc + 1) s' frames c (length (block m p plans f pc flat.Turn))
     unfolding block

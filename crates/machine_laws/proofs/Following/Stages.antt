@@ -1,5 +1,5 @@
 -- Every instruction, on the machine.
-use Rattle.std.proofs.Common.{◌≡◌, ◌≢◌, ℕ, ◌+◌, ◌-◌, ◌*◌, ◌/◌, ◌%◌, ◌^◌, ◌<◌, ◌≤◌, inl, refl, sym}
+use Rattle.std.proofs.Common.{◌≡◌, ◌≢◌, ℕ, zero, suc, ◌+◌, ◌-◌, ◌*◌, ◌/◌, ◌%◌, ◌^◌, ◌<◌, ◌≤◌, inl, refl, sym}
 use Rattle.std.proofs.Common.{ap, ◌∙◌, subst, arith, Bool, true, false, List, [], ◌∷◌, ◌++◌, length, Option, Some}
 use Rattle.std.proofs.Common.{None, length-append}
 use Rattle.std.specs.Prelude.{if◌then◌else◌, not, ◌&&◌, ◌||◌, ◌==◌, nat_le}
@@ -47,7 +47,7 @@ use Rattle.machine_laws.proofs.Following.Regions.{AreRegions}
 use Rattle.machine_laws.proofs.Following.Sound.{IsSound}
 use Rattle.machine_laws.proofs.Following.Standing.{among_one, function_there, frame_of, IsKind, kind}
 use Rattle.machine_laws.proofs.Following.Locals.{Becomes, constant_steps, move_steps}
-use Rattle.machine_laws.proofs.Following.Locals.{operate_steps, operate32_steps, jump_steps, turn_steps}
+use Rattle.machine_laws.proofs.Following.Locals.{operate_steps, operate32_steps, jump_steps, next_steps, turn_steps}
 use Rattle.machine_laws.proofs.Following.Locals.{turn_takes_one, branch_steps, charged_steps, place_in, made_in}
 use Rattle.machine_laws.proofs.Following.Locals.{right_in}
 use Rattle.machine_laws.proofs.Following.Locals.{among_from, operator_reads, or_last}
@@ -477,11 +477,16 @@ module _ (m : MapSizes) (p : FlatProgram) (plans : List FunctionPlan) (table cod
         from_steps m p plans table code address entry regions ok fit laid can f q t frames c _
         (6 * weight_of (function_in p f)) t.turns
         t.work st (omega (arith, bound, weight.twice, weight.some)) (omega arith) refl
-    instruction_stage (flat.JumpForward past) at fine =
+    instruction_stage (flat.JumpForward zero) at fine =
+        let st = next_steps m p plans table code address entry regions ok fit laid can f pc g t t frames c h words there
+        at (same m p plans table code address entry regions ok fit laid can t) in
+        from_steps m p plans table code address entry regions ok fit laid can f (pc + 1 + zero) t frames c 0
+        (6 * weight_of (function_in p f)) t.turns t.work st (omega (arith, weight.some)) (omega arith) refl
+    instruction_stage (flat.JumpForward (suc past)) at fine =
         let st = jump_steps m p plans table code address entry regions ok fit laid can f pc g t t frames c h words there
-        (pc + 1 + past) (flat.JumpForward past) at (inl refl) refl
+        (pc + 1 + suc past) (flat.JumpForward (suc past)) at (inl refl) refl
         (same m p plans table code address entry regions ok fit laid can t) (laid.forward f pc past at) in
-        from_steps m p plans table code address entry regions ok fit laid can f (pc + 1 + past) t frames c 2
+        from_steps m p plans table code address entry regions ok fit laid can f (pc + 1 + suc past) t frames c 2
         (6 * weight_of (function_in p f)) t.turns t.work st (omega (arith, weight.some)) (omega arith) refl
     instruction_stage (flat.JumpBack back) at fine =
         let st = jump_steps m p plans table code address entry regions ok fit laid can f pc g t t frames c h words there

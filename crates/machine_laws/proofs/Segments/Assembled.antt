@@ -1,5 +1,5 @@
 -- The words of an assembled function fit 32 bits.
-use Rattle.std.proofs.Common.{ℕ, suc, ◌+◌, ◌<◌, List, [], ◌∷◌, ◌++◌, length, map}
+use Rattle.std.proofs.Common.{ℕ, zero, suc, ◌+◌, ◌<◌, List, [], ◌∷◌, ◌++◌, length, map}
 use Rattle.std.proofs.Common.{arith}
 use Rattle.addr_map.specs.Places.{MapSizes}
 use Rattle.rv_isa.specs.declared.instruction.Instr.{Instr}
@@ -47,7 +47,8 @@ plain_fields (i ∷ is) h = (h.0, plain_fields is h.1)
 
 tail_fields : (k : Keeping) (n pc : ℕ) (i : FlatInstruction) → HasFields k → AllOfFields (tail_of k n pc i)
 tail_fields k n pc (flat.Branch op y z past) h = ((used_field k y h, used_right_field k z h), tt)
-tail_fields k n pc (flat.JumpForward past) h = (tt, tt)
+tail_fields k n pc (flat.JumpForward zero) h = tt
+tail_fields k n pc (flat.JumpForward (suc past)) h = (tt, tt)
 tail_fields k n pc (flat.JumpBack back) h = (tt, tt)
 tail_fields k n pc (flat.Constant x v) h = tt
 tail_fields k n pc (flat.Move x y) h = tt

@@ -75,9 +75,10 @@ tail_plain : (k : Keeping) (n pc : ℕ) (i : FlatInstruction) → IsPlain n (tai
 tail_plain k n pc (flat.Branch op y z past) =
     one_plain n (label_for n (pc + 1 + past)) _ (nothing (Some (label_for n (pc + 1 + past))))
     (label_low n (pc + 1 + past)) (λ l e. cc)
-tail_plain k n pc (flat.JumpForward past) =
-    one_plain n (label_for n (pc + 1 + past)) _ (nothing (Some (label_for n (pc + 1 + past))))
-    (label_low n (pc + 1 + past)) (λ l e. cc)
+tail_plain k n pc (flat.JumpForward zero) = empty_plain n
+tail_plain k n pc (flat.JumpForward (suc past)) =
+    one_plain n (label_for n (pc + 1 + suc past)) _ (nothing (Some (label_for n (pc + 1 + suc past))))
+    (label_low n (pc + 1 + suc past)) (λ l e. cc)
 tail_plain k n pc (flat.JumpBack back) =
     one_plain n (label_for n (pc - back)) _ (nothing (Some (label_for n (pc - back)))) (label_low n (pc - back))
     (λ l e. cc)

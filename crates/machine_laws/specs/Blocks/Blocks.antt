@@ -1,6 +1,6 @@
 -- The machine's instructions for the instructions of flat code.
 use Rattle.std.specs.Prelude.{ℕ, zero, suc, ◌+◌, ◌-◌, ◌/◌, ◌%◌, ◌^◌, ◌<◌, ◌≤◌, ◌⊎◌, nat_lt, nat_le, if◌then◌else◌, List}
-use Rattle.std.specs.Prelude.{[], ◌∷◌, ◌++◌, ◌==◌, length, Option, Some, None}
+use Rattle.std.specs.Prelude.{[], ◌∷◌, ◌++◌, ◌==◌, length, Option, Some, None, Bool, false}
 use Rattle.words.specs.TwosComplement.{low_bits}
 use Rattle.rv_isa.specs.declared.instruction.LoadOp.TheVariants.{Ld, Lbu}
 use Rattle.rv_isa.specs.declared.instruction.StoreOp.TheVariants.{Sb, Sd}
@@ -100,9 +100,17 @@ fetch_right place base (right.Number n) = if n == 0 then [] else constant right_
 
 -- ---- instructions that stay in their function
 
--- a block for an instruction whose result goes to its place
+-- whether two places are one
+abbrev pub is_same : Location → Location → Bool
+is_same (Register a) (Register b) = a == b
+is_same (Register a) (Frame b) = false
+is_same (Frame a) (Register b) = false
+is_same (Frame a) (Frame b) = a == b
+
+-- a copy from one place to another; where both are one, there is none
 abbrev pub move_block : (into from : Location) → (base : ℕ) → List Instr
 move_block x y base =
+    if is_same x y then [] else
     fetch y base left_scratch ++ (OpImm Addi (used x left_scratch) (used y left_scratch) 0 ∷ keep x base left_scratch)
 
 -- what is done to both operands, and then the result is kept

@@ -1,5 +1,5 @@
 -- The machine's instructions for each instruction of a program under its plans, and where they stand.
-use Rattle.std.specs.Prelude.{◌≡◌, ℕ, ◌+◌, ◌-◌, ◌*◌, ◌^◌, ◌%◌, ◌<◌, ◌≤◌, Bool, true, false, not, ◌&&◌, nat_lt, List}
+use Rattle.std.specs.Prelude.{◌≡◌, ℕ, suc, ◌+◌, ◌-◌, ◌*◌, ◌^◌, ◌%◌, ◌<◌, ◌≤◌, Bool, true, false, not, ◌&&◌, nat_lt, List}
 use Rattle.std.specs.Prelude.{[], ◌∷◌, ◌++◌, length, Option, Some, None, slice_get}
 use Rattle.sb_base.specs.declared.ending.Ending.{Ending}
 use Rattle.sb_base.specs.Endings.{code_of}
@@ -126,7 +126,7 @@ block m p plans f pc i = block_in m p f (keeping p plans f) pc i
 -- an instruction behind whose block the next one's stands
 abbrev pub GoesOn : FlatInstruction → Type 0
 GoesOn (flat.Branch op y z past) = ⊥
-GoesOn (flat.JumpForward past) = ⊥
+GoesOn (flat.JumpForward (suc past)) = ⊥
 GoesOn (flat.JumpBack back) = ⊥
 GoesOn i = Unit {0}
 
@@ -162,7 +162,7 @@ pub record BranchStands (layout : Layout) (op : BranchOp) (a b from next to : �
   pub stands : AllStand layout from (branch_instrs form op a b p t)
 
 -- Where the code of a program stands: the block of each instruction at an address, the next one's behind it; jumps and
--- branches to the addresses of their targets, where these are of the function; before the first instruction the entry
+-- branches to the addresses of their targets, where these are of the function, but for jumps to the next one; before the first instruction the entry
 -- block, to which the function's entry of the jump table leads; and the tails of endings. What the functions of the
 -- program have lies in compiled code, what those of the runtime have lies before it.
 pub record IsLaid (map : MapSizes) (program : FlatProgram) (plans : List FunctionPlan) (layout : Layout)
@@ -171,8 +171,8 @@ pub record IsLaid (map : MapSizes) (program : FlatProgram) (plans : List Functio
       → AllStand layout (address f pc) (block map program plans f pc i)
   pub next : (f pc : ℕ) (i : FlatInstruction) → instruction_at program f pc ≡ Some i → GoesOn i
       → address f (pc + 1) ≡ address f pc + 4 * length (block map program plans f pc i)
-  pub forward : (f pc past : ℕ) → instruction_at program f pc ≡ Some (flat.JumpForward past)
-      → JumpStands layout (address f pc) (address f (pc + 1 + past))
+  pub forward : (f pc past : ℕ) → instruction_at program f pc ≡ Some (flat.JumpForward (suc past))
+      → JumpStands layout (address f pc) (address f (pc + 1 + suc past))
   pub back : (f pc n : ℕ) → instruction_at program f pc ≡ Some (flat.JumpBack n)
       → JumpStands layout (address f pc) (address f (pc - n))
   pub branch : (f pc : ℕ) (op : BranchOp) (y : ℕ) (z : RightOperand) (past : ℕ)

@@ -34,11 +34,12 @@ plain is = map (λ i. item.Instr i) is
 abbrev pub label_for : (count place : ℕ) → ℕ
 label_for n q = if nat_lt q n then q else n
 
--- the jump or the branch behind the block of an instruction
+-- the jump or the branch behind the block of an instruction; a jump to the next one is none
 abbrev pub tail_of : Keeping → (count pc : ℕ) → FlatInstruction → List Item
 tail_of k n pc (flat.Branch op y z past) =
     item.Branch op (used (k.place y) left_scratch) (used_right k.place z) (label_for n (pc + 1 + past)) ∷ []
-tail_of k n pc (flat.JumpForward past) = item.Jump (label_for n (pc + 1 + past)) ∷ []
+tail_of k n pc (flat.JumpForward zero) = []
+tail_of k n pc (flat.JumpForward (suc past)) = item.Jump (label_for n (pc + 1 + suc past)) ∷ []
 tail_of k n pc (flat.JumpBack back) = item.Jump (label_for n (pc - back)) ∷ []
 tail_of k n pc i = []
 

@@ -13,7 +13,11 @@ use Rattle.machine_laws.specs.Blocks.Blocks.{digits, fetch, keep}
 use Rattle.sb_base.specs.declared.ending.Ending.{Ending}
 use Rattle.sb_base.specs.Endings.{code_of}
 use Rattle.machine_laws.specs.Blocks.Tails.{what_of, text_before, text_bytes, line_text, tail_block, tails_of}
-use Rattle.machine_laws.specs.Calls.Calls.{save_one, restore_one}
+use Rattle.machine_laws.specs.Calls.Calls.{Keeping, save_one, restore_one}
+use Rattle.machine_laws.specs.Layout.Lists.{label_for, tail_of}
+use Rattle.flat_meaning.specs.declared.instruction.FlatInstruction.TheVariants as flat
+use Rattle.rv_asm.specs.declared.item.Item.{Item}
+use Rattle.rv_asm.specs.declared.item.Item.TheVariants as item
 
 pub nothing_behind : {A : Type 0} (xs : List A) → xs ++ [] ≡ xs
 nothing_behind [] = refl
@@ -122,3 +126,14 @@ tail_more code code' what status e es es' items w s put =
     ∙ ap (λ q. code ++ tail_block (what_of e) q) s)
     ∙ append_assoc code (tail_block (what_of e) (code_of e)) (tails_of es')
     ∙ ap (λ l. code ++ tails_of l) (sym items)
+
+-- a jump to the next instruction is none, and any other stands
+pub jump_to_next : (k : Keeping) (n pc past : ℕ) (xs : List Item) → past ≡ 0
+    → xs ≡ xs ++ tail_of k n pc (flat.JumpForward past)
+jump_to_next k n pc zero xs e = sym (nothing_behind xs)
+jump_to_next k n pc (suc past) xs e = absurd (omega (arith, e))
+
+pub jump_further : (k : Keeping) (n pc past : ℕ) (xs ys : List Item) → 0 < past
+    → ys ≡ xs ++ item.Jump (label_for n (pc + 1 + past)) ∷ [] → ys ≡ xs ++ tail_of k n pc (flat.JumpForward past)
+jump_further k n pc zero xs ys lt e = absurd (omega (arith, lt))
+jump_further k n pc (suc past) xs ys lt e = e

@@ -1,6 +1,7 @@
 //! The instructions that stand for an instruction of flat code.
 
 ghost use Rattle.std.specs.Prelude.{◌≡◌, ◌+◌, ◌-◌, ◌<◌, ◌^◌, ◌++◌, true, false, length, Some, OnOk};
+ghost use Rattle.reg_plan.specs.Order.{IsLookup, IsLookupAt};
 ghost use Rattle.reg_plan.specs.Saves.Saves.{is_call, saved_below, saved_at};
 ghost use Rattle.addr_map.specs.Places.{region_start};
 ghost use Rattle.addr_map.specs.declared.region.Region.TheVariants.{Calls};
@@ -25,7 +26,7 @@ use crate::emission::table::{row_address, tails_address};
 use crate::emission::values::{self, put_operands};
 use addr_map::{AddrMap, Region};
 use flat_meaning::{FlatFunction, FlatInstruction, FlatProgram, RightOperand};
-use reg_plan::FunctionPlan;
+use reg_plan::{FunctionPlan, LiveLookup};
 use rv_isa::{Instr, Reg};
 use std::alloc::AllocError;
 
@@ -39,12 +40,14 @@ pub struct PlannedFunction<'a> {
     pub number: u32,
 }
 
-/// An instruction of a function at its place, and the virtual registers that it saves where it is a call.
+/// An instruction of a function at its place, the virtual registers that it saves where it is a call, and how the
+/// function's plan is looked up.
 #[derive(Clone, Copy)]
 pub struct PlacedInstruction<'a> {
     pub place: u32,
     pub instruction: &'a FlatInstruction,
     pub saved: &'a [u64],
+    pub live: LiveLookup,
 }
 
 // How many arguments a function takes; 0 where there is no such function.
@@ -144,6 +147,7 @@ fn put_block_in(
     requires sources { sources ≡ source_count program.now }
     requires saved { is_call placed.now.instruction.now ≡ true
         → placed.now.saved.now ≡ saved_below function.now plan.now placed.now.place (length plan.now.live.items) }
+    requires live { IsLookup placed.now.live plan.now }
     ensures { OnOk result
         (code.new.items ≡ code.old.items
         ++ block_of program.now function.now plan.now begin placed.now.place placed.now.instruction.now) }
@@ -165,6 +169,7 @@ fn put_block_in(
                     count: results(program, callee),
                 },
                 saved: placed.saved,
+                live: placed.live,
             };
             put_call(
                 code,
@@ -189,6 +194,7 @@ fn put_block_in(
                     count: results,
                 },
                 saved: placed.saved,
+                live: placed.live,
             };
             put_call_address(code, function, plan, &site, at)
         }
@@ -211,6 +217,7 @@ pub fn put_block(
     requires sources { planned.now.sources ≡ source_count planned.now.program.now }
     requires saved { is_call placed.now.instruction.now ≡ true → placed.now.saved.now
         ≡ saved_at planned.now.program.now planned.now.plans.now planned.now.number placed.now.place }
+    requires live { IsLookupAt placed.now.live planned.now.plans.now planned.now.number }
     ensures { OnOk result
         (code.new.items ≡ code.old.items
         ++ block map.now planned.now.program.now planned.now.plans.now planned.now.number placed.now.place

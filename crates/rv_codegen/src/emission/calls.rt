@@ -4,6 +4,7 @@
 ghost use Rattle.std.specs.Prelude.{◌≡◌, ◌+◌, ◌*◌, ◌<◌, ◌≤◌, ◌^◌, ◌++◌, ◌∷◌, []};
 ghost use Rattle.std.specs.Prelude.{if◌then◌else◌, OnOk, length};
 ghost use Rattle.reg_plan.specs.Effects.{is_among, many};
+ghost use Rattle.reg_plan.specs.Order.{IsLookup};
 ghost use Rattle.reg_plan.specs.Saves.Saves.{saved_below};
 ghost use Rattle.rv_isa.specs.declared.instruction.RegOp.TheVariants.{Add};
 ghost use Rattle.rv_isa.specs.declared.instruction.Instr.TheVariants.{Jalr, Op};
@@ -21,7 +22,7 @@ use crate::emission::values::{
     frame_register, left_scratch, put_fetch, put_keep, put_restore, put_save, right_scratch, used,
 };
 use flat_meaning::FlatFunction;
-use reg_plan::{FunctionPlan, closed};
+use reg_plan::{FunctionPlan, LiveLookup};
 use rv_isa::{Imm12, Instr, Reg, RegOp};
 use std::alloc::AllocError;
 
@@ -33,10 +34,17 @@ pub(crate) fn argument_words() -> Reg
 }
 
 // Whether a virtual register is live before an instruction of the function.
-fn is_live(function: &FlatFunction, plan: &FunctionPlan, place: u64, register: u64) -> bool
+fn is_live(
+    function: &FlatFunction,
+    plan: &FunctionPlan,
+    live: LiveLookup,
+    place: u64,
+    register: u64,
+) -> bool
+    requires { IsLookup live plan.now }
     ensures { result ≡ (kept_by function.now plan.now).live place register }
 {
-    place < function.body.as_slice().len() as u64 && closed::is_live(plan, place, register)
+    place < function.body.as_slice().len() as u64 && live.is_live(plan, place, register)
 }
 
 // Puts what brings one value to its word of arguments.
@@ -101,11 +109,13 @@ fn put_take_if_live(
     code: &mut Vec<Instr>,
     function: &FlatFunction,
     plan: &FunctionPlan,
+    live: LiveLookup,
     place: u64,
     register: u64,
     word: u64,
 ) -> Result<(), AllocError>
-    requires { word < 2 ^ 32 }
+    requires word { word < 2 ^ 32 }
+    requires live { IsLookup live plan.now }
     ensures { OnOk result
         (code.new.items ≡ code.old.items
         ++ (if (kept_by function.now plan.now).live place register
@@ -113,7 +123,7 @@ fn put_take_if_live(
         ++ keep (location function.now plan.now register) (frame_register function.now) left_scratch
         else [])) }
 {
-    if is_live(function, plan, place, register) {
+    if is_live(function, plan, live, place, register) {
         return put_take_one(code, function, plan, register, word);
     }
     Ok(())
@@ -126,15 +136,17 @@ fn put_take(
     code: &mut Vec<Instr>,
     function: &FlatFunction,
     plan: &FunctionPlan,
+    live: LiveLookup,
     place: u64,
     first: u32,
     count: u32,
 ) -> Result<(), AllocError>
+    requires { IsLookup live plan.now }
     ensures { OnOk result (code.new.items ≡ code.old.items ++ take (kept_by function.now plan.now) place first count) }
 {
     for word in 0..count {
         let register = u64::from(first) + u64::from(word);
-        put_take_if_live(code, function, plan, place, register, u64::from(word))?;
+        put_take_if_live(code, function, plan, live, place, register, u64::from(word))?;
     }
     Ok(())
 }
@@ -153,14 +165,15 @@ pub(crate) struct Arguments {
     pub count: u32,
 }
 
-// Where a function is called: the place of the call, its arguments and results, and the virtual registers that it
-// saves.
+// Where a function is called: the place of the call, its arguments and results, the virtual registers that it saves,
+// and how the caller's plan is looked up.
 #[derive(Clone, Copy)]
 pub(crate) struct CallSite<'a> {
     pub place: u64,
     pub arguments: Arguments,
     pub results: Results,
     pub saved: &'a [u64],
+    pub live: LiveLookup,
 }
 
 // The register for the address of a function that is called.
@@ -339,6 +352,7 @@ fn put_back(
     requires place { site.now.place < 2 ^ 63 }
     requires saved { site.now.saved.now
         ≡ saved_below function.now plan.now site.now.place (length plan.now.live.items) }
+    requires live { IsLookup site.now.live plan.now }
     ensures { OnOk result
         (code.new.items ≡ code.old.items
         ++ back_block (kept_by function.now plan.now)
@@ -351,6 +365,7 @@ fn put_back(
         code,
         function,
         plan,
+        site.live,
         site.place + 1,
         site.results.into,
         site.results.count,
@@ -368,6 +383,7 @@ pub(crate) fn put_call(
     requires place { site.now.place < 2 ^ 63 }
     requires saved { site.now.saved.now
         ≡ saved_below function.now plan.now site.now.place (length plan.now.live.items) }
+    requires live { IsLookup site.now.live plan.now }
     ensures { OnOk result
         (code.new.items ≡ code.old.items
         ++ call_of (kept_by function.now plan.now) site.now.place site.now.arguments.first site.now.arguments.count
@@ -391,6 +407,7 @@ pub(crate) fn put_call_address(
     requires place { site.now.place < 2 ^ 63 }
     requires saved { site.now.saved.now
         ≡ saved_below function.now plan.now site.now.place (length plan.now.live.items) }
+    requires live { IsLookup site.now.live plan.now }
     ensures { OnOk result
         (code.new.items ≡ code.old.items
         ++ call_of (kept_by function.now plan.now) site.now.place site.now.arguments.first site.now.arguments.count
@@ -435,5 +452,6 @@ pub(crate) fn put_entry_of(
         (code.new.items ≡ code.old.items ++ entry_block (kept_by function.now plan.now) function.now.parameters) }
 {
     put_store_at(code, Reg::RA, frame_register(function), 0)?;
-    put_take(code, function, plan, 0, 0, function.parameters)
+    let live = LiveLookup::new(plan);
+    put_take(code, function, plan, live, 0, 0, function.parameters)
 }

@@ -7,15 +7,15 @@ ghost use Rattle.rv_isa.specs.declared.instruction.Instr.TheVariants.{OpImm};
 ghost use Rattle.flat_meaning.specs.declared.instruction.FlatInstruction.TheVariants as flat;
 ghost use Rattle.machine_laws.specs.Blocks.Blocks.{move_block, charged_block, asks, received_block, sent_block};
 ghost use Rattle.machine_laws.specs.Blocks.Blocks.{exit_block, local_block};
-ghost use Rattle.machine_laws.specs.Blocks.Blocks.{keep, operator_block};
+ghost use Rattle.machine_laws.specs.Blocks.Blocks.{fetch, keep, operator_block, used};
 ghost use Rattle.machine_laws.specs.Blocks.Places.{location, frame_register, left_scratch};
 
 use crate::emission::calls::argument_words;
 use crate::emission::constants::{addi, put_constant};
 use crate::emission::immediates::{immediate_of, immediate32_of};
 use crate::emission::values::{
-    frame_register, left_scratch, put_fetch, put_keep, put_operands, right_scratch, used,
-    used_right,
+    frame_register, is_same_place, left_scratch, put_fetch, put_keep, put_operands, right_scratch,
+    used, used_right,
 };
 use flat_meaning::{FlatFunction, RightOperand};
 use reg_plan::FunctionPlan;
@@ -50,7 +50,8 @@ pub(crate) fn put_nothing(code: &mut Vec<Instr>) -> Result<(), AllocError>
     Ok(())
 }
 
-/// Puts a copy of a value.
+/// Puts a copy of a value, unless both are kept in one place.
+#[tactic(auto, using(crate::proofs::EmittedCode::Lists::nothing_behind))]
 pub(crate) fn put_move(
     code: &mut Vec<Instr>,
     function: &FlatFunction,
@@ -61,6 +62,27 @@ pub(crate) fn put_move(
     ensures { OnOk result
         (code.new.items ≡ code.old.items
         ++ local_block (location function.now plan.now) (frame_register function.now) 0 (flat.Move into from)) }
+{
+    if is_same_place(function, plan, u64::from(into), u64::from(from)) {
+        return Ok(());
+    }
+    put_copy(code, function, plan, into, from)
+}
+
+// Puts a copy of a value from one place to another.
+fn put_copy(
+    code: &mut Vec<Instr>,
+    function: &FlatFunction,
+    plan: &FunctionPlan,
+    into: u32,
+    from: u32,
+) -> Result<(), AllocError>
+    ensures { OnOk result
+        (code.new.items ≡ code.old.items
+        ++ (fetch (location function.now plan.now from) (frame_register function.now) left_scratch
+        ++ (OpImm Addi (used (location function.now plan.now into) left_scratch)
+        (used (location function.now plan.now from) left_scratch) 0
+        ∷ keep (location function.now plan.now into) (frame_register function.now) left_scratch))) }
 {
     put_fetch(code, function, plan, u64::from(from), left_scratch())?;
     let rd = used(function, plan, u64::from(into), left_scratch());

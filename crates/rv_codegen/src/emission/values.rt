@@ -5,6 +5,7 @@ ghost use Rattle.flat_meaning.specs.declared.instruction.RightOperand.{RightOper
 ghost use Rattle.machine_laws.specs.Blocks.Places.{home, location, frame_register, saved_register, left_scratch};
 ghost use Rattle.machine_laws.specs.Blocks.Places.{right_scratch};
 ghost use Rattle.machine_laws.specs.Blocks.Blocks.{constant, used, fetch, keep, used_right, fetch_right, operands};
+ghost use Rattle.machine_laws.specs.Blocks.Blocks.{is_same};
 ghost use Rattle.machine_laws.specs.Calls.Calls.{save_one, restore_one};
 ghost use Rattle.rv_codegen.specs.EmittedCode.Kept.{IsSmall};
 
@@ -69,6 +70,32 @@ fn location(function: &FlatFunction, plan: &FunctionPlan, register: u64) -> Loca
         }
         Some(Place::Home) | None => Location::Frame(home_of(function, register)),
     }
+}
+
+// Whether two places are one.
+fn is_same(left: Location, right: Location) -> bool
+    ensures { result ≡ is_same left right }
+{
+    match (left, right) {
+        (Location::Register(one), Location::Register(other)) => one == other,
+        (Location::Frame(one), Location::Frame(other)) => one == other,
+        _ => false,
+    }
+}
+
+/// Whether two virtual registers are kept in one place.
+pub(crate) fn is_same_place(
+    function: &FlatFunction,
+    plan: &FunctionPlan,
+    left: u64,
+    right: u64,
+) -> bool
+    ensures { result ≡ is_same (location function.now plan.now left) (location function.now plan.now right) }
+{
+    is_same(
+        location(function, plan, left),
+        location(function, plan, right),
+    )
 }
 
 // The register in which a value is found or left: its own, or the scratch register.

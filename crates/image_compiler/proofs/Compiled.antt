@@ -11,6 +11,7 @@ use Rattle.tac_ir.specs.declared.function.Tac.{Tac}
 use Rattle.tac_ir.specs.Meaning.{header_of_code}
 use Rattle.c_lower.specs.Programs.{IsLowered}
 use Rattle.program_lowering.specs.ProgramCode.Weights.{IsWeighed}
+use Rattle.program_lowering.specs.ProgramCode.Bodies.{HaveBodiesOf}
 use Rattle.program_lowering.specs.ProgramCode.Checks.{checks_of, AwaitsChecks}
 use Rattle.check_insert.specs.Counting.{checks, checks_to_insert}
 use Rattle.check_insert.specs.Inserted.{Inserted}
@@ -31,7 +32,7 @@ use Rattle.image_compiler.specs.declared.error.CompileError.{CompileError}
 use Rattle.image_compiler.specs.declared.error.CompileError.TheVariants.{NumbersTooLarge, TooLarge, FunctionTooLong}
 use Rattle.image_compiler.specs.declared.error.CompileError.TheVariants.{Memory}
 use Rattle.image_compiler.specs.declared.compiler.Built.{Built}
-use Rattle.image_compiler.specs.Built.{flat_code, IsExpandable, IsBuilt, IsRefused, NeedsNodes, UnlessMemory}
+use Rattle.image_compiler.specs.Built.{flat_code, HasChecks, IsExpandable, IsBuilt, IsRefused, NeedsNodes, UnlessMemory}
 use Rattle.image_compiler.proofs.Images.{accepted}
 
 -- as many functions as the text has, with checks or without
@@ -49,28 +50,37 @@ pub sizes_are : (p : Program) (budgets : BudgetSizes) (m : MapSizes) → is_inte
 sizes_are p budgets m ints e =
     e ∙ ap {B = MapSizes} (λ n. record { budgets = budgets; global_bytes = n }) (sym (no_bytes p ints))
 
-checked_of : (p : Program) (t r : Tac) → IsLowered p t → IsWeighed p t → Inserted t r → IsChecked p r
-checked_of p t r low weighed ins = record { lowered = t; is_lowered = low; is_weighed = weighed; inserted = ins }
+checked_of : (p : Program) (t r : Tac) → IsLowered p t → IsWeighed p t → HaveBodiesOf p t → HasChecks t r
+    → IsChecked p r
+checked_of p t r low weighed bodies h = record {
+  lowered = t;
+  is_lowered = low;
+  is_weighed = weighed;
+  bodies = bodies;
+  inserted = h.inserted;
+  closed = h.closed;
+  variables = h.variables;
+}
 
-pub built_for : (p : Program) (t : Tac) (m n : MapSizes) (b : Built) → IsLowered p t → IsWeighed p t → m ≡ n
-    → IsBuilt (Inserted t) m b → IsBuilt (IsChecked p) n b
-built_for p t m n b low weighed same h =
+pub built_for : (p : Program) (t : Tac) (m n : MapSizes) (b : Built) → IsLowered p t → IsWeighed p t → HaveBodiesOf p t → m ≡ n
+    → IsBuilt (HasChecks t) m b → IsBuilt (IsChecked p) n b
+built_for p t m n b low weighed bodies same h =
     subst (λ k. IsBuilt (IsChecked p) k b) same
-    (record { checked = h.checked; is = checked_of p t h.checked low weighed h.is; image = h.image })
+    (record { checked = h.checked; is = checked_of p t h.checked low weighed bodies h.is; image = h.image })
 
-refused_one : (p : Program) (t : Tac) (m n : MapSizes) (e : CompileError) → IsLowered p t → IsWeighed p t → m ≡ n
-    → IsRefused (Inserted t) m e → IsRefused (IsChecked p) n e
-refused_one p t m n e low weighed same h =
+refused_one : (p : Program) (t : Tac) (m n : MapSizes) (e : CompileError) → IsLowered p t → IsWeighed p t → HaveBodiesOf p t → m ≡ n
+    → IsRefused (HasChecks t) m e → IsRefused (IsChecked p) n e
+refused_one p t m n e low weighed bodies same h =
     subst (λ k. IsRefused (IsChecked p) k e) same
-    (record { checked = h.checked; is = checked_of p t h.checked low weighed h.is; refuses = h.refuses })
+    (record { checked = h.checked; is = checked_of p t h.checked low weighed bodies h.is; refuses = h.refuses })
 
-pub refused_for : (p : Program) (t : Tac) (m n : MapSizes) (e : CompileError) → IsLowered p t → IsWeighed p t → m ≡ n
-    → UnlessMemory e (IsRefused (Inserted t) m e) → UnlessMemory e (IsRefused (IsChecked p) n e)
-refused_for p t m n NumbersTooLarge low weighed same h = refused_one p t m n NumbersTooLarge low weighed same h
-refused_for p t m n (TooLarge bytes) low weighed same h = refused_one p t m n (TooLarge bytes) low weighed same h
-refused_for p t m n (FunctionTooLong number) low weighed same h =
-    refused_one p t m n (FunctionTooLong number) low weighed same h
-refused_for p t m n Memory low weighed same h = tt
+pub refused_for : (p : Program) (t : Tac) (m n : MapSizes) (e : CompileError) → IsLowered p t → IsWeighed p t → HaveBodiesOf p t → m ≡ n
+    → UnlessMemory e (IsRefused (HasChecks t) m e) → UnlessMemory e (IsRefused (IsChecked p) n e)
+refused_for p t m n NumbersTooLarge low weighed bodies same h = refused_one p t m n NumbersTooLarge low weighed bodies same h
+refused_for p t m n (TooLarge bytes) low weighed bodies same h = refused_one p t m n (TooLarge bytes) low weighed bodies same h
+refused_for p t m n (FunctionTooLong number) low weighed bodies same h =
+    refused_one p t m n (FunctionTooLong number) low weighed bodies same h
+refused_for p t m n Memory low weighed bodies same h = tt
 
 -- the flat code of what is built
 pub flat_of : (p : Program) (m : MapSizes) (b : Built) (h : IsBuilt (IsChecked p) m b)
@@ -84,17 +94,17 @@ flat_of p m b h = record {
 
 -- what is asked of code with its checks put in
 pub expandable : (p : Program) (budgets : BudgetSizes) (t : Tac) (m : MapSizes) → m ≡ sizes_of p budgets → IsLowered p t
-    → IsWeighed p t
+    → IsWeighed p t → HaveBodiesOf p t
     → ((r : Tac) → Inserted t r → AreAllSmall m r → ArePlannable (flat_code m r))
-    → ((code : FlatProgram) → IsFlat p (sizes_of p budgets) code → IsEncodable code) → (r : Tac) → Inserted t r
+    → ((code : FlatProgram) → IsFlat p (sizes_of p budgets) code → IsEncodable code) → (r : Tac) → HasChecks t r
     → IsExpandable m r
-expandable p budgets t m same low weighed plannable encodable r ins = record {
-  plannable = plannable r ins;
+expandable p budgets t m same low weighed bodies plannable encodable r h = record {
+  plannable = plannable r h.inserted;
   encodable = λ small.
       subst (λ k. IsEncodable (flat_code k r)) (sym same)
       (encodable (flat_code (sizes_of p budgets) r) (record {
         checked = r;
-        is_checked = checked_of p t r low weighed ins;
+        is_checked = checked_of p t r low weighed bodies h;
         small = subst (λ k. AreAllSmall k r) same small;
         expanded = refl;
       }));
@@ -103,17 +113,17 @@ expandable p budgets t m same low weighed plannable encodable r ins = record {
 -- ---- what `built_of` answers
 
 pub built_result : (p : Program) (t : Tac) (m n : MapSizes) (r : Result Built CompileError) → IsLowered p t
-    → IsWeighed p t → m ≡ n
-    → IfOk r (λ b. IsBuilt (Inserted t) m b) → IfOk r (λ b. IsBuilt (IsChecked p) n b)
-built_result p t m n (Ok b) low weighed same h = built_for p t m n b low weighed same h
-built_result p t m n (Err e) low weighed same h = tt
+    → IsWeighed p t → HaveBodiesOf p t → m ≡ n
+    → IfOk r (λ b. IsBuilt (HasChecks t) m b) → IfOk r (λ b. IsBuilt (IsChecked p) n b)
+built_result p t m n (Ok b) low weighed bodies same h = built_for p t m n b low weighed bodies same h
+built_result p t m n (Err e) low weighed bodies same h = tt
 
 pub refused_result : (p : Program) (t : Tac) (m n : MapSizes) (r : Result Built CompileError) → IsLowered p t
-    → IsWeighed p t → m ≡ n
-    → IfErr r (λ e. UnlessMemory e (IsRefused (Inserted t) m e))
+    → IsWeighed p t → HaveBodiesOf p t → m ≡ n
+    → IfErr r (λ e. UnlessMemory e (IsRefused (HasChecks t) m e))
     → IfErr r (λ e. UnlessMemory e (IsRefused (IsChecked p) n e))
-refused_result p t m n (Ok b) low weighed same h = tt
-refused_result p t m n (Err e) low weighed same h = refused_for p t m n e low weighed same h
+refused_result p t m n (Ok b) low weighed bodies same h = tt
+refused_result p t m n (Err e) low weighed bodies same h = refused_for p t m n e low weighed bodies same h
 
 pub checks_result : (p : Program) (t : Tac) (r : Result Built CompileError) → AwaitsChecks p t
     → IfOk r (λ b. b.checks ≡ min (2 ^ 64 - 1) (checks t + checks_to_insert t))
@@ -140,17 +150,17 @@ does_result p budgets (Err e) law h = tt
 large_code : (p : Program) (t : Tac) (m : MapSizes) (bytes : ℕ)
     → ((k : Tac) (plans : List FunctionPlan) → Inserted t k → AreAllSmall m k → AreAccepted (flat_code m k) plans
     → IsCause m (flat_code m k) plans (generate.TooLarge bytes) → 8192 < program_nodes p)
-    → IsRefused (Inserted t) m (TooLarge bytes) → 8192 < program_nodes p
+    → IsRefused (HasChecks t) m (TooLarge bytes) → 8192 < program_nodes p
 large_code p t m bytes law h =
     let none = h.refuses in
-    law h.checked none.cause.plans h.is none.small
+    law h.checked none.cause.plans h.is.inserted none.small
     (accepted (flat_code m h.checked) none.cause.plans none.cause.planned) none.cause.cause
 
 pub nodes_result : (p : Program) (t : Tac) (m : MapSizes) (r : Result Built CompileError)
     → ((k : Tac) (plans : List FunctionPlan) (bytes : ℕ) → Inserted t k → AreAllSmall m k
     → AreAccepted (flat_code m k) plans → IsCause m (flat_code m k) plans (generate.TooLarge bytes)
     → 8192 < program_nodes p)
-    → IfErr r (λ e. UnlessMemory e (IsRefused (Inserted t) m e)) → IfErr r (λ e. NeedsNodes e p)
+    → IfErr r (λ e. UnlessMemory e (IsRefused (HasChecks t) m e)) → IfErr r (λ e. NeedsNodes e p)
 nodes_result p t m (Ok b) law h = tt
 nodes_result p t m (Err NumbersTooLarge) law h = tt
 nodes_result p t m (Err (TooLarge bytes)) law h = large_code p t m bytes (λ k plans. law k plans bytes) h

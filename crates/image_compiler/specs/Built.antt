@@ -3,6 +3,8 @@ use Rattle.std.specs.Prelude.{◌≡◌, ℕ, ◌<◌, List, [], length, Result,
 use Rattle.addr_map.specs.Places.{MapSizes}
 use Rattle.c_tree.specs.Programs.{Program}
 use Rattle.tac_ir.specs.declared.function.Tac.{Tac}
+use Rattle.tac_ir.specs.Bodies.{HaveClosedBodies, KeepVariables}
+use Rattle.check_insert.specs.Inserted.{Inserted}
 use Rattle.metadata_plan.specs.Laid.{program_of}
 use Rattle.metadata_plan.specs.OperatorLists.Operators.{operators}
 use Rattle.metadata_expansion.specs.Homes.{homes}
@@ -79,6 +81,12 @@ abbrev pub IsCompiled : {A : Type 0} → Result A GenerateError → Result A Com
 IsCompiled (Ok file) (Ok same) = same ≡ file
 IsCompiled (Err g) (Err e) = IsErrorOf g e
 IsCompiled _ _ = ⊥
+
+-- lowered code with its checks put in, where the bodies of counted loops are closed and assign their variables nowhere
+pub record HasChecks (lowered checked : Tac) : Type 0 where
+  pub inserted : Inserted lowered checked
+  pub closed : HaveClosedBodies checked
+  pub variables : KeepVariables checked
 
 -- what is built of some checked code
 pub record IsBuilt (Is : Tac → Type 0) (map : MapSizes) (built : Built) : Type 0 where

@@ -7,11 +7,11 @@ ghost use Rattle.c_const.specs.Initializers.{first_not_constant};
 ghost use Rattle.tac_ir.specs.declared.function.Tac.{Tac};
 ghost use Rattle.program_lowering.specs.ProgramCode.Checks.{checks_of};
 ghost use Rattle.check_insert.specs.Counting.{checks, checks_to_insert};
-ghost use Rattle.check_insert.specs.Inserted.{Inserted};
+ghost use Rattle.tac_ir.specs.Bodies.{HaveClosedBodies, HaveNoneAdded, KeepVariables};
 ghost use Rattle.compiled_programs.specs.Programs.{is_integer_program};
 ghost use Rattle.image_laws.specs.Images.Images.{HaveFewParameters, sizes_of, IsChecked, DoesWhatIsMeant};
 ghost use Rattle.image_compiler.specs.declared.error.CompileError.{CompileError};
-ghost use Rattle.image_compiler.specs.Built.{IsExpandable, IsBuilt, IsRefused, NeedsNodes, UnlessMemory};
+ghost use Rattle.image_compiler.specs.Built.{HasChecks, IsExpandable, IsBuilt, IsRefused, NeedsNodes, UnlessMemory};
 
 use crate::error::CompileError;
 use crate::image::image_of_checked;
@@ -51,11 +51,14 @@ fn with_checks(image: Result<Vec<u8>, CompileError>, checks: u64) -> Result<Buil
 // What is built of lowered code, in which the checks are put in; or why nothing is.
 fn built_of(alloc: Global, map: &AddrMap, lowered: Tac) -> Result<Built, CompileError>
     requires count { length lowered.functions ≤ 4096 }
-    requires expandable { (r : Tac) → Inserted lowered r → IsExpandable map.now r }
-    ensures built { IfOk result (λ built. IsBuilt (Inserted lowered) map.now built) }
+    requires none_added { HaveNoneAdded lowered }
+    requires closed { HaveClosedBodies lowered }
+    requires variables { KeepVariables lowered }
+    requires expandable { (r : Tac) → HasChecks lowered r → IsExpandable map.now r }
+    ensures built { IfOk result (λ built. IsBuilt (HasChecks lowered) map.now built) }
     ensures checks { IfOk result
         (λ built. built.checks ≡ min (2 ^ 64 - 1) (checks lowered + checks_to_insert lowered)) }
-    ensures refused { IfErr result (λ e. UnlessMemory e (IsRefused (Inserted lowered) map.now e)) }
+    ensures refused { IfErr result (λ e. UnlessMemory e (IsRefused (HasChecks lowered) map.now e)) }
 {
     let checked = insert(alloc, lowered)?;
     let count = checks(&checked);

@@ -1,5 +1,6 @@
 pub mod Leading
 pub mod Growing
+pub mod Lengths
 pub mod Counts
 pub mod Steps
 pub mod Parts

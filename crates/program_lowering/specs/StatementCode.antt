@@ -1,4 +1,5 @@
 pub mod Sizes
 pub mod Weights
+pub mod Bodies
 pub mod Switches
 pub mod Code

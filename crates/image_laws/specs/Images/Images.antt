@@ -8,6 +8,8 @@ use Rattle.source_meaning.specs.Calls.{function_at}
 use Rattle.source_meaning.specs.Meaning.{meaning, setting_of}
 use Rattle.tac_ir.specs.declared.function.Tac.{Tac}
 use Rattle.c_lower.specs.Programs.{IsLowered}
+use Rattle.program_lowering.specs.ProgramCode.Bodies.{HaveBodiesOf}
+use Rattle.tac_ir.specs.Bodies.{HaveClosedBodies, KeepVariables}
 use Rattle.program_lowering.specs.ProgramCode.Weights.{IsWeighed}
 use Rattle.check_insert.specs.Inserted.{Inserted}
 use Rattle.metadata_plan.specs.Laid.{program_of}
@@ -31,12 +33,17 @@ pub record HaveFewParameters (program : Program) : Type 0 where
 abbrev pub sizes_of : Program → BudgetSizes → MapSizes
 sizes_of p budgets = (setting_of p budgets).sizes
 
--- the code of a program, lowered to just the instructions that its text has, and with its checks put in
+-- The code of a program, lowered to just the instructions that its text has, and with its checks put in. The bodies of
+-- its counted loops were just the nodes of their text; with those of checks they are closed, and assign their variables
+-- nowhere.
 pub record IsChecked (program : Program) (code : Tac) : Type 0 where
   pub lowered : Tac
   pub is_lowered : IsLowered program lowered
   pub is_weighed : IsWeighed program lowered
+  pub bodies : HaveBodiesOf program lowered
   pub inserted : Inserted lowered code
+  pub closed : HaveClosedBodies code
+  pub variables : KeepVariables code
 
 -- its flat code, which checked code with numbers that fit expands to
 pub record IsFlat (program : Program) (map : MapSizes) (code : FlatProgram) : Type 0 where

@@ -13,7 +13,7 @@ use Rattle.program_lowering.specs.ExpressionCode.Weights.{Weights, Weighs, weigh
 use Rattle.program_lowering.specs.ExpressionCode.Weights.{taken_into, taking_weight, returning_weight}
 use Rattle.program_lowering.specs.ExpressionCode.Emitted.{Has, Added, Stays, Keeps, IsReal, Fills, Emits}
 use Rattle.program_lowering.proofs.ExpressionCode.Leading.{leads_none, leads_added, added_stays, closed_then}
-use Rattle.program_lowering.proofs.ExpressionCode.Leading.{same_nodes}
+use Rattle.program_lowering.proofs.ExpressionCode.Leading.{same_nodes, added_adds, adds_before}
 use Rattle.program_lowering.specs.ExpressionCode.Last.{KeyAdded, TextAdded, TakingCode, Outcomes}
 
 -- lists
@@ -287,6 +287,7 @@ three_ways {d = d} {zero = wz} {one = wo} {next = m} hz ho ht =
     record {
       emits = emits_then (d + 1) (λ w. w.branch + 2 * w.constant) two et (omega arith) (omega arith) (λ w. omega arith);
       leads = record {
+        bodies = adds_before (added_adds hz) (adds_before (added_adds ho) (added_adds ht));
         by = λ ss s o.
             let z = added_stays hz s o in
             let v = added_stays ho z.0.closed (z.0.opens m o.0, tt) in

@@ -1,19 +1,19 @@
 -- What is added leads to open nodes.
-use Rattle.std.proofs.Common.{◌≡◌, ℕ, zero, suc, ◌+◌, ◌≤◌, ◌<◌, List, [], ◌∷◌, ◌++◌, length, map, Option, Some, None}
-use Rattle.std.proofs.Common.{refl, sym, ap, ◌∙◌, subst, arith}
+use Rattle.std.proofs.Common.{◌≡◌, ℕ, zero, suc, ◌+◌, ◌≤◌, ◌<◌, false, List, [], ◌∷◌, ◌++◌, length, map, Option, Some, None}
+use Rattle.std.proofs.Common.{refl, sym, ap, ◌∙◌, subst, arith, append_assoc, append-nil}
 use Rattle.std.specs.Prelude.{◌⊎◌, slice_get}
 use Rattle.std.proofs.lemmas.Option.{same_Some, slice_get_within}
 use mathlib.Core.Logic.{inl, inr}
 use Rattle.tac_ir.specs.declared.instruction.Instruction.{Instruction}
 use Rattle.tac_ir.specs.declared.function.Span.{Span}
 use Rattle.tac_ir.specs.declared.function.CountedLoop.{CountedLoop}
-use Rattle.tac_ir.specs.Bodies.{IsIn, bodies_in, no_nodes}
+use Rattle.tac_ir.specs.Bodies.{IsIn, assigns_plain, bodies_in, no_nodes}
 use Rattle.tac_ir.specs.Edges.{IsAmong, LeadsTo, successors}
 use Rattle.c_lower.specs.Placed.{HasAt}
 use Rattle.program_lowering.specs.declared.expressions.emitter.Emitter.{Emitter}
 use Rattle.program_lowering.specs.ExpressionCode.Emitted.{Added}
 use Rattle.program_lowering.specs.ExpressionCode.Enclosed.{IsTurnIn, Encloses, IsClosed, AreClosed, IsOpen, AllOpen}
-use Rattle.program_lowering.specs.ExpressionCode.Enclosed.{StaysClosed, Leads, SameNodes}
+use Rattle.program_lowering.specs.ExpressionCode.Enclosed.{StaysClosed, AddsBodies, Leads, SameNodes}
 
 -- lists with one element more at the end
 
@@ -32,6 +32,11 @@ last_or_before (z ∷ xs) y (suc n) x h = later xs (last_or_before xs y n x h)
 length_more : {A : Type 0} (xs : List A) (y : A) → length (xs ++ y ∷ []) ≡ suc (length xs)
 length_more [] y = refl
 length_more (x ∷ xs) y = ap suc (length_more xs y)
+
+pub body_at : (ls : List CountedLoop) (n : ℕ) (l : CountedLoop) → HasAt ls n l → HasAt (bodies_in ls) n l.body
+body_at [] n l h = cc
+body_at (k ∷ ls) zero l h = ap (λ (x : CountedLoop). Some x.body) (same_Some k l h)
+body_at (k ∷ ls) (suc n) l h = body_at ls n l h
 
 -- open nodes
 
@@ -55,16 +60,41 @@ pub closed_then : {spans : List Span} {a b c : Emitter} → StaysClosed spans a 
     → StaysClosed spans a c
 closed_then h g = record { closed = g.closed; opens = λ n o. g.opens n (h.opens n o) }
 
--- nothing is added
-pub leads_all : {a : Emitter} {ns : List ℕ} → Leads a a ns ns
-leads_all = record { by = λ ss s o. (stays_closed s, o) }
+-- bodies of loops
 
-pub leads_none : {a : Emitter} {n : ℕ} → Leads a a (n ∷ []) (n ∷ [])
+pub same_adds : {a b : Emitter} → b.loops.items ≡ a.loops.items → AddsBodies a b []
+same_adds {a = a} e = record { by = ap bodies_in e ∙ sym (append-nil (bodies_in a.loops.items)) }
+
+pub added_adds : {a b : Emitter} {n : ℕ} {i : Instruction} → Added a b n i → AddsBodies a b []
+added_adds h = same_adds h.loops
+
+pub adds_none : {a : Emitter} → AddsBodies a a []
+adds_none = same_adds refl
+
+pub adds_then : {a b c : Emitter} {ss ts : List Span} → AddsBodies a b ss → AddsBodies b c ts
+    → AddsBodies a c (ss ++ ts)
+adds_then {a = a} {ss = ss} {ts = ts} h g = record {
+  by = g.by ∙ ap (λ l. l ++ ts) h.by ∙ append_assoc (bodies_in a.loops.items) ss ts;
+}
+
+pub adds_before : {a b c : Emitter} {ss : List Span} → AddsBodies a b [] → AddsBodies b c ss → AddsBodies a c ss
+adds_before h g = adds_then h g
+
+pub adds_behind : {a b c : Emitter} {ss : List Span} → AddsBodies a b ss → AddsBodies b c [] → AddsBodies a c ss
+adds_behind {a = a} {c = c} {ss = ss} h g = subst (AddsBodies a c) (append-nil ss) (adds_then h g)
+
+-- nothing is added
+pub leads_all : {a : Emitter} {ns : List ℕ} → Leads a a ns ns []
+leads_all = record { bodies = adds_none; by = λ ss s o. (stays_closed s, o) }
+
+pub leads_none : {a : Emitter} {n : ℕ} → Leads a a (n ∷ []) (n ∷ []) []
 leads_none = leads_all
 
 -- one piece before another, to which it leads alone
-pub leads_then : {a b c : Emitter} {ns ks ms : List ℕ} → Leads a b ks ms → Leads b c ns ks → Leads a c ns ms
+pub leads_then : {a b c : Emitter} {ns ks ms : List ℕ} → Leads a b ks ms [] → Leads b c ns ks []
+    → Leads a c ns ms []
 leads_then h g = record {
+  bodies = adds_before h.bodies g.bodies;
   by = λ ss s o.
       let one = h.by ss s o in
       let two = g.by ss one.0.closed one.1 in
@@ -89,6 +119,8 @@ same_stays {spans = spans} {b = b} same h = record {
         (h.closed k s (subst (λ ls. IsClosed spans (bodies_in ls) k s) same.loops c));
     none_added = subst (λ ls. (n : ℕ) (l : CountedLoop) → HasAt ls n l → l.added ≡ no_nodes) (sym same.loops)
         h.none_added;
+    keeps = λ n l at m i g here.
+        h.keeps n l (subst (λ ls. HasAt ls n l) same.loops at) m i (subst (λ is. HasAt is m i) same.code g) here;
   };
   opens = same_open same;
 }
@@ -100,8 +132,9 @@ pub same_then : {a b c : Emitter} → SameNodes a b → SameNodes b c → SameNo
 same_then h g = record { code = g.code ∙ h.code; loops = g.loops ∙ h.loops }
 
 -- behind what adds no nodes
-pub leads_behind : {a b c : Emitter} {ns ms : List ℕ} → SameNodes a b → Leads b c ns ms → Leads a c ns ms
+pub leads_behind : {a b c : Emitter} {ns ms : List ℕ} → SameNodes a b → Leads b c ns ms [] → Leads a c ns ms []
 leads_behind {ms = ms} same h = record {
+  bodies = adds_before (same_adds same.loops) h.bodies;
   by = λ ss s o.
       let one = same_stays same s in
       let two = h.by ss one.closed (all_open ms one o) in
@@ -143,6 +176,10 @@ added_stays {spans = spans} {a = a} {b = b} {k = k} {i = i} h s o =
               };
           none_added = subst (λ ls. (n : ℕ) (l : CountedLoop) → HasAt ls n l → l.added ≡ no_nodes) (sym h.loops)
               s.none_added;
+          keeps = λ n l at m j g here.
+              let held = subst (λ ls. HasAt ls n l) h.loops at in
+              kept n l held m j here
+              (last_or_before a.code.items i m j (subst (λ is. HasAt is m j) h.code g));
         };
         opens = λ n w. record {
           within = omega (arith, long, w.within);
@@ -161,14 +198,21 @@ added_stays {spans = spans} {a = a} {b = b} {k = k} {i = i} h s o =
     below n m j to (inl at) = omega (arith, one_longer h, s.leads n m j at to)
     below n m j to (inr w) = omega (arith, one_longer h, w.within)
 
+    kept : (n : ℕ) (l : CountedLoop) → HasAt a.loops.items n l → (m : ℕ) (j : Instruction) → IsIn l.body m
+        → HasAt a.code.items m j ⊎ ((m ≡ length a.code.items) × (j ≡ i)) → assigns_plain j l.variable ≡ false
+    kept n l held m j here (inl g) = s.keeps n l held m j g here
+    kept n l held m j here (inr e) =
+        absurd (omega (arith, (s.closed (Some n) l.body (body_at a.loops.items n l held)).within, here.1, e.0))
+
     entered : (number : Option ℕ) (x : Span) → IsClosed spans (bodies_in a.loops.items) number x
         → (n m : ℕ) (j : Instruction) → LeadsTo j m → IsIn x m → HasAt a.code.items n j ⊎ IsOpen spans a m
         → IsIn x n ⊎ IsTurnIn number j
     entered number x c n m j to here (inl at) = (s.closed number x c).enters n m j at to here
     entered number x c n m j to here (inr w) = absurd (w.outside number x c here)
 
-pub leads_added : {a b : Emitter} {k : ℕ} {i : Instruction} → Added a b k i → Leads a b (k ∷ []) (successors i)
+pub leads_added : {a b : Emitter} {k : ℕ} {i : Instruction} → Added a b k i → Leads a b (k ∷ []) (successors i) []
 leads_added h = record {
+  bodies = added_adds h;
   by = λ ss s o.
       let one = added_stays h s o in
       (one.0, (one.1, tt));
@@ -176,21 +220,23 @@ leads_added h = record {
 
 -- to one node
 pub leads_to : {a b : Emitter} {k m : ℕ} {i : Instruction} → Added a b k i → successors i ≡ m ∷ []
-    → Leads a b (k ∷ []) (m ∷ [])
-leads_to {a = a} {b = b} {k = k} h e = subst (Leads a b (k ∷ [])) e (leads_added h)
+    → Leads a b (k ∷ []) (m ∷ []) []
+leads_to {a = a} {b = b} {k = k} h e = subst (λ ms. Leads a b (k ∷ []) ms []) e (leads_added h)
 
 -- nothing is added, and other ways are not taken
-pub leads_first : {a : Emitter} {n : ℕ} {ms : List ℕ} → Leads a a (n ∷ []) (n ∷ ms)
-leads_first = record { by = λ ss s o. (stays_closed s, (o.0, tt)) }
+pub leads_first : {a : Emitter} {n : ℕ} {ms : List ℕ} → Leads a a (n ∷ []) (n ∷ ms) []
+leads_first = record { bodies = adds_none; by = λ ss s o. (stays_closed s, (o.0, tt)) }
 
 -- more ways that are not taken
-pub leads_more : {a b : Emitter} {ns : List ℕ} {m : ℕ} {ms : List ℕ} → Leads a b ns (m ∷ []) → Leads a b ns (m ∷ ms)
-leads_more h = record { by = λ ss s o. h.by ss s (o.0, tt) }
+pub leads_more : {a b : Emitter} {ns : List ℕ} {m : ℕ} {ms : List ℕ} → Leads a b ns (m ∷ []) []
+    → Leads a b ns (m ∷ ms) []
+leads_more h = record { bodies = h.bodies; by = λ ss s o. h.by ss s (o.0, tt) }
 
 -- a piece before another, which may be left in the same other ways
-pub leads_before : {a b c : Emitter} {ns ks ms : List ℕ} {k m : ℕ} → Leads a b (k ∷ ks) (m ∷ ms)
-    → Leads b c ns (k ∷ ms) → Leads a c ns (m ∷ ms)
+pub leads_before : {a b c : Emitter} {ns ks ms : List ℕ} {k m : ℕ} {ss ts : List Span} → Leads a b (k ∷ ks) (m ∷ ms) ss
+    → Leads b c ns (k ∷ ms) ts → Leads a c ns (m ∷ ms) (ss ++ ts)
 leads_before {ms = ms} h g = record {
+  bodies = adds_then h.bodies g.bodies;
   by = λ ss s o.
       let one = h.by ss s o in
       let two = g.by ss one.0.closed (one.1.0, all_open ms one.0 o.1) in

@@ -20,6 +20,7 @@ use Rattle.program_lowering.specs.ExpressionCode.Shapes.{OperandsCode, Finishes,
 use Rattle.program_lowering.proofs.ExpressionCode.Growing.{emits_none, emits_then, added_emits, added_holds}
 use Rattle.program_lowering.proofs.ExpressionCode.Growing.{fills_before}
 use Rattle.program_lowering.proofs.ExpressionCode.Leading.{leads_none, leads_then, added_stays, closed_then}
+use Rattle.program_lowering.proofs.ExpressionCode.Leading.{added_adds, adds_before}
 use Rattle.program_lowering.proofs.ExpressionCode.Steps.{used_most, weight_most, used_by_most, weight_by_most}
 use Rattle.program_lowering.proofs.ExpressionCode.Steps.{some_used}
 
@@ -89,6 +90,7 @@ both_code {x = x} {y = y} {d = d} {k = k} {kb = kb} {wz = wz} {wo = wo} {test = 
       emits = emits_then most (λ v. 2 * v.branch + 2 * v.constant + (expression_weight x v + expression_weight y v))
           second hx.emits (omega arith) (omega arith) (λ v. omega arith);
       leads = record {
+        bodies = adds_before w.leads.bodies (adds_before hy.leads.bodies (adds_before (added_adds h) hx.leads.bodies));
         by = λ ss s o.
             let u = w.leads.by ss s o in
             let v = hy.leads.by ss u.0.closed (u.1.1.1.0, tt) in
@@ -128,6 +130,7 @@ either_code {x = x} {y = y} {d = d} {k = k} {kb = kb} {wz = wz} {wo = wo} {test 
       emits = emits_then most (λ v. 2 * v.branch + 2 * v.constant + (expression_weight x v + expression_weight y v))
           second hx.emits (omega arith) (omega arith) (λ v. omega arith);
       leads = record {
+        bodies = adds_before w.leads.bodies (adds_before hy.leads.bodies (adds_before (added_adds h) hx.leads.bodies));
         by = λ ss s o.
             let u = w.leads.by ss s o in
             let v = hy.leads.by ss u.0.closed (u.1.1.1.0, tt) in
@@ -168,6 +171,7 @@ choice_code {x = x} {y = y} {z = z} {d = d} {k = k} {kb = kb} {ke = ke} {m = m} 
           (λ w. w.branch + (expression_weight x w + (expression_weight y w + expression_weight z w)))
           second hx.emits (omega arith) (omega arith) (λ w. omega arith);
       leads = record {
+        bodies = adds_before hz.leads.bodies (adds_before hy.leads.bodies (adds_before (added_adds h) hx.leads.bodies));
         by = λ ss s o.
             let u = hz.leads.by ss s o in
             let v = hy.leads.by ss u.0.closed (u.0.opens m o.0, tt) in

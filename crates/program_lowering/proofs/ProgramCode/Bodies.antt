@@ -1,5 +1,5 @@
 -- Bodies of functions, and functions with their tables.
-use Rattle.std.proofs.Common.{◌≡◌, ℕ, ◌+◌, ◌≤◌, ◌<◌, ◌^◌, Bool, List, [], ◌∷◌, refl, sym, ap, ◌∙◌, subst, arith}
+use Rattle.std.proofs.Common.{◌≡◌, ℕ, ◌+◌, ◌≤◌, ◌<◌, ◌^◌, Bool, List, [], ◌∷◌, length, refl, sym, ap, ◌∙◌, subst, arith}
 use Rattle.c_tree.specs.declared.expression.Kind.{Kind}
 use Rattle.c_tree.specs.declared.program.Variable.{Variable}
 use Rattle.c_tree.specs.Blocks.{all_of, body_variables}
@@ -15,9 +15,13 @@ use Rattle.c_lower.specs.Programs.{LowersBody, placed_in, function_exits}
 use Rattle.program_lowering.specs.declared.expressions.emitter.Emitter.{Emitter}
 use Rattle.program_lowering.specs.ExpressionCode.Weights.{code_weight}
 use Rattle.program_lowering.specs.ExpressionCode.Emitted.{Added, Fills}
-use Rattle.program_lowering.proofs.ExpressionCode.Leading.{added_stays}
+use Rattle.program_lowering.proofs.ExpressionCode.Leading.{added_stays, added_adds, adds_before}
+use Rattle.program_lowering.proofs.ExpressionCode.Lengths.{emitted_length}
+use Rattle.program_lowering.specs.StatementCode.Bodies.{each_bodies}
+use Rattle.tac_ir.specs.Bodies.{bodies_in}
 use Rattle.program_lowering.proofs.ProgramCode.ClosedBodies.{none_has, empty_closed, function_closed, function_bare}
-use Rattle.program_lowering.specs.ExpressionCode.Enclosed.{AllOpen}
+use Rattle.program_lowering.proofs.ProgramCode.ClosedBodies.{function_keeps, bodies_whole}
+use Rattle.program_lowering.specs.ExpressionCode.Enclosed.{AllOpen, AddsBodies}
 use Rattle.program_lowering.proofs.ExpressionCode.Growing.{added_emits, added_holds, emits_then, fills_before}
 use Rattle.program_lowering.proofs.ExpressionCode.Growing.{weighs_from, weighs_into}
 use Rattle.program_lowering.specs.declared.parts.exits.Exits.{Exits}
@@ -35,7 +39,7 @@ pub body_code : {vs : List Variable} {ss : Statements} {result : Kind} {texts : 
     → a.literals.items ≡ literals → Added a b returns (tac.Return 0)
     → Added b c end (tac.ZeroOf result 0 returns) → exits_of x ≡ function_exits end returns
     → StatementsCode vs c d ss entry x → BodyCode vs ss result texts literals d entry
-body_code {vs = vs} {ss = ss} {result = result} {texts = texts} {a = a} {c = c} {returns = returns} {end =
+body_code {vs = vs} {ss = ss} {result = result} {texts = texts} {a = a} {c = c} {d = d} {returns = returns} {end =
     end} {entry = entry} {x = x} none bare same told r z q h =
     let most = each_height ss in
     let one = each_needs_one ss in
@@ -54,6 +58,9 @@ body_code {vs = vs} {ss = ss} {result = result} {texts = texts} {a = a} {c = c} 
           (record { by = λ n i k. absurd (none_has a.code.items n i none k) });
       closed = made.0.closed;
       begins = made.1.0;
+      bodies = bodies_whole bare (adds_before (adds_before (added_adds r) (added_adds z))
+          (subst (λ p. AddsBodies c d (each_bodies vs ss p)) (emitted_length two ∙ ap (λ is. length is + 2) none)
+          h.leads.bodies));
       weight = λ w ts s. weighs_into (whole.grown w ts s) (omega (arith, ap (λ is. code_weight ts is w) none));
       stands = λ p v f.
           let fz = fills_before h.emits f in (
@@ -95,6 +102,8 @@ function_code {texts = texts} {literals = literals} {result = result} {b = b} {l
             homes = λ n i k. h.homes.by n i (subst (λ is. HasAt is n i) w.code_is k);
             closed = function_closed b.code b.entry l.function w.code_is w.loops_are w.entry_is h.closed h.begins;
             none_added = function_bare b.code l.function w.loops_are h.closed;
+            bodies = ap bodies_in w.loops_are ∙ h.bodies;
+            keeps = function_keeps b.code l.function w.code_is w.loops_are h.closed;
             weight = λ v. weighs_from (ap (λ is. code_weight ts is v) w.code_is) (h.weight v ts fills.texts);
             body = subst (λ n. LowersBody (placed_in ts literals f l.function) result n f.body) (sym w.entry_is)
                 (h.stands (placed_in ts literals f l.function) refl fills);

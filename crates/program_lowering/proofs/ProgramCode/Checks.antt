@@ -40,54 +40,14 @@ use Rattle.program_lowering.specs.StatementParts.Weights.{declared_weight, first
 use Rattle.program_lowering.specs.StatementParts.Weights.{weight_where, block_weight}
 use Rattle.program_lowering.specs.StatementCode.Weights.{labels_weight, statement_weight, each_weight, items_weight}
 use Rattle.program_lowering.specs.ProgramCode.Weights.{functions_weight, codes_weight, IsWeighed, program_weight}
-use Rattle.program_lowering.specs.ProgramCode.Weights.{instruction_count, each_one}
+use Rattle.program_lowering.specs.ProgramCode.Weights.{instruction_count}
+use Rattle.program_lowering.specs.ExpressionCode.Weights.{each_one}
+use Rattle.program_lowering.proofs.ExpressionCode.Lengths.{as_long}
 use Rattle.program_lowering.specs.ProgramCode.Checks.{scalar_checks, access_checks, checks_made}
 use Rattle.program_lowering.specs.ProgramCode.Checks.{content_checks, contents_checks, functions_checks}
 use Rattle.program_lowering.specs.ProgramCode.Checks.{checks_of, AwaitsChecks}
 
 -- ---- instructions
-
-one_each : (ts : List (List ℕ)) (i : Instruction) → weight_of ts i each_one ≡ 1
-one_each ts tac.Reserved = refl
-one_each ts (tac.Skip m) = refl
-one_each ts (tac.Constant d n m) = refl
-one_each ts (tac.FunctionPointer d f m) = refl
-one_each ts (tac.GetPlain d x m) = refl
-one_each ts (tac.SetPlain x a m) = refl
-one_each ts (tac.UpdatePlain u k f line d x right m) = refl
-one_each ts (tac.HomePointer d x m) = refl
-one_each ts (tac.StaticPointer d n m) = refl
-one_each ts (tac.ZeroOf kind d m) = refl
-one_each ts (tac.Convert kind d a m) = refl
-one_each ts (tac.Unary op t d a m) = refl
-one_each ts (tac.Binary op t line d a e m) = refl
-one_each ts (tac.Offset form size d a e m) = refl
-one_each ts (tac.Difference size d a e m) = refl
-one_each ts (tac.Narrow offset size d a m) = refl
-one_each ts (tac.Member offset size d a m) = refl
-one_each ts (tac.Take kind line zero a m) = refl
-one_each ts (tac.Take kind line (suc d) a m) = refl
-one_each ts (tac.Read kind mode line key d a m) = refl
-one_each ts (tac.Write kind mode line key d a e m) = refl
-one_each ts (tac.Update u k f mode line at key d a right m) = refl
-one_each ts (tac.Judge test size line key a m) = refl
-one_each ts (tac.Zero x m) = refl
-one_each ts (tac.StorePart kind line x offset a m) = refl
-one_each ts (tac.StoreText n x offset m) = refl
-one_each ts (tac.Branch a x y) = refl
-one_each ts (tac.Case a n x y) = refl
-one_each ts (tac.Turn counted m) = refl
-one_each ts (tac.Library r line d n m) = refl
-one_each ts (tac.Print x line d n m) = refl
-one_each ts (tac.Call f line d n m) = refl
-one_each ts (tac.CallThrough type line d n m) = refl
-one_each ts (tac.EnterBlock e line m) = refl
-one_each ts (tac.LeaveBlock e m) = refl
-one_each ts (tac.Return a) = refl
-
-as_long : (ts : List (List ℕ)) (is : List Instruction) → code_weight ts is each_one ≡ length is
-as_long ts [] = refl
-as_long ts (i ∷ is) = omega (arith, one_each ts i, as_long ts is)
 
 as_many : (ts : List (List ℕ)) (cs : List CodeFunction) → codes_weight ts cs each_one ≡ instruction_count cs
 as_many ts [] = refl
@@ -108,8 +68,8 @@ counting b = record {
   constant = 0;
   function_pointer = 0;
   get_plain = 0;
-  set_plain = 0;
-  update_plain = λ k. 0;
+  set_plain = λ x. 0;
+  update_plain = λ x k. 0;
   home_pointer = 0;
   static_pointer = 0;
   zero_of = λ kind. 0;
@@ -385,11 +345,11 @@ parts_have : (b : Bool) (qs : List Part)
 parts_have b [] = refl
 parts_have b (q ∷ qs) = omega (arith, content_has b q.content, parts_have b qs)
 
-initializer_has : (b : Bool) (o : Option Initializer)
-    → initializer_weight o (counting b) ≡ contents_checks (initializer_contents o)
-initializer_has b None = refl
-initializer_has b (Some (of_plain e)) = omega (arith, expression_has b e)
-initializer_has b (Some (of_object parts)) = omega (arith, parts_have b parts)
+initializer_has : (b : Bool) (x : ℕ) (o : Option Initializer)
+    → initializer_weight x o (counting b) ≡ contents_checks (initializer_contents o)
+initializer_has b x None = refl
+initializer_has b x (Some (of_plain e)) = omega (arith, expression_has b e)
+initializer_has b x (Some (of_object parts)) = omega (arith, parts_have b parts)
 
 declared_has : (b : Bool) (ds : List DeclaredVariable)
     → declared_weight ds (counting b) ≡ contents_checks (declared_contents ds)
@@ -397,7 +357,7 @@ declared_has b [] = refl
 declared_has b (d ∷ ds) =
     omega (
       arith,
-      initializer_has b d.initializer,
+      initializer_has b d.variable d.initializer,
       declared_has b ds,
       together (initializer_contents d.initializer) (declared_contents ds),
     )

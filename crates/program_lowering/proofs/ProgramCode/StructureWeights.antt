@@ -57,8 +57,8 @@ structures given of_type spared = record {
   constant = 0;
   function_pointer = 0;
   get_plain = 0;
-  set_plain = 0;
-  update_plain = λ k. 0;
+  set_plain = λ x. 0;
+  update_plain = λ x k. 0;
   home_pointer = 0;
   static_pointer = 0;
   zero_of = λ kind. structure_bytes kind;
@@ -304,7 +304,7 @@ module _ (given of_type : ℕ → Kind) (spared : ℕ) where
       )
 
   initializer_light : {scope : Scope} → Gives scope given of_type spared → (x : ℕ) (o : Option Initializer)
-      → is_initializer scope x o ≡ true → initializer_weight o own ≤ bytes (initializer_contents o)
+      → is_initializer scope x o ≡ true → initializer_weight x o own ≤ bytes (initializer_contents o)
   initializer_light g x None v = omega arith
   initializer_light g x (Some (of_plain e)) v = omega (arith, light g e (and_parts _ _ v).0)
   initializer_light g x (Some (of_object parts)) v = omega (arith, parts_light g _ parts (and_parts _ _ v).1)

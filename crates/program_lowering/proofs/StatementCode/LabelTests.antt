@@ -14,6 +14,7 @@ use Rattle.c_lower.specs.Statements.{LowersLabels, any_default}
 use Rattle.program_lowering.specs.declared.expressions.emitter.Emitter.{Emitter}
 use Rattle.program_lowering.specs.ExpressionCode.Emitted.{Added}
 use Rattle.program_lowering.proofs.ExpressionCode.Leading.{leads_first, leads_added, stays_closed, closed_then}
+use Rattle.program_lowering.proofs.ExpressionCode.Leading.{adds_none, adds_before}
 use Rattle.program_lowering.proofs.ExpressionCode.Growing.{emits_none, emits_then, emits_within, added_emits}
 use Rattle.program_lowering.proofs.ExpressionCode.Growing.{added_holds}
 use Rattle.program_lowering.proofs.ExpressionCode.Growing.{fills_before}
@@ -28,7 +29,7 @@ use Rattle.program_lowering.proofs.StatementCode.Elements.{of_item, drop_number,
 pub no_labels_code : {a : Emitter} {item n : ℕ} → LabelsCode a a [] item n n
 no_labels_code = record {
   emits = emits_none 1 (λ w. refl);
-  leads = record { by = λ ss s o. (stays_closed s, (o.1.0, tt)) };
+  leads = record { bodies = adds_none; by = λ ss s o. (stays_closed s, (o.1.0, tt)) };
   stands = λ c f other e. refl;
 }
 
@@ -45,7 +46,7 @@ case_code {w = n} {m = m} h = record {
 pub default_code : {a : Emitter} {item n : ℕ} → LabelsCode a a (Default ∷ []) item n n
 default_code = record {
   emits = emits_none 1 (λ w. refl);
-  leads = record { by = λ ss s o. (stays_closed s, (o.1.0, tt)) };
+  leads = record { bodies = adds_none; by = λ ss s o. (stays_closed s, (o.1.0, tt)) };
   stands = λ c f other e. (e refl, refl);
 }
 
@@ -66,6 +67,7 @@ more_labels : {a b c : Emitter} {item n k m : ℕ} (l : CaseLabel) (ls : List Ca
 more_labels {item = item} {n = n} {k = k} {m = m} l ls hs h = record {
   emits = emits_then 1 (labels_weight (l ∷ ls)) hs.emits h.emits (omega arith) (omega arith) (λ w. omega arith);
   leads = record {
+    bodies = adds_before hs.leads.bodies h.leads.bodies;
     by = λ ss s o.
         let u = hs.leads.by ss s o in
         let v = h.leads.by ss u.0.closed (u.0.opens item o.0, (u.1.0, tt)) in
@@ -99,6 +101,7 @@ more_tests {a = a} {c = c} {n = n} {k = k} {m = m} {start = start} x is starts h
           (omega arith)
           (λ w. omega arith);
       leads = record {
+        bodies = adds_before hs.leads.bodies h.leads.bodies;
         by = λ ss s o.
             let u = hs.leads.by ss s (o.0, o.1.1) in
             let v = h.leads.by ss u.0.closed (u.0.opens start o.1.0, (u.1.0, tt)) in

@@ -1,5 +1,5 @@
 -- Loops from their parts.
-use Rattle.std.proofs.Common.{◌≡◌, ℕ, ◌+◌, ◌≤◌, List, [], ◌∷◌, length, Option, None, refl, sym, ap, ◌∙◌, subst, arith}
+use Rattle.std.proofs.Common.{◌≡◌, ℕ, ◌+◌, ◌≤◌, List, [], ◌∷◌, ◌++◌, length, Option, None, refl, sym, ap, ◌∙◌, subst, arith}
 use Rattle.std.specs.Prelude.{max}
 use Rattle.c_tree.specs.declared.program.Variable.{Variable}
 use Rattle.c_tree.specs.Blocks.{first_variables}
@@ -9,24 +9,29 @@ use Rattle.c_tree.specs.Statements.{First, Statement, while_do, do_while, for}
 use Rattle.tac_ir.specs.declared.instruction.Instruction.{Instruction}
 use Rattle.tac_ir.specs.declared.instruction.Instruction.TheVariants as tac
 use Rattle.tac_ir.specs.declared.function.Span.{Span}
+use Rattle.tac_ir.specs.Bodies.{IsIn}
 use Rattle.tac_ir.specs.Temporaries.{temporaries}
 use Rattle.c_lower.specs.Counted.{CountedParts, counted_parts}
 use Rattle.c_lower.specs.Statements.{in_loop, LowersStatement, HasNumber, has_objects_of, CountedIs}
 use Rattle.program_lowering.specs.declared.expressions.emitter.Emitter.{Emitter}
-use Rattle.program_lowering.specs.ExpressionCode.Weights.{Weights, weight_of}
+use Rattle.program_lowering.specs.ExpressionCode.Weights.{Weights, weight_of, each_one}
 use Rattle.program_lowering.specs.ExpressionCode.Emitted.{Has, Stays, Emits}
-use Rattle.program_lowering.proofs.ExpressionCode.Leading.{closed_then}
+use Rattle.program_lowering.proofs.ExpressionCode.Leading.{closed_then, same_adds, adds_then, adds_before, adds_behind}
+use Rattle.program_lowering.proofs.ExpressionCode.Lengths.{emitted_length}
+use Rattle.program_lowering.specs.StatementCode.Bodies.{statement_bodies, nodes_from}
 use Rattle.program_lowering.proofs.StatementParts.Closing.{filled_open, nodes_between, added_closed, added_open}
-use Rattle.program_lowering.specs.ExpressionCode.Enclosed.{AreClosed, IsOpen, AllOpen}
+use Rattle.program_lowering.specs.ExpressionCode.Enclosed.{AreClosed, IsOpen, AllOpen, AddsBodies}
 use Rattle.program_lowering.proofs.ExpressionCode.Growing.{fills_before, keeps_on, weighs_from, weighs_then}
 use Rattle.program_lowering.specs.declared.parts.exits.Exits.{Exits}
 use Rattle.program_lowering.specs.declared.parts.loops.ForHead.{ForHead}
 use Rattle.program_lowering.specs.StatementParts.Leaving.{exits_of, exit_nodes}
 use Rattle.program_lowering.specs.StatementParts.Code.{most}
-use Rattle.program_lowering.specs.StatementParts.Weights.{block_weight}
-use Rattle.program_lowering.specs.StatementParts.Loops.{Waits, Filled, HeadCode, ForHeadCode, ForTailCode}
+use Rattle.program_lowering.specs.StatementParts.Weights.{block_weight, left_weight, condition_weight, part_weight}
+use Rattle.program_lowering.specs.StatementParts.Loops.{Waits, Filled, AssignsNone, HeadCode, ForHeadCode, ForTailCode}
+use Rattle.program_lowering.specs.StatementParts.Loops.{counted_body}
 use Rattle.program_lowering.proofs.StatementParts.LoopParts.{filled_fills, filled_keeps, filled_fits, filled_weight}
 use Rattle.program_lowering.proofs.StatementParts.LoopParts.{filled_texts, filled_holds}
+use Rattle.program_lowering.proofs.StatementCode.Assigned.{statement_spares, counted_spares}
 use Rattle.program_lowering.specs.StatementCode.Code.{StatementCode}
 use Rattle.program_lowering.specs.StatementCode.Sizes.{statement_height}
 use Rattle.program_lowering.specs.StatementCode.Weights.{statement_weight}
@@ -59,18 +64,20 @@ pub while_code : {vs : List Variable} {a b c d : Emitter} {e : Expression} {s : 
     Exits}
     → HeadCode a b e turn start x.next → exits_of y ≡ in_loop (exits_of x) start → StatementCode vs b c s n y
     → Filled c d turn (tac.Turn None n) → StatementCode vs a d (while_do e s) start x
-while_code {vs = vs} {b = b} {e = e} {s = s} {turn = turn} {start = start} {n = n} {x = x} h q g f =
+while_code {vs = vs} {b = b} {c = c} {e = e} {s = s} {turn = turn} {start = start} {n = n} {x = x} h q g f =
     let still = g.emits.kept.code turn tac.Reserved h.waits.by in
     record {
       emits = filled_emits (max (height e) (statement_height s))
           (statement_weight vs (while_do e s)) h.emits h.fresh g.emits f
           still (omega arith) (λ ts w. refl) (omega (arith, needs_one s)) (omega arith) (λ w. omega arith);
       leads = record {
+        bodies = adds_before h.leads.bodies (adds_behind (subst (λ p. AddsBodies b c (statement_bodies vs s p))
+            (emitted_length h.emits) g.leads.bodies) (same_adds f.loops));
         by = λ ss c o.
             let u = h.leads.by ss c (o.0, tt) in
             let v = g.leads.by ss u.0.closed (subst (λ z. AllOpen ss b (exit_nodes z)) (sym q)
             (u.1.1.0, (u.0.opens x.next o.0, (u.1.1.0, (u.0.opens x.returns o.1.1.1.0, tt))))) in
-            let w = filled_open f still v.0.closed (v.1.0, tt) in
+            let w = filled_open f still v.0.closed (λ x. refl) (v.1.0, tt) in
             (closed_then u.0 (closed_then v.0 w), (w.opens start (v.0.opens start u.1.1.0), tt));
       };
       stands = λ p v k.
@@ -86,18 +93,20 @@ while_code {vs = vs} {b = b} {e = e} {s = s} {turn = turn} {start = start} {n = 
 pub do_code : {vs : List Variable} {a b c d : Emitter} {e : Expression} {s : Statement} {turn start n : ℕ} {x y : Exits}
     → HeadCode a b e turn start x.next → exits_of y ≡ in_loop (exits_of x) start → StatementCode vs b c s n y
     → Filled c d turn (tac.Turn None n) → StatementCode vs a d (do_while s e) turn x
-do_code {vs = vs} {b = b} {e = e} {s = s} {turn = turn} {start = start} {n = n} {x = x} h q g f =
+do_code {vs = vs} {b = b} {c = c} {e = e} {s = s} {turn = turn} {start = start} {n = n} {x = x} h q g f =
     let still = g.emits.kept.code turn tac.Reserved h.waits.by in
     record {
       emits = filled_emits (max (height e) (statement_height s))
           (statement_weight vs (do_while s e)) h.emits h.fresh g.emits f
           still (omega arith) (λ ts w. refl) (omega (arith, needs_one s)) (omega arith) (λ w. omega arith);
       leads = record {
+        bodies = adds_before h.leads.bodies (adds_behind (subst (λ p. AddsBodies b c (statement_bodies vs s p))
+            (emitted_length h.emits) g.leads.bodies) (same_adds f.loops));
         by = λ ss c o.
             let u = h.leads.by ss c (o.0, tt) in
             let v = g.leads.by ss u.0.closed (subst (λ z. AllOpen ss b (exit_nodes z)) (sym q)
             (u.1.1.0, (u.0.opens x.next o.0, (u.1.1.0, (u.0.opens x.returns o.1.1.1.0, tt))))) in
-            let w = filled_open f still v.0.closed (v.1.0, tt) in
+            let w = filled_open f still v.0.closed (λ x. refl) (v.1.0, tt) in
             (closed_then u.0 (closed_then v.0 w), (w.opens turn (v.0.opens turn u.1.0), tt));
       };
       stands = λ p v k.
@@ -121,6 +130,16 @@ span_between b c {s = s} es ee =
     ap {B = Span} (λ n. record { start = s; end = n }) ee
     ∙ ap {B = Span} (λ n. record { start = n; end = length c.code.items }) es
 
+-- the body of a counted loop assigns its variable nowhere
+body_spares : {b c : Emitter} {nodes : Span} {most : ℕ} {parts : Option CountedParts} (vs : List Variable)
+    (first : First) (test step : Option Expression) (s : Statement) → Emits b c most (statement_weight vs s)
+    → parts ≡ counted_parts first test step s → nodes ≡ nodes_between b c → AssignsNone c nodes parts
+body_spares vs first test step s e ranged span = record {
+  by = λ p counted n i at here.
+      statement_spares vs p.variable s e (counted_spares first test step s p (sym ranged ∙ counted)) n i
+      (subst (λ x. IsIn x n) span here).0 at;
+}
+
 pub for_code : {vs : List Variable} {a b c d : Emitter} {numbers : List ℕ} {line : ℕ} {first : First} {nodes : Span}
     {test step : Option Expression} {s : Statement} {h : ForHead} {parts : Option CountedParts} {n body : ℕ} {x y :
     Exits}
@@ -129,8 +148,14 @@ pub for_code : {vs : List Variable} {a b c d : Emitter} {numbers : List ℕ} {li
     → parts ≡ counted_parts first test step s → ForTailCode c d line first parts h body nodes n
     → nodes ≡ nodes_between b c
     → StatementCode vs a d (for line first test step s) n x
-for_code {vs = vs} {b = b} {c = c} {line = line} {first = first} {nodes = nodes} {test = test} {step = step} {s = s} {h = h} {n = n}
-    {body = body} {x = x} same k q g ranged t span = record {
+for_code {vs = vs} {a = a} {b = b} {c = c} {d = d} {line = line} {first = first} {nodes = nodes} {test = test} {step = step} {s = s} {h = h} {parts = parts} {n = n}
+    {body = body} {x = x} same k q g ranged t span =
+    let long : nodes ≡ nodes_from (length b.code.items) (statement_weight vs s each_one) =
+    span ∙ ap {B = Span} (λ m. record { start = length b.code.items; end = m }) (emitted_length g.emits) in
+    let tail = subst (λ r. AddsBodies c d (counted_body r (nodes_from (length b.code.items)
+    (statement_weight vs s each_one)))) ranged (subst (λ z. AddsBodies c d (counted_body parts z)) long t.bodies) in
+    let spares = body_spares vs first test step s g.emits ranged span in
+    record {
       emits = record {
         kept = t.grows.keeps _ (keeps_on k.emits.kept g.emits.kept) k.fresh;
         fits = λ limit le f.
@@ -144,6 +169,11 @@ for_code {vs = vs} {b = b} {c = c} {line = line} {first = first} {nodes = nodes}
             (omega (arith, ap (λ ns. block_weight vs ns w) same, k.weighs w));
       };
       leads = record {
+        bodies = adds_before k.leads.bodies (subst (λ p. AddsBodies b d (statement_bodies vs s p
+            ++ counted_body (counted_parts first test step s) (nodes_from p (statement_weight vs s each_one))))
+            (emitted_length k.emits ∙ ap (λ ns. length a.code.items + (left_weight vs ns each_one
+            + (1 + (condition_weight test each_one + part_weight step each_one)))) same)
+            (adds_then g.leads.bodies tail));
         by = λ ss s o.
             let u = k.leads.by ss s o in
             let v = g.leads.by ss u.0.closed (subst (λ z. AllOpen ss b (exit_nodes z)) (sym q)
@@ -152,7 +182,7 @@ for_code {vs = vs} {b = b} {c = c} {line = line} {first = first} {nodes = nodes}
             (added_closed g.emits.kept u.0.closed v.0.closed) in
             let outside : (m : ℕ) → IsOpen ss b m → IsOpen (nodes ∷ ss) c m =
             λ m w. subst (λ z. IsOpen (z ∷ ss) c m) (sym span) (added_open v.0 w) in
-            let w = t.closes ss v.0.closed within v.1.0 (outside h.condition u.1.1.0) in
+            let w = t.closes ss v.0.closed within spares v.1.0 (outside h.condition u.1.1.0) in
             (record { closed = w.closed; opens = λ m z. w.opens m (outside m (u.0.opens m z)) }, (w.start, tt));
       };
       stands = λ p v f.

@@ -15,7 +15,7 @@ use Rattle.program_lowering.specs.ExpressionCode.Weights.{returning_weight}
 use Rattle.program_lowering.specs.ExpressionCode.Emitted.{Added, ExpressionCode}
 use Rattle.program_lowering.specs.ExpressionCode.Last.{TakingCode}
 use Rattle.program_lowering.proofs.ExpressionCode.Leading.{leads_first, leads_more, leads_then, leads_added}
-use Rattle.program_lowering.proofs.ExpressionCode.Leading.{stays_closed}
+use Rattle.program_lowering.proofs.ExpressionCode.Leading.{stays_closed, added_adds, adds_none}
 use Rattle.program_lowering.proofs.ExpressionCode.Growing.{emits_none, emits_then, emits_within, added_emits}
 use Rattle.program_lowering.proofs.ExpressionCode.Growing.{added_holds}
 use Rattle.program_lowering.proofs.ExpressionCode.Growing.{fills_before}
@@ -44,14 +44,14 @@ empty_code = record { emits = emits_none 1 (λ w. refl); leads = leads_first; st
 pub break_code : {vs : List Variable} {a : Emitter} {x : Exits} → StatementCode vs a a break x.breaks x
 break_code = record {
   emits = emits_none 1 (λ w. refl);
-  leads = record { by = λ ss s o. (stays_closed s, (o.1.0, tt)) };
+  leads = record { bodies = adds_none; by = λ ss s o. (stays_closed s, (o.1.0, tt)) };
   stands = λ c v f. refl;
 }
 
 pub continue_code : {vs : List Variable} {a : Emitter} {x : Exits} → StatementCode vs a a continue x.continues x
 continue_code = record {
   emits = emits_none 1 (λ w. refl);
-  leads = record { by = λ ss s o. (stays_closed s, (o.1.1.0, tt)) };
+  leads = record { bodies = adds_none; by = λ ss s o. (stays_closed s, (o.1.1.0, tt)) };
   stands = λ c v f. refl;
 }
 
@@ -79,7 +79,7 @@ pub returned_none : {vs : List Variable} {a b : Emitter} {n : ℕ} {x : Exits} �
     → StatementCode vs a b (return None) n x
 returned_none h = record {
   emits = added_emits 1 h (omega arith) (λ ts w. refl);
-  leads = record { by = λ ss s o. (leads_added h).by ss s (o.1.1.1.0, tt) };
+  leads = record { bodies = added_adds h; by = λ ss s o. (leads_added h).by ss s (o.1.1.1.0, tt) };
   stands = λ c v f. added_holds h tt f;
 }
 
@@ -87,7 +87,7 @@ pub returned_some : {vs : List Variable} {a b : Emitter} {n : ℕ} {x : Exits} {
     → ResultCode a b e n x.returns → StatementCode vs a b (return (Some e)) n x
 returned_some {e = e} h = record {
   emits = emits_within (most (value_content e ∷ [])) (result_weight e) h.emits (omega arith) (λ w. omega arith);
-  leads = record { by = λ ss s o. h.leads.by ss s (o.1.1.1.0, tt) };
+  leads = record { bodies = h.leads.bodies; by = λ ss s o. h.leads.by ss s (o.1.1.1.0, tt) };
   stands = λ c v f. h.stands c f;
 }
 

@@ -14,10 +14,12 @@ use Rattle.c_lower.specs.Placed.{Placed}
 use Rattle.c_lower.specs.Statements.{Exits as Left, LowersStatement, LowersItems, HasNumber}
 use Rattle.c_lower.specs.Statements.{has_objects_of, LowersLabels, in_switch, any_default, has_default}
 use Rattle.program_lowering.specs.declared.expressions.emitter.Emitter.{Emitter}
-use Rattle.program_lowering.specs.ExpressionCode.Weights.{Weights}
+use Rattle.program_lowering.specs.ExpressionCode.Weights.{Weights, each_one}
 use Rattle.program_lowering.specs.ExpressionCode.Emitted.{ExpressionCode}
-use Rattle.program_lowering.proofs.ExpressionCode.Leading.{leads_first, closed_then, all_open}
-use Rattle.program_lowering.specs.ExpressionCode.Enclosed.{Leads, IsOpen, AllOpen}
+use Rattle.program_lowering.proofs.ExpressionCode.Leading.{leads_first, closed_then, all_open, adds_then, adds_before}
+use Rattle.program_lowering.proofs.ExpressionCode.Leading.{adds_behind}
+use Rattle.program_lowering.proofs.ExpressionCode.Lengths.{emitted_length}
+use Rattle.program_lowering.specs.ExpressionCode.Enclosed.{AddsBodies, IsOpen, AllOpen}
 use Rattle.program_lowering.proofs.ExpressionCode.Growing.{emits_none, emits_then, fills_before}
 use Rattle.program_lowering.specs.declared.parts.exits.Exits.{Exits}
 use Rattle.program_lowering.specs.declared.parts.exits.BlockExits.{BlockExits}
@@ -27,7 +29,9 @@ use Rattle.program_lowering.specs.StatementParts.Weights.{left_weight, block_wei
 use Rattle.program_lowering.specs.StatementParts.Code.{EntryCode, LeavingCode}
 use Rattle.program_lowering.proofs.StatementParts.InitializerParts.{drop_before, evaluated_emits}
 use Rattle.program_lowering.specs.StatementCode.Weights.{statement_weight, items_weight}
-use Rattle.program_lowering.specs.StatementCode.Code.{StatementCode, ItemsFrom, ItemsCode, TestsCode, bodies_weight}
+use Rattle.program_lowering.specs.StatementCode.Code.{StatementCode, ItemsFrom, ItemsCode, TestsCode}
+use Rattle.program_lowering.specs.StatementCode.Weights.{bodies_weight}
+use Rattle.program_lowering.specs.StatementCode.Bodies.{statement_bodies, items_bodies}
 use Rattle.program_lowering.specs.StatementCode.Code.{tests_weight, begins}
 use Rattle.program_lowering.specs.StatementCode.Sizes.{statement_height, items_height}
 use Rattle.program_lowering.specs.StatementCode.Switches.{has_one_default, default_start, LowersBodies, LowersTests}
@@ -52,6 +56,8 @@ more_items {vs = vs} {a = a} {b = b} {c = c} {n = n} {k = k} {x = x} i is starts
           (λ w. statement_weight vs s w + bodies_weight vs is w) hs.emits h.emits
           (omega arith) (omega arith) (λ w. omega arith);
       leads = record {
+        bodies = adds_then hs.leads.bodies
+            (subst (λ p. AddsBodies b c (statement_bodies vs s p)) (emitted_length hs.emits) h.leads.bodies);
         by = λ ss w o.
             let u = hs.leads.by ss w o in
             let rest = all_open (exit_nodes (exits_of x)) u.0 o in
@@ -158,7 +164,7 @@ pub switch_code : {vs : List Variable} {a b c d e' g : Emitter} {numbers starts 
     → starts ≡ made → other ≡ default_start is starts y.exits.next → TestsCode c d is starts t other
     → EntryCode d e' y.block line k t
     → ExpressionCode e' g e 0 n k → StatementCode vs a g (switch e line is) n x
-switch_code {vs = vs} {b = b} {c = c} {numbers = numbers} {starts = starts} {line = line} {t = t} {k = k} {other =
+switch_code {vs = vs} {a = a} {b = b} {c = c} {numbers = numbers} {starts = starts} {line = line} {t = t} {k = k} {other =
     other} {y = y} {z = z} {x = x} {is = is}
     {e = e} same once l q made_items taken goes r entry value =
     let h = subst (λ ns. ItemsCode vs b c is ns z) (sym taken) made_items in
@@ -176,6 +182,9 @@ switch_code {vs = vs} {b = b} {c = c} {numbers = numbers} {starts = starts} {lin
       emits = emits_then top (statement_weight vs (switch e line is)) entered evaluated (omega arith) (omega arith)
           (λ w. omega (arith, weight_of_both vs is w, ap (λ ns. block_weight vs ns w) same));
       leads = record {
+        bodies = adds_before l.leads.bodies (adds_behind (subst (λ p. AddsBodies b c (items_bodies vs is p))
+            (emitted_length l.emits ∙ ap (λ ns. length a.code.items + left_weight vs ns each_one) same)
+            h.from.leads.bodies) (adds_before r.leads.bodies (adds_before entry.leads.bodies value.leads.bodies)));
         by = λ ss s o.
             let u = l.leads.by ss s o in
             let v = h.from.leads.by ss u.0.closed (subst (λ x. AllOpen ss b (exit_nodes x)) (sym q)

@@ -9,6 +9,7 @@ use Rattle.c_lower.specs.Placed.{Placed}
 use Rattle.c_lower.specs.Statements.{HasNumber, has_objects_of}
 use Rattle.program_lowering.specs.declared.expressions.emitter.Emitter.{Emitter}
 use Rattle.program_lowering.specs.ExpressionCode.Emitted.{Added}
+use Rattle.program_lowering.proofs.ExpressionCode.Leading.{added_adds, adds_before}
 use Rattle.program_lowering.proofs.ExpressionCode.Leading.{leads_none, leads_all, leads_added, leads_behind, added_stays, closed_then}
 use Rattle.program_lowering.proofs.ExpressionCode.Growing.{emits_none, emits_then, added_emits, added_holds}
 use Rattle.program_lowering.proofs.ExpressionCode.Growing.{fills_before}
@@ -68,6 +69,8 @@ ways_out {y = y} {x = x} i j k l =
     record {
       emits = emits_then 0 (λ w. 4 * w.leave_block) three el (omega arith) (omega arith) (λ w. omega arith);
       leads = record {
+        bodies = adds_before (added_adds i)
+            (adds_before (added_adds j) (adds_before (added_adds k) (added_adds l)));
         by = λ ss s o.
             let p = added_stays i s (o.0, tt) in
             let q = added_stays j p.0.closed (p.0.opens x.breaks o.1.0, tt) in

@@ -9,14 +9,15 @@ use Rattle.tac_ir.specs.declared.instruction.Instruction.{Instruction}
 use Rattle.tac_ir.specs.declared.instruction.Instruction.TheVariants as tac
 use Rattle.tac_ir.specs.declared.function.Span.{Span}
 use Rattle.tac_ir.specs.declared.function.CountedLoop.{CountedLoop}
-use Rattle.tac_ir.specs.Bodies.{IsIn, bodies_in, no_nodes}
+use Rattle.tac_ir.specs.Bodies.{IsIn, assigns_plain, bodies_in, no_nodes}
 use Rattle.tac_ir.specs.Edges.{LeadsTo, successors}
+use Rattle.c_lower.specs.Counted.{CountedParts}
 use Rattle.c_lower.specs.Placed.{HasAt}
 use Rattle.program_lowering.specs.declared.expressions.emitter.Emitter.{Emitter}
 use Rattle.program_lowering.specs.ExpressionCode.Emitted.{Has, Stays, Keeps}
 use Rattle.program_lowering.specs.ExpressionCode.Enclosed.{IsTurnIn, Encloses, IsClosed, AreClosed, IsOpen, AllOpen}
 use Rattle.program_lowering.specs.ExpressionCode.Enclosed.{StaysClosed}
-use Rattle.program_lowering.specs.StatementParts.Loops.{Filled, ClosesBody}
+use Rattle.program_lowering.specs.StatementParts.Loops.{Filled, AssignsNone, ClosesBody}
 use Rattle.program_lowering.proofs.ExpressionCode.Leading.{last_or_before, open_among}
 
 -- lists of which one element is set
@@ -64,9 +65,9 @@ MayLead spans a i m = (m < length a.code.items) × ((k : Option ℕ) (s : Span)
     → IsClosed spans (bodies_in a.loops.items) k s → IsIn s m → IsTurnIn k i)
 
 pub filled_stays : {spans : List Span} {a b : Emitter} {n : ℕ} {i : Instruction} → Filled a b n i
-    → Has a n tac.Reserved → AreClosed spans a → ((m : ℕ) → LeadsTo i m → MayLead spans a i m)
-    → StaysClosed spans a b
-filled_stays {spans = spans} {a = a} {b = b} {n = n} {i = i} f h s may =
+    → Has a n tac.Reserved → AreClosed spans a → ((v : ℕ) → assigns_plain i v ≡ false)
+    → ((m : ℕ) → LeadsTo i m → MayLead spans a i m) → StaysClosed spans a b
+filled_stays {spans = spans} {a = a} {b = b} {n = n} {i = i} f h s spares may =
     let long = filled_length f in
     let same : (k : Option ℕ) (x : Span) → IsClosed spans (bodies_in b.loops.items) k x
     → IsClosed spans (bodies_in a.loops.items) k x =
@@ -80,6 +81,8 @@ filled_stays {spans = spans} {a = a} {b = b} {n = n} {i = i} f h s may =
         };
         none_added = subst (λ ls. (p : ℕ) (l : CountedLoop) → HasAt ls p l → l.added ≡ no_nodes) (sym f.loops)
             s.none_added;
+        keeps = λ k l at m j g here.
+            kept k l (subst (λ ls. HasAt ls k l) f.loops at) m j here (filled_edge f h m j g (m == n) refl);
       };
       opens = λ m o. record {
         within = omega (arith, long, o.within);
@@ -87,6 +90,11 @@ filled_stays {spans = spans} {a = a} {b = b} {n = n} {i = i} f h s may =
       };
     }
   where
+    kept : (k : ℕ) (l : CountedLoop) → HasAt a.loops.items k l → (m : ℕ) (j : Instruction) → IsIn l.body m
+        → (j ≡ i) ⊎ Has a m j → assigns_plain j l.variable ≡ false
+    kept k l held m j here (inl e) = ap (λ x. assigns_plain x l.variable) e ∙ spares l.variable
+    kept k l held m j here (inr g) = s.keeps k l held m j g here
+
     below : (m o : ℕ) (j : Instruction) → LeadsTo j o → (j ≡ i) ⊎ Has a m j → o < length b.code.items
     below m o j to (inl e) = omega (arith, filled_length f, (may o (subst (λ y. LeadsTo y o) e to)).0)
     below m o j to (inr at) = omega (arith, filled_length f, s.leads m o j at to)
@@ -98,8 +106,9 @@ filled_stays {spans = spans} {a = a} {b = b} {n = n} {i = i} f h s may =
     entered k x c m o j to here (inr at) = (s.closed k x c).enters m o j at to here
 
 pub filled_open : {spans : List Span} {a b : Emitter} {n : ℕ} {i : Instruction} → Filled a b n i
-    → Has a n tac.Reserved → AreClosed spans a → AllOpen spans a (successors i) → StaysClosed spans a b
-filled_open {i = i} f h s all = filled_stays f h s
+    → Has a n tac.Reserved → AreClosed spans a → ((v : ℕ) → assigns_plain i v ≡ false)
+    → AllOpen spans a (successors i) → StaysClosed spans a b
+filled_open {i = i} f h s spares all = filled_stays f h s spares
     (λ m to. let o = open_among (successors i) m all to in (o.within, λ k x c here. absurd (o.outside k x c here)))
 
 -- one closed span fewer
@@ -114,6 +123,7 @@ fewer_closed {spans = spans} {e = e} {s = s} h = record {
   leads = h.leads;
   closed = λ k x c. h.closed k x (more_closed spans (bodies_in e.loops.items) s k x c);
   none_added = h.none_added;
+  keeps = h.keeps;
 }
 
 pub fewer_open : {spans : List Span} {e : Emitter} {s : Span} {n : ℕ} → IsOpen (s ∷ spans) e n → IsOpen spans e n
@@ -157,6 +167,7 @@ added_closed {spans = spans} {a = a} {b = b} k s t = record {
   leads = t.leads;
   closed = by;
   none_added = t.none_added;
+  keeps = t.keeps;
 }
   where
     first : Encloses b.code.items None (nodes_between a b)
@@ -184,14 +195,14 @@ added_open {spans = spans} {a = a} {b = b} {n = n} s o = record { within = (s.op
 
 -- a closed span becomes the body of a loop
 
-pub no_loop_closes : {a : Emitter} {body : Span} → ClosesBody a a body None
+pub no_loop_closes : {a : Emitter} {body : Span} → ClosesBody a a body None None
 no_loop_closes = record {
-  closed = λ ss h. fewer_closed h;
+  closed = λ ss h spares. fewer_closed h;
   opens = λ ss n o. fewer_open o;
   turns = λ ss n o k s c here. absurd (o.outside k s c here);
 }
 
-bodies_more : (ls : List CountedLoop) (l : CountedLoop) → bodies_in (ls ++ l ∷ []) ≡ bodies_in ls ++ l.body ∷ []
+pub bodies_more : (ls : List CountedLoop) (l : CountedLoop) → bodies_in (ls ++ l ∷ []) ≡ bodies_in ls ++ l.body ∷ []
 bodies_more [] l = refl
 bodies_more (k ∷ ls) l = ap (λ xs. k.body ∷ xs) (bodies_more ls l)
 
@@ -211,17 +222,20 @@ closed_before spans ls ms l e (Some n) x c =
     by (inl h) = inl h
     by (inr h) = inr (ap Some (h.0 ∙ bodies_length ls), h.1)
 
-pub loop_closes : {a b : Emitter} {n : ℕ} (l : CountedLoop) → b.code.items ≡ a.code.items
+pub loop_closes : {a b : Emitter} {n : ℕ} (l : CountedLoop) (p : CountedParts) → l.variable ≡ p.variable → b.code.items ≡ a.code.items
     → b.loops.items ≡ a.loops.items ++ l ∷ [] → n ≡ length a.loops.items → l.added ≡ no_nodes
-    → ClosesBody a b l.body (Some n)
-loop_closes {a = a} {b = b} {n = n} l code loops at none = record {
-  closed = λ ss h. record {
+    → ClosesBody a b l.body (Some p) (Some n)
+loop_closes {a = a} {b = b} {n = n} l p named code loops at none = record {
+  closed = λ ss h spares. record {
     leads = subst (λ is. (n m : ℕ) (i : Instruction) → HasAt is n i → LeadsTo i m → m < length is) (sym code) h.leads;
     closed = λ k x c.
         subst (λ is. Encloses is k x) (sym code)
         (still ss h k x (closed_before ss a.loops.items b.loops.items l loops k x c));
     none_added = λ k m g.
         unchecked ss h k m (last_or_before a.loops.items l k m (subst (λ ls. HasAt ls k m) loops g));
+    keeps = λ k m g q i at here.
+        spared ss h spares q i (subst (λ is. HasAt is q i) code at) k m here
+        (last_or_before a.loops.items l k m (subst (λ ls. HasAt ls k m) loops g));
   };
   opens = λ ss m o. record {
     within = subst (λ is. m < length is) (sym code) o.within;
@@ -250,6 +264,14 @@ loop_closes {a = a} {b = b} {n = n} l code loops at none = record {
     unchecked ss h k m (inl g) = h.none_added k m g
     unchecked ss h k m (inr e) = ap (λ (x : CountedLoop). x.added) e.1 ∙ none
 
+    spared : (ss : List Span) → AreClosed (l.body ∷ ss) a → AssignsNone a l.body (Some p) → (q : ℕ) (i : Instruction)
+        → HasAt a.code.items q i → (k : ℕ) (m : CountedLoop) → IsIn m.body q
+        → HasAt a.loops.items k m ⊎ ((k ≡ length a.loops.items) × (m ≡ l)) → assigns_plain i m.variable ≡ false
+    spared ss h spares q i at k m here (inl g) = h.keeps k m g q i at here
+    spared ss h spares q i at k m here (inr e) =
+        ap (λ (x : CountedLoop). assigns_plain i x.variable) e.1 ∙ ap (assigns_plain i) named
+        ∙ spares.by p refl q i at (subst (λ (x : CountedLoop). IsIn x.body q) e.1 here)
+
     out : (ss : List Span) (m : ℕ) → IsOpen (l.body ∷ ss) a m → (k : Option ℕ) (x : Span) → IsIn x m
         → IsClosed ss (bodies_in a.loops.items) k x ⊎ ((k ≡ Some (length a.loops.items)) × (x ≡ l.body)) → ⊥
     out ss m o k x here (inl c) = o.outside k x (more_closed ss (bodies_in a.loops.items) l.body k x c) here
@@ -260,3 +282,14 @@ loop_closes {a = a} {b = b} {n = n} l code loops at none = record {
         → IsTurnIn k (tac.Turn (Some n) m)
     turn ss m o k x here (inl c) = absurd (o.outside k x c here)
     turn ss m o k x here (inr e) = subst (λ q. IsTurnIn q (tac.Turn (Some n) m)) (sym e.0) at
+
+-- a closed span assigns as little where code grows
+pub still_spares : {spans : List Span} {a b : Emitter} {nodes : Span} {parts : Option CountedParts} → Keeps a b
+    → AreClosed (nodes ∷ spans) a → AssignsNone a nodes parts → AssignsNone b nodes parts
+still_spares {a = a} {b = b} {nodes = nodes} k s none = record {
+  by = λ p e n i at here.
+      let end = (s.closed None nodes (0, refl)).within in
+      let j = there a.code.items n (omega (arith, end, here.1)) in
+      let same : j.0 ≡ i = same_Some _ _ (sym (k.code n j.0 j.1) ∙ at) in
+      none.by p e n i (subst (λ x. Has a n x) same j.1) here;
+}

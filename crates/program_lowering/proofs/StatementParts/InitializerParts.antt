@@ -124,12 +124,12 @@ initializer_none = record { emits = emits_none 1 (λ w. refl); leads = leads_non
 
 pub initializer_plain : {a b c : Emitter} {x n k m : ℕ} {e : Expression} → Added a b k (tac.SetPlain x 0 m)
     → ExpressionCode b c e 0 n k → InitializerCode a c x (Some (of_plain e)) n m
-initializer_plain {k = k} {e = e} h hx =
+initializer_plain {x = x} {k = k} {e = e} h hx =
     let top = most (value_content e ∷ []) in
     let set = added_emits top h (omega arith) (λ ts w. refl) in
     let value = evaluated_emits e top hx (omega arith) in
     record {
-      emits = emits_then top (initializer_weight (Some (of_plain e))) set value (omega arith) (omega arith)
+      emits = emits_then top (initializer_weight x (Some (of_plain e))) set value (omega arith) (omega arith)
           (λ w. omega arith);
       leads = leads_then (leads_added h) hx.leads;
       stands = λ p f. (k, hx.stands p f, added_holds h tt (fills_before hx.emits f));
@@ -137,11 +137,11 @@ initializer_plain {k = k} {e = e} h hx =
 
 pub initializer_object : {a b c : Emitter} {x n k m : ℕ} {qs : List Part} → PartsCode a b x qs k m
     → Added b c n (tac.Zero x k) → InitializerCode a c x (Some (of_object qs)) n m
-initializer_object {k = k} {qs = qs} hs h =
+initializer_object {x = x} {k = k} {qs = qs} hs h =
     let top = most (contents_in qs) in
     let clear = added_emits top h (omega arith) (λ ts w. refl) in
     record {
-      emits = emits_then top (initializer_weight (Some (of_object qs))) hs.emits clear (omega arith) (omega arith)
+      emits = emits_then top (initializer_weight x (Some (of_object qs))) hs.emits clear (omega arith) (omega arith)
           (λ w. omega arith);
       leads = leads_then hs.leads (leads_added h);
       stands = λ p f. (k, added_holds h tt f, hs.stands p (fills_before clear f));

@@ -14,7 +14,7 @@ use Rattle.tac_ir.specs.declared.instruction.Instruction.{Instruction}
 use Rattle.tac_ir.specs.declared.instruction.Instruction.TheVariants as tac
 use Rattle.tac_ir.specs.declared.function.Span.{Span}
 use Rattle.tac_ir.specs.declared.function.CountedLoop.{CountedLoop}
-use Rattle.tac_ir.specs.Bodies.{no_nodes}
+use Rattle.tac_ir.specs.Bodies.{no_nodes, bodies_in}
 use Rattle.tac_ir.specs.Edges.{LeadsTo}
 use Rattle.tac_ir.specs.Temporaries.{temporaries}
 use Rattle.c_lower.specs.Counted.{CountedParts}
@@ -22,9 +22,10 @@ use Rattle.c_lower.specs.Placed.{Placed, Holds, HasAt}
 use Rattle.program_lowering.specs.declared.expressions.emitter.Emitter.{Emitter}
 use Rattle.program_lowering.specs.ExpressionCode.Weights.{Weights, weight_of, code_weight, expression_weight}
 use Rattle.program_lowering.specs.ExpressionCode.Emitted.{Has, Added, Stays, Keeps, IsReal, Fills, Fits, ExpressionCode}
-use Rattle.program_lowering.proofs.ExpressionCode.Leading.{leads_then, added_stays, closed_then, all_open}
+use Rattle.program_lowering.proofs.ExpressionCode.Leading.{added_stays, closed_then, all_open, same_adds, added_adds}
+use Rattle.program_lowering.proofs.ExpressionCode.Leading.{adds_none, adds_before, adds_behind}
 use Rattle.program_lowering.proofs.StatementParts.Closing.{filled_other, filled_here, filled_stays, fewer_open, there}
-use Rattle.program_lowering.proofs.StatementParts.Closing.{MayLead, no_loop_closes, loop_closes}
+use Rattle.program_lowering.proofs.StatementParts.Closing.{MayLead, bodies_more, still_spares, no_loop_closes, loop_closes}
 use Rattle.program_lowering.proofs.ExpressionCode.Growing.{weighs_from, weighs_then}
 use Rattle.program_lowering.proofs.ExpressionCode.Growing.{emits_none, emits_then, added_emits, added_has, added_holds}
 use Rattle.program_lowering.proofs.ExpressionCode.Growing.{fills_before, keeps_on, same_emits, stays_by, one_more}
@@ -133,6 +134,7 @@ head_code {a = a} {e = e} {x = x} {turn = turn} {k = k} {fails = fails} h t v =
       emits = emits_then top (λ w. expression_weight x w + (w.branch + w.turn)) both value (omega arith) (omega arith)
           (λ w. omega arith);
       leads = record {
+        bodies = adds_before (added_adds h) (adds_before (added_adds t) v.leads.bodies);
         by = λ ss s o.
             let p = added_stays h s tt in
             let q = added_stays t p.0.closed (p.1, (p.0.opens fails o.0, tt)) in
@@ -162,6 +164,8 @@ for_head_code {vs = vs} {a = a} {b = b} {numbers = numbers} {test = test} {step 
           (λ w. left_weight vs numbers w + (w.turn + (condition_weight test w + part_weight step w)))
           two p.emits (omega arith) (omega arith) (λ w. omega arith);
       leads = record {
+        bodies = adds_before l.leads.bodies
+            (adds_before (added_adds r) (adds_before t.leads.bodies p.leads.bodies));
         by = λ ss k o.
             let u = l.leads.by ss k o in
             let v = added_stays r u.0.closed tt in
@@ -188,7 +192,7 @@ for_head_code {vs = vs} {a = a} {b = b} {numbers = numbers} {test = test} {step 
 -- counted loops
 
 pub no_loop : {a : Emitter} {n : ℕ} {h : ForHead} {body : Span} → LoopAdded a a None n h body None
-no_loop = record { emits = emits_none 0 (λ w. refl); code = refl; closes = no_loop_closes; is = λ p f. tt }
+no_loop = record { emits = emits_none 0 (λ w. refl); code = refl; closes = no_loop_closes; bodies = adds_none; is = λ p f. tt }
 
 pub some_loop : (a b : Emitter) (r : Range) (n setting : ℕ) (h : ForHead) (body : Span) → b.code.items ≡ a.code.items
     → b.keys.items ≡ a.keys.items → b.blocks.items ≡ a.blocks.items
@@ -209,24 +213,25 @@ some_loop a b r n setting h body code keys blocks loops texts literals at = reco
       (one_more a.loops.items b.loops.items _ loops)
       (stays_by a.texts.items b.texts.items texts) literals;
   code = code;
-  closes = loop_closes _ code loops at refl;
+  closes = loop_closes _ _ refl code loops at refl;
+  bodies = record { by = ap bodies_in loops ∙ bodies_more a.loops.items _ };
   is = λ c f. (body, no_nodes, f.loops n _ (has_last a.loops.items b.loops.items _ n loops at));
 }
 
 -- where the turn leads
-turn_leads : (b c : Emitter) (nodes : Span) (counted : Option ℕ) (ss : List Span) (body : ℕ)
-    → ClosesBody b c nodes counted → c.code.items ≡ b.code.items → IsOpen ss b body → (m : ℕ)
+turn_leads : (b c : Emitter) (nodes : Span) (parts : Option CountedParts) (counted : Option ℕ) (ss : List Span) (body : ℕ)
+    → ClosesBody b c nodes parts counted → c.code.items ≡ b.code.items → IsOpen ss b body → (m : ℕ)
     → LeadsTo (tac.Turn counted body) m → MayLead ss c (tac.Turn counted body) m
-turn_leads b c nodes counted ss body closes code o m (inl e) = subst (MayLead ss c (tac.Turn counted body)) (sym e)
+turn_leads b c nodes parts counted ss body closes code o m (inl e) = subst (MayLead ss c (tac.Turn counted body)) (sym e)
     (subst (λ is. body < length is) (sym code) o.within, λ k s g here. closes.turns ss body o k s g here)
-turn_leads b c nodes counted ss body closes code o m (inr e) = absurd e
+turn_leads b c nodes parts counted ss body closes code o m (inr e) = absurd e
 
 pub for_tail_code : {a b c d e : Emitter} {line setting body n : ℕ} {nodes : Span} {first : First} {parts : Option CountedParts}
     {h : ForHead} {counted : Option ℕ} → Waits a h.turn
     → FirstCode a b first setting h.condition → LoopAdded b c parts setting h nodes counted
     → Filled c d h.turn (tac.Turn counted body) → EntryCode d e h.inside.block line n setting
     → ForTailCode a e line first parts h body nodes n
-for_tail_code {a = a} {b = b} {c = c} {d = d} {setting = setting} {body = body} {nodes = nodes} {first = first} {h =
+for_tail_code {a = a} {b = b} {c = c} {d = d} {setting = setting} {body = body} {nodes = nodes} {first = first} {parts = parts} {h =
     h} {counted = counted} waits s l f y =
     let top = most (first_contents first) in
     let grown = emits_then top (first_weight first) s.emits l.emits (omega arith) (omega arith) (λ w. omega arith) in
@@ -244,11 +249,12 @@ for_tail_code {a = a} {b = b} {c = c} {d = d} {setting = setting} {body = body} 
             weighs_then _ _ _ (weighs_from (filled_weight f still ts w refl) (grown.grown w ts (filled_texts ts f sy)))
             (y.emits.grown w ts t) (omega arith);
       };
-      closes = λ ss closed within inner outer.
+      bodies = adds_before s.leads.bodies (adds_behind l.bodies (adds_before (same_adds f.loops) y.leads.bodies));
+      closes = λ ss closed within spares inner outer.
           let u = s.leads.by (nodes ∷ ss) within (outer, tt) in
           let v = s.leads.by ss closed (fewer_open outer, tt) in
-          let w = filled_stays f still (l.closes.closed ss u.0.closed)
-          (turn_leads b c nodes counted ss body l.closes l.code (v.0.opens body inner)) in
+          let w = filled_stays f still (l.closes.closed ss u.0.closed (still_spares s.emits.kept within spares))
+          (λ x. refl) (turn_leads b c nodes parts counted ss body l.closes l.code (v.0.opens body inner)) in
           let z = y.leads.by ss w.closed (w.opens setting (l.closes.opens ss setting u.1.0), tt) in
           record {
             closed = z.0.closed;

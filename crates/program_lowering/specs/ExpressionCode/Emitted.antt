@@ -71,17 +71,17 @@ arguments_used (expressions e es) = max (used e) (1 + arguments_used es)
 -- the code of an expression is added, from one node to another that stands
 pub record ExpressionCode (before after : Emitter) (expression : Expression) (d n0 n1 : ℕ) : Type 0 where
   pub emits : Emits before after (d + used expression) (expression_weight expression)
-  pub leads : Leads before after (n0 ∷ []) (n1 ∷ [])
+  pub leads : Leads before after (n0 ∷ []) (n1 ∷ []) []
   pub stands : (c : Placed) → Fills after c → LowersExpression c expression d n0 n1
 
 -- of an lvalue
 pub record LvalueCode (before after : Emitter) (lvalue : Lvalue) (d n0 n1 : ℕ) : Type 0 where
   pub emits : Emits before after (d + used_by_lvalue lvalue) (lvalue_weight lvalue)
-  pub leads : Leads before after (n0 ∷ []) (n1 ∷ [])
+  pub leads : Leads before after (n0 ∷ []) (n1 ∷ []) []
   pub stands : (c : Placed) → Fills after c → LowersLvalue c lvalue d n0 n1
 
 -- of arguments
 pub record ArgumentsCode (before after : Emitter) (es : Expressions) (d n0 n1 : ℕ) : Type 0 where
   pub emits : Emits before after (d + arguments_used es) (arguments_weight es)
-  pub leads : Leads before after (n0 ∷ []) (n1 ∷ [])
+  pub leads : Leads before after (n0 ∷ []) (n1 ∷ []) []
   pub stands : (c : Placed) → Fills after c → LowersArguments c es d n0 n1

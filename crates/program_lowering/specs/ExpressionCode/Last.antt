@@ -105,14 +105,14 @@ pub record FormatAdded (before after : Emitter) (node : Node) (number : ℕ) : T
 -- the contents of a structure are taken, as those of a value that a function returns are into the first temporary
 pub record TakingCode (before after : Emitter) (kind : Kind) (line d n0 n1 : ℕ) : Type 0 where
   pub emits : Emits before after (d + 1) (taking_weight kind)
-  pub leads : Leads before after (n0 ∷ []) (n1 ∷ [])
+  pub leads : Leads before after (n0 ∷ []) (n1 ∷ []) []
   pub returns : d ≡ 0 → Emits before after (d + 1) (returning_weight kind)
   pub stands : (c : Placed) → Fills after c → LowersTaking c kind line d n0 n1
 
 -- where both operands of `&&` or `||` lead: its values, and the test of the second operand
 pub record Outcomes (before after : Emitter) (d zero one test next : ℕ) : Type 0 where
   pub emits : Emits before after (d + 1) (λ w. w.branch + 2 * w.constant)
-  pub leads : Leads before after (zero ∷ one ∷ test ∷ []) (next ∷ [])
+  pub leads : Leads before after (zero ∷ one ∷ test ∷ []) (next ∷ []) []
   pub gives_zero : (c : Placed) → Fills after c → HasAt c.code zero (tac.Constant d 0 next)
   pub gives_one : (c : Placed) → Fills after c → HasAt c.code one (tac.Constant d 1 next)
   pub tests : (c : Placed) → Fills after c → HasAt c.code test (tac.Branch d one zero)

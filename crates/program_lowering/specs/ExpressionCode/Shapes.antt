@@ -160,18 +160,18 @@ lvalue_finish_weight (lvalue kind line node) w = weight_if [] (last_at node 0 0)
 
 pub record OperandsCode (before after : Emitter) (os : Operands) (d n0 n1 : ℕ) : Type 0 where
   pub emits : Emits before after (d + operands_used os) (operands_weight os)
-  pub leads : Leads before after (n0 ∷ []) (n1 ∷ [])
+  pub leads : Leads before after (n0 ∷ []) (n1 ∷ []) []
   pub stands : (c : Placed) → Fills after c → LowersOperands c os d n0 n1
 
 -- what an expression itself does is added: where the code of its operands leads to it, the expression's stands
 pub record Finishes (before after : Emitter) (expression : Expression) (d n0 n1 : ℕ) : Type 0 where
   pub emits : Emits before after (d + used expression) (finish_weight expression)
-  pub leads : Leads before after (n0 ∷ []) (n1 ∷ [])
+  pub leads : Leads before after (n0 ∷ []) (n1 ∷ []) []
   pub stands : (c : Placed) → Fills after c → (n : ℕ) → LowersOperands c (operands_of expression) d n n0
       → LowersExpression c expression d n n1
 
 pub record LvalueFinishes (before after : Emitter) (lvalue : Lvalue) (d n0 n1 : ℕ) : Type 0 where
   pub emits : Emits before after (d + used_by_lvalue lvalue) (lvalue_finish_weight lvalue)
-  pub leads : Leads before after (n0 ∷ []) (n1 ∷ [])
+  pub leads : Leads before after (n0 ∷ []) (n1 ∷ []) []
   pub stands : (c : Placed) → Fills after c → (n : ℕ) → LowersOperands c (lvalue_operands lvalue) d n n0
       → LowersLvalue c lvalue d n n1

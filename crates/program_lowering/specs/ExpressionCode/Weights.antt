@@ -21,7 +21,8 @@ use Rattle.tac_ir.specs.declared.instruction.Instruction.TheVariants as tac
 use Rattle.c_lower.specs.Values.{count, mode_for}
 
 -- The weight of each kind of instruction: that of an access by what it reads, writes or updates, and how it finds its
--- place; that of a call by the function, or its type, and the number of its arguments; that of what names a text by the
+-- place; that of what sets or updates a plain variable by the variable; that of a call by the function, or its type, and the
+-- number of its arguments; that of what names a text by the
 -- text, where there is one. The contents of a structure weigh by themselves where they are taken into the first
 -- temporary, which values that functions return are.
 pub record Weights : Type 0 where
@@ -29,8 +30,8 @@ pub record Weights : Type 0 where
   pub constant : ℕ
   pub function_pointer : ℕ
   pub get_plain : ℕ
-  pub set_plain : ℕ
-  pub update_plain : Scalar → ℕ
+  pub set_plain : (variable : ℕ) → ℕ
+  pub update_plain : (variable : ℕ) → Scalar → ℕ
   pub home_pointer : ℕ
   pub static_pointer : ℕ
   pub zero_of : Kind → ℕ
@@ -72,8 +73,8 @@ weight_of texts (tac.Skip next) w = w.skip
 weight_of texts (tac.Constant d n next) w = w.constant
 weight_of texts (tac.FunctionPointer d f next) w = w.function_pointer
 weight_of texts (tac.GetPlain d x next) w = w.get_plain
-weight_of texts (tac.SetPlain x a next) w = w.set_plain
-weight_of texts (tac.UpdatePlain u k f line d x right next) w = w.update_plain k
+weight_of texts (tac.SetPlain x a next) w = w.set_plain x
+weight_of texts (tac.UpdatePlain u k f line d x right next) w = w.update_plain x k
 weight_of texts (tac.HomePointer d x next) w = w.home_pointer
 weight_of texts (tac.StaticPointer d n next) w = w.static_pointer
 weight_of texts (tac.ZeroOf kind d next) w = w.zero_of kind
@@ -170,11 +171,11 @@ own_weight kind (logical_or a b) w = 2 * w.branch + 2 * w.constant
 own_weight kind (comma a b) w = 0
 own_weight kind (conditional a b e) w = w.branch
 own_weight kind (assign p a) w = w.write (lvalue_kind p) (mode_for (is_judged p))
-own_weight kind (assign_plain x a) w = w.set_plain
+own_weight kind (assign_plain x a) w = w.set_plain x.variable
 own_weight kind (compound u p a) w = w.update (scalar_of (lvalue_kind p)) (mode_for (is_judged p))
-own_weight kind (change_plain u x a) w = w.update_plain (scalar_of kind)
+own_weight kind (change_plain u x a) w = w.update_plain x.variable (scalar_of kind)
 own_weight kind (step u fixity p) w = w.update (scalar_of (lvalue_kind p)) (mode_for (is_judged p))
-own_weight kind (step_plain u fixity x) w = w.update_plain (scalar_of kind)
+own_weight kind (step_plain u fixity x) w = w.update_plain x.variable (scalar_of kind)
 own_weight kind (call f es) w = w.call f (count es) + takings_weight es w
 own_weight kind (call_through type a es) w = w.call_through type (count es) + takings_weight es w
 own_weight kind (library routine es) w = w.library routine + takings_weight es w
@@ -203,3 +204,43 @@ lvalue_weight p w = walk_lvalue (weight_made w) p
 abbrev pub arguments_weight : Expressions → Weights → ℕ
 arguments_weight no_expressions w = 0
 arguments_weight (expressions e es) w = expression_weight e w + taking_weight (kind_of e) w + arguments_weight es w
+
+-- with a weight of 1 for each
+abbrev pub each_one : Weights
+each_one = record {
+  skip = 1;
+  constant = 1;
+  function_pointer = 1;
+  get_plain = 1;
+  set_plain = λ x. 1;
+  update_plain = λ x k. 1;
+  home_pointer = 1;
+  static_pointer = 1;
+  zero_of = λ kind. 1;
+  convert = λ kind. 1;
+  unary = 1;
+  binary = 1;
+  offset = 1;
+  difference = 1;
+  narrow = 1;
+  member = 1;
+  take = λ kind. 1;
+  take_first = λ kind. 1;
+  read = λ kind mode. 1;
+  write = λ kind mode. 1;
+  update = λ k mode. 1;
+  check = 1;
+  zero = 1;
+  store_part = λ kind. 1;
+  store_text = λ bytes. 1;
+  branch = 1;
+  case = 1;
+  turn = 1;
+  library = λ r. 1;
+  print = λ format. 1;
+  call = λ f n. 1;
+  call_through = λ type n. 1;
+  enter_block = 1;
+  leave_block = 1;
+  return = 1;
+}

@@ -7,7 +7,8 @@ use Rattle.c_tree.specs.Statements.{Statements}
 use Rattle.source_meaning.specs.Calls.{header_of}
 use Rattle.tac_ir.specs.declared.instruction.Instruction.{Instruction}
 use Rattle.tac_ir.specs.declared.function.CodeFunction.{CodeFunction}
-use Rattle.tac_ir.specs.Bodies.{HasClosedBodies, HasNoneAdded}
+use Rattle.tac_ir.specs.declared.function.CountedLoop.{CountedLoop}
+use Rattle.tac_ir.specs.Bodies.{bodies_in, HasClosedBodies, HasNoneAdded, KeepsVariable}
 use Rattle.tac_ir.specs.Temporaries.{temporaries}
 use Rattle.tac_ir.specs.Meaning.{header_of_code}
 use Rattle.c_lower.specs.Placed.{Placed}
@@ -16,6 +17,7 @@ use Rattle.program_lowering.specs.declared.expressions.emitter.Emitter.{Emitter}
 use Rattle.program_lowering.specs.ExpressionCode.Weights.{Weights, Weighs, code_weight}
 use Rattle.program_lowering.specs.ExpressionCode.Enclosed.{AreClosed, IsOpen}
 use Rattle.program_lowering.specs.ExpressionCode.Emitted.{Fills, Fits, Stays}
+use Rattle.program_lowering.specs.StatementCode.Bodies.{each_bodies, function_bodies}
 use Rattle.program_lowering.specs.StatementCode.Sizes.{each_height}
 use Rattle.program_lowering.specs.declared.programs.body.Body.{Body}
 use Rattle.program_lowering.specs.declared.programs.function.Lowered.{Lowered}
@@ -30,6 +32,7 @@ pub record BodyCode (vs : List Variable) (ss : Statements) (result : Kind) (text
   pub homes : Fits (each_height ss) emitter
   pub closed : AreClosed [] emitter
   pub begins : IsOpen [] emitter entry
+  pub bodies : bodies_in emitter.loops.items ≡ each_bodies vs ss 2
   pub weight : (w : Weights) (later : List (List ℕ)) → Stays emitter.texts.items later
       → Weighs w (code_weight later emitter.code.items w) (body_weight vs result ss w)
   pub stands : (c : Placed) → c.variables ≡ vs → Fills emitter c → LowersBody c result entry ss
@@ -59,6 +62,8 @@ pub record IsFunction (texts : List (List ℕ)) (literals : List Bool) (result :
   pub homes : (n : ℕ) (i : Instruction) → slice_get c.code n ≡ Some i → temporaries i ≤ each_height function.body
   pub closed : HasClosedBodies c
   pub none_added : HasNoneAdded c
+  pub bodies : bodies_in c.loops ≡ function_bodies function
+  pub keeps : (n : ℕ) (l : CountedLoop) → slice_get c.loops n ≡ Some l → KeepsVariable c l
   pub weight : (w : Weights) → Weighs w (code_weight texts c.code w) (function_weight result function w)
   pub body : LowersBody (placed_in texts literals function c) result c.entry function.body
 

@@ -38,46 +38,6 @@ abbrev pub instruction_count : List CodeFunction → ℕ
 instruction_count [] = 0
 instruction_count (c ∷ cs) = length c.code + instruction_count cs
 
--- with a weight of 1 for each
-abbrev pub each_one : Weights
-each_one = record {
-  skip = 1;
-  constant = 1;
-  function_pointer = 1;
-  get_plain = 1;
-  set_plain = 1;
-  update_plain = λ k. 1;
-  home_pointer = 1;
-  static_pointer = 1;
-  zero_of = λ kind. 1;
-  convert = λ kind. 1;
-  unary = 1;
-  binary = 1;
-  offset = 1;
-  difference = 1;
-  narrow = 1;
-  member = 1;
-  take = λ kind. 1;
-  take_first = λ kind. 1;
-  read = λ kind mode. 1;
-  write = λ kind mode. 1;
-  update = λ k mode. 1;
-  check = 1;
-  zero = 1;
-  store_part = λ kind. 1;
-  store_text = λ bytes. 1;
-  branch = 1;
-  case = 1;
-  turn = 1;
-  library = λ r. 1;
-  print = λ format. 1;
-  call = λ f n. 1;
-  call_through = λ type n. 1;
-  enter_block = 1;
-  leave_block = 1;
-  return = 1;
-}
-
 -- The code of a program weighs just what its text does, whatever each kind of instruction weighs.
 pub record IsWeighed (program : Program) (code : Tac) : Type 0 where
   pub by : (w : Weights) → IsEven w → codes_weight code.texts code.functions w ≡ program_weight program w

@@ -55,3 +55,8 @@ abbrev mutual
   pub items_weight : List Variable → SwitchItems → Weights → ℕ
   items_weight vs no_items w = 0
   items_weight vs (items labels s is) w = labels_weight labels w + statement_weight vs s w + items_weight vs is w
+
+-- the statements of items alone
+abbrev pub bodies_weight : List Variable → SwitchItems → Weights → ℕ
+bodies_weight vs no_items w = 0
+bodies_weight vs (items labels s is) w = statement_weight vs s w + bodies_weight vs is w

@@ -30,39 +30,39 @@ contents_in = map (λ q. q.content)
 -- a part of an initializer
 pub record ContentCode (before after : Emitter) (variable offset : ℕ) (content : Content) (n0 n1 : ℕ) : Type 0 where
   pub emits : Emits before after (max 1 (content_height content)) (content_weight content)
-  pub leads : Leads before after (n0 ∷ []) (n1 ∷ [])
+  pub leads : Leads before after (n0 ∷ []) (n1 ∷ []) []
   pub stands : (c : Placed) → Fills after c → LowersContent c variable offset content n0 n1
 
 pub record PartsCode (before after : Emitter) (variable : ℕ) (parts : List Part) (n0 n1 : ℕ) : Type 0 where
   pub emits : Emits before after (most (contents_in parts)) (parts_weight parts)
-  pub leads : Leads before after (n0 ∷ []) (n1 ∷ [])
+  pub leads : Leads before after (n0 ∷ []) (n1 ∷ []) []
   pub stands : (c : Placed) → Fills after c → LowersParts c variable parts n0 n1
 
 pub record InitializerCode (before after : Emitter) (variable : ℕ) (initializer : Option Initializer)
     (n0 n1 : ℕ) : Type 0 where
-  pub emits : Emits before after (most (initializer_contents initializer)) (initializer_weight initializer)
-  pub leads : Leads before after (n0 ∷ []) (n1 ∷ [])
+  pub emits : Emits before after (most (initializer_contents initializer)) (initializer_weight variable initializer)
+  pub leads : Leads before after (n0 ∷ []) (n1 ∷ []) []
   pub stands : (c : Placed) → Fills after c → LowersInitializer c variable initializer n0 n1
 
 pub record DeclaredCode (before after : Emitter) (ds : List DeclaredVariable) (n0 n1 : ℕ) : Type 0 where
   pub emits : Emits before after (most (declared_contents ds)) (declared_weight ds)
-  pub leads : Leads before after (n0 ∷ []) (n1 ∷ [])
+  pub leads : Leads before after (n0 ∷ []) (n1 ∷ []) []
   pub stands : (c : Placed) → Fills after c → LowersDeclared c ds n0 n1
 
 pub record FirstCode (before after : Emitter) (first : First) (n0 n1 : ℕ) : Type 0 where
   pub emits : Emits before after (most (first_contents first)) (first_weight first)
-  pub leads : Leads before after (n0 ∷ []) (n1 ∷ [])
+  pub leads : Leads before after (n0 ∷ []) (n1 ∷ []) []
   pub stands : (c : Placed) → Fills after c → LowersFirst c first n0 n1
 
 -- a condition, with its two ways
 pub record ConditionCode (before after : Emitter) (expression : Option Expression) (n0 holds fails : ℕ) : Type 0 where
   pub emits : Emits before after (most (if_any expression)) (condition_weight expression)
-  pub leads : Leads before after (n0 ∷ []) (holds ∷ fails ∷ [])
+  pub leads : Leads before after (n0 ∷ []) (holds ∷ fails ∷ []) []
   pub stands : (c : Placed) → Fills after c → LowersCondition c expression n0 holds fails
 
 pub record PartCode (before after : Emitter) (expression : Option Expression) (n0 n1 : ℕ) : Type 0 where
   pub emits : Emits before after (most (if_any expression)) (part_weight expression)
-  pub leads : Leads before after (n0 ∷ []) (n1 ∷ [])
+  pub leads : Leads before after (n0 ∷ []) (n1 ∷ []) []
   pub stands : (c : Placed) → Fills after c → LowersPart c expression n0 n1
 
 -- the number of a block in the table
@@ -74,20 +74,20 @@ pub record BlockAdded (before after : Emitter) (numbers : List ℕ) (number : �
 -- a block is entered
 pub record EntryCode (before after : Emitter) (block : Option ℕ) (line n0 n1 : ℕ) : Type 0 where
   pub emits : Emits before after 0 (entry_weight block)
-  pub leads : Leads before after (n0 ∷ []) (n1 ∷ [])
+  pub leads : Leads before after (n0 ∷ []) (n1 ∷ []) []
   pub stands : (c : Placed) → Fills after c → LowersEntry c block line n0 n1
 
 -- the ways out of a block with that number
 pub record WaysOut (before after : Emitter) (block : ℕ) (outer inner : Exits) : Type 0 where
   pub emits : Emits before after 0 (λ w. 4 * w.leave_block)
-  pub leads : Leads before after (exit_nodes (exits_of inner)) (exit_nodes (exits_of outer))
+  pub leads : Leads before after (exit_nodes (exits_of inner)) (exit_nodes (exits_of outer)) []
   pub stands : (c : Placed) → Fills after c → LowersLeaving c (Some block) (exits_of inner) (exits_of outer)
 
 -- a block of a function with these variables gets its number, and is left
 pub record LeavingCode (vs : List Variable) (before after : Emitter) (numbers : List ℕ) (outer : Exits)
     (inner : BlockExits) : Type 0 where
   pub emits : Emits before after 0 (left_weight vs numbers)
-  pub leads : Leads before after (exit_nodes (exits_of inner.exits)) (exit_nodes (exits_of outer))
+  pub leads : Leads before after (exit_nodes (exits_of inner.exits)) (exit_nodes (exits_of outer)) []
   pub numbered : (c : Placed) → c.variables ≡ vs → Fills after c
       → HasNumber c (has_objects_of c numbers) numbers inner.block
   pub stands : (c : Placed) → Fills after c → LowersLeaving c inner.block (exits_of inner.exits) (exits_of outer)

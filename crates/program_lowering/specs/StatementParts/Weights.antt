@@ -16,14 +16,14 @@ abbrev pub parts_weight : List Part → Weights → ℕ
 parts_weight [] w = 0
 parts_weight (q ∷ qs) w = content_weight q.content w + parts_weight qs w
 
-abbrev pub initializer_weight : Option Initializer → Weights → ℕ
-initializer_weight None w = 0
-initializer_weight (Some (of_plain e)) w = expression_weight e w + w.set_plain
-initializer_weight (Some (of_object parts)) w = w.zero + parts_weight parts w
+abbrev pub initializer_weight : (variable : ℕ) → Option Initializer → Weights → ℕ
+initializer_weight x None w = 0
+initializer_weight x (Some (of_plain e)) w = expression_weight e w + w.set_plain x
+initializer_weight x (Some (of_object parts)) w = w.zero + parts_weight parts w
 
 abbrev pub declared_weight : List DeclaredVariable → Weights → ℕ
 declared_weight [] w = 0
-declared_weight (d ∷ ds) w = initializer_weight d.initializer w + declared_weight ds w
+declared_weight (d ∷ ds) w = initializer_weight d.variable d.initializer w + declared_weight ds w
 
 abbrev pub first_weight : First → Weights → ℕ
 first_weight nothing w = 0

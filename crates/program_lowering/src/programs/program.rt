@@ -9,10 +9,12 @@ ghost use Rattle.c_const.specs.Initializers.{first_not_constant};
 ghost use Rattle.c_lower.specs.Programs.{IsLowered, literals_of};
 ghost use Rattle.source_meaning.specs.Meaning.{statics_end};
 ghost use Rattle.program_lowering.specs.ProgramCode.Whole.{is_ready, AreFunctions, Holding, results_of, Assembles};
-ghost use Rattle.program_lowering.specs.ProgramCode.Weights.{IsWeighed, program_weight, instruction_count, each_one};
+ghost use Rattle.program_lowering.specs.ProgramCode.Weights.{IsWeighed, program_weight, instruction_count};
+ghost use Rattle.program_lowering.specs.ExpressionCode.Weights.{each_one};
+ghost use Rattle.program_lowering.specs.ProgramCode.Bodies.{HaveBodiesOf};
 ghost use Rattle.program_lowering.specs.ProgramCode.Checks.{AwaitsChecks};
 ghost use Rattle.program_lowering.specs.ProgramCode.Structures.{room_for_structures};
-ghost use Rattle.tac_ir.specs.Bodies.{HaveClosedBodies, HaveNoneAdded};
+ghost use Rattle.tac_ir.specs.Bodies.{HaveClosedBodies, HaveNoneAdded, KeepVariables};
 ghost use Rattle.tac_ir.specs.Structures.{AreasFit};
 
 use crate::programs::function::lower_function;
@@ -138,7 +140,8 @@ fn assembled(
 /// Lowers a valid program that has at most 4096 functions, where its static objects take at most 4 MiB and their
 /// initializers are constant. The text of the program says which instructions its code has, how many they are, and how
 /// many checks are to come. The room of each function has areas for the structures of its temporaries. The bodies of
-/// counted loops are closed, and no checks are added to them yet. An error comes where there is no memory for its code.
+/// counted loops are closed, assign their variables nowhere, are just the nodes of their text, and no checks are added to
+/// them yet. An error comes where there is no memory for its code.
 pub fn lower(alloc: Global, program: &Program) -> Result<Tac, AllocError>
     requires valid { is_valid_program (program_of program.now) ≡ true }
     requires constant { first_not_constant (program_of program.now) ≡ None }
@@ -151,7 +154,9 @@ pub fn lower(alloc: Global, program: &Program) -> Result<Tac, AllocError>
     ensures checks { IfOk result (λ t. AwaitsChecks (program_of program.now) t) }
     ensures areas { IfOk result (λ t. AreasFit t (room_for_structures (program_of program.now))) }
     ensures closed { IfOk result (λ t. HaveClosedBodies t) }
+    ensures bodies { IfOk result (λ t. HaveBodiesOf (program_of program.now) t) }
     ensures none_added { IfOk result (λ t. HaveNoneAdded t) }
+    ensures variables { IfOk result (λ t. KeepVariables t) }
 {
     let objects = program.statics.as_slice();
     let types = program.function_types.as_slice();

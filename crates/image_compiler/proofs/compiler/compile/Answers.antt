@@ -22,7 +22,7 @@ built_of-requires-clause-expandable c =
     let same = sizes_are p budgets m c.requires.integers c.map_of-map.ensures in
     let mapped = subst AreMapped same c.sizes_are_in_range.ensures in
     expandable p budgets t m same c.in_ok-lowered.ensures.code
-    c.in_ok-lowered.ensures.weighed
+    c.in_ok-lowered.ensures.weighed c.in_ok-lowered.ensures.bodies
     (λ r inserted small. c.expansions_are_plannable.ensures p t r m c.requires.valid c.requires.integers
     c.in_ok-lowered.ensures.code (inserted_is_same t r inserted) small)
     (c.expansions_are_encodable.ensures p budgets c.requires.valid c.requires.integers c.requires.parameters mapped)
@@ -31,7 +31,7 @@ pub returns-clause-built : goal.returns-clause-built
 returns-clause-built c =
     let p = program_of c.args.program.now in
     built_result p c.in_ok-lowered.lowered c.map_of-map.result (sizes_of p c.args.budgets.now) c.built_of.result
-    c.in_ok-lowered.ensures.code c.in_ok-lowered.ensures.weighed
+    c.in_ok-lowered.ensures.code c.in_ok-lowered.ensures.weighed c.in_ok-lowered.ensures.bodies
     (sizes_are p c.args.budgets.now c.map_of-map.result c.requires.integers c.map_of-map.ensures)
     c.built_of.ensures.built
 
@@ -51,13 +51,14 @@ returns-clause-does c =
     (c.images_do_what_is_meant.ensures p budgets c.requires.valid c.requires.integers c.requires.parameters
     c.requires.few range)
     (built_result p c.in_ok-lowered.lowered c.map_of-map.result (sizes_of p budgets) c.built_of.result
-    c.in_ok-lowered.ensures.code c.in_ok-lowered.ensures.weighed same c.built_of.ensures.built)
+    c.in_ok-lowered.ensures.code c.in_ok-lowered.ensures.weighed
+    c.in_ok-lowered.ensures.bodies same c.built_of.ensures.built)
 
 pub returns-clause-refused : goal.returns-clause-refused
 returns-clause-refused c =
     let p = program_of c.args.program.now in
     refused_result p c.in_ok-lowered.lowered c.map_of-map.result (sizes_of p c.args.budgets.now) c.built_of.result
-    c.in_ok-lowered.ensures.code c.in_ok-lowered.ensures.weighed
+    c.in_ok-lowered.ensures.code c.in_ok-lowered.ensures.weighed c.in_ok-lowered.ensures.bodies
     (sizes_are p c.args.budgets.now c.map_of-map.result c.requires.integers c.map_of-map.ensures)
     c.built_of.ensures.refused
 

@@ -7,6 +7,7 @@ use Rattle.program_lowering.specs.ProgramCode.Whole.{AreFunctions, is_ready, res
 use Rattle.program_lowering.proofs.ProgramCode.InTurn.{program_from, weighed_from, whole_in}
 use Rattle.program_lowering.proofs.ProgramCode.Areas.{areas_fit}
 use Rattle.program_lowering.proofs.ProgramCode.ClosedBodies.{programs_closed, programs_bare}
+use Rattle.program_lowering.proofs.ProgramCode.ClosedBodies.{programs_keep, programs_bodies}
 use Rattle.program_lowering.proofs.ProgramCode.Ready.{all_ready}
 use Rattle.program_lowering.proofs.ProgramCode.Checks.{counted_by, awaits}
 use Rattle.program_lowering.proofs.programs.program.lower.Goals as goal
@@ -42,5 +43,7 @@ returns c =
       checks = awaits p c.assembled.result weighs;
       areas = areas_fit p c.assembled.result c.requires.valid lowered made;
       closed = programs_closed (literals_of p.statics) p.functions c.assembled.result made;
+      variables = programs_keep (literals_of p.statics) p.functions c.assembled.result made;
+      bodies = programs_bodies (literals_of p.statics) p c.assembled.result made;
       none_added = programs_bare (literals_of p.statics) p.functions c.assembled.result made;
     }

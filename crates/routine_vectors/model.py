@@ -124,6 +124,24 @@ def moved(offset, v):
     return Value(v.word + offset, v.tag)
 
 
+def narrowed(offset, size, v):
+    """To a member: the bounds are where the old ones meet its bytes. Its end does not wrap."""
+    address = (v.word + offset) % WORD
+    if not isinstance(v.tag, OfObject):
+        return Value(address, v.tag)
+    return Value(address, OfObject(v.tag.number, max(v.tag.base, address), min(v.tag.bound, address + size)))
+
+
+def signed(word):
+    return word - WORD if word >= WORD // 2 else word
+
+
+def difference(size, left, right):
+    """In elements, without a fraction."""
+    between = signed((left - right) % WORD)
+    return (abs(between) // size * (-1 if between < 0 else 1)) % WORD
+
+
 def pointer_to(s, n):
     o = s.objects[n]
     return Value(o.address, OfObject(n, o.address, o.address + o.size))

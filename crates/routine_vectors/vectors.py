@@ -215,6 +215,26 @@ def temporal_check(scene, p, line=LINE):
     scene.perform("temporal_check", line, promised("temporal_check"), [p], run)
 
 
+def narrow(scene, p, offset, size):
+    """With five instructions that hand the pointer over."""
+    scene.perform("narrow", LINE, lambda work: 13, [p, Number(offset), Number(size)],
+                  lambda s: pointer(model.narrowed(offset, size, p)), is_of_program=True)
+
+
+def offsets(scene, address, index, size):
+    """Elements forward and back, in as many instructions as a size of 64 bits takes, and two."""
+    operands = [Number(address), Number(index), Number(size)]
+    scene.perform("forward", LINE, lambda work: 10, operands,
+                  lambda s: word((address + index * size) % model.WORD), is_of_program=True)
+    scene.perform("back", LINE, lambda work: 10, operands,
+                  lambda s: word((address - index * size) % model.WORD), is_of_program=True)
+
+
+def difference(scene, left, right, size):
+    scene.perform("difference", LINE, lambda work: 10, [Number(left), Number(right), Number(size)],
+                  lambda s: word(model.difference(size, left, right)), is_of_program=True)
+
+
 def malloc(scene, size, line=LINE, is_kept=False):
     return scene.perform("malloc", line, promised("malloc"), [Number(size)],
                          lambda s: pointer(model.allocate(s, size, line)), is_kept)
@@ -688,7 +708,33 @@ def all_pages():
     return scene
 
 
-SCENES = [ranges, strings, accesses, blocks, heap, few_blocks, all_pages]
+def pointers():
+    """Pointers to members, moved by elements, and their differences, also over the ends of the addresses."""
+    scene = filled()
+    of_left = scene.to(LEFT, 16)
+    for offset, size in ((0, 88), (0, 8), (16, 8), (72, 16), (80, 0), (88, 8), (model.WORD - 16, 8)):
+        narrow(scene, of_left, offset, size)
+    # the end of a member behind the last address, and sizes of 2^31 and more
+    for size in (1 << 31, (1 << 32) - 1, 1 << 32, model.WORD - 1):
+        narrow(scene, of_left, 8, size)
+        narrow(scene, of_left, model.WORD - of_left.word - 8, size)
+    narrow(scene, scene.to(LEFT, 16, 8, 40), 0, 88)
+    narrow(scene, scene.to(LEFT, 0, 8, 40), 4, 8)
+    for p in refused(scene):
+        narrow(scene, p, 8, 16)
+    first = scene.state.objects[LEFT].address
+    for size in (1, 2, 4, 8, 3, 24, (1 << 32) - 1, 1 << 32):
+        for index in (0, 1, 5, model.WORD - 3):
+            offsets(scene, first, index, size)
+    offsets(scene, model.WORD - 8, 2, 8)
+    for size in (1, 2, 4, 8, 3, 24, (1 << 32) - 1, 1 << 32):
+        for left, right in ((first, first), (first + 72, first), (first, first + 72), (first + 7, first + 1),
+                            (0, model.WORD - 48)):
+            difference(scene, left, right, size)
+    return scene
+
+
+SCENES = [ranges, strings, accesses, blocks, heap, few_blocks, all_pages, pointers]
 
 
 def make():

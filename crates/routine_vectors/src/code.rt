@@ -5,11 +5,14 @@ ghost use Rattle.addr_map.specs.Places.{AreMapped};
 ghost use Rattle.lib_wrappers.specs.PrintingRoutines.Printed.{ArePrintable};
 
 use crate::routine::{
-    Accessing, Allocating, Moving, Piece, Putting, Routine, RoutineCall, Strings, Testing,
+    Accessing, Allocating, Moving, Piece, Pointing, Putting, Routine, RoutineCall, Strings, Testing,
 };
 use addr_map::AddrMap;
 use c_tree::Directive;
+use flat_actions::{give_instructions, joined, narrow};
 use flat_meaning::{FlatInstruction, RightOperand};
+use flat_operators::binary::Registers;
+use flat_operators::pointers::{put_back, put_difference, put_forward};
 use flat_routines::{Entry, Held};
 use lib_wrappers::comparing::{RangeRegisters, memcmp, strchr, strcmp};
 use lib_wrappers::moving::{
@@ -115,6 +118,7 @@ pub fn code_of<S: ShadowForm>(
         Routine::Putting(putting) => putting_code::<S>(alloc, map, putting, call),
         Routine::Accessing(accessing) => accessing_code::<S>(alloc, map, accessing, call),
         Routine::Testing(testing) => testing_code(alloc, testing, call),
+        Routine::Pointing(pointing) => pointing_code(alloc, pointing, call.number),
         Routine::Allocating(allocating) => allocating_code::<S>(alloc, map, allocating, call),
     }
 }
@@ -311,6 +315,36 @@ fn testing_code(
         }
         Testing::TemporalCheck => temporal_check(alloc, FIRST, line, SCRATCH),
     }
+}
+
+fn pointing_code(
+    alloc: Global,
+    pointing: Pointing,
+    size: u64,
+) -> Result<Vec<FlatInstruction>, AllocError> {
+    let registers = Registers {
+        into: 30,
+        left: 0,
+        right: 5,
+        scratch: SCRATCH,
+    };
+    let mut code = Vec::new(alloc);
+    match pointing {
+        Pointing::Narrow => return narrow_code(alloc),
+        Pointing::Forward => put_forward(&mut code, size, registers)?,
+        Pointing::Back => put_back(&mut code, size, registers)?,
+        Pointing::Difference => put_difference(&mut code, size, registers)?,
+    }
+    Ok(code)
+}
+
+// The first pointer is narrowed in the registers of the result, by an offset and a size in registers.
+fn narrow_code(alloc: Global) -> Result<Vec<FlatInstruction>, AllocError> {
+    let copy = give_instructions(alloc, FIRST, RESULT)?;
+    let offset = RightOperand::Register(5);
+    let size = RightOperand::Register(THIRD);
+    let narrow = narrow(alloc, RESULT, offset, size, SCRATCH)?;
+    joined(alloc, &copy, &narrow)
 }
 
 fn allocating_code<S: ShadowForm>(

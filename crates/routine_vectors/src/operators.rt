@@ -12,9 +12,33 @@ pub fn operated(op: RegOp, left: u64, right: u64) -> Option<u64> {
         RegOp::Sltu => Some((left < right) as u64),
         RegOp::Mul => Some(left.wrapping_mul(right)),
         RegOp::Mulhu => Some(upper_half(left, right)),
+        RegOp::Div => Some(quotient(left, right)),
         RegOp::Divu => Some(left.checked_div(right).unwrap_or(u64::MAX)),
         RegOp::Remu => Some(left.checked_rem(right).unwrap_or(left)),
         _ => None,
+    }
+}
+
+// The quotient of numbers with a sign, without its fraction; all bits where the divisor is 0 (the division extension).
+fn quotient(left: u64, right: u64) -> u64 {
+    let sign = 1 << 63;
+    let (above, below) = (magnitude(left), magnitude(right));
+    let Some(number) = above.checked_div(below) else {
+        return u64::MAX;
+    };
+    if (left ^ right) >= sign {
+        0u64.wrapping_sub(number)
+    } else {
+        number
+    }
+}
+
+// How far a number with a sign is from 0.
+fn magnitude(number: u64) -> u64 {
+    if number >= 1 << 63 {
+        0u64.wrapping_sub(number)
+    } else {
+        number
     }
 }
 

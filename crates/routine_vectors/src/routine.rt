@@ -55,6 +55,15 @@ pub enum Testing {
     TemporalCheck,
 }
 
+/// Pointers that are narrowed to a member, that move by elements, and their difference in elements.
+#[derive(Clone, Copy)]
+pub enum Pointing {
+    Narrow,
+    Forward,
+    Back,
+    Difference,
+}
+
 /// Births and deaths of objects, and zeroing.
 #[derive(Clone, Copy)]
 pub enum Allocating {
@@ -75,10 +84,11 @@ pub enum Routine {
     Putting(Putting),
     Accessing(Accessing),
     Testing(Testing),
+    Pointing(Pointing),
     Allocating(Allocating),
 }
 
-const ROUTINES: [(&str, Routine); 34] = [
+const ROUTINES: [(&str, Routine); 38] = [
     ("memmove", Routine::Moving(Moving::Memmove)),
     ("memset", Routine::Moving(Moving::Memset)),
     ("copy_structure", Routine::Moving(Moving::CopyStructure)),
@@ -109,6 +119,10 @@ const ROUTINES: [(&str, Routine); 34] = [
         Routine::Testing(Testing::SpatialCheckOfNumber),
     ),
     ("temporal_check", Routine::Testing(Testing::TemporalCheck)),
+    ("narrow", Routine::Pointing(Pointing::Narrow)),
+    ("forward", Routine::Pointing(Pointing::Forward)),
+    ("back", Routine::Pointing(Pointing::Back)),
+    ("difference", Routine::Pointing(Pointing::Difference)),
     ("malloc", Routine::Allocating(Allocating::Malloc)),
     ("calloc", Routine::Allocating(Allocating::Calloc)),
     ("realloc", Routine::Allocating(Allocating::Realloc)),
@@ -190,7 +204,7 @@ pub struct RoutineCall {
     pub of: Option<IntType>,
     /// The pieces of a format, or the directive of a number.
     pub pieces: Vec<Piece>,
-    /// A number that the code has: a size or a base.
+    /// A number that the code has: a size or a base, the last of the operands.
     pub number: u64,
 }
 
@@ -215,6 +229,8 @@ impl RoutineCall {
             Routine::Putting(putting) => given_by_putting(putting),
             Routine::Accessing(accessing) => self.given_by_accessing(accessing),
             Routine::Testing(_) => Given::Nothing,
+            Routine::Pointing(Pointing::Narrow) => Given::Pointer,
+            Routine::Pointing(_) => Given::Word,
             Routine::Allocating(allocating) => given_by_allocating(allocating),
         }
     }
@@ -222,7 +238,7 @@ impl RoutineCall {
     /// Whether its code stands in functions of the program, whose accesses are shown.
     pub fn is_of_program(&self) -> bool {
         match self.routine {
-            Routine::Accessing(_) | Routine::Testing(_) => true,
+            Routine::Accessing(_) | Routine::Testing(_) | Routine::Pointing(_) => true,
             _ => false,
         }
     }
@@ -233,6 +249,7 @@ impl RoutineCall {
         match self.routine {
             Routine::Accessing(_)
             | Routine::Testing(_)
+            | Routine::Pointing(_)
             | Routine::Putting(Putting::Printf)
             | Routine::Allocating(Allocating::Leave) => false,
             _ => true,

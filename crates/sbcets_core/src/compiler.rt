@@ -98,8 +98,7 @@ fn expanded_tokens<'a>(alloc: Global, source: &'a [u8]) -> Result<Tokens<'a>, So
 }
 
 // The program of expanded tokens that are accepted.
-#[tactic(auto, using(crate::proofs::Judging::program_judged, crate::proofs::Judging::program_refused,
-    crate::proofs::Typing::fine))]
+#[tactic(auto, using(crate::proofs::Judging::program_judged, crate::proofs::Judging::program_refused, crate::proofs::Typing::fine))]
 fn accepted_of(alloc: Global, tokens: &Tokens) -> Result<Program, SourceRefusal>
     ensures ok { IfOk result (λ program. JudgesReadable (with_support tokens.now) (Ok (program_of program))) }
     ensures fine { IfOk result (λ program. IsFine (program_of program)) }

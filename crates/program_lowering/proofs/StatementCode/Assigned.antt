@@ -1,7 +1,7 @@
 -- A statement whose text assigns a plain variable nowhere has code that does not: what assigns it has a weight.
-use Rattle.std.proofs.Common.{◌≡◌, ℕ, zero, suc, ◌+◌, ◌≤◌, ◌<◌, Bool, true, false, List, [], ◌∷◌, length, Option}
-use Rattle.std.proofs.Common.{Some, None, refl, sym, ap, ◌∙◌, subst, arith}
-use Rattle.std.specs.Prelude.{◌||◌, ◌&&◌, ◌==◌, not, slice_get}
+use Rattle.std.proofs.Common.{◌≡◌, ℕ, zero, suc, ◌+◌, ◌≤◌, Bool, true, false, List, [], ◌∷◌, length, Option}
+use Rattle.std.proofs.Common.{Some, None, refl, ap, subst, arith}
+use Rattle.std.specs.Prelude.{◌||◌, ◌==◌, not}
 use Rattle.std.proofs.lemmas.Bool.{and_parts}
 use Rattle.std.proofs.lemmas.Option.{same_Some}
 use Rattle.c_tree.specs.declared.expression.Kind.{Kind}
@@ -15,7 +15,7 @@ use Rattle.c_tree.specs.Tree.{address_function, cast, convert, unary, binary, of
 use Rattle.c_tree.specs.Tree.{logical_or, comma, conditional, assign, assign_plain, compound, change_plain, step}
 use Rattle.c_tree.specs.Tree.{step_plain, call, call_through, library, printf, LvalueNode, automatic, static, deref}
 use Rattle.c_tree.specs.Tree.{index, member, arrow, member_of_value, parenthesized_lvalue, kind_of}
-use Rattle.c_tree.specs.Walk.{visited, visited_lvalue, walk, walk_lvalue, walk_operands, walk_lvalue_operands}
+use Rattle.c_tree.specs.Walk.{visited, visited_lvalue, walk_lvalue, walk_operands, walk_lvalue_operands}
 use Rattle.c_tree.specs.Walk.{walk_each, any_of, sum_of, assigns, assigns_itself, assigns_made}
 use Rattle.c_tree.specs.Assigning.{content_assigns, parts_assign, initializer_assigns, declared_assign, first_assigns}
 use Rattle.c_tree.specs.Assigning.{if_assigns, statement_assigns, each_assigns, items_assign}

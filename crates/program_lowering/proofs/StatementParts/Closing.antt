@@ -1,5 +1,5 @@
 -- Closed spans: the body of a loop is one once it stands, and stays one where the loop gets its number and its turn.
-use Rattle.std.proofs.Common.{◌≡◌, ◌≢◌, ℕ, zero, suc, ◌+◌, ◌≤◌, ◌<◌, Bool, true, false, List, [], ◌∷◌, ◌++◌, length, map}
+use Rattle.std.proofs.Common.{◌≡◌, ◌≢◌, ℕ, zero, suc, ◌≤◌, ◌<◌, Bool, true, false, List, [], ◌∷◌, ◌++◌, length}
 use Rattle.std.proofs.Common.{Option, Some, None, refl, sym, ap, ◌∙◌, subst, arith}
 use Rattle.std.specs.Prelude.{◌⊎◌, slice_get, slice_set, ◌==◌}
 use Rattle.std.proofs.lemmas.Bool.{eqb-true, eqb-false}
@@ -14,7 +14,7 @@ use Rattle.tac_ir.specs.Edges.{LeadsTo, successors}
 use Rattle.c_lower.specs.Counted.{CountedParts}
 use Rattle.c_lower.specs.Placed.{HasAt}
 use Rattle.program_lowering.specs.declared.expressions.emitter.Emitter.{Emitter}
-use Rattle.program_lowering.specs.ExpressionCode.Emitted.{Has, Stays, Keeps}
+use Rattle.program_lowering.specs.ExpressionCode.Emitted.{Has, Keeps}
 use Rattle.program_lowering.specs.ExpressionCode.Enclosed.{IsTurnIn, Encloses, IsClosed, AreClosed, IsOpen, AllOpen}
 use Rattle.program_lowering.specs.ExpressionCode.Enclosed.{StaysClosed}
 use Rattle.program_lowering.specs.StatementParts.Loops.{Filled, AssignsNone, ClosesBody}

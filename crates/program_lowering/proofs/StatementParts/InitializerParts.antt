@@ -19,8 +19,7 @@ use Rattle.program_lowering.specs.declared.expressions.emitter.Emitter.{Emitter}
 use Rattle.program_lowering.specs.ExpressionCode.Weights.{expression_weight}
 use Rattle.program_lowering.specs.ExpressionCode.Emitted.{Added, Stays, Emits, ExpressionCode}
 use Rattle.program_lowering.specs.ExpressionCode.Last.{TextAdded}
-use Rattle.program_lowering.proofs.ExpressionCode.Leading.{leads_none, leads_first, leads_added, leads_then, leads_behind, added_stays}
-use Rattle.program_lowering.proofs.ExpressionCode.Leading.{closed_then}
+use Rattle.program_lowering.proofs.ExpressionCode.Leading.{leads_none, leads_first, leads_added, leads_then, leads_behind}
 use Rattle.program_lowering.proofs.ExpressionCode.Growing.{emits_none, emits_then, emits_within, added_by}
 use Rattle.program_lowering.proofs.ExpressionCode.Growing.{added_emits}
 use Rattle.program_lowering.proofs.ExpressionCode.Growing.{added_holds}

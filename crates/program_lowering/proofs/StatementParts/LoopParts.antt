@@ -13,7 +13,6 @@ use Rattle.c_tree.specs.Blocks.{if_any, first_contents}
 use Rattle.tac_ir.specs.declared.instruction.Instruction.{Instruction}
 use Rattle.tac_ir.specs.declared.instruction.Instruction.TheVariants as tac
 use Rattle.tac_ir.specs.declared.function.Span.{Span}
-use Rattle.tac_ir.specs.declared.function.CountedLoop.{CountedLoop}
 use Rattle.tac_ir.specs.Bodies.{no_nodes, bodies_in}
 use Rattle.tac_ir.specs.Edges.{LeadsTo}
 use Rattle.tac_ir.specs.Temporaries.{temporaries}

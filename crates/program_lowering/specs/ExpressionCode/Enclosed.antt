@@ -1,6 +1,6 @@
 -- Which nodes code leads to. A span of nodes is closed where what leads into it stands in it, or begins a turn of the
 -- counted loop whose body it is. A node that stands in no closed span is open: what is added leads to open nodes alone.
-use Rattle.std.specs.Prelude.{◌≡◌, ◌≤◌, ◌<◌, ◌⊎◌, ℕ, false, List, [], ◌∷◌, ◌++◌, length, Option, Some, None, slice_get}
+use Rattle.std.specs.Prelude.{◌≡◌, ◌≤◌, ◌<◌, ◌⊎◌, ℕ, false, List, [], ◌∷◌, ◌++◌, length, Option, Some, None}
 use Rattle.tac_ir.specs.declared.instruction.Instruction.{Instruction}
 use Rattle.tac_ir.specs.declared.function.Span.{Span}
 use Rattle.tac_ir.specs.declared.function.CountedLoop.{CountedLoop}

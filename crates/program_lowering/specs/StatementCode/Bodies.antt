@@ -1,6 +1,6 @@
 -- Which nodes the bodies of counted loops are, by the text. Code is made from its end on, and a node is numbered by how
 -- many stand before it: a piece of a text takes as many as its instructions are.
-use Rattle.std.specs.Prelude.{ℕ, ◌+◌, List, [], ◌∷◌, ◌++◌, Option}
+use Rattle.std.specs.Prelude.{ℕ, ◌+◌, List, [], ◌++◌, Option}
 use Rattle.c_tree.specs.declared.program.Variable.{Variable}
 use Rattle.c_tree.specs.Blocks.{all_of, block_variables, switch_variables, first_variables}
 use Rattle.c_tree.specs.Programs.{Function}

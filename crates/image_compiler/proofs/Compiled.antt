@@ -1,7 +1,7 @@
 -- What is built of lowered code is built of the program.
 use Rattle.std.proofs.Common.{◌≡◌, ℕ, ◌+◌, ◌-◌, ◌^◌, ◌<◌, List, [], length, true, refl, sym, ap, ◌∙◌, subst}
 use Rattle.std.proofs.Common.{arith}
-use Rattle.std.specs.Prelude.{min, Result, Ok, Err, IfOk, IfErr}
+use Rattle.std.specs.Prelude.{min, Result, Ok, Err, IfOk, IfErr, MatchResult}
 use Rattle.std.proofs.lemmas.List.{length-map}
 use Rattle.sb_base.specs.Budgets.{BudgetSizes}
 use Rattle.addr_map.specs.Places.{MapSizes}
@@ -32,7 +32,8 @@ use Rattle.image_compiler.specs.declared.error.CompileError.{CompileError}
 use Rattle.image_compiler.specs.declared.error.CompileError.TheVariants.{NumbersTooLarge, TooLarge, FunctionTooLong}
 use Rattle.image_compiler.specs.declared.error.CompileError.TheVariants.{Memory}
 use Rattle.image_compiler.specs.declared.compiler.Built.{Built}
-use Rattle.image_compiler.specs.Built.{flat_code, HasChecks, IsExpandable, IsBuilt, IsRefused, NeedsNodes, UnlessMemory}
+use Rattle.image_compiler.specs.Built.{flat_code, HasChecks, IsExpandable, IsBuilt, IsRefused, NeedsNodes, Refuses}
+use Rattle.image_compiler.specs.Built.{UnlessMemory}
 use Rattle.image_compiler.proofs.Images.{accepted}
 
 -- as many functions as the text has, with checks or without
@@ -81,6 +82,22 @@ refused_for p t m n (TooLarge bytes) low weighed bodies same h = refused_one p t
 refused_for p t m n (FunctionTooLong number) low weighed bodies same h =
     refused_one p t m n (FunctionTooLong number) low weighed bodies same h
 refused_for p t m n Memory low weighed bodies same h = tt
+
+-- why code with its checks put in has no image
+
+refused_with : (t checked : Tac) (m : MapSizes) (e : CompileError) → HasChecks t checked → Refuses m checked e
+    → UnlessMemory e (IsRefused (HasChecks t) m e)
+refused_with t checked m NumbersTooLarge h r = record { checked = checked; is = h; refuses = r }
+refused_with t checked m (TooLarge bytes) h r = record { checked = checked; is = h; refuses = r }
+refused_with t checked m (FunctionTooLong number) h r = record { checked = checked; is = h; refuses = r }
+refused_with t checked m Memory h r = tt
+
+pub refused_checked : {A : Type 0} (t checked : Tac) (m : MapSizes) (IsOk : A → Type 0) (image : Result A CompileError)
+    (r : Result Built CompileError) → HasChecks t checked → MatchResult image IsOk (Refuses m checked)
+    → ((e : CompileError) → r ≡ Err e → image ≡ Err e) → IfErr r (λ e. UnlessMemory e (IsRefused (HasChecks t) m e))
+refused_checked t checked m IsOk image (Ok b) h refuses same = tt
+refused_checked t checked m IsOk image (Err e) h refuses same =
+    refused_with t checked m e h (subst (λ z. MatchResult z IsOk (Refuses m checked)) (same e refl) refuses)
 
 -- the flat code of what is built
 pub flat_of : (p : Program) (m : MapSizes) (b : Built) (h : IsBuilt (IsChecked p) m b)

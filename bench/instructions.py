@@ -21,7 +21,7 @@ GCC = ["riscv64-linux-gnu-gcc", "-std=c99", "-fwrapv", "-funsigned-char", "-marc
        "-fno-builtin", "-fno-pic", "-no-pie", "-nostdinc"]
 HEADER = "#define EOF (-1)\nint putchar(int);\nint getchar(void);\nvoid exit(int);\nvoid abort(void);\n"
 RUNTIME = r"""
-static char stack[1 << 20] __attribute__((aligned(16)));
+static char stack[1 << 20] __attribute__((aligned(16), used));
 static long call(long number, long first, long second, long third)
 {
     register long a0 __asm__("a0") = first, a1 __asm__("a1") = second, a2 __asm__("a2") = third, a7 __asm__("a7") = number;

@@ -8,24 +8,30 @@ use Rattle.sb_base.specs.Budgets.{BudgetSizes, default_sizes, budget_fault}
 use Rattle.command_line.specs.Numbers.{number_in}
 use Rattle.command_line.specs.Program.{program}
 use Rattle.command_line.specs.declared.command.Command.{Command}
-use Rattle.command_line.specs.declared.command.Command.TheVariants.{Build, Run, Go}
+use Rattle.command_line.specs.declared.command.Command.TheVariants.{Build, Run, Go, List as ListImage, Assemble}
 
 -- a command, with the texts of its files' names
 pub data Asked : Type 0 where
   build : (source image : Text) (budgets : BudgetSizes) → Asked
   run : (image : Text) (limit : ℕ) → Asked
   go : (source : Text) (budgets : BudgetSizes) (limit : ℕ) → Asked
+  list : (image : Text) → Asked
+  assemble : (listing image : Text) → Asked
 
 abbrev pub asked_of : Command → Asked
 asked_of (Build source image budgets) = build source.now image.now budgets
 asked_of (Run image limit) = run image.now limit
 asked_of (Go source budgets limit) = go source.now budgets limit
+asked_of (ListImage image) = list image.now
+asked_of (Assemble listing image) = assemble listing.now image.now
 
 -- a command that runs an image has a limit of at most 2 ^ 62 instructions
 abbrev pub IsLimited : Command → Type 0
 IsLimited (Build source image budgets) = ⊤
 IsLimited (Run image limit) = limit ≤ 2 ^ 62
 IsLimited (Go source budgets limit) = limit ≤ 2 ^ 62
+IsLimited (ListImage image) = ⊤
+IsLimited (Assemble listing image) = ⊤
 
 -- what the option that is left out stands for
 abbrev pub default_limit : ℕ
@@ -99,11 +105,21 @@ go_at rows =
     (budgets_at rows))
     (text_at (codes "source") rows)
 
+unfoldable pub list_at : List Row → Option Asked
+list_at rows = option_map list (text_at (codes "image") rows)
+
+unfoldable pub assemble_at : List Row → Option Asked
+assemble_at rows =
+    option_and_then (λ listing. option_map (assemble listing) (text_at (codes "image") rows))
+    (text_at (codes "listing") rows)
+
 abbrev pub command_named : Text → List Row → Option Asked
 command_named name rows =
     if bytes_eq name (codes "build") then build_at rows
     else (if bytes_eq name (codes "run") then run_at rows
-    else (if bytes_eq name (codes "go") then go_at rows else None))
+    else (if bytes_eq name (codes "go") then go_at rows
+    else (if bytes_eq name (codes "list") then list_at rows
+    else (if bytes_eq name (codes "asm") then assemble_at rows else None))))
 
 unfoldable pub command_at : Text × List Row → Option Asked
 command_at p = command_named p.0 p.1

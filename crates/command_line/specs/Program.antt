@@ -35,6 +35,14 @@ abbrev pub go_words : App
 go_words = with_option
     (with_budget_options (with_operand (new_app (codes "go")) (codes "source"))) (codes "limit")
 
+-- list IMAGE
+abbrev pub list_words : App
+list_words = with_operand (new_app (codes "list")) (codes "image")
+
+-- asm LISTING IMAGE
+abbrev pub assemble_words : App
+assemble_words = with_operand (with_operand (new_app (codes "asm")) (codes "listing")) (codes "image")
+
 -- the words are those after the program's name, and the first is a command
 abbrev pub tool_words : App
 tool_words = record (new_app (codes "sbcets")) {
@@ -43,5 +51,5 @@ tool_words = record (new_app (codes "sbcets")) {
 
 -- the tool with its commands
 unfoldable pub program : App
-program = with_subcommand (with_subcommand (with_subcommand tool_words build_words.top)
-    run_words.top) go_words.top
+program = with_subcommand (with_subcommand (with_subcommand (with_subcommand (with_subcommand tool_words
+    build_words.top) run_words.top) go_words.top) list_words.top) assemble_words.top

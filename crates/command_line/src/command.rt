@@ -36,6 +36,18 @@ pub enum Command<'a> {
         /// How many instructions the run may take, at most 2^62.
         limit: u64,
     },
+    /// List an image.
+    List {
+        /// The file to list.
+        image: &'a str,
+    },
+    /// Put the bytes of a listing together.
+    Assemble {
+        /// The file with the listing.
+        listing: &'a str,
+        /// The file to write.
+        image: &'a str,
+    },
 }
 
 /// Why there is no command.

@@ -2,7 +2,7 @@
 ghost use Rattle.std.specs.Prelude.{◌≡◌, ◌≤◌, ◌^◌, Err, IfOk, IfSome, None, Some, map, option_and_then, option_map};
 ghost use Rattle.clap.specs.Words.{subcommand_rows_of};
 ghost use Rattle.command_line.specs.Asked.{IsLimited, allowed, asked_of, budgets_at, build_at, command_at, command_in};
-ghost use Rattle.command_line.specs.Asked.{go_at, limit_at, number_at, rows_in, run_at, text_at};
+ghost use Rattle.command_line.specs.Asked.{assemble_at, go_at, limit_at, list_at, number_at, rows_in, run_at, text_at};
 
 use crate::command::{Command, WordsFault};
 use crate::number::number_of;
@@ -48,11 +48,13 @@ fn command_asked<'a>(matches: &ArgMatches<'a>) -> Option<Command<'a>>
         "build" => build_asked(matches),
         "run" => run_asked(matches),
         "go" => go_asked(matches),
+        "list" => list_asked(matches),
+        "asm" => assemble_asked(matches),
         _ => None,
     }
 }
 
-// The command of the matches of `build`, and below of `run` and `go`.
+// The command of the matches of `build`, and below of `run`, `go`, `list` and `asm`.
 #[tactic(auto, unfolding(crate::specs::Asked::build_at))]
 fn build_asked<'a>(matches: &ArgMatches<'a>) -> Option<Command<'a>>
     ensures asked { option_map asked_of result ≡ build_at (rows_in matches.now) }
@@ -85,6 +87,27 @@ fn go_asked<'a>(matches: &ArgMatches<'a>) -> Option<Command<'a>>
         source: text_at(matches, "source")?,
         budgets: budgets_at(matches)?,
         limit: limit_at(matches)?,
+    })
+}
+
+#[tactic(auto, unfolding(crate::specs::Asked::list_at))]
+fn list_asked<'a>(matches: &ArgMatches<'a>) -> Option<Command<'a>>
+    ensures asked { option_map asked_of result ≡ list_at (rows_in matches.now) }
+    ensures limited { IfSome result IsLimited }
+{
+    Some(Command::List {
+        image: text_at(matches, "image")?,
+    })
+}
+
+#[tactic(auto, unfolding(crate::specs::Asked::assemble_at))]
+fn assemble_asked<'a>(matches: &ArgMatches<'a>) -> Option<Command<'a>>
+    ensures asked { option_map asked_of result ≡ assemble_at (rows_in matches.now) }
+    ensures limited { IfSome result IsLimited }
+{
+    Some(Command::Assemble {
+        listing: text_at(matches, "listing")?,
+        image: text_at(matches, "image")?,
     })
 }
 

@@ -3,6 +3,8 @@
 //!     build SOURCE IMAGE [--heap N] [--stack N] [--calls N] [--blocks N] [--keys N]
 //!     run IMAGE [--limit N]
 //!     go SOURCE [--heap N] [--stack N] [--calls N] [--blocks N] [--keys N] [--limit N]
+//!     list IMAGE
+//!     asm LISTING IMAGE
 //!
 //! The words are read as `clap` reads them: an option stands before or after the operands, as
 //! `--heap N` or `--heap=N`, at most once, and after `--` each word is an operand. A request for

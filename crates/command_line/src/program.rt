@@ -1,13 +1,14 @@
 //! The command line as `clap` is told of it.
 ghost use Rattle.std.specs.Prelude.{◌≡◌, IfOk, false};
 ghost use Rattle.clap.specs.Words.{app_of, rule_of};
-ghost use Rattle.command_line.specs.Program.{build_words, go_words, operand, option, program, run_words};
+ghost use Rattle.command_line.specs.Program.{assemble_words, build_words, go_words, list_words, operand, option};
+ghost use Rattle.command_line.specs.Program.{program, run_words};
 ghost use Rattle.command_line.specs.Program.{with_budget_options};
 
 use clap::{Arg, Command};
 use std::alloc::{AllocError, Global};
 
-/// The tool with its three commands.
+/// The tool with its five commands.
 #[tactic(auto, unfolding(crate::specs::Program::program))]
 pub fn program<'a>(alloc: Global) -> Result<Command<'a>, AllocError>
     ensures { IfOk result (λ command. app_of command ≡ program) }
@@ -17,7 +18,9 @@ pub fn program<'a>(alloc: Global) -> Result<Command<'a>, AllocError>
         .subcommand_required(true)
         .subcommand(build_words(alloc)?)?
         .subcommand(run_words(alloc)?)?
-        .subcommand(go_words(alloc)?)
+        .subcommand(go_words(alloc)?)?
+        .subcommand(list_words(alloc)?)?
+        .subcommand(assemble_words(alloc)?)
 }
 
 // `build SOURCE IMAGE`, with the budgets.
@@ -45,6 +48,22 @@ fn go_words<'a>(alloc: Global) -> Result<Command<'a>, AllocError>
 {
     let command = Command::new(alloc, "go").arg(operand(alloc, "source"))?;
     with_budget_options(alloc, command)?.arg(option(alloc, "limit"))
+}
+
+// `list IMAGE`.
+fn list_words<'a>(alloc: Global) -> Result<Command<'a>, AllocError>
+    ensures { IfOk result (λ command. app_of command ≡ list_words) }
+{
+    Command::new(alloc, "list").arg(operand(alloc, "image"))
+}
+
+// `asm LISTING IMAGE`.
+fn assemble_words<'a>(alloc: Global) -> Result<Command<'a>, AllocError>
+    ensures { IfOk result (λ command. app_of command ≡ assemble_words) }
+{
+    Command::new(alloc, "asm")
+        .arg(operand(alloc, "listing"))?
+        .arg(operand(alloc, "image"))
 }
 
 // The command with the five options of the budgets.

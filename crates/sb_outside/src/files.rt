@@ -23,7 +23,10 @@ pub trait Files {
     /// The bytes of each name that is there, where the files tell them.
     ghost held: { Self → Option (List ℕ → Option (List ℕ)) };
 
-    /// How many writes were asked for. It stands still at `u64::MAX`, as each count here.
+    /// How many reads were asked for. It stands still at `u64::MAX`, as each count here.
+    ghost reads: { Self → ℕ };
+
+    /// How many writes were asked for.
     ghost writes: { Self → ℕ };
 
     /// How many reads have failed.
@@ -36,6 +39,7 @@ pub trait Files {
     fn read(&mut self, alloc: Global, name: &str, max: u64) -> Result<Vec<u8>, FileFault>
         ensures files { held self.new ≡ held self.old }
         ensures content { Reads (held self.old) name.now max result }
+        ensures asked { reads self.new ≡ next_count (reads self.old) }
         ensures cause { CountsReadFaults (read_faults self.old) (read_faults self.new) result }
         ensures unwritten { writes self.new ≡ writes self.old }
         ensures others { write_faults self.new ≡ write_faults self.old };
@@ -46,5 +50,6 @@ pub trait Files {
         ensures content { Writes (held self.old) (held self.new) name.now bytes.now result }
         ensures counted { writes self.new ≡ next_count (writes self.old) }
         ensures cause { CountsFaults (write_faults self.old) (write_faults self.new) result }
+        ensures unread { reads self.new ≡ reads self.old }
         ensures others { read_faults self.new ≡ read_faults self.old };
 }

@@ -114,20 +114,23 @@ impl<W: Write> Sink for StdSink<W> {
 #[derive(Drop)]
 pub struct HostFiles<'a, R: rt::Files> {
     runtime: &'a R,
+    reads: u64,
     writes: u64,
     read_faults: u64,
     write_faults: u64,
 }
 
 impl<'a, R: rt::Files> HostFiles<'a, R> {
-    /// The files of a system, of which none was written and none failed.
+    /// The files of a system, of which none was read or written and none failed.
     pub fn new(runtime: &'a R) -> Self
+        ensures reads { result.reads ≡ 0 }
         ensures writes { result.writes ≡ 0 }
         ensures read_faults { result.read_faults ≡ 0 }
         ensures write_faults { result.write_faults ≡ 0 }
     {
         HostFiles {
             runtime,
+            reads: 0,
             writes: 0,
             read_faults: 0,
             write_faults: 0,
@@ -138,6 +141,8 @@ impl<'a, R: rt::Files> HostFiles<'a, R> {
 impl<'a, R: rt::Files> Files for HostFiles<'a, R> {
     ghost held = { λ _. None };
 
+    ghost reads = { λ f. f.reads };
+
     ghost writes = { λ f. f.writes };
 
     ghost read_faults = { λ f. f.read_faults };
@@ -146,6 +151,7 @@ impl<'a, R: rt::Files> Files for HostFiles<'a, R> {
 
     /// Of the file as `read_at_most` does.
     fn read(&mut self, alloc: Global, name: &str, max: u64) -> Result<Vec<u8>, FileFault> {
+        self.reads = self.reads.saturating_add(1);
         let result = match fs::open(self.runtime, name) {
             Ok(mut file) => read_at_most(alloc, &mut file, max),
             Err(_) => Err(FileFault::Failed),

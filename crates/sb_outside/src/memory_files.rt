@@ -141,6 +141,8 @@ impl Files for MemFiles {
 
     ghost held = { λ m. Some (held_in (files_of m)) };
 
+    ghost reads = { λ m. next_read m };
+
     ghost writes = { λ m. next_write m };
 
     ghost read_faults = { λ m. read_faults m };
@@ -150,6 +152,7 @@ impl Files for MemFiles {
     fn read(&mut self, alloc: Global, name: &str, max: u64) -> Result<Vec<u8>, FileFault>
         ensures files { Some (held_in (files_of self.new)) ≡ Some (held_in (files_of self.old)) }
         ensures content { Reads (Some (held_in (files_of self.old))) name.now max result }
+        ensures asked { next_read self.new ≡ next_count (next_read self.old) }
         ensures cause { CountsReadFaults (read_faults self.old) (read_faults self.new) result }
         ensures unwritten { next_write self.new ≡ next_write self.old }
         ensures others { write_faults self.new ≡ write_faults self.old }
@@ -157,7 +160,6 @@ impl Files for MemFiles {
         // Just the listed reads fail, and those of a name that is not there.
         ensures fails { IsErrOf result FileFault.Failed ↔
             (Contains (failing_reads self.old) (next_read self.old) ⊎ (held_in (files_of self.old) name.now ≡ None)) }
-        ensures numbered { next_read self.new ≡ next_count (next_read self.old) }
         ensures kept { self.new ≡ record self.old { reads = next_read self.new; read_faults = read_faults self.new } }
     {
         let call = self.reads;
@@ -181,6 +183,7 @@ impl Files for MemFiles {
             (Some (held_in (files_of self.new))) name.now bytes.now result }
         ensures counted { next_write self.new ≡ next_count (next_write self.old) }
         ensures cause { CountsFaults (write_faults self.old) (write_faults self.new) result }
+        ensures unread { next_read self.new ≡ next_read self.old }
         ensures others { read_faults self.new ≡ read_faults self.old }
 
         // Just the listed writes fail, and those of too many bytes or to a name that is not there.
@@ -193,7 +196,6 @@ impl Files for MemFiles {
         ensures room { write_room self.new ≡ write_room self.old }
         ensures listed { failing_writes self.new ≡ failing_writes self.old }
         ensures listed_reads { failing_reads self.new ≡ failing_reads self.old }
-        ensures reads { next_read self.new ≡ next_read self.old }
     {
         let listed = kept_by(&self.write_fails, self.writes);
         self.writes = self.writes.saturating_add(1);

@@ -20,3 +20,15 @@ unfolding command_at
 returns-in-go-clause-asked c = c.go_asked.ensures.asked
     ∙ command_of_name c.args.matches.now c.in_ok-name.matches.now c.in_ok-name.name.now _ c.in_ok-name.ensures.name
     c.in_ok-name.ensures.rows c.in-go.is
+
+pub returns-in-list-clause-asked : goal.returns-in-list-clause-asked
+unfolding command_at
+returns-in-list-clause-asked c = c.list_asked.ensures.asked
+    ∙ command_of_name c.args.matches.now c.in_ok-name.matches.now c.in_ok-name.name.now _ c.in_ok-name.ensures.name
+    c.in_ok-name.ensures.rows c.in-list.is
+
+pub returns-in-asm-clause-asked : goal.returns-in-asm-clause-asked
+unfolding command_at
+returns-in-asm-clause-asked c = c.assemble_asked.ensures.asked
+    ∙ command_of_name c.args.matches.now c.in_ok-name.matches.now c.in_ok-name.name.now _ c.in_ok-name.ensures.name
+    c.in_ok-name.ensures.rows c.in-asm.is

@@ -18,10 +18,16 @@ returns c =
     let build_is = c.in_ok-build_words.ensures in
     let run_is = c.in_ok-run_words.ensures in
     let go_is = c.in_ok-go_words.ensures in
+    let list_is = c.in_ok-list_words.ensures in
+    let assemble_is = c.in_ok-assemble_words.ensures in
     let build = c.in_ok-subcommand.ensures.shape (no_globals _ _ build_is refl)
     ∙ ap₂ with_subcommand top (ap (λ (a : App). a.top) build_is) in
     let run = c.in_ok-subcommand-2.ensures.shape (no_globals _ _ run_is refl)
     ∙ ap₂ with_subcommand build (ap (λ (a : App). a.top) run_is) in
-    IfOk-weaker c.subcommand-3.result _ _
-    (λ r adds. adds.shape (no_globals _ _ go_is refl)
-    ∙ ap₂ with_subcommand run (ap (λ (a : App). a.top) go_is)) c.subcommand-3.ensures
+    let go = c.in_ok-subcommand-3.ensures.shape (no_globals _ _ go_is refl)
+    ∙ ap₂ with_subcommand run (ap (λ (a : App). a.top) go_is) in
+    let listed = c.in_ok-subcommand-4.ensures.shape (no_globals _ _ list_is refl)
+    ∙ ap₂ with_subcommand go (ap (λ (a : App). a.top) list_is) in
+    IfOk-weaker c.subcommand-5.result _ _
+    (λ r adds. adds.shape (no_globals _ _ assemble_is refl)
+    ∙ ap₂ with_subcommand listed (ap (λ (a : App). a.top) assemble_is)) c.subcommand-5.ensures

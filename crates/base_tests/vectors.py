@@ -67,6 +67,13 @@ GOES = [
     ("go a.c --limit=7 --heap=8192", HEAP, 7),
 ]
 
+# Each lists an image, or puts one together from a listing.
+LISTINGS = [
+    ("list a.elf", 'List { image: "a.elf" }'),
+    ("list -- -a.elf", 'List { image: "-a.elf" }'),
+    ("asm a.lst a.elf", 'Assemble { listing: "a.lst", image: "a.elf" }'),
+]
+
 # Each is refused.
 REFUSED = [
     "", "compile a.c", "--help", "-h", "help", "help go", "go --help", "go a.c --help", "--version", "--limit 5 run a.elf",
@@ -76,6 +83,7 @@ REFUSED = [
     "run a.elf --limi 5", "run -a.elf", "run a.elf -- --limit 5", "go", "go a.c --keys 18446744073709551616",
     "go a.c --keys 100000000000000000000", "go a.c --keys 018446744073709551615", "go a.c b.c", "go a.c --heap 4095",
     "go a.c --heap 4097", "go a.c --heap 16781312", "build a.c a.elf --stack 4198400", "build a.c a.elf --calls 16781312",
+    "list", "list a.elf b.elf", "list a.elf --limit 5", "asm", "asm a.lst", "asm a.lst a.elf more", "asm a.lst a.elf --heap 4096",
     "build a.c a.elf --blocks 0", "build a.c a.elf --blocks 65537", "go a.c --keys 4611686018427387905",
 ]
 
@@ -154,6 +162,8 @@ def command_rows():
         yield f"words {words}", ['Ok(Run { image: "%s", limit: %d })' % (image, limit)]
     for words, sizes, limit in GOES:
         yield f"words {words}", ['Ok(Go { source: "a.c", budgets: %s, limit: %d })' % (budgets_shown(sizes), limit)]
+    for words, shown in LISTINGS:
+        yield f"words {words}", [f"Ok({shown})"]
     for words in REFUSED:
         yield f"words {words}", ["Err(Usage)"]
     yield "nothing", ["Err(Usage)"]

@@ -4,6 +4,7 @@ use Rattle.command_line.specs.Asked.{Asked}
 use Rattle.sbcets_core.specs.declared.outcome.Outcome.{Outcome}
 use Rattle.sbcets_core.specs.declared.outcome.Outcome.TheVariants.{Exited, Built, Usage, WriteFault, InputFault, Memory}
 use Rattle.sbcets_core.specs.declared.outcome.Outcome.TheVariants.{Limit, Refused, ImageRefused, Trap}
+use Rattle.sbcets_core.specs.declared.outcome.Outcome.TheVariants.{Done, Running, ListRefused}
 use Rattle.sbcets_core.specs.declared.outcome.Outcome.TheVariants as outcomes
 use Rattle.sbcets_core.specs.Counting.{Counts, CommandCounts}
 use Rattle.sbcets_core.specs.Commands.{Outside}
@@ -22,6 +23,9 @@ in_full command (Limit n) image before after f = f
 in_full command (Refused refusal) image before after f = f
 in_full command (ImageRefused fault) image before after f = f
 in_full command (Trap kind pc) image before after f = f
+in_full command Done image before after f = f
+in_full command (Running n) image before after f = f
+in_full command (ListRefused kind line) image before after f = f
 
 -- the moment after the line, where the error output tells this and has failed so often
 abbrev pub finished : Outside → Counts → Option (List ℕ) → ℕ → Moment

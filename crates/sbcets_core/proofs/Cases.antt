@@ -9,6 +9,7 @@ use Rattle.sbcets_core.specs.declared.outcome.ReadFault.TheVariants as reads
 use Rattle.sbcets_core.specs.declared.outcome.Outcome.{Outcome}
 use Rattle.sbcets_core.specs.declared.outcome.Outcome.TheVariants.{Exited, Built, Usage, WriteFault, InputFault, Memory}
 use Rattle.sbcets_core.specs.declared.outcome.Outcome.TheVariants.{Limit, Refused, ImageRefused, Trap}
+use Rattle.sbcets_core.specs.declared.outcome.Outcome.TheVariants.{Done, Running, ListRefused}
 use Rattle.sbcets_core.specs.declared.outcome.Outcome.TheVariants as outcomes
 use Rattle.sb_base.specs.Budgets.{BudgetSizes}
 use Rattle.image_compiler.specs.declared.compiler.Built.{Built as BuiltImage}
@@ -17,14 +18,14 @@ use Rattle.sbcets_core.specs.Counting.{Counts, CommandCounts, StopCounts}
 use Rattle.sb_outside.specs.Faults.{next_count}
 use Rattle.rv_sim.specs.State.{MachineState}
 use Rattle.rv_sim.specs.Seen.{CountsInput, CountsOutput}
-use Rattle.sbcets_core.specs.Commands.{Outside, DoesNothing, Went, RanFile, Goes, Runs, Builds, IsUnread, IsUnbuilt}
+use Rattle.sbcets_core.specs.Commands.{Outside, OnlyReads, Went, RanFile, Goes, Runs, Builds, IsUnread, IsUnbuilt}
 use Rattle.sbcets_core.specs.Commands.{BuiltInto, IsBuiltOf, ReadCounts, RunsImage, outcome_of, built_line}
 use Rattle.sbcets_core.proofs.Running.{never_traps}
 
 -- a command that got nothing does nothing
 pub unbuilt_goes : (name : List ℕ) (budgets : BudgetSizes) (limit : ℕ) (outcome : Outcome) (image : List ℕ)
     (before after : Outside)
-    → DoesNothing image before after → IsUnbuilt name budgets outcome before.files
+    → OnlyReads image before after → IsUnbuilt name budgets outcome before.files
     → Goes name budgets limit outcome image before after
 unbuilt_goes name budgets limit (outcomes.ReadFault reads.Failed) image before after d u = d
 unbuilt_goes name budgets limit (outcomes.ReadFault (TooLong n most)) image before after d u = (u, d)
@@ -38,10 +39,13 @@ unbuilt_goes name budgets limit InputFault image before after d u = absurd u
 unbuilt_goes name budgets limit (Limit n) image before after d u = absurd u
 unbuilt_goes name budgets limit (ImageRefused fault) image before after d u = absurd u
 unbuilt_goes name budgets limit (Trap kind pc) image before after d u = absurd u
+unbuilt_goes name budgets limit Done image before after d u = absurd u
+unbuilt_goes name budgets limit (Running n) image before after d u = absurd u
+unbuilt_goes name budgets limit (ListRefused kind line) image before after d u = absurd u
 
 pub unbuilt_builds : (name target : List ℕ) (budgets : BudgetSizes) (outcome : Outcome) (image : List ℕ)
     (before after : Outside)
-    → DoesNothing image before after → IsUnbuilt name budgets outcome before.files
+    → OnlyReads image before after → IsUnbuilt name budgets outcome before.files
     → Builds name target budgets outcome image before after
 unbuilt_builds name target budgets (outcomes.ReadFault reads.Failed) image before after d u = d
 unbuilt_builds name target budgets (outcomes.ReadFault (TooLong n most)) image before after d u = (u, d)
@@ -55,19 +59,24 @@ unbuilt_builds name target budgets InputFault image before after d u = absurd u
 unbuilt_builds name target budgets (Limit n) image before after d u = absurd u
 unbuilt_builds name target budgets (ImageRefused fault) image before after d u = absurd u
 unbuilt_builds name target budgets (Trap kind pc) image before after d u = absurd u
+unbuilt_builds name target budgets Done image before after d u = absurd u
+unbuilt_builds name target budgets (Running n) image before after d u = absurd u
+unbuilt_builds name target budgets (ListRefused kind line) image before after d u = absurd u
 
 -- what was built and written by one write
 into : (name target : List ℕ) (budgets : BudgetSizes) (built : BuiltImage) (written : Result (Unit {0}) Failed)
     (before after : Outside) → IsBuiltOf name budgets built before.files
-    → Writes before.files after.files target built.image.items written → after.writes ≡ next_count before.writes
+    → Writes before.files after.files target built.image.items written → after.reads ≡ next_count before.reads
+    → after.writes ≡ next_count before.writes
     → after.streams.input ≡ before.streams.input → after.streams.errors ≡ before.streams.errors
     → BuiltInto name target budgets written [] before after
-into name target budgets built written before after b w once input errors = record {
+into name target budgets built written before after b w asked once input errors = record {
   source = b.source;
   read = b.read;
   built = built;
   is_built = b.is_built;
   writes = w;
+  asked = asked;
   once = once;
   input = input;
   errors = errors;
@@ -77,11 +86,12 @@ into name target budgets built written before after b w once input errors = reco
 pub unwritten_builds : (name target : List ℕ) (budgets : BudgetSizes) (built : BuiltImage) (before after : Outside)
     → IsBuiltOf name budgets built before.files
     → Writes {T = Unit {0}} before.files after.files target built.image.items (Err record {})
-    → after.writes ≡ next_count before.writes → after.streams ≡ before.streams
+    → after.reads ≡ next_count before.reads → after.writes ≡ next_count before.writes
+    → after.streams ≡ before.streams
     → Builds name target budgets WriteFault [] before after
-unwritten_builds name target budgets built before after b w once same =
+unwritten_builds name target budgets built before after b w asked once same =
     inl (record {
-      into = into name target budgets built (Err record {}) before after b w once (ap (λ s. s.input) same)
+      into = into name target budgets built (Err record {}) before after b w asked once (ap (λ s. s.input) same)
           (ap (λ s. s.errors) same);
       output = ap (λ s. s.output) same;
     })
@@ -89,27 +99,29 @@ unwritten_builds name target budgets built before after b w once same =
 pub told_builds : (name target : List ℕ) (budgets : BudgetSizes) (built : BuiltImage) (before after : Outside)
     → IsBuiltOf name budgets built before.files
     → Writes {T = Unit {0}} before.files after.files target built.image.items (Ok tt)
-    → after.writes ≡ next_count before.writes → after.streams.input ≡ before.streams.input
+    → after.reads ≡ next_count before.reads → after.writes ≡ next_count before.writes
+    → after.streams.input ≡ before.streams.input
     → after.streams.errors ≡ before.streams.errors
     → after.streams.output ≡ gained before.streams.output (built_line built.checks 0)
     → Builds name target budgets Built [] before after
 unfolding into
-told_builds name target budgets built before after b w once input errors told =
-    record { into = into name target budgets built (Ok tt) before after b w once input errors; output = told }
+told_builds name target budgets built before after b w asked once input errors told =
+    record { into = into name target budgets built (Ok tt) before after b w asked once input errors; output = told }
 
 pub untold_builds : (name target : List ℕ) (budgets : BudgetSizes) (built : BuiltImage) (before after : Outside)
     → IsBuiltOf name budgets built before.files
     → Writes {T = Unit {0}} before.files after.files target built.image.items (Ok tt)
-    → after.writes ≡ next_count before.writes → after.streams.input ≡ before.streams.input
+    → after.reads ≡ next_count before.reads → after.writes ≡ next_count before.writes
+    → after.streams.input ≡ before.streams.input
     → after.streams.errors ≡ before.streams.errors
     → GainsPart before.streams.output after.streams.output (built_line built.checks 0)
     → Builds name target budgets WriteFault [] before after
 unfolding into
-untold_builds name target budgets built before after b w once input errors part =
-    inr (record { into = into name target budgets built (Ok tt) before after b w once input errors; output = part })
+untold_builds name target budgets built before after b w asked once input errors part =
+    inr (record { into = into name target budgets built (Ok tt) before after b w asked once input errors; output = part })
 
 pub unread_runs : (name : List ℕ) (limit : ℕ) (outcome : Outcome) (image : List ℕ) (before after : Outside)
-    → DoesNothing image before after → IsUnread name max_image_file outcome before.files
+    → OnlyReads image before after → IsUnread name max_image_file outcome before.files
     → Runs name limit outcome image before after
 unread_runs name limit (outcomes.ReadFault reads.Failed) image before after d u = d
 unread_runs name limit (outcomes.ReadFault (TooLong n most)) image before after d u = (u, d)
@@ -123,6 +135,9 @@ unread_runs name limit InputFault image before after d u = absurd u
 unread_runs name limit (Limit n) image before after d u = absurd u
 unread_runs name limit (ImageRefused fault) image before after d u = absurd u
 unread_runs name limit (Trap kind pc) image before after d u = absurd u
+unread_runs name limit Done image before after d u = absurd u
+unread_runs name limit (Running n) image before after d u = absurd u
+unread_runs name limit (ListRefused kind line) image before after d u = absurd u
 
 pub unread_unbuilt : (name : List ℕ) (budgets : BudgetSizes) (outcome : Outcome)
     (held : Option (List ℕ → Option (List ℕ)))
@@ -139,6 +154,9 @@ unread_unbuilt name budgets InputFault held u = absurd u
 unread_unbuilt name budgets (Limit n) held u = absurd u
 unread_unbuilt name budgets (ImageRefused fault) held u = absurd u
 unread_unbuilt name budgets (Trap kind pc) held u = absurd u
+unread_unbuilt name budgets Done held u = absurd u
+unread_unbuilt name budgets (Running n) held u = absurd u
+unread_unbuilt name budgets (ListRefused kind line) held u = absurd u
 
 -- a run, by how it ended
 went_by : (name : List ℕ) (budgets : BudgetSizes) (limit : ℕ) (image : List ℕ) (stop : Stop) (before after : Outside)
@@ -154,8 +172,8 @@ went_by name budgets limit image stops.OutputFault before after w = w
 pub went_goes : (name : List ℕ) (budgets : BudgetSizes) (limit : ℕ) (built : BuiltImage) (stop : Stop)
     (before after : Outside) → IsBuiltOf name budgets built before.files
     → RunsImage built.image.items limit stop before.streams after.streams → after.files ≡ before.files
-    → after.writes ≡ before.writes → Goes name budgets limit (outcome_of stop limit) built.image.items before after
-went_goes name budgets limit built stop before after b r files unwritten =
+    → after.reads ≡ next_count before.reads → after.writes ≡ before.writes → Goes name budgets limit (outcome_of stop limit) built.image.items before after
+went_goes name budgets limit built stop before after b r files asked unwritten =
     went_by name budgets limit built.image.items stop before after
     (record {
       source = b.source;
@@ -165,6 +183,7 @@ went_goes name budgets limit built stop before after b r files unwritten =
       image_is = refl;
       run = r;
       files = files;
+      asked = asked;
       unwritten = unwritten;
     })
 
@@ -194,6 +213,9 @@ unread_counts name max InputFault held before after same u c = absurd u
 unread_counts name max (Limit n) held before after same u c = absurd u
 unread_counts name max (ImageRefused fault) held before after same u c = absurd u
 unread_counts name max (Trap kind pc) held before after same u c = absurd u
+unread_counts name max Done held before after same u c = absurd u
+unread_counts name max (Running n) held before after same u c = absurd u
+unread_counts name max (ListRefused kind line) held before after same u c = absurd u
 
 pub unbuilt_counts : (name : List ℕ) (budgets : BudgetSizes) (outcome : Outcome)
     (held : Option (List ℕ → Option (List ℕ)))
@@ -214,6 +236,9 @@ unbuilt_counts name budgets InputFault held before after same u c = absurd u
 unbuilt_counts name budgets (Limit n) held before after same u c = absurd u
 unbuilt_counts name budgets (ImageRefused fault) held before after same u c = absurd u
 unbuilt_counts name budgets (Trap kind pc) held before after same u c = absurd u
+unbuilt_counts name budgets Done held before after same u c = absurd u
+unbuilt_counts name budgets (Running n) held before after same u c = absurd u
+unbuilt_counts name budgets (ListRefused kind line) held before after same u c = absurd u
 
 -- the counts of a run
 pub stop_counts : (stop : Stop) (state : MachineState) (i i' o o' e e' : ℕ) → CountsInput (Some stop) state i i'

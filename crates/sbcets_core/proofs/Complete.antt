@@ -6,18 +6,20 @@ use Rattle.sbcets_core.specs.declared.outcome.ReadFault.TheVariants as reads
 use Rattle.sbcets_core.specs.declared.outcome.Outcome.{Outcome}
 use Rattle.sbcets_core.specs.declared.outcome.Outcome.TheVariants.{Exited, Built, Usage, WriteFault, InputFault, Memory}
 use Rattle.sbcets_core.specs.declared.outcome.Outcome.TheVariants.{Limit, Refused, ImageRefused, Trap}
+use Rattle.sbcets_core.specs.declared.outcome.Outcome.TheVariants.{Done, Running, ListRefused}
 use Rattle.sbcets_core.specs.declared.outcome.Outcome.TheVariants as outcomes
-use Rattle.command_line.specs.Asked.{Asked, build, run, go}
-use Rattle.sbcets_core.specs.Outcomes.{max_source, max_image_file}
+use Rattle.command_line.specs.Asked.{Asked, build, run, go, list, assemble}
+use Rattle.sbcets_core.specs.Outcomes.{max_source, max_image_file, max_listing}
 use Rattle.sbcets_core.specs.declared.refusal.SourceRefusal.{SourceRefusal}
 use Rattle.elf_image.specs.declared.fault.ImageFault.{ImageFault}
 use Rattle.sbcets_core.specs.Commands.{Outside, IsRead, IsTooLong, RefusesSource, RefusesImage, Goes, Runs, Builds}
+use Rattle.sbcets_core.specs.Listings.{Lists, Assembles, Spells, RefusesListing, SpellsNone}
 use Rattle.sb_base.specs.Budgets.{BudgetSizes}
 use Rattle.image_compiler.specs.declared.error.CompileError.{CompileError}
 use Rattle.image_compiler.specs.declared.error.CompileError.TheVariants as compile
 use Rattle.sbcets_core.specs.Accepted.{Judges, IsOfSize}
 use Rattle.sbcets_core.specs.Top.{Does, IsAcceptedFile, IsReadableFile, IsOfRun, IsOfGo, IsOfBuild, IsComplete}
-use Rattle.sbcets_core.specs.Top.{IsRefusalBySize}
+use Rattle.sbcets_core.specs.Top.{IsRefusalBySize, IsListingFile, IsOfListing}
 use Rattle.sbcets_core.proofs.Judging.{not_both}
 
 -- what is read is what the file of the name holds
@@ -80,6 +82,9 @@ go_ends name budgets limit (Refused refusal) image before after f d = refused_by
 go_ends name budgets limit (ImageRefused fault) image before after f d = absurd d
 go_ends name budgets limit Built image before after f d = absurd d
 go_ends name budgets limit Usage image before after f d = absurd d
+go_ends name budgets limit Done image before after f d = absurd d
+go_ends name budgets limit (Running n) image before after f d = absurd d
+go_ends name budgets limit (ListRefused kind line) image before after f d = absurd d
 
 run_ends : (name : List ℕ) (limit : ℕ) (outcome : Outcome) (image : List ℕ) (before after : Outside)
     → IsReadableFile before.files name → Runs name limit outcome image before after → IsOfRun outcome
@@ -97,6 +102,9 @@ run_ends name limit (ImageRefused fault) image before after f d = absurd
     (not_image_refused before.files name fault f d.0)
 run_ends name limit Built image before after f d = absurd d
 run_ends name limit Usage image before after f d = absurd d
+run_ends name limit Done image before after f d = absurd d
+run_ends name limit (Running n) image before after f d = absurd d
+run_ends name limit (ListRefused kind line) image before after f d = absurd d
 
 build_ends : (name target : List ℕ) (budgets : BudgetSizes) (outcome : Outcome) (image : List ℕ)
     (before after : Outside)
@@ -115,6 +123,79 @@ build_ends name target budgets (Refused refusal) image before after f d =
 build_ends name target budgets (ImageRefused fault) image before after f d = absurd d
 build_ends name target budgets Built image before after f d = tt
 build_ends name target budgets Usage image before after f d = absurd d
+build_ends name target budgets Done image before after f d = absurd d
+build_ends name target budgets (Running n) image before after f d = absurd d
+build_ends name target budgets (ListRefused kind line) image before after f d = absurd d
+
+-- a listing that spells an image is not refused
+spells_some : (text image : List ℕ) (outcome : Outcome) → Spells text image → SpellsNone text outcome
+    → IsOfListing outcome
+spells_some text image (ListRefused kind line) s r = absurd (cc (s.read, r))
+spells_some text image (ImageRefused fault) s r =
+    let read = s.read in
+    let readable = s.readable in
+    let other = r.1.0 in
+    let refused = r.1.1 in
+    absurd (cc (read, readable, other, refused))
+spells_some text image Memory s r = tt
+spells_some text image (outcomes.ReadFault fault) s r = absurd r
+spells_some text image WriteFault s r = absurd r
+spells_some text image Done s r = absurd r
+spells_some text image (Exited code) s r = absurd r
+spells_some text image Built s r = absurd r
+spells_some text image Usage s r = absurd r
+spells_some text image InputFault s r = absurd r
+spells_some text image (Limit n) s r = absurd r
+spells_some text image (Running n) s r = absurd r
+spells_some text image (Refused refusal) s r = absurd r
+spells_some text image (Trap kind pc) s r = absurd r
+
+not_list_refused : (held : Option (List ℕ → Option (List ℕ))) (name : List ℕ) (outcome : Outcome)
+    → IsListingFile held name → RefusesListing name outcome held → IsOfListing outcome
+not_list_refused held name outcome f r =
+    let same = read_is held f.files name f.text r.text max_listing f.told f.there r.read in
+    spells_some f.text f.image outcome f.spells (subst (λ t. SpellsNone t outcome) same r.refused)
+
+list_ends : (name : List ℕ) (outcome : Outcome) (image : List ℕ) (before after : Outside)
+    → IsReadableFile before.files name → Lists name outcome image before after → IsOfListing outcome
+list_ends name Done image before after f d = tt
+list_ends name WriteFault image before after f d = tt
+list_ends name Memory image before after f d = tt
+list_ends name (outcomes.ReadFault reads.Failed) image before after f d = tt
+list_ends name (outcomes.ReadFault (TooLong n most)) image before after f d = absurd
+    (not_too_long before.files f.files name f.image max_image_file n most f.told f.there f.short d.0)
+list_ends name (ImageRefused fault) image before after f d = absurd
+    (not_image_refused before.files name fault f d.0)
+list_ends name (ListRefused kind line) image before after f d = absurd d
+list_ends name (Exited code) image before after f d = absurd d
+list_ends name Built image before after f d = absurd d
+list_ends name Usage image before after f d = absurd d
+list_ends name InputFault image before after f d = absurd d
+list_ends name (Limit n) image before after f d = absurd d
+list_ends name (Running n) image before after f d = absurd d
+list_ends name (Refused refusal) image before after f d = absurd d
+list_ends name (Trap kind pc) image before after f d = absurd d
+
+assemble_ends : (name target : List ℕ) (outcome : Outcome) (image : List ℕ) (before after : Outside)
+    → IsListingFile before.files name → Assembles name target outcome image before after → IsOfListing outcome
+assemble_ends name target Done image before after f d = tt
+assemble_ends name target WriteFault image before after f d = tt
+assemble_ends name target Memory image before after f d = tt
+assemble_ends name target (outcomes.ReadFault reads.Failed) image before after f d = tt
+assemble_ends name target (outcomes.ReadFault (TooLong n most)) image before after f d = absurd
+    (not_too_long before.files f.files name f.text max_listing n most f.told f.there f.short d.0)
+assemble_ends name target (ImageRefused fault) image before after f d =
+    not_list_refused before.files name (ImageRefused fault) f d.0
+assemble_ends name target (ListRefused kind line) image before after f d =
+    not_list_refused before.files name (ListRefused kind line) f d.0
+assemble_ends name target (Exited code) image before after f d = absurd d
+assemble_ends name target Built image before after f d = absurd d
+assemble_ends name target Usage image before after f d = absurd d
+assemble_ends name target InputFault image before after f d = absurd d
+assemble_ends name target (Limit n) image before after f d = absurd d
+assemble_ends name target (Running n) image before after f d = absurd d
+assemble_ends name target (Refused refusal) image before after f d = absurd d
+assemble_ends name target (Trap kind pc) image before after f d = absurd d
 
 pub complete : (command : Option Asked) (outcome : Outcome) (image : List ℕ) (before after : Outside)
     → Does command outcome image before after → IsComplete command outcome before.files
@@ -123,5 +204,8 @@ complete (Some (go name budgets limit)) outcome image before after d = λ f. go_
 complete (Some (run name limit)) outcome image before after d = λ f. run_ends name limit outcome image before after f d
 complete (Some (build name target budgets)) outcome image before after d = λ f. build_ends name target budgets outcome
     image
+    before after f d
+complete (Some (list name)) outcome image before after d = λ f. list_ends name outcome image before after f d
+complete (Some (assemble name target)) outcome image before after d = λ f. assemble_ends name target outcome image
     before after f d
 complete None outcome image before after d = tt

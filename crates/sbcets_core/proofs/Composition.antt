@@ -3,6 +3,7 @@ use Rattle.std.proofs.Common.{◌≡◌, ℕ, List, [], Option, Some, None, Ok, 
 use Rattle.std.specs.Prelude.{IfSome}
 use Rattle.elf_image.specs.Tests.{image_fault}
 use Rattle.sb_outside.specs.Content.{Writes}
+use Rattle.sb_outside.specs.Faults.{next_count}
 use Rattle.rv_sim.specs.declared.stop.Stop.{Stop}
 use Rattle.rv_sim.specs.declared.stop.Stop.TheVariants as stops
 use Rattle.sbcets_core.specs.declared.outcome.ReadFault.TheVariants.{TooLong}
@@ -10,12 +11,13 @@ use Rattle.sbcets_core.specs.declared.outcome.ReadFault.TheVariants as reads
 use Rattle.sbcets_core.specs.declared.outcome.Outcome.{Outcome}
 use Rattle.sbcets_core.specs.declared.outcome.Outcome.TheVariants.{Exited, Built, Usage, WriteFault, InputFault, Memory}
 use Rattle.sbcets_core.specs.declared.outcome.Outcome.TheVariants.{Limit, Refused, ImageRefused, Trap}
+use Rattle.sbcets_core.specs.declared.outcome.Outcome.TheVariants.{Done, Running, ListRefused}
 use Rattle.sbcets_core.specs.declared.outcome.Outcome.TheVariants as outcomes
 use Rattle.sb_base.specs.Budgets.{BudgetSizes}
 use Rattle.image_compiler.specs.declared.compiler.Built.{Built as BuiltImage}
 use Rattle.sbcets_core.specs.Outcomes.{max_source, max_image_file}
 use Rattle.sbcets_core.specs.Accepted.{IsBuiltFrom}
-use Rattle.sbcets_core.specs.Commands.{Outside, Streams, DoesNothing, IsRead, RunsImage, RanFile, Builds, Goes, Runs}
+use Rattle.sbcets_core.specs.Commands.{Outside, Streams, OnlyReads, IsRead, RunsImage, RanFile, Builds, Goes, Runs}
 use Rattle.sbcets_core.specs.Commands.{outcome_of}
 use Rattle.sbcets_core.proofs.Cases.{went_goes}
 use Rattle.sbcets_core.proofs.Complete.{read_is, not_too_long}
@@ -32,6 +34,10 @@ written_is (Some old) (Some new) files name bytes w told = subst (λ h. IfSome h
 abbrev pub beside : Outside → Streams → Outside
 beside before streams = record before { streams = streams }
 
+-- and behind the one read that a command asks for
+abbrev pub beside_read : Outside → Streams → Outside
+beside_read before streams = record before { reads = next_count before.reads; streams = streams }
+
 -- what is known of the files when the run starts
 record WasBuilt (name target : List ℕ) (budgets : BudgetSizes) (before start : Outside) : Type 0 where
   files : List ℕ → Option (List ℕ)
@@ -45,19 +51,19 @@ record WasBuilt (name target : List ℕ) (budgets : BudgetSizes) (before start :
 ran : (name target : List ℕ) (budgets : BudgetSizes) (limit : ℕ) (stop : Stop) (before start after : Outside)
     → WasBuilt name target budgets before start → RanFile target limit stop [] start after
     → (image : List ℕ) × Goes name budgets limit (outcome_of stop limit) image (beside before start.streams)
-    (beside before after.streams)
+    (beside_read before after.streams)
 ran name target budgets limit stop before start after b r =
     let same = read_is start.files b.files target b.built.image.items r.bytes max_image_file b.told b.there r.read in
     let run : RunsImage b.built.image.items limit stop start.streams after.streams = subst
     (λ bytes. RunsImage bytes limit stop start.streams after.streams) same r.run in (
       b.built.image.items,
-      went_goes name budgets limit b.built stop (beside before start.streams) (beside before after.streams)
-          (record { source = b.source; read = b.read; is_built = b.is_built }) run refl refl,
+      went_goes name budgets limit b.built stop (beside before start.streams) (beside_read before after.streams)
+          (record { source = b.source; read = b.read; is_built = b.is_built }) run refl refl refl,
     )
 
-idle : (before start after : Outside) → DoesNothing [] start after
-    → DoesNothing [] (beside before start.streams) (beside before after.streams)
-idle before start after d = record { none = refl; same = ap (λ (o : Outside). beside before o.streams) d.same }
+idle : (before start after : Outside) → OnlyReads [] start after
+    → OnlyReads [] (beside before start.streams) (beside_read before after.streams)
+idle before start after d = record { none = refl; same = ap (λ (o : Outside). beside_read before o.streams) d.same }
 
 readable_is : (name target : List ℕ) (budgets : BudgetSizes) (before start : Outside) (bytes : List ℕ)
     → WasBuilt name target budgets before start
@@ -71,7 +77,7 @@ by_outcome : (name target : List ℕ) (budgets : BudgetSizes) (limit : ℕ) (out
     (before start after : Outside)
     → WasBuilt name target budgets before start → Runs target limit outcome [] start after
     → (image : List ℕ) × Goes name budgets limit outcome image (beside before start.streams)
-    (beside before after.streams)
+    (beside_read before after.streams)
 by_outcome name target budgets limit (Exited code) before start after b r = ran name target budgets limit
     (stops.Exited code) before
     start after b r
@@ -99,13 +105,16 @@ by_outcome name target budgets limit (ImageRefused fault) before start after b r
 by_outcome name target budgets limit (Refused refusal) before start after b r = absurd r
 by_outcome name target budgets limit Built before start after b r = absurd r
 by_outcome name target budgets limit Usage before start after b r = absurd r
+by_outcome name target budgets limit Done before start after b r = absurd r
+by_outcome name target budgets limit (Running n) before start after b r = absurd r
+by_outcome name target budgets limit (ListRefused kind line) before start after b r = absurd r
 
 pub run_of_built : (name target : List ℕ) (budgets : BudgetSizes) (limit : ℕ) (outcome : Outcome)
     (before between start after : Outside)
     (files : List ℕ → Option (List ℕ)) → between.files ≡ Some files → start.files ≡ between.files
     → Builds name target budgets Built [] before between → Runs target limit outcome [] start after
     → (image : List ℕ) × Goes name budgets limit outcome image (record before { streams = start.streams })
-    (record before { streams = after.streams })
+    (record before { reads = next_count before.reads; streams = after.streams })
 run_of_built name target budgets limit outcome before between start after files told same b r =
     let into = b.into in
     by_outcome name target budgets limit outcome before start after

@@ -22,6 +22,7 @@ use Rattle.sbcets_core.specs.declared.outcome.ReadFault.TheVariants as reads
 use Rattle.sbcets_core.specs.declared.outcome.Outcome.{Outcome}
 use Rattle.sbcets_core.specs.declared.outcome.Outcome.TheVariants.{Exited, Built, Usage, WriteFault, InputFault, Memory}
 use Rattle.sbcets_core.specs.declared.outcome.Outcome.TheVariants.{Limit, Refused, ImageRefused, Trap}
+use Rattle.sbcets_core.specs.declared.outcome.Outcome.TheVariants.{Done, Running, ListRefused}
 use Rattle.sbcets_core.specs.declared.outcome.Outcome.TheVariants as outcomes
 use Rattle.sbcets_core.specs.Outcomes.{max_source, max_image_file}
 use Rattle.sbcets_core.specs.Accepted.{Refuses, IsBuiltFrom}
@@ -36,15 +37,18 @@ pub record Streams : Type 0 where
   pub output : Option (List ℕ)
   pub errors : Option (List ℕ)
 
--- all that is outside: what the files hold, how many writes of files were asked for, and what the streams tell
+-- all that is outside: what the files hold, how many reads and writes of files were asked for, and what the streams
+-- tell
 pub record Outside : Type 0 where
   pub files : Option (List ℕ → Option (List ℕ))
+  pub reads : ℕ
   pub writes : ℕ
   pub streams : Streams
 
-abbrev pub outside_of : Held → ℕ → Rest → (output errors : Option (List ℕ)) → Outside
-outside_of files writes input output errors = record {
+abbrev pub outside_of : Held → (reads writes : ℕ) → Rest → (output errors : Option (List ℕ)) → Outside
+outside_of files reads writes input output errors = record {
   files = files;
+  reads = reads;
   writes = writes;
   streams = record { input = input; output = output; errors = errors };
 }
@@ -58,6 +62,11 @@ pub record IsRead (held : Option (List ℕ → Option (List ℕ))) (name : List 
 pub record DoesNothing (image : List ℕ) (before after : Outside) : Type 0 where
   pub none : image ≡ []
   pub same : after ≡ before
+
+-- nothing was built to be handed back, and nothing outside changed but that a read of a file was asked for
+pub record OnlyReads (image : List ℕ) (before after : Outside) : Type 0 where
+  pub none : image ≡ []
+  pub same : after ≡ record before { reads = next_count before.reads }
 
 -- The run of the image at the limit ended so, and left the streams so. That holds of each list of input that begins
 -- with the
@@ -87,6 +96,7 @@ pub record Went (name : List ℕ) (budgets : BudgetSizes) (limit : ℕ) (image :
   pub image_is : image ≡ built.image.items
   pub run : RunsImage built.image.items limit stop before.streams after.streams
   pub files : after.files ≡ before.files
+  pub asked : after.reads ≡ next_count before.reads
   pub unwritten : after.writes ≡ before.writes
 
 -- a source was read and refused
@@ -105,12 +115,15 @@ Goes name budgets limit WriteFault image before after = Went name budgets limit 
 Goes name budgets limit InputFault image before after = Went name budgets limit image stops.InputFault before after
 Goes name budgets limit (Trap kind pc) image before after = ⊥
 Goes name budgets limit (Refused refusal) image before after =
-    RefusesSource name budgets refusal before.files × DoesNothing image before after
-Goes name budgets limit (outcomes.ReadFault reads.Failed) image before after = DoesNothing image before after
+    RefusesSource name budgets refusal before.files × OnlyReads image before after
+Goes name budgets limit (outcomes.ReadFault reads.Failed) image before after = OnlyReads image before after
 Goes name budgets limit (outcomes.ReadFault (TooLong n most)) image before after =
-    IsTooLong name max_source n most before.files × DoesNothing image before after
-Goes name budgets limit Memory image before after = DoesNothing image before after
+    IsTooLong name max_source n most before.files × OnlyReads image before after
+Goes name budgets limit Memory image before after = OnlyReads image before after
 Goes name budgets limit Usage image before after = ⊥
+Goes name budgets limit Done image before after = ⊥
+Goes name budgets limit (Running n) image before after = ⊥
+Goes name budgets limit (ListRefused kind line) image before after = ⊥
 Goes name budgets limit Built image before after = ⊥
 Goes name budgets limit (ImageRefused fault) image before after = ⊥
 
@@ -120,6 +133,7 @@ pub record RanFile (name : List ℕ) (limit : ℕ) (stop : Stop) (image : List �
   pub read : IsRead before.files name max_image_file bytes
   pub run : RunsImage bytes limit stop before.streams after.streams
   pub files : after.files ≡ before.files
+  pub asked : after.reads ≡ next_count before.reads
   pub unwritten : after.writes ≡ before.writes
   pub none : image ≡ []
 
@@ -136,12 +150,15 @@ Runs name limit WriteFault image before after = RanFile name limit stops.OutputF
 Runs name limit InputFault image before after = RanFile name limit stops.InputFault image before after
 Runs name limit (Trap kind pc) image before after = RanFile name limit (stops.Trap kind pc) image before after
 Runs name limit (ImageRefused fault) image before after = RefusesImage name fault before.files
-    × DoesNothing image before after
-Runs name limit (outcomes.ReadFault reads.Failed) image before after = DoesNothing image before after
+    × OnlyReads image before after
+Runs name limit (outcomes.ReadFault reads.Failed) image before after = OnlyReads image before after
 Runs name limit (outcomes.ReadFault (TooLong n most)) image before after = IsTooLong name max_image_file n most
-    before.files × DoesNothing image before after
-Runs name limit Memory image before after = DoesNothing image before after
+    before.files × OnlyReads image before after
+Runs name limit Memory image before after = OnlyReads image before after
 Runs name limit Usage image before after = ⊥
+Runs name limit Done image before after = ⊥
+Runs name limit (Running n) image before after = ⊥
+Runs name limit (ListRefused kind line) image before after = ⊥
 Runs name limit Built image before after = ⊥
 Runs name limit (Refused refusal) image before after = ⊥
 
@@ -158,6 +175,7 @@ pub record BuiltInto (name target : List ℕ) (budgets : BudgetSizes) (written :
   pub built : BuiltImage
   pub is_built : IsBuiltFrom source budgets built
   pub writes : Writes before.files after.files target built.image.items written
+  pub asked : after.reads ≡ next_count before.reads
   pub once : after.writes ≡ next_count before.writes
   pub input : after.streams.input ≡ before.streams.input
   pub errors : after.streams.errors ≡ before.streams.errors
@@ -187,12 +205,15 @@ Builds name target budgets Built image before after = IsBuiltAndTold name target
 Builds name target budgets WriteFault image before after =
     FileFails name target budgets image before after ⊎ LineFails name target budgets image before after
 Builds name target budgets (Refused refusal) image before after =
-    RefusesSource name budgets refusal before.files × DoesNothing image before after
-Builds name target budgets (outcomes.ReadFault reads.Failed) image before after = DoesNothing image before after
+    RefusesSource name budgets refusal before.files × OnlyReads image before after
+Builds name target budgets (outcomes.ReadFault reads.Failed) image before after = OnlyReads image before after
 Builds name target budgets (outcomes.ReadFault (TooLong n most)) image before after =
-    IsTooLong name max_source n most before.files × DoesNothing image before after
-Builds name target budgets Memory image before after = DoesNothing image before after
+    IsTooLong name max_source n most before.files × OnlyReads image before after
+Builds name target budgets Memory image before after = OnlyReads image before after
 Builds name target budgets Usage image before after = ⊥
+Builds name target budgets Done image before after = ⊥
+Builds name target budgets (Running n) image before after = ⊥
+Builds name target budgets (ListRefused kind line) image before after = ⊥
 Builds name target budgets (Exited code) image before after = ⊥
 Builds name target budgets (Limit n) image before after = ⊥
 Builds name target budgets InputFault image before after = ⊥

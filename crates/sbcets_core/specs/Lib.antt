@@ -3,6 +3,7 @@ pub mod Commanded
 pub mod Commands
 pub mod Counting
 pub mod Hexadecimal
+pub mod Listings
 pub mod Meant
 pub mod Outcomes
 pub mod Programs

@@ -4,6 +4,7 @@ use Rattle.std.specs.Prelude.{decimal}
 use Rattle.std.specs.List.{prefix_len}
 use Rattle.c_pre.specs.Faults.{number_of}
 use Rattle.elf_image.specs.Tests.{fault_number}
+use Rattle.rv_listing.specs.Fields.{fault_number as list_fault_number}
 use Rattle.rv_sim.specs.declared.trap.TrapKind.{TrapKind}
 use Rattle.rv_sim.specs.declared.trap.TrapKind.TheVariants.{Illegal, Access, Jump, Break, Call}
 use Rattle.sbcets_core.specs.declared.refusal.Counted.{Counted}
@@ -18,21 +19,25 @@ use Rattle.sbcets_core.specs.declared.outcome.ReadFault.TheVariants.{Failed, Too
 use Rattle.sbcets_core.specs.declared.outcome.Outcome.{Outcome}
 use Rattle.sbcets_core.specs.declared.outcome.Outcome.TheVariants.{Exited, Built, Usage, WriteFault, InputFault, Memory}
 use Rattle.sbcets_core.specs.declared.outcome.Outcome.TheVariants.{Limit, Refused, ImageRefused, Trap}
+use Rattle.sbcets_core.specs.declared.outcome.Outcome.TheVariants.{Done, Running, ListRefused}
 use Rattle.sbcets_core.specs.declared.outcome.Outcome.TheVariants as outcomes
 use Rattle.sbcets_core.specs.Rules.{rule_number}
 
 abbrev pub status_of : Outcome → ℕ
 status_of (Exited code) = code
 status_of Built = 0
+status_of Done = 0
 status_of Usage = 101
 status_of (outcomes.ReadFault fault) = 102
 status_of WriteFault = 103
 status_of InputFault = 104
 status_of Memory = 105
 status_of (Limit n) = 106
+status_of (Running n) = 107
 status_of (Refused refusal) = 110
 status_of (ImageRefused fault) = 111
 status_of (Trap kind pc) = 112
+status_of (ListRefused kind line) = 113
 
 -- the largest source that is read, in bytes
 abbrev pub max_source : ℕ
@@ -41,6 +46,10 @@ max_source = 1048576
 -- the largest image that is read, in bytes
 abbrev pub max_image_file : ℕ
 max_image_file = 67108864
+
+-- the largest listing that is read, in bytes
+abbrev pub max_listing : ℕ
+max_listing = 1073741824
 
 -- A number in lower-case hexadecimal: its sixteen digits without the zeros in front, the last digit apart.
 abbrev pub hexadecimal_digit : ℕ → ℕ
@@ -109,10 +118,11 @@ refusal_line NumbersTooLarge = plain_line (codes "numbers of the code are too la
 refusal_line (FunctionTooLong number) = numbered_line (codes "function ") number (codes " is too long")
 refusal_line refusals.Memory = plain_line (codes "out of memory")
 
--- all but a program's own end, a build and a fault of writing have a line of the tool
+-- all but a program's own end, what was done in full and a fault of writing have a line of the tool
 abbrev pub HasLine : Outcome → Type 0
 HasLine (Exited code) = ⊥
 HasLine Built = ⊥
+HasLine Done = ⊥
 HasLine WriteFault = ⊥
 HasLine outcome = Unit {0}
 
@@ -120,6 +130,7 @@ HasLine outcome = Unit {0}
 abbrev pub tool_line : Outcome → List ℕ
 tool_line (Exited code) = []
 tool_line Built = []
+tool_line Done = []
 tool_line WriteFault = []
 tool_line Usage = plain_line (codes "usage")
 tool_line (outcomes.ReadFault Failed) = plain_line (codes "cannot read")
@@ -127,6 +138,9 @@ tool_line (outcomes.ReadFault (TooLong n max)) = numbered_line (codes "file of m
 tool_line InputFault = plain_line (codes "cannot read input")
 tool_line Memory = plain_line (codes "out of memory")
 tool_line (Limit n) = numbered_line (codes "limit of ") n (codes " instructions")
+tool_line (Running n) = numbered_line (codes "still running after ") n (codes " turns")
 tool_line (Refused refusal) = refusal_line refusal
 tool_line (ImageRefused fault) = numbered_line (codes "image fault ") (fault_number fault) []
+tool_line (ListRefused kind line) = line_of (codes "listing fault ") (decimal (list_fault_number kind))
+    (codes " at line ") (decimal line)
 tool_line (Trap kind pc) = line_of (codes "trap ") (trap_name kind) (codes " at 0x") (hexadecimal pc)

@@ -12,12 +12,14 @@ use Rattle.sbcets_core.specs.declared.outcome.ReadFault.TheVariants as reads
 use Rattle.sbcets_core.specs.declared.outcome.Outcome.{Outcome}
 use Rattle.sbcets_core.specs.declared.outcome.Outcome.TheVariants.{Exited, Built, Usage, WriteFault, InputFault, Memory}
 use Rattle.sbcets_core.specs.declared.outcome.Outcome.TheVariants.{Limit, Refused, ImageRefused, Trap}
+use Rattle.sbcets_core.specs.declared.outcome.Outcome.TheVariants.{Done, Running, ListRefused}
 use Rattle.sbcets_core.specs.declared.outcome.Outcome.TheVariants as outcomes
-use Rattle.sbcets_core.specs.Outcomes.{max_source, max_image_file, HasLine, tool_line}
+use Rattle.sbcets_core.specs.Outcomes.{max_source, max_image_file, max_listing, HasLine, tool_line}
 use Rattle.sbcets_core.specs.Accepted.{Judges}
-use Rattle.command_line.specs.Asked.{Asked, build, run, go}
+use Rattle.command_line.specs.Asked.{Asked, build, run, go, list, assemble}
 use Rattle.sbcets_core.specs.Counting.{Counts, CommandCounts}
 use Rattle.sbcets_core.specs.Commands.{Held, Outside, DoesNothing, Goes, Runs, Builds}
+use Rattle.sbcets_core.specs.Listings.{Lists, Assembles, Spells}
 
 -- What the command comes to, its tool line apart. Words that are no command are Usage, and no others; want of memory
 -- may
@@ -27,6 +29,8 @@ Does (Some (go name budgets limit)) outcome image before after = Goes name budge
 Does (Some (run name limit)) outcome image before after = Runs name limit outcome image before after
 Does (Some (build name target budgets)) outcome image before after =
     Builds name target budgets outcome image before after
+Does (Some (list name)) outcome image before after = Lists name outcome image before after
+Does (Some (assemble name target)) outcome image before after = Assembles name target outcome image before after
 Does None outcome image before after = ((outcome ≡ Usage) ⊎ (outcome ≡ Memory)) × DoesNothing image before after
 
 -- all that is outside, with the counts of faults
@@ -109,6 +113,14 @@ IsOfBuild WriteFault = Unit {0}
 IsOfBuild (outcomes.ReadFault reads.Failed) = Unit {0}
 IsOfBuild outcome = ⊥
 
+-- what listing an image can come to, and putting one together
+abbrev pub IsOfListing : Outcome → Type 0
+IsOfListing Done = Unit {0}
+IsOfListing Memory = Unit {0}
+IsOfListing WriteFault = Unit {0}
+IsOfListing (outcomes.ReadFault reads.Failed) = Unit {0}
+IsOfListing outcome = ⊥
+
 -- a file that is told, is there, not too long, and an accepted source
 pub record IsAcceptedFile (held : Option (List ℕ → Option (List ℕ))) (name : List ℕ) : Type 0 where
   pub files : List ℕ → Option (List ℕ)
@@ -128,9 +140,21 @@ pub record IsReadableFile (held : Option (List ℕ → Option (List ℕ))) (name
   pub short : length image ≤ max_image_file
   pub readable : image_fault image ≡ None
 
+-- a file that is told, is there, not too long, and the listing of a readable image
+pub record IsListingFile (held : Option (List ℕ → Option (List ℕ))) (name : List ℕ) : Type 0 where
+  pub files : List ℕ → Option (List ℕ)
+  pub told : held ≡ Some files
+  pub text : List ℕ
+  pub there : files name ≡ Some text
+  pub short : length text ≤ max_listing
+  pub image : List ℕ
+  pub spells : Spells text image
+
 -- THE ANSWER IS COMPLETE: nothing but a fault, want of memory or a refusal by size keeps a command from its end
 abbrev pub IsComplete : Option Asked → Outcome → Held → Type 0
 IsComplete (Some (go name budgets limit)) outcome held = IsAcceptedFile held name → IsOfGo outcome
 IsComplete (Some (run name limit)) outcome held = IsReadableFile held name → IsOfRun outcome
 IsComplete (Some (build name target budgets)) outcome held = IsAcceptedFile held name → IsOfBuild outcome
+IsComplete (Some (list name)) outcome held = IsReadableFile held name → IsOfListing outcome
+IsComplete (Some (assemble name target)) outcome held = IsListingFile held name → IsOfListing outcome
 IsComplete None outcome held = Unit {0}

@@ -2,7 +2,7 @@
 ghost use Rattle.std.specs.Prelude.{◌≡◌, ◌≤◌, ◌++◌, [], None, Some, length, decimal, IfOk, IfErr, OnErr, OnOk, ℕ, List};
 ghost use Rattle.std.specs.Prelude.{Option};
 ghost use Rattle.sb_outside.specs.Content.{gained, GainsPart};
-ghost use Rattle.sb_outside.specs.Faults.{CountsFaults};
+ghost use Rattle.sb_outside.specs.Faults.{CountsFaults, next_count};
 ghost use Rattle.elf_image.specs.Tests.{Fails, image_fault};
 ghost use Rattle.sb_outside.specs.Rest.{Rest};
 ghost use Rattle.sbcets_core.specs.Commands.{Outside, outside_of, Goes, Runs, Builds, IsRead, IsUnread, IsUnbuilt};
@@ -22,7 +22,7 @@ use sb_outside::{Failed, FileFault, Files, Sink, Source};
 use std::alloc::Global;
 
 // The largest image that is read, in bytes.
-const MAX_IMAGE: u64 = 67_108_864;
+pub(crate) const MAX_IMAGE: u64 = 67_108_864;
 
 /// What a source that is compiled and run may use.
 #[derive(Clone, Copy)]
@@ -45,9 +45,9 @@ pub fn go<F: Files, I: Source, O: Sink, E: Sink>(
     errors: &mut E,
 ) -> (Outcome, Vec<u8>)
     ensures goes { Goes name.now limits.now.budgets limits.now.instructions result.0 result.1.items
-        (outside_of (F.held files.old) (F.writes files.old) (I.rest input.old)
+        (outside_of (F.held files.old) (F.reads files.old) (F.writes files.old) (I.rest input.old)
         (O.taken output.old) (E.taken errors.old))
-        (outside_of (F.held files.new) (F.writes files.new) (I.rest input.new)
+        (outside_of (F.held files.new) (F.reads files.new) (F.writes files.new) (I.rest input.new)
         (O.taken output.new) (E.taken errors.new)) }
     ensures counts { CommandCounts result.0
         (counts_of (F.read_faults files.old) (F.write_faults files.old) (I.faults input.old)
@@ -79,9 +79,9 @@ pub fn run<F: Files, I: Source, O: Sink, E: Sink>(
     errors: &mut E,
 ) -> Outcome
     ensures runs { Runs name.now limit result []
-        (outside_of (F.held files.old) (F.writes files.old) (I.rest input.old)
+        (outside_of (F.held files.old) (F.reads files.old) (F.writes files.old) (I.rest input.old)
         (O.taken output.old) (E.taken errors.old))
-        (outside_of (F.held files.new) (F.writes files.new) (I.rest input.new)
+        (outside_of (F.held files.new) (F.reads files.new) (F.writes files.new) (I.rest input.new)
         (O.taken output.new) (E.taken errors.new)) }
     ensures counts { CommandCounts result
         (counts_of (F.read_faults files.old) (F.write_faults files.old) (I.faults input.old)
@@ -112,8 +112,8 @@ pub fn build<F: Files, O: Sink>(
     output: &mut O,
 ) -> Outcome
     ensures builds { (input : Rest) (errors : Option (List ℕ)) → Builds name.now target.now budgets result []
-        (outside_of (F.held files.old) (F.writes files.old) input (O.taken output.old) errors)
-        (outside_of (F.held files.new) (F.writes files.new) input (O.taken output.new) errors) }
+        (outside_of (F.held files.old) (F.reads files.old) (F.writes files.old) input (O.taken output.old) errors)
+        (outside_of (F.held files.new) (F.reads files.new) (F.writes files.new) input (O.taken output.new) errors) }
     ensures counts { (input errors : ℕ) → CommandCounts result
         (counts_of (F.read_faults files.old) (F.write_faults files.old) input (O.faults output.old) errors)
         (counts_of (F.read_faults files.new) (F.write_faults files.new) input (O.faults output.new) errors) }
@@ -132,13 +132,14 @@ pub fn build<F: Files, O: Sink>(
 }
 
 // All the bytes of a file of at most `max`, or the outcome without them.
-fn read_of<F: Files>(alloc: Global, name: &str, max: u64, files: &mut F) -> Result<Vec<u8>, Outcome>
+pub(crate) fn read_of<F: Files>(alloc: Global, name: &str, max: u64, files: &mut F) -> Result<Vec<u8>, Outcome>
     ensures read { IfOk result (λ bytes. IsRead (F.held files.old) name.now max bytes.items) }
     ensures unread { IfErr result (λ outcome. IsUnread name.now max outcome (F.held files.old)) }
     ensures files { F.held files.new ≡ F.held files.old }
     ensures ok_counts { OnOk result (F.read_faults files.new ≡ F.read_faults files.old) }
     ensures err_counts { IfErr result
         (λ outcome. ReadCounts outcome (F.read_faults files.old) (F.read_faults files.new)) }
+    ensures asked { F.reads files.new ≡ next_count (F.reads files.old) }
     ensures writes { F.write_faults files.new ≡ F.write_faults files.old }
     ensures unwritten { F.writes files.new ≡ F.writes files.old }
 {
@@ -164,6 +165,7 @@ fn built_of<F: Files>(
     ensures ok_counts { OnOk result (F.read_faults files.new ≡ F.read_faults files.old) }
     ensures err_counts { IfErr result
         (λ outcome. ReadCounts outcome (F.read_faults files.old) (F.read_faults files.new)) }
+    ensures asked { F.reads files.new ≡ next_count (F.reads files.old) }
     ensures writes { F.write_faults files.new ≡ F.write_faults files.old }
     ensures unwritten { F.writes files.new ≡ F.writes files.old }
 {

@@ -3,6 +3,7 @@
 ghost use Rattle.sbcets_core.specs.Hexadecimal.{spelled_number};
 ghost use Rattle.sbcets_core.specs.Outcomes.{hexadecimal};
 ghost use Rattle.std.specs.Prelude.{◌≡◌, ◌<◌, ◌^◌, ℕ, List, [], Option, Some, Ok, Err};
+ghost use Rattle.sb_outside.specs.Faults.{next_count};
 ghost use Rattle.sb_outside.specs.Rest.{ForEveryInput};
 ghost use Rattle.sbcets_core.specs.declared.outcome.Outcome.{Outcome};
 ghost use Rattle.sbcets_core.specs.declared.outcome.Outcome.TheVariants.{Built};
@@ -26,7 +27,8 @@ pub fn run_of_what_was_built()
         → start.files ≡ between.files
         → Builds name target budgets Built [] before between → Runs target limit outcome [] start after →
         (image : List ℕ) × Goes name budgets limit outcome image
-        (record before { streams = start.streams }) (record before { streams = after.streams }) }
+        (record before { streams = start.streams })
+        (record before { reads = next_count before.reads; streams = after.streams }) }
 {}
 
 /// Where the image of a source ran to its exit, the source ends with the same status within as many

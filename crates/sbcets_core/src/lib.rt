@@ -7,6 +7,7 @@
 mod commands;
 mod compiler;
 pub mod laws;
+mod listings;
 mod outcome;
 mod refusal;
 mod report;

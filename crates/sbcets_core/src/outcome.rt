@@ -4,6 +4,7 @@ ghost use Rattle.sbcets_core.specs.Outcomes.{status_of};
 
 use crate::refusal::SourceRefusal;
 use elf_image::ImageFault;
+use rv_listing::ListFault;
 use rv_sim::TrapKind;
 
 /// Why a file was not read.
@@ -23,6 +24,8 @@ pub enum Outcome {
     Exited(u8),
     /// The image was written, and the line about it.
     Built,
+    /// The listing was put to the output, or the image that a listing spells was written.
+    Done,
     /// The words are no command.
     Usage,
     /// The source or the image was not read.
@@ -35,10 +38,15 @@ pub enum Outcome {
     Memory,
     /// The run had not ended after so many instructions.
     Limit(u64),
+    /// What a source means had not ended after so many turns: each entry into a loop's body is one, and each call of a
+    /// function of the source.
+    Running(u64),
     /// The source was refused.
     Refused(SourceRefusal),
     /// The image was refused: the first of its tests that fails.
     ImageRefused(ImageFault),
+    /// The listing was refused: the first line at fault, counted from 1, and the lowest fault that it has.
+    ListRefused { kind: ListFault, line: u64 },
     /// The run met a trap of the machine at this pc. An image that was built here never does.
     Trap { kind: TrapKind, pc: u64 },
 }
@@ -50,16 +58,18 @@ impl Outcome {
     {
         match self {
             Outcome::Exited(code) => *code,
-            Outcome::Built => 0,
+            Outcome::Built | Outcome::Done => 0,
             Outcome::Usage => 101,
             Outcome::ReadFault(_) => 102,
             Outcome::WriteFault => 103,
             Outcome::InputFault => 104,
             Outcome::Memory => 105,
             Outcome::Limit(_) => 106,
+            Outcome::Running(_) => 107,
             Outcome::Refused(_) => 110,
             Outcome::ImageRefused(_) => 111,
             Outcome::Trap { .. } => 112,
+            Outcome::ListRefused { .. } => 113,
         }
     }
 }

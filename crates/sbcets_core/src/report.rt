@@ -14,6 +14,7 @@ use crate::refusal::{Counted, SourceRefusal};
 use c_faults::{Fault, Rule};
 use c_pre::PreFault;
 use itoa::Buffer;
+use rv_listing::ListFault;
 use rv_sim::TrapKind;
 use sb_base::Line;
 use sb_outside::{Failed, Sink};
@@ -26,7 +27,7 @@ pub fn report<S: Sink>(sink: &mut S, outcome: &Outcome) -> Result<(), Failed>
     ensures cause { CountsFaults (S.faults sink.old) (S.faults sink.new) result }
 {
     match outcome {
-        Outcome::Exited(_) | Outcome::Built | Outcome::WriteFault => Ok(()),
+        Outcome::Exited(_) | Outcome::Built | Outcome::Done | Outcome::WriteFault => Ok(()),
         Outcome::Usage => put_plain(sink, b"usage"),
         Outcome::ReadFault(ReadFault::Failed) => put_plain(sink, b"cannot read"),
         Outcome::ReadFault(ReadFault::TooLong { max, .. }) => {
@@ -39,8 +40,23 @@ pub fn report<S: Sink>(sink: &mut S, outcome: &Outcome) -> Result<(), Failed>
         Outcome::ImageRefused(fault) => {
             put_numbered(sink, b"image fault ", u128::from(fault.number()), b"")
         }
+        Outcome::Running(n) => put_numbered(sink, b"still running after ", u128::from(*n), b" turns"),
+        Outcome::ListRefused { kind, line } => report_listing(sink, *kind, *line),
         Outcome::Trap { kind, pc } => report_trap(sink, *kind, *pc),
     }
+}
+
+fn report_listing<S: Sink>(sink: &mut S, kind: ListFault, line: u64) -> Result<(), Failed>
+    ensures ok { OnOk result (S.taken sink.new ≡ gained (S.taken sink.old) (tool_line (Outcome.ListRefused kind line))) }
+    ensures err { OnErr result
+        (GainsPart (S.taken sink.old) (S.taken sink.new) (tool_line (Outcome.ListRefused kind line))) }
+    ensures cause { CountsFaults (S.faults sink.old) (S.faults sink.new) result }
+{
+    let mut number = Buffer::new();
+    let mut digits = Buffer::new();
+    let number = number.format(kind.number()).as_bytes();
+    let line = digits.format(line).as_bytes();
+    put_line(sink, b"listing fault ", number, b" at line ", line)
 }
 
 fn report_refusal<S: Sink>(sink: &mut S, refusal: &SourceRefusal) -> Result<(), Failed>

@@ -7,6 +7,7 @@ ghost use Rattle.sbcets_core.specs.Counting.{CommandCounts, counts_of};
 ghost use Rattle.sbcets_core.specs.Top.{Answers, Does, Finishes, IsComplete};
 
 use crate::commands::{Limits, build, go, run};
+use crate::listings::{assemble, list};
 use crate::outcome::Outcome;
 use crate::report::report;
 use command_line::{Command, WordsFault, command_of};
@@ -15,12 +16,13 @@ use std::alloc::Global;
 
 /// Does all that the program does. `words` are those after the program's name: `build SRC IMAGE`
 /// compiles the file SRC with some budgets and leaves the image in the file IMAGE; `run IMAGE` runs an image; `go SRC`
-/// compiles and runs. The bytes that are returned are the image that `go` built and ran, else there
-/// are none.
+/// compiles and runs; `list IMAGE` puts the listing of an image to the output, and `asm LISTING IMAGE` writes the image
+/// that a listing spells. The bytes that are returned are the image that `go` built and ran, else there
+/// are none. Each command asks for one read of a file, and `build` and `asm` for one write behind it.
 ///
 /// Usage comes exactly for words that are no command or whose budgets are out of range; then ReadFault
-/// where the file is not read or too long; then Refused or ImageRefused, exactly where the source or the
-/// image is; then WriteFault where IMAGE is not written. A run ends with Exited, Limit or Trap as the
+/// where the file is not read or too long; then Refused, ListRefused or ImageRefused, exactly where the source, the
+/// listing or the image is; then WriteFault where IMAGE is not written. A run ends with Exited, Limit or Trap as the
 /// machine does, or with InputFault or WriteFault where a stream fails; `go` never with Trap. A fault of the outside
 /// comes only
 /// where its count rose, and want of memory may come before anything is written or run.
@@ -36,20 +38,20 @@ pub fn sbcets<F: Files, I: Source, O: Sink, E: Sink>(
     // What was done, and then the line of its outcome, or a part of the line; and which counts of faults rose.
     ensures answer { Answers (commanded words.now) result.0 result.1.items
         (record {
-          outside = outside_of (F.held files.old) (F.writes files.old) (I.rest input.old)
+          outside = outside_of (F.held files.old) (F.reads files.old) (F.writes files.old) (I.rest input.old)
               (O.taken output.old) (E.taken errors.old);
           counts = counts_of (F.read_faults files.old) (F.write_faults files.old) (I.faults input.old)
               (O.faults output.old) (E.faults errors.old);
         })
         (record {
-          outside = outside_of (F.held files.new) (F.writes files.new) (I.rest input.new)
+          outside = outside_of (F.held files.new) (F.reads files.new) (F.writes files.new) (I.rest input.new)
               (O.taken output.new) (E.taken errors.new);
           counts = counts_of (F.read_faults files.new) (F.write_faults files.new) (I.faults input.new)
               (O.faults output.new) (E.faults errors.new);
         }) }
 
-    // An accepted source is built and runs, unless it is too large to be built, and a readable image runs, where
-    // nothing fails and memory is there.
+    // An accepted source is built and runs, unless it is too large to be built, a readable image runs and is listed, and
+    // a listing of one is assembled, where nothing fails and memory is there.
     ensures complete { IsComplete (commanded words.now) result.0 (F.held files.old) }
 {
     let (outcome, image) = do_command(alloc, words, files, input, output, errors);
@@ -79,9 +81,9 @@ fn do_command<F: Files, I: Source, O: Sink, E: Sink>(
     errors: &mut E,
 ) -> (Outcome, Vec<u8>)
     ensures does { Does (commanded words.now) result.0 result.1.items
-        (outside_of (F.held files.old) (F.writes files.old) (I.rest input.old)
+        (outside_of (F.held files.old) (F.reads files.old) (F.writes files.old) (I.rest input.old)
         (O.taken output.old) (E.taken errors.old))
-        (outside_of (F.held files.new) (F.writes files.new) (I.rest input.new)
+        (outside_of (F.held files.new) (F.reads files.new) (F.writes files.new) (I.rest input.new)
         (O.taken output.new) (E.taken errors.new)) }
     ensures counts { CommandCounts result.0
         (counts_of (F.read_faults files.old) (F.write_faults files.old) (I.faults input.old)
@@ -106,9 +108,9 @@ fn obey<F: Files, I: Source, O: Sink, E: Sink>(
     errors: &mut E,
 ) -> (Outcome, Vec<u8>)
     ensures does { Does (Some (asked_of command.entry)) result.0 result.1.items
-        (outside_of (F.held files.old) (F.writes files.old) (I.rest input.old)
+        (outside_of (F.held files.old) (F.reads files.old) (F.writes files.old) (I.rest input.old)
         (O.taken output.old) (E.taken errors.old))
-        (outside_of (F.held files.new) (F.writes files.new) (I.rest input.new)
+        (outside_of (F.held files.new) (F.reads files.new) (F.writes files.new) (I.rest input.new)
         (O.taken output.new) (E.taken errors.new)) }
     ensures counts { CommandCounts result.0
         (counts_of (F.read_faults files.old) (F.write_faults files.old) (I.faults input.old)
@@ -139,6 +141,10 @@ fn obey<F: Files, I: Source, O: Sink, E: Sink>(
                 instructions: limit,
             };
             go(alloc, source, &limits, files, input, output, errors)
+        }
+        Command::List { image } => (list(alloc, image, files, output), Vec::new(alloc)),
+        Command::Assemble { listing, image } => {
+            (assemble(alloc, listing, image, files), Vec::new(alloc))
         }
     }
 }

@@ -1,6 +1,7 @@
 pub mod Comes
 pub mod KeyValues
 pub mod KeyStays
+pub mod Conversions
 pub mod Counting
 pub mod NextInt
 pub mod KeyNames

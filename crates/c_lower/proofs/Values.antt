@@ -89,13 +89,15 @@ use Rattle.std.proofs.Common.{lt-ltb, ltb-true}
 use Rattle.c_lower.specs.Placed.{HasAt}
 use Rattle.c_lower.specs.Keys.{place_key, key_after, key_if, read_key, write_key}
 use Rattle.c_lower.specs.Values.{mode_for, LowersTaking, count, LowersExpression, LowersNode, LowersLvalue, LowersPlace}
-use Rattle.c_lower.specs.Values.{LowersArguments}
+use Rattle.c_lower.specs.Values.{LowersArguments, Converts}
 use Rattle.c_lower.proofs.Comes.{Reached, GoesLeaving, Goes, goes_from, goes_counted, goes_counted_as, goes_spare}
 use Rattle.c_lower.proofs.Comes.{goes_frame}
 use Rattle.c_lower.proofs.Comes.{goes_steps, goes_step, goes_done, goes_over, goes_at, goes_weak, goes_less, goes_then}
 use Rattle.c_lower.proofs.Comes.{goes_sure, goes_last, goes_last_heavier, goes_branch}
 use Rattle.c_lower.proofs.KeyValues.{Right, key_opens, place_right}
 use Rattle.c_lower.proofs.KeyStays.{right_after}
+use Rattle.c_lower.specs.Conversions.{keeps}
+use Rattle.c_lower.proofs.Conversions.{value_kept}
 use Rattle.c_lower.proofs.Credits.{left_by, three_left, most_left, converted_left, plainly_left, place_left}
 use Rattle.c_lower.proofs.Credits.{seven_left, read_cost, write_cost, update_cost, taken_left, taken_pays, left}
 use Rattle.c_lower.proofs.Credits.{not_converted, args_left, formatted_left}
@@ -249,6 +251,22 @@ module _ {g : Setting} {t : Tac} {limit u : ℕ} {frames : List Frame} where
       (λ w s' k' e' is.
       let paid = taken_pays m line v s w s' is in
       goes_done (omega (arith, paid)) refl refl (put_value d w w before temps s' refl below)))
+
+  -- a value is converted, or stays as it is
+  conversion_runs : (fc : ℕ) (from kind : Kind) (q : Bool) (c d n0 n1 : ℕ) (before temps : Temps) (k : ℕ) (s : State)
+      (v : Rvalue) (literals : List Bool) (vars : List Variable) → keeps from kind ≡ q
+      → Converts (placed t u literals vars) q kind d n0 n1 → temps d ≡ v → KeepsBelow d before temps
+      → ValueIs fc from v s.objects
+      → Goes g t limit (1 + c) c u frames (λ v. n1) (ValueIn d before) (Stands u n0 temps frames (at_work k s)) k s
+      (Gives (rvalue (converted kind v.value)) s)
+  conversion_runs fc from kind true c d n0 n1 before temps k s v literals vars is tr e below h =
+      goes_at tr (goes_done (omega arith) refl refl
+      (record { value = e ∙ value_kept fc from kind v s.objects is h; below = below }))
+  conversion_runs fc from kind false c d n0 n1 before temps k s v literals vars is tr e below h =
+      goes_step c tr refl (in_place (temps d).contents d) refl
+      (goes_done (omega arith) refl refl
+      (put_value d (rvalue (converted kind v.value)) _ before temps s
+      (ap (λ (z : Rvalue). rvalue (converted kind z.value)) e) below))
 
 pointer_contents : (fc : ℕ) (a : Expression) → is_kind (kind_of a) pointer ≡ true → (x : Rvalue) (objects : Objects)
     → ValueIs fc (kind_of a) x objects → x ≡ rvalue x.value
@@ -476,11 +494,11 @@ module _ (t : Tac) (n : ℕ) (env : Env) (sc : Context) (sure : Calling sc env)
     node_runs (cast a) kind line d n0 n1 temps k s tr ok good lt =
         let v = both (is_valid sc.scope a) (is_conversion (kind_of a) kind) ok in
         six_left kind (goes_counted
-        (goes_then (two a d n0 tr.0 temps k _ tr.1 v.0 good lt) (λ v s1 t1 k1 p1 le1 is1.
-        goes_step 10 tr.2 refl (in_place (t1 d).contents d) refl
-        (goes_done (omega arith) refl refl
-        (put_value d (rvalue (converted kind v.value)) _ temps t1 _
-        (ap (λ (z : Rvalue). rvalue (converted kind z.value)) p1.value) p1.below)))))
+        (goes_sure _ (after a v.0 _ good) (two a d n0 tr.0 temps k _ tr.1 v.0 good lt)
+        (λ x s1 t1 k1 p1 le1 is1 lv1 w1.
+        goes_less 6 (omega arith)
+        (conversion_runs (function_count sc) (kind_of a) kind (keeps (kind_of a) kind) 10 d tr.0 n1 temps t1 k1 s1 x
+        literals vars refl tr.2 p1.value p1.below w1))))
     node_runs (unary op a) kind line d n0 n1 temps k s tr ok good lt =
         let v = both (is_valid sc.scope a) (is_operand op (kind_of a) kind) ok in
         let ty = integer_type (scalar_of (kind_of a)) in
@@ -806,12 +824,13 @@ module _ (t : Tac) (n : ℕ) (env : Env) (sc : Context) (sure : Calling sc env)
     node_runs (convert a) kind line d n0 n1 temps k s tr ok good lt =
         let v = three (is_valid sc.scope a) (is_conversion (kind_of a) kind) _ ok in
         let rest = plainly_left kind true (named (convert a) kind ok).1 in
-        goes_then (goes_less 4 (not_converted a (false_by (is_converted a) v.2))
-        (expression_runs a d n0 tr.0 temps k s tr.1 v.0 good lt)) (λ v s1 t1 k1 p1 le1 is1.
-        goes_step 3 tr.2 refl (in_place (t1 d).contents d) refl
-        (goes_done (omega (arith, rest)) refl refl
-        (put_value d (rvalue (converted kind v.value)) _ temps t1 _
-        (ap (λ (z : Rvalue). rvalue (converted kind z.value)) p1.value) p1.below)))
+        goes_sure _ (after a v.0 _ good)
+        (goes_less 4 (not_converted a (false_by (is_converted a) v.2))
+        (expression_runs a d n0 tr.0 temps k s tr.1 v.0 good lt))
+        (λ x s1 t1 k1 p1 le1 is1 lv1 w1.
+        goes_less (left_by kind true) (omega (arith, rest))
+        (conversion_runs (function_count sc) (kind_of a) kind (keeps (kind_of a) kind) 3 d tr.0 n1 temps t1 k1 s1 x
+        literals vars refl tr.2 p1.value p1.below w1))
 
     pub lvalue_runs : (p : Lvalue) (d n0 n1 : ℕ) (temps : Temps) (k : ℕ) (s : State)
         → LowersLvalue (placed t u literals vars) p d n0 n1 → is_valid_lvalue sc.scope p ≡ true → IsGood sc s

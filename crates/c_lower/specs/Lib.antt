@@ -1,6 +1,7 @@
 pub mod Placed
 pub mod Keys
 pub mod Values
+pub mod Conversions
 pub mod Counted
 pub mod Statements
 pub mod Programs

@@ -20,6 +20,7 @@ use Rattle.tac_ir.specs.declared.instruction.Instruction.TheVariants as tac
 use Rattle.tac_ir.specs.declared.key.Key.{Key}
 use Rattle.c_lower.specs.Placed.{Placed, Holds, HasAt}
 use Rattle.c_lower.specs.Keys.{read_key, write_key}
+use Rattle.c_lower.specs.Conversions.{keeps}
 
 abbrev pub mode_for : (is_judged : Bool) → Mode
 mode_for true = Unchecked
@@ -38,6 +39,11 @@ LowersTaking c Void line d n0 n1 = n0 ≡ n1
 LowersTaking c (OfScalar k) line d n0 n1 = n0 ≡ n1
 LowersTaking c (Structure size) line d n0 n1 = Holds c n0 (tac.Take (Structure size) line d d n1)
 LowersTaking c (Array size) line d n0 n1 = n0 ≡ n1
+
+-- a value is converted, unless it stays as it is
+abbrev pub Converts : Placed → (keeps : Bool) → Kind → (d n0 n1 : ℕ) → Type 0
+Converts c true kind d n0 n1 = n0 ≡ n1
+Converts c false kind d n0 n1 = Holds c n0 (tac.Convert kind d d n1)
 
 abbrev pub count : Expressions → ℕ
 count no_expressions = 0
@@ -59,9 +65,10 @@ abbrev mutual
   LowersNode c (parenthesized a) kind line d n0 n1 = LowersExpression c a d n0 n1
   LowersNode c (deref_function a) kind line d n0 n1 = LowersExpression c a d n0 n1
   LowersNode c (address_function a) kind line d n0 n1 = LowersExpression c a d n0 n1
-  LowersNode c (cast a) kind line d n0 n1 = (k : ℕ) × LowersExpression c a d n0 k × Holds c k (tac.Convert kind d d n1)
-  LowersNode c (convert a) kind line d n0 n1 = (k : ℕ) × LowersExpression c a d n0 k
-      × Holds c k (tac.Convert kind d d n1)
+  LowersNode c (cast a) kind line d n0 n1 =
+      (k : ℕ) × LowersExpression c a d n0 k × Converts c (keeps (kind_of a) kind) kind d k n1
+  LowersNode c (convert a) kind line d n0 n1 =
+      (k : ℕ) × LowersExpression c a d n0 k × Converts c (keeps (kind_of a) kind) kind d k n1
   LowersNode c (unary op a) kind line d n0 n1 =
       (k : ℕ) × LowersExpression c a d n0 k × Holds c k (tac.Unary op (integer_type (scalar_of (kind_of a))) d d n1)
   LowersNode c (binary op a b) kind line d n0 n1 =

@@ -16,7 +16,8 @@ use Rattle.tac_ir.specs.declared.instruction.Instruction.{Instruction}
 use Rattle.tac_ir.specs.Edges.{LeadsTo}
 use Rattle.c_lower.specs.Placed.{Placed}
 use Rattle.c_lower.specs.Values.{LowersExpression, LowersNode, LowersLvalue, LowersPlace, LowersArguments}
-use Rattle.c_lower.specs.Values.{LowersTaking, LowersArgument, count}
+use Rattle.c_lower.specs.Values.{LowersTaking, LowersArgument, Converts, count}
+use Rattle.c_lower.specs.Conversions.{keeps}
 use Rattle.c_lower.specs.Liveness.Liveness.{is_among, reads, writes}
 use Rattle.c_lower.proofs.Liveness.Steps.{Temporaries, And, Only, weaken, along, either, only_one, one_of_two}
 use Rattle.c_lower.proofs.Liveness.Steps.{not_written, is_this, one_of_these}
@@ -93,6 +94,11 @@ module _ (c : Placed) (k : ℕ) where
   taken P (Structure size) line d n m e h = changes P d n m _ e (λ x l. l) h (λ y. refl) (λ y. refl)
   taken P (Array size) line d n m e h = subst (May (And P d)) (sym e) h
 
+  converted : (P : Temporaries) (q : Bool) (kind : Kind) (d n m : ℕ) → Converts c q kind d n m → May (And P d) m
+      → May (And P d) n
+  converted P true kind d n m e h = subst (May (And P d)) (sym e) h
+  converted P false kind d n m e h = changes P d n m _ e (λ x l. l) h (λ y. refl) (λ y. refl)
+
   mutual
     pub of_expression : (e : Expression) (P : Temporaries) (d n m : ℕ) → LowersExpression c e d n m → May (And P d) m
         → May P n
@@ -111,9 +117,9 @@ module _ (c : Placed) (k : ℕ) where
     of_node (deref_function a) kind line P d n m l h = of_expression a P d n m l h
     of_node (address_function a) kind line P d n m l h = of_expression a P d n m l h
     of_node (cast a) kind line P d n m l h =
-        of_expression a P d n l.0 l.1 (changes P d l.0 m _ l.2 (λ x q. q) h (λ y. refl) (λ y. refl))
+        of_expression a P d n l.0 l.1 (converted P (keeps (kind_of a) kind) kind d l.0 m l.2 h)
     of_node (convert a) kind line P d n m l h =
-        of_expression a P d n l.0 l.1 (changes P d l.0 m _ l.2 (λ x q. q) h (λ y. refl) (λ y. refl))
+        of_expression a P d n l.0 l.1 (converted P (keeps (kind_of a) kind) kind d l.0 m l.2 h)
     of_node (unary op a) kind line P d n m l h =
         of_expression a P d n l.0 l.1 (changes P d l.0 m _ l.2 (λ x q. q) h (λ y. refl) (λ y. refl))
     of_node (binary op a b) kind line P d n m l h =

@@ -39,7 +39,8 @@ use Rattle.tac_ir.specs.declared.function.Tac.{Tac}
 use Rattle.tac_ir.specs.Edges.{LeadsTo}
 use Rattle.tac_ir.specs.Meaning.{function_in}
 use Rattle.c_lower.specs.Placed.{Placed}
-use Rattle.c_lower.specs.Values.{LowersExpression, LowersNode, LowersArguments, LowersTaking, LowersArgument, count}
+use Rattle.c_lower.specs.Conversions.{keeps}
+use Rattle.c_lower.specs.Values.{Converts, LowersExpression, LowersNode, LowersArguments, LowersTaking, LowersArgument, count}
 use Rattle.compiled_programs.specs.Programs as p
 use Rattle.compiled_programs.specs.Programs.{is_integer_expression, is_integer_node, are_integer_expressions}
 use Rattle.metadata_plan.specs.Part.{SafeWithin, is_integer_instruction, is_integer_update, is_word, is_by_one}
@@ -192,6 +193,11 @@ module _ (t : Tac) (variables : ℕ) (c : Placed) (k : ℕ) where
   not_taken (Structure size) line d n m e l h = never e
   not_taken (Array size) line d n m e l h = never e
 
+  converted : (q : Bool) (kind : Kind) (d n m : ℕ) → has_no_pointer kind ≡ true → Converts c q kind d n m → Safe m
+      → Safe n
+  converted true kind d n m o e h = subst Safe (sym e) h
+  converted false kind d n m o l h = goes _ n m l o (λ x q. q) h
+
   kind_is : (e : Expression) → is_integer_expression e ≡ true → p.has_no_pointer (kind_of e) ≡ true
   kind_is (expression kind line node) i = (both _ _ i).0
 
@@ -221,9 +227,11 @@ module _ (t : Tac) (variables : ℕ) (c : Placed) (k : ℕ) where
       of_node (deref_function a) kind line d n m v o i l h = never i
       of_node (address_function a) kind line d n m v o i l h = never i
       of_node (cast a) kind line d n m v o i l h =
-          of_expression a d n l.0 (both (is_valid scope a) _ v).0 i l.1 (goes _ l.0 m l.2 o (λ x q. q) h)
+          of_expression a d n l.0 (both (is_valid scope a) _ v).0 i l.1
+          (converted (keeps (kind_of a) kind) kind d l.0 m o l.2 h)
       of_node (convert a) kind line d n m v o i l h =
-          of_expression a d n l.0 (three (is_valid scope a) _ _ v).0 i l.1 (goes _ l.0 m l.2 o (λ x q. q) h)
+          of_expression a d n l.0 (three (is_valid scope a) _ _ v).0 i l.1
+          (converted (keeps (kind_of a) kind) kind d l.0 m o l.2 h)
       of_node (unary o1 a) kind line d n m v o i l h =
           of_expression a d n l.0 (both (is_valid scope a) _ v).0 i l.1 (goes _ l.0 m l.2 refl (λ x q. q) h)
       of_node (binary o2 a b) kind line d n m v o i l h =

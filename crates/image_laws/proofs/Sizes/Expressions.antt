@@ -12,8 +12,9 @@ use Rattle.c_tree.specs.Tree.{assign_plain, compound, change_plain, step, step_p
 use Rattle.c_tree.specs.Tree.{printf, kind_of}
 use Rattle.c_tree.specs.Walk.{walk_each, sum_of}
 use Rattle.c_tree.specs.Valid as valid
+use Rattle.c_lower.specs.Conversions.{keeps}
 use Rattle.c_lower.specs.Values.{count}
-use Rattle.program_lowering.specs.ExpressionCode.Weights.{expression_weight, weight_made, taking_weight, takings_weight}
+use Rattle.program_lowering.specs.ExpressionCode.Weights.{conversion_weight, expression_weight, weight_made, taking_weight, takings_weight}
 use Rattle.program_lowering.specs.ExpressionCode.Weights.{returning_weight}
 use Rattle.compiled_programs.specs.Programs.{is_integer_expression, is_integer_node, are_integer_expressions}
 use Rattle.compiled_programs.specs.Programs.{has_no_pointer, is_integer_update, is_integer_routine}
@@ -63,9 +64,15 @@ record AreLight (k : ℕ) (es : Expressions) : Type 0 where
   by : sum_of (walk_each (weight_made (words k)) es) + 13 * count es ≤ 256 * sum_of (walk_each nodes_made es)
   taken : takings_weight es (words k) ≡ 0
 
+conversion_least : (k : ℕ) (q : Bool) (kind : Kind) → conversion_weight q kind (words k) ≤ (words k).convert kind
+conversion_least k true kind = omega arith
+conversion_least k false kind = omega arith
+
 converted_light : (k : ℕ) (kind : Kind) (e : Expression) → IsLight k e → valid.is_converted e ≡ false
     → NodeIsLight k kind (convert e)
-converted_light k kind e h none = let room = ap left none in omega (arith, h.by, room)
+converted_light k kind e h none =
+    let room = ap left none in
+    omega (arith, h.by, room, conversion_least k (keeps (kind_of e) kind) kind)
 
 mutual
   light : (k : ℕ) (scope : valid.Scope) (e : Expression) → valid.is_valid scope e ≡ true
@@ -87,7 +94,9 @@ mutual
   node_light k scope kind (deref_function a) v i = cc
   node_light k scope kind (address_function a) v i = cc
   node_light k scope kind (cast a) v i =
-      let h = light k scope a (and_parts _ _ v).0 i in omega (arith, h.by, left_some (valid.is_converted a))
+      let h = light k scope a (and_parts _ _ v).0 i in
+      let least = conversion_least k (keeps (kind_of a) kind) kind in
+      omega (arith, h.by, left_some (valid.is_converted a), least)
   node_light k scope kind (convert a) v i =
       let parts = and_parts _ (not (valid.is_converted a)) v in
       converted_light k kind a (light k scope a (and_parts _ _ parts.0).0 i)

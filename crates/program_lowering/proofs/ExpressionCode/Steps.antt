@@ -1,6 +1,6 @@
 -- What each expression and lvalue itself does.
 use Rattle.std.proofs.Common.{◌≡◌, ℕ, suc, ◌+◌, ◌≤◌, ◌<◌, List, [], ◌∷◌, Option, Some, None, refl, sym, ap, ◌∙◌}
-use Rattle.std.proofs.Common.{subst, arith}
+use Rattle.std.proofs.Common.{Bool, true, false, subst, arith}
 use Rattle.std.specs.Prelude.{max}
 use Rattle.c_tree.specs.declared.expression.Kind.{Kind}
 use Rattle.c_tree.specs.Tree.{Expression, expression, Expressions, no_expressions, expressions, Lvalue, lvalue, Node}
@@ -16,7 +16,10 @@ use Rattle.tac_ir.specs.Edges.{successors}
 use Rattle.tac_ir.specs.Temporaries.{temporaries}
 use Rattle.c_lower.specs.Homes.{used, used_by_lvalue, used_made}
 use Rattle.c_lower.specs.Placed.{Placed, Holds}
-use Rattle.c_lower.specs.Values.{KeyIs, LowersNode, LowersPlace, count}
+use Rattle.c_lower.specs.Conversions.{keeps}
+use Rattle.c_lower.specs.Values.{KeyIs, LowersNode, LowersPlace, Converts, count}
+use Rattle.program_lowering.specs.ExpressionCode.Last.{conversion_in}
+use Rattle.program_lowering.proofs.ExpressionCode.Conversions.{conversion_weighs}
 use Rattle.program_lowering.specs.declared.expressions.emitter.Emitter.{Emitter}
 use Rattle.program_lowering.specs.ExpressionCode.Sizes.{nodes, lvalue_nodes, arguments_nodes, nodes_made}
 use Rattle.program_lowering.specs.ExpressionCode.Weights.{Weights, weight_if, no_weight, takings_weight}
@@ -47,6 +50,19 @@ abbrev RealIn : Option Instruction → (next : ℕ) → Type 0
 RealIn None m = Unit {0}
 RealIn (Some i) m = IsReal i × (successors i ≡ m ∷ [])
 
+conversion_stands : (c : Placed) (q : Bool) (kind : Kind) (d m k : ℕ) → StandsAs c (conversion_in q kind d m) k m
+    → Converts c q kind d k m
+conversion_stands c true kind d m k h = h
+conversion_stands c false kind d m k h = h
+
+conversion_few : (q : Bool) (kind : Kind) (d m most : ℕ) → suc d ≤ most → FewIn (conversion_in q kind d m) most
+conversion_few true kind d m most h = tt
+conversion_few false kind d m most h = omega (arith, h)
+
+conversion_real : (q : Bool) (kind : Kind) (d m : ℕ) → RealIn (conversion_in q kind d m) m
+conversion_real true kind d m = tt
+conversion_real false kind d m = (tt, refl)
+
 last_stands : (c : Placed) (kind : Kind) (line d : ℕ) (key : Option ℕ) (text m k n : ℕ) (node : Node)
     → KeyIs c.keys key (key_in c.literals node) → TextIs c.texts node text
     → StandsAs c (last_in node kind line d key text m) k m
@@ -68,8 +84,10 @@ last_stands c kind line d key text m k n (deref_function a) q t h o =
     subst (λ j. LowersOperands c (operands_in (deref_function a)) d n j) h o
 last_stands c kind line d key text m k n (address_function a) q t h o =
     subst (λ j. LowersOperands c (operands_in (address_function a)) d n j) h o
-last_stands c kind line d key text m k n (cast a) q t h o = (k, o, h)
-last_stands c kind line d key text m k n (convert a) q t h o = (k, o, h)
+last_stands c kind line d key text m k n (cast a) q t h o =
+    (k, o, conversion_stands c (keeps (kind_of a) kind) kind d m k h)
+last_stands c kind line d key text m k n (convert a) q t h o =
+    (k, o, conversion_stands c (keeps (kind_of a) kind) kind d m k h)
 last_stands c kind line d key text m k n (unary op a) q t h o = (k, o, h)
 last_stands c kind line d key text m k n (binary op a b) q t h o = (o.0, k, o.1, o.2, h)
 last_stands c kind line d key text m k n (offset_by form size a b) q t h o = (o.0, k, o.1, o.2, h)
@@ -170,8 +188,8 @@ last_few kind line d key text m (address p) = tt
 last_few kind line d key text m (parenthesized a) = tt
 last_few kind line d key text m (deref_function a) = tt
 last_few kind line d key text m (address_function a) = tt
-last_few kind line d key text m (cast a) = omega arith
-last_few kind line d key text m (convert a) = omega arith
+last_few kind line d key text m (cast a) = conversion_few (keeps (kind_of a) kind) kind d m _ (omega arith)
+last_few kind line d key text m (convert a) = conversion_few (keeps (kind_of a) kind) kind d m _ (omega arith)
 last_few kind line d key text m (unary op a) = omega arith
 last_few kind line d key text m (binary op a b) = omega (arith, some_used b)
 last_few kind line d key text m (offset_by form size a b) = omega (arith, some_used b)
@@ -205,8 +223,8 @@ last_real kind line d key text m (address p) = tt
 last_real kind line d key text m (parenthesized a) = tt
 last_real kind line d key text m (deref_function a) = tt
 last_real kind line d key text m (address_function a) = tt
-last_real kind line d key text m (cast a) = (tt, refl)
-last_real kind line d key text m (convert a) = (tt, refl)
+last_real kind line d key text m (cast a) = conversion_real (keeps (kind_of a) kind) kind d m
+last_real kind line d key text m (convert a) = conversion_real (keeps (kind_of a) kind) kind d m
 last_real kind line d key text m (unary op a) = (tt, refl)
 last_real kind line d key text m (binary op a b) = (tt, refl)
 last_real kind line d key text m (offset_by form size a b) = (tt, refl)
@@ -292,6 +310,10 @@ operands_few kind (printf format es) = omega (arith, nodes_sum es)
 
 -- what it weighs, whatever its temporary, its key, the number of its format and the next node are
 
+conversion_same : (ts : List (List ℕ)) (q : Bool) (kind : Kind) (d m : ℕ) (w : Weights)
+    → weight_if ts (conversion_in q kind d m) w ≡ weight_if [] (conversion_in q kind 0 0) w
+conversion_same ts q kind d m w = conversion_weighs ts q kind d m w ∙ sym (conversion_weighs [] q kind 0 0 w)
+
 last_same : (ts : List (List ℕ)) (kind : Kind) (line d : ℕ) (key : Option ℕ) (text m : ℕ) (w : Weights) (node : Node)
     → TextIs ts node text
     → weight_if ts (last_in node kind line d key text m) w
@@ -305,8 +327,8 @@ last_same ts kind line d key text m w (address p) h = refl
 last_same ts kind line d key text m w (parenthesized a) h = refl
 last_same ts kind line d key text m w (deref_function a) h = refl
 last_same ts kind line d key text m w (address_function a) h = refl
-last_same ts kind line d key text m w (cast a) h = refl
-last_same ts kind line d key text m w (convert a) h = refl
+last_same ts kind line d key text m w (cast a) h = conversion_same ts (keeps (kind_of a) kind) kind d m w
+last_same ts kind line d key text m w (convert a) h = conversion_same ts (keeps (kind_of a) kind) kind d m w
 last_same ts kind line d key text m w (unary op a) h = refl
 last_same ts kind line d key text m w (binary op a b) h = refl
 last_same ts kind line d key text m w (offset_by form size a b) h = refl
@@ -343,8 +365,8 @@ operands_weigh kind line w (address p) = omega arith
 operands_weigh kind line w (parenthesized a) = omega arith
 operands_weigh kind line w (deref_function a) = omega arith
 operands_weigh kind line w (address_function a) = omega arith
-operands_weigh kind line w (cast a) = omega arith
-operands_weigh kind line w (convert a) = omega arith
+operands_weigh kind line w (cast a) = omega (arith, conversion_weighs [] (keeps (kind_of a) kind) kind 0 0 w)
+operands_weigh kind line w (convert a) = omega (arith, conversion_weighs [] (keeps (kind_of a) kind) kind 0 0 w)
 operands_weigh kind line w (unary op a) = omega arith
 operands_weigh kind line w (binary op a b) = omega arith
 operands_weigh kind line w (offset_by form size a b) = omega arith

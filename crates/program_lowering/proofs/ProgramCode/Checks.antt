@@ -33,6 +33,8 @@ use Rattle.tac_ir.specs.declared.function.Tac.{Tac}
 use Rattle.c_lower.specs.Values.{mode_for}
 use Rattle.check_insert.specs.Counting.{checks_for, checks_for_kind, checks_needed, is_check}
 use Rattle.check_insert.specs.Counting.{sum_over, sum_of_functions}
+use Rattle.c_lower.specs.Conversions.{keeps}
+use Rattle.program_lowering.proofs.ExpressionCode.Conversions.{no_conversion}
 use Rattle.program_lowering.specs.ExpressionCode.Weights.{Weights, weight_of, code_weight, taking_weight}
 use Rattle.program_lowering.specs.ExpressionCode.Weights.{takings_weight, returning_weight, weight_made}
 use Rattle.program_lowering.specs.StatementParts.Weights.{content_weight, parts_weight, initializer_weight}
@@ -236,8 +238,8 @@ node_has q kind (address p) ns = omega arith
 node_has q kind (parenthesized a) ns = omega arith
 node_has q kind (deref_function a) ns = omega arith
 node_has q kind (address_function a) ns = omega arith
-node_has q kind (cast a) ns = omega arith
-node_has q kind (convert a) ns = omega arith
+node_has q kind (cast a) ns = omega (arith, no_conversion (keeps (kind_of a) kind) kind (counting q) refl)
+node_has q kind (convert a) ns = omega (arith, no_conversion (keeps (kind_of a) kind) kind (counting q) refl)
 node_has q kind (unary op a) ns = omega arith
 node_has q kind (binary op a b) ns = omega arith
 node_has q kind (offset_by form size a b) ns = omega arith

@@ -42,6 +42,8 @@ use Rattle.c_tree.specs.ValidProgram.{are_different}
 use Rattle.c_tree.specs.Walk.{Visited, walk, walk_lvalue, walk_each, sum_of}
 use Rattle.source_meaning.specs.Blocks.{has_objects}
 use Rattle.source_meaning.proofs.ValidNames.{same_kind, same_kinds, three, four, five, six}
+use Rattle.c_lower.specs.Conversions.{keeps}
+use Rattle.program_lowering.proofs.ExpressionCode.Conversions.{no_conversion}
 use Rattle.program_lowering.specs.ExpressionCode.Weights.{Weights, SparesFirst, weight_made, taking_weight}
 use Rattle.program_lowering.specs.ExpressionCode.Weights.{takings_weight, returning_weight}
 use Rattle.program_lowering.specs.StatementParts.Weights.{content_weight, parts_weight, initializer_weight}
@@ -199,8 +201,10 @@ module _ (given of_type : ℕ → Kind) (spared : ℕ) where
     node_light g kind (parenthesized a) v = omega (arith, light g a (and_parts _ _ v).0)
     node_light g kind (deref_function a) v = omega (arith, light g a (three _ _ _ v).0)
     node_light g kind (address_function a) v = omega (arith, light g a (three _ _ _ v).0)
-    node_light g kind (cast a) v = omega (arith, light g a (and_parts _ _ v).0)
-    node_light g kind (convert a) v = omega (arith, light g a (three _ _ _ v).0)
+    node_light g kind (cast a) v =
+        omega (arith, light g a (and_parts _ _ v).0, no_conversion (keeps (kind_of a) kind) kind own refl)
+    node_light g kind (convert a) v =
+        omega (arith, light g a (three _ _ _ v).0, no_conversion (keeps (kind_of a) kind) kind own refl)
     node_light g kind (unary op a) v = omega (arith, light g a (and_parts _ _ v).0)
     node_light g kind (binary op a b) v =
         omega (arith, light g a (three _ _ _ v).0, light g b (three _ _ _ v).1)

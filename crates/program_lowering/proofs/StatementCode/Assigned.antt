@@ -33,6 +33,8 @@ use Rattle.c_lower.specs.Counted.{CountedParts, Setting, counted_parts, counted_
 use Rattle.c_lower.specs.Placed.{HasAt}
 use Rattle.program_lowering.specs.declared.expressions.emitter.Emitter.{Emitter}
 use Rattle.program_lowering.specs.ExpressionCode.Emitted.{Stays, Emits}
+use Rattle.c_lower.specs.Conversions.{keeps}
+use Rattle.program_lowering.proofs.ExpressionCode.Conversions.{no_conversion}
 use Rattle.program_lowering.specs.ExpressionCode.Weights.{Weights, weight_of, code_weight, own_weight, weight_made}
 use Rattle.program_lowering.specs.ExpressionCode.Weights.{taking_weight, returning_weight, takings_weight}
 use Rattle.program_lowering.specs.ExpressionCode.Weights.{expression_weight}
@@ -149,8 +151,8 @@ own_light v kind (address p) = light refl
 own_light v kind (parenthesized a) = light refl
 own_light v kind (deref_function a) = light refl
 own_light v kind (address_function a) = light refl
-own_light v kind (cast a) = light refl
-own_light v kind (convert a) = light refl
+own_light v kind (cast a) = light (no_conversion (keeps (kind_of a) kind) kind (assigning v) refl)
+own_light v kind (convert a) = light (no_conversion (keeps (kind_of a) kind) kind (assigning v) refl)
 own_light v kind (unary op a) = light refl
 own_light v kind (binary op a b) = light refl
 own_light v kind (offset_by form size a b) = light refl

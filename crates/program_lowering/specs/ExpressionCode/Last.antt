@@ -1,5 +1,5 @@
 -- What an expression or an lvalue itself does, once its operands are there: one instruction, or none.
-use Rattle.std.specs.Prelude.{◌≡◌, ℕ, ◌+◌, ◌*◌, Bool, List, [], ◌∷◌, Option, Some, None}
+use Rattle.std.specs.Prelude.{◌≡◌, ℕ, ◌+◌, ◌*◌, Bool, true, false, List, [], ◌∷◌, Option, Some, None}
 use Rattle.c_tree.specs.declared.expression.Kind.{Kind}
 use Rattle.c_tree.specs.declared.expression.Fixity.TheVariants.{Prefix}
 use Rattle.c_tree.specs.Tree.{Node, constant, function, plain, read}
@@ -16,6 +16,7 @@ use Rattle.tac_ir.specs.declared.instruction.Instruction.TheVariants as tac
 use Rattle.tac_ir.specs.declared.key.Key.{Key}
 use Rattle.c_lower.specs.Keys.{read_key, write_key}
 use Rattle.c_lower.specs.Placed.{Placed, HasAt}
+use Rattle.c_lower.specs.Conversions.{keeps}
 use Rattle.c_lower.specs.Values.{KeyIs, LowersTaking, mode_for, count}
 use Rattle.program_lowering.specs.declared.expressions.emitter.Emitter.{Emitter}
 use Rattle.program_lowering.specs.ExpressionCode.Enclosed.{Leads, SameNodes}
@@ -30,6 +31,11 @@ key_in ls (compound u p a) = write_key ls p a
 key_in ls (step u fixity p) = read_key ls p
 key_in ls n = None
 
+-- a conversion, unless it leaves each value as it is
+abbrev pub conversion_in : (keeps : Bool) → Kind → (d next : ℕ) → Option Instruction
+conversion_in true kind d m = None
+conversion_in false kind d m = Some (tac.Convert kind d d m)
+
 -- with the number of that key, and that of its format
 abbrev pub last_in : Node → Kind → (line d : ℕ) → (key : Option ℕ) → (text next : ℕ) → Option Instruction
 last_in (constant w) kind line d key text m = Some (tac.Constant d w m)
@@ -42,8 +48,8 @@ last_in (address p) kind line d key text m = None
 last_in (parenthesized a) kind line d key text m = None
 last_in (deref_function a) kind line d key text m = None
 last_in (address_function a) kind line d key text m = None
-last_in (cast a) kind line d key text m = Some (tac.Convert kind d d m)
-last_in (convert a) kind line d key text m = Some (tac.Convert kind d d m)
+last_in (cast a) kind line d key text m = conversion_in (keeps (kind_of a) kind) kind d m
+last_in (convert a) kind line d key text m = conversion_in (keeps (kind_of a) kind) kind d m
 last_in (unary op a) kind line d key text m = Some (tac.Unary op (integer_type (scalar_of (kind_of a))) d d m)
 last_in (binary op a b) kind line d key text m =
     Some (tac.Binary op (integer_type (scalar_of (kind_of a))) line d d (d + 1) m)

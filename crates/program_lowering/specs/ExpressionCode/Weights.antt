@@ -1,6 +1,6 @@
 -- What code weighs, where each kind of instruction has a weight of its own: with 1 for each kind, how many instructions
 -- there are.
-use Rattle.std.specs.Prelude.{◌≡◌, ◌≤◌, ℕ, zero, suc, ◌+◌, ◌*◌, List, [], ◌∷◌, Option, Some, None, slice_get}
+use Rattle.std.specs.Prelude.{◌≡◌, ◌≤◌, ℕ, zero, suc, ◌+◌, ◌*◌, Bool, true, false, List, [], ◌∷◌, Option, Some, None, slice_get}
 use Rattle.obj_memory.specs.declared.value.Scalar.{Scalar}
 use Rattle.c_tree.specs.declared.expression.Kind.{Kind}
 use Rattle.c_tree.specs.declared.expression.Kind.TheVariants.{Void, Scalar as OfScalar, Structure, Array}
@@ -18,6 +18,7 @@ use Rattle.source_meaning.specs.Expressions.{is_judged}
 use Rattle.tac_ir.specs.declared.instruction.Mode.{Mode}
 use Rattle.tac_ir.specs.declared.instruction.Instruction.{Instruction}
 use Rattle.tac_ir.specs.declared.instruction.Instruction.TheVariants as tac
+use Rattle.c_lower.specs.Conversions.{keeps}
 use Rattle.c_lower.specs.Values.{count, mode_for}
 
 -- The weight of each kind of instruction: that of an access by what it reads, writes or updates, and how it finds its
@@ -148,6 +149,11 @@ abbrev pub takings_weight : Expressions → Weights → ℕ
 takings_weight no_expressions w = 0
 takings_weight (expressions e es) w = taking_weight (kind_of e) w + takings_weight es w
 
+-- a conversion weighs nothing where it leaves each value as it is
+abbrev pub conversion_weight : (keeps : Bool) → Kind → Weights → ℕ
+conversion_weight true kind w = 0
+conversion_weight false kind w = w.convert kind
+
 -- `&&` and `||` have both values and two branches, `?:` has one branch, and each other expression at most one
 -- instruction of its own
 abbrev pub own_weight : Kind → Node → Weights → ℕ
@@ -160,8 +166,8 @@ own_weight kind (address p) w = 0
 own_weight kind (parenthesized a) w = 0
 own_weight kind (deref_function a) w = 0
 own_weight kind (address_function a) w = 0
-own_weight kind (cast a) w = w.convert kind
-own_weight kind (convert a) w = w.convert kind
+own_weight kind (cast a) w = conversion_weight (keeps (kind_of a) kind) kind w
+own_weight kind (convert a) w = conversion_weight (keeps (kind_of a) kind) kind w
 own_weight kind (unary op a) w = w.unary
 own_weight kind (binary op a b) w = w.binary
 own_weight kind (offset_by form size a b) w = w.offset

@@ -10,6 +10,7 @@ ghost use Rattle.c_lower.specs.Values.{mode_for, count};
 ghost use Rattle.program_lowering.specs.ExpressionCode.Nodes.{node_of, lvalue_node_of};
 ghost use Rattle.program_lowering.specs.ExpressionCode.Last.{last_in, last_at};
 
+use crate::expressions::conversions::conversion_in;
 use c_tree::{Expression, Fixity, Kind, Lvalue, LvalueNode, Node, Update};
 use obj_memory::{IntType, Scalar};
 use sb_base::Line;
@@ -197,12 +198,7 @@ pub fn last_in(
         | Node::Or(_, _)
         | Node::Comma(_, _)
         | Node::Conditional(_, _, _) => None,
-        Node::Cast(_) | Node::Convert(_) => Some(Instruction::Convert {
-            kind,
-            to: d,
-            from: d,
-            next,
-        }),
+        Node::Cast(a) | Node::Convert(a) => conversion_in(a.get().kind, kind, d, next),
         Node::Unary(operator, a) => {
             let int_type = integer_type_for(a.get().kind);
             Some(Instruction::Unary {

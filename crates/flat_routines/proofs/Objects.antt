@@ -1,4 +1,5 @@
 pub mod Changing
 pub mod Lives
 pub mod Moves
+pub mod Shared
 pub mod Starts

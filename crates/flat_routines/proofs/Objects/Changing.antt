@@ -124,6 +124,10 @@ module _ (g : Views) (k : Keys) (mapped : AreMapped g.sizes) (ok : IsLaidOut g.s
       each = keyed;
       alone = λ i j il jl ne e. st.keyed.alone i j (omega (arith, il, keeps.count)) (omega (arith, jl, keeps.count)) ne
           (sym (keeps.at i).storage ∙ e);
+      shared = λ i j il jl a b e. st.keyed.shared i j (omega (arith, il, keeps.count)) (omega (arith, jl, keeps.count))
+          (λ q. a ((keeps.at i).storage ∙ q)) (λ q. b ((keeps.at j).storage ∙ q)) e;
+      rising = λ i j le jl a b. st.keyed.rising i j le (omega (arith, jl, keeps.count))
+          (λ q. a ((keeps.at i).storage ∙ q)) (λ q. b ((keeps.at j).storage ∙ q));
     };
     here = here;
     locks = locks;

@@ -101,6 +101,38 @@ module _ (g : Views) (k k' : Keys) (mapped : AreMapped g.sizes) (old new : Objec
       (each j))
       (each n)
 
+  -- of an old object that is not static
+  old_own : (n : ℕ) → n < length old → (object_at new n).storage ≢ Static
+      → ((object_at old n).storage ≢ Static) × (k.own n < k.made) × (k'.own n ≡ k.own n)
+  old_own n h s =
+      let out : (object_at old n).storage ≢ Static = λ e. s (ap (λ o. o.storage) (b.same n h) ∙ e) in
+      (out, ((st.keyed.each n h).other out).1, b.own n h)
+
+  shared : (n j : ℕ) → n < length new → j < length new → (object_at new n).storage ≢ Static
+      → (object_at new j).storage ≢ Static → k'.own n ≡ k'.own j → k'.held n ≡ k'.held j
+  shared n j nl jl s r e = ⊎_elim
+      (λ h. ⊎_elim
+      (λ i. (let x = old_own n h s in let y = old_own j i r in
+      b.held n h ∙ st.keyed.shared n j h i x.0 y.0 (sym x.2 ∙ e ∙ y.2) ∙ sym (b.held j i)))
+      (λ i. absurd (let x = old_own n h s in let a = x.1 in let c = x.2 in let d = b.new_own j i in omega arith))
+      (each j))
+      (λ h. ⊎_elim
+      (λ i. absurd (let x = old_own j i r in let a = x.1 in let c = x.2 in let d = b.new_own n h in omega arith))
+      (λ i. b.new_held n h ∙ sym (b.new_held j i))
+      (each j))
+      (each n)
+
+  rising : (n j : ℕ) → n ≤ j → j < length new → (object_at new n).storage ≢ Static
+      → (object_at new j).storage ≢ Static → k'.own n ≤ k'.own j
+  rising n j le jl s r = ⊎_elim
+      (λ h. ⊎_elim
+      (λ i. (let x = old_own n h s in let y = old_own j i r in let a = x.2 in let c = y.2 in
+      let d = st.keyed.rising n j le i x.0 y.0 in omega arith))
+      (λ i. (let x = old_own n h s in let a = x.1 in let c = x.2 in let d = b.new_own j i in omega arith))
+      (each j))
+      (λ h. (let d = b.new_own n h in let e = b.new_own j (omega arith) in omega arith))
+      (each n)
+
   here : (n : ℕ) → (object_at new n).is_live ≡ true → IsHere g k' m' (object_at new n)
   here n l = ⊎_elim
       (λ h. subst (IsHere g k' m') (sym (b.same n h)) (let live = was_live n h l in let q = st.here n live in record {
@@ -151,7 +183,7 @@ module _ (g : Views) (k k' : Keys) (mapped : AreMapped g.sizes) (old new : Objec
     sound = b.sound;
     disjoint = b.disjoint;
     placed = placed;
-    keyed = record { each = keyed; alone = alone };
+    keyed = record { each = keyed; alone = alone; shared = shared; rising = rising };
     here = here;
     locks = locks;
     counted = b.counter;
@@ -221,6 +253,10 @@ module _ (g : Views) (k : Keys) (mapped : AreMapped g.sizes) (old new : Objects)
       });
       alone = λ n j nl jl ne e. st.keyed.alone n j (omega (arith, nl, b.count)) (omega (arith, jl, b.count)) ne
           (sym (same_storage n) ∙ e);
+      shared = λ n j nl jl a c e. st.keyed.shared n j (omega (arith, nl, b.count)) (omega (arith, jl, b.count))
+          (λ q. a (same_storage n ∙ q)) (λ q. c (same_storage j ∙ q)) e;
+      rising = λ n j le jl a c. st.keyed.rising n j le (omega (arith, jl, b.count)) (λ q. a (same_storage n ∙ q))
+          (λ q. c (same_storage j ∙ q));
     };
     here = still_here;
     locks = locks_left;

@@ -25,6 +25,8 @@ starts g objects m mapped h = record {
       other = λ e. absurd (e (h.static n));
     };
     alone = λ n j nl jl ne e. absurd (not_allocated (object_at objects n).storage (h.static n) e);
+    shared = λ n j nl jl a b e. refl;
+    rising = λ n j le jl a b. omega arith;
   };
   here = λ n l. h.here n (live_is_made objects n l);
   locks = record {

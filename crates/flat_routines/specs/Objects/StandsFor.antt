@@ -87,6 +87,12 @@ pub record AreKeyed (map : MapSizes) (keys : Keys) (objects : Objects) : Type 0 
   -- a block of the heap shares its key with no object
   pub alone : (n j : ℕ) → n < length objects → j < length objects → n ≢ j → (object_at objects n).storage ≡ Allocated
       → (keys.held n).key ≢ (keys.held j).key
+  -- objects that were made with one key, those of one entered block, share their lock word
+  pub shared : (n j : ℕ) → n < length objects → j < length objects → (object_at objects n).storage ≢ Static
+      → (object_at objects j).storage ≢ Static → keys.own n ≡ keys.own j → keys.held n ≡ keys.held j
+  -- keys rise with the numbers of objects, so the numbers of those with one key follow one another
+  pub rising : (n j : ℕ) → n ≤ j → j < length objects → (object_at objects n).storage ≢ Static
+      → (object_at objects j).storage ≢ Static → keys.own n ≤ keys.own j
 
 -- ---- the memory
 

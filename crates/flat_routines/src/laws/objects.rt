@@ -1,7 +1,8 @@
 //! Laws of the relation, each as the contract of a function that does nothing: crates above rest on them.
 
-ghost use Rattle.std.specs.Prelude.{◌≡◌, ◌≢◌, ◌+◌, ◌<◌, ℕ, List, true, length, get_or};
+ghost use Rattle.std.specs.Prelude.{◌≡◌, ◌≢◌, ◌+◌, ◌<◌, ◌≤◌, ℕ, List, true, length, get_or};
 ghost use Rattle.addr_map.specs.Places.{AreMapped};
+ghost use Rattle.obj_memory.specs.declared.object.Storage.TheVariants.{Static};
 ghost use Rattle.obj_memory.specs.declared.value.Place.{Place};
 ghost use Rattle.obj_memory.specs.Objects.{Objects, object_at};
 ghost use Rattle.obj_memory.specs.Access.{move_range, write_bytes};
@@ -49,6 +50,15 @@ pub fn objects_are_born()
 pub fn objects_die()
     ensures { (g : Views) (k : Keys) (old new : Objects) (lock : ℕ) (m m' : Bytes) → AreMapped g.sizes
         → StandsFor g k old m → AreDead g k old new lock m m' → StandsFor g k new m' }
+{}
+
+/// Two objects that are not static and have one key, as those of one entered block, have one lock word too, and so has
+/// each between them by number; every other key differs.
+pub fn objects_with_one_key_share_their_lock_word()
+    ensures { (g : Views) (k : Keys) (objects : Objects) (m : Bytes) (n i j : ℕ) → StandsFor g k objects m → n ≤ i
+        → i ≤ j → j < length objects → (object_at objects n).storage ≢ Static → (object_at objects i).storage ≢ Static
+        → (object_at objects j).storage ≢ Static → (k.held n).key ≡ (k.held j).key
+        → (k.held i ≡ k.held n) × (k.held j ≡ k.held n) }
 {}
 
 /// The memory with which a run begins stands for the static objects.

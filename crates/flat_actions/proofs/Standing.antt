@@ -18,6 +18,7 @@ use Rattle.flat_routines.proofs.Showing.{shows_both}
 use Rattle.flat_routines.specs.Objects.StandsFor.{Views, Keys, Spells, StandsFor}
 use Rattle.flat_actions.specs.Actions.{AreSpacesGood, IsShown, IsFor, Holder, Nowhere, Word, Pointer, registers_of}
 use Rattle.flat_actions.specs.Actions.{IsHeldBy, IsGivenIn, StaysElsewhere, KeepsHeld, HasGiven, HasEnded}
+use Rattle.flat_actions.specs.Actions.{StaysUnwritten, ChangesNothing}
 use Rattle.flat_actions.specs.Judgement.Judging.{IsSameBut}
 
 -- ---- states
@@ -124,10 +125,24 @@ given_still g k IsGood result t x n f f' v h e s given others = record {
   others = others;
 }
 
--- the run is over, and nothing was shown
-pub ended_still : (e : Ending) (x : Source) (n status : ℕ) (report : List ℕ) (f f' : State) → IsShown x f
-    → ShowsNothing f f' → status ≡ code_of e → report ≡ report_of e → HasEnded e (at_work n x) status report f f'
-ended_still e x n status report f f' h s a b = record {
+-- nothing was written where the memory is the same, and since a time before
+pub unwritten_same : {map : MapSizes} {m m' : Bytes} → m' ≡ m → StaysUnwritten map m m'
+unwritten_same e = record { low = λ a l. ap (λ b. b a) e; behind = λ a l. ap (λ b. b a) e }
+
+pub unwritten_since : {map : MapSizes} {m m1 m2 : Bytes} → m1 ≡ m → StaysUnwritten map m1 m2 → StaysUnwritten map m m2
+unwritten_since e h = record {
+  low = λ a l. h.low a l ∙ ap (λ b. b a) e;
+  behind = λ a l. h.behind a l ∙ ap (λ b. b a) e;
+}
+
+pub nothing_then : {a b c : State} → ChangesNothing a b → ChangesNothing b c → ChangesNothing a c
+nothing_then {a} {b} {c} h k = record { memory = k.memory ∙ h.memory; shows = shows_both a b c h.shows k.shows }
+
+-- the run is over, and nothing was shown or written
+pub ended_still : {map : MapSizes} (e : Ending) (x : Source) (n status : ℕ) (report : List ℕ) (f f' : State)
+    → IsShown x f → ShowsNothing f f' → StaysUnwritten map f.memory f'.memory → status ≡ code_of e
+    → report ≡ report_of e → HasEnded map e (at_work n x) status report f f'
+ended_still e x n status report f f' h s u a b = record {
   status_is = a;
   report_is = b;
   shown = (let z = shown_still x f f' s h in record {
@@ -137,6 +152,7 @@ ended_still e x n status report f f' h s a b = record {
     accesses = z.accesses;
   });
   turns = s.turns;
+  unwritten = u;
 }
 
 -- what two stretches leave that change registers alone

@@ -17,7 +17,7 @@ use Rattle.flat_meaning.specs.Meaning.{Context}
 use Rattle.flat_routines.specs.declared.registers.Held.{Held}
 use Rattle.flat_routines.specs.Registers.{OthersStay}
 use Rattle.flat_routines.specs.Routine.{Does, Outcome, Continues, Halts}
-use Rattle.flat_routines.specs.Metadata.{View, held_registers}
+use Rattle.flat_routines.specs.Metadata.{View, ShowsNothing, held_registers}
 use Rattle.flat_routines.specs.Objects.StandsFor.{Views, Keys, Spells, StandsFor}
 use Rattle.lock_space.specs.Locks.{key_counter, AreLocksGood}
 use Rattle.heap_space.specs.Table.{block_rows, IsTableGood}
@@ -114,19 +114,30 @@ pub record HasGiven (views : Views) (k : Keys) (IsGood : Bytes
   pub elsewhere : StaysElsewhere views.sizes after.objects f.memory f'.memory
   pub others : OthersStay (registers_of result) scratch f f'
 
--- it ended the run, with the status and the report of an ending
-pub record HasEnded (ending : Ending) (source : Source) (status : ℕ) (report : List ℕ)
+-- of object space nothing was written, nor of the runtime's spaces behind the table of blocks
+pub record StaysUnwritten (map : MapSizes) (before after : Bytes) : Type 0 where
+  pub low : (a : ℕ) → a < spaces_begin → after a ≡ before a
+  pub behind : (a : ℕ) → region_start map StructureValues ≤ a → after a ≡ before a
+
+-- It ended the run, with the status and the report of an ending. It was judged before anything was written.
+pub record HasEnded (map : MapSizes) (ending : Ending) (source : Source) (status : ℕ) (report : List ℕ)
     (before after : State) : Type 0 where
   pub status_is : status ≡ code_of ending
   pub report_is : report ≡ report_of ending
   pub shown : IsShown source after
   pub turns : after.turns ≡ before.turns
+  pub unwritten : StaysUnwritten map before.memory after.memory
+
+-- neither memory nor what is shown changed
+pub record ChangesNothing (before after : State) : Type 0 where
+  pub memory : after.memory ≡ before.memory
+  pub shows : ShowsNothing before after
 
 -- just as the run of the source does
 abbrev pub Leaves : Views → Keys → (IsGood : Bytes → Type 0) → (result : Holder) → (scratch : ℕ) → Source → State
     → Completed Value → Outcome → Type 0
 Leaves g k IsGood result t x f (Gives v x') (Continues f') = HasGiven g k IsGood result t x f v x' f'
-Leaves g k IsGood result t x f (Ended e x') (Halts status report f') = HasEnded e x' status report f f'
+Leaves g k IsGood result t x f (Ended e x') (Halts status report f') = HasEnded g.sizes e x' status report f f'
 Leaves g k IsGood result t x f (Gives v x') (Halts status report f') = ⊥
 Leaves g k IsGood result t x f (Ended e x') (Continues f') = ⊥
 Leaves g k IsGood result t x f (Paused x') o = ⊥

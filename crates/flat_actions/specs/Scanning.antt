@@ -10,7 +10,8 @@ use Rattle.flat_routines.specs.Registers.{OthersStay}
 use Rattle.flat_routines.specs.Routine.{Does, Outcome, Continues, Halts}
 use Rattle.flat_routines.specs.Metadata.{ShowsNothing}
 use Rattle.flat_routines.specs.Objects.StandsFor.{Keys}
-use Rattle.flat_actions.specs.Actions.{Basis, Pointer, IsHeldBy, IsFor, context_in, views_of, work_of}
+use Rattle.flat_actions.specs.Actions.{Basis, Pointer, IsHeldBy, IsFor, ChangesNothing, context_in, views_of}
+use Rattle.flat_actions.specs.Actions.{work_of}
 
 -- a state of the source with more work done
 pub record IsWorked (before after : Source) : Type 0 where
@@ -29,7 +30,7 @@ pub record HasScanned (word : ℕ) (bytes : List ℕ) (cursor scratch : ℕ) (be
 abbrev pub IsScanned : (word cursor scratch : ℕ) → Source → State → Completed (List ℕ) → Outcome → Type 0
 IsScanned word cursor t x f (Gives bytes x') (Continues f') = IsWorked x x' × HasScanned word bytes cursor t f f'
 IsScanned word cursor t x f (Ended e x') (Halts status report f') =
-    (status ≡ code_of e) × (report ≡ report_of e) × IsWorked x x' × ShowsNothing f f'
+    (status ≡ code_of e) × (report ≡ report_of e) × IsWorked x x' × ChangesNothing f f'
 IsScanned word cursor t x f (Gives bytes x') (Halts status report f') = ⊥
 IsScanned word cursor t x f (Ended e x') (Continues f') = ⊥
 IsScanned word cursor t x f (Paused x') o = ⊥

@@ -8,5 +8,7 @@ pub mod structures;
 
 pub use crate::moving::filling::fill;
 pub use crate::moving::library::{CopyRegisters, FillRegisters, memmove, memset};
-pub use crate::moving::moving::{move_bytes, move_tagged};
+pub use crate::moving::moving::{
+    cell_instructions, count_instructions, move_bytes, move_tagged, move_usable,
+};
 pub use crate::moving::structures::copy_structure;

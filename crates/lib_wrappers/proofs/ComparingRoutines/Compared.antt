@@ -33,6 +33,7 @@ use Rattle.shadow_space.proofs.Entries.{context_of}
 use Rattle.flat_routines.proofs.Spaces.Quiet.{quiet_words}
 use Rattle.flat_actions.specs.Judgement.Judging.{IsSameBut, IsJudged}
 use Rattle.flat_actions.proofs.Judgement.Judges.{judges}
+use Rattle.flat_actions.specs.Actions.{ChangesNothing}
 use Rattle.flat_actions.specs.Actions.{IsFor, Word, Pointer, views_of, work_of, runtime_basis}
 use Rattle.flat_actions.proofs.Judged.{after_judge}
 use Rattle.lib_wrappers.specs.ComparingRoutines.Answering.{IsAnswered}
@@ -156,6 +157,9 @@ module _ (map : MapSizes) (mapped : AreMapped map) (entry : View) (IsGood : Byte
       turns = s.turns;
     }
 
+    nothing_changed : (z : State) → IsSameBut 14 y z → ChangesNothing f z
+    nothing_changed z b = record { memory = b.memory; shows = shows_same z b }
+
     -- both first bytes may be looked at
     module _ (p : Place) (left_inside : judge 1 a x.objects ≡ Inside p) where
       abbrev left : ℕ
@@ -241,11 +245,11 @@ module _ (map : MapSizes) (mapped : AreMapped map) (entry : View) (IsGood : Byte
           (λ e z2 same2. refused g k (Word 10) x f (strcmp a b line x) (Spatial line) (x.work + 1) z2
           (next_is.1 ∙ ap (λ r. on r (λ u. choose (go_on next_is.0 u) (compare_within left (moved 1 a) (moved 1 b) line)
           (done (order next_is.0 u)))) (looked_by x1 b line Out e))
-          (shows_same z2 (same_then 14 y z z2 same same2)))
+          (nothing_changed z2 (same_then 14 y z z2 same same2)))
           (λ e z2 same2. refused g k (Word 10) x f (strcmp a b line x) (Temporal line) (x.work + 1) z2
           (next_is.1 ∙ ap (λ r. on r (λ u. choose (go_on next_is.0 u) (compare_within left (moved 1 a) (moved 1 b) line)
           (done (order next_is.0 u)))) (looked_by x1 b line Dead e))
-          (shows_same z2 (same_then 14 y z z2 same same2)))
+          (nothing_changed z2 (same_then 14 y z z2 same same2)))
           (λ q e z2 wz2 same2. behind q e z2 (same_then 14 y z z2 same same2))
 
     pub strcmp_alone : Reaches c C (24 + 5 * W) (Goes 0 f) 37 R
@@ -256,11 +260,11 @@ module _ (map : MapSizes) (mapped : AreMapped map) (entry : View) (IsGood : Byte
         (quiet_words c (Constant 13 1 ∷ []) f (tt, tt) w) left_judged
         (λ e z same. refused g k (Word 10) x f (strcmp a b line x) (Spatial line) x.work z
         (left_out a b line x (reach a) e)
-        (shows_same z same))
+        (nothing_changed z same))
         (λ e z same.
         let l = one_reached x a Dead e dead_not_out in
         refused g k (Word 10) x f (strcmp a b line x) (Temporal line) x.work z
-        (ap (λ i. compare_within i a b line x) l.1 ∙ left_dead a b line x l.0 e) (shows_same z same))
+        (ap (λ i. compare_within i a b line x) l.1 ∙ left_dead a b line x l.0 e) (nothing_changed z same))
         (λ p e z wz same. right_part p e z wz same)))
 
 -- ---- over other registers

@@ -46,6 +46,7 @@ use Rattle.shadow_space.proofs.Entries.{context_of}
 use Rattle.flat_routines.proofs.Spaces.Quiet.{quiet_words, worked_words}
 use Rattle.flat_actions.specs.Judgement.Judging.{IsSameBut, IsJudged}
 use Rattle.flat_actions.proofs.Judgement.Judges.{judges}
+use Rattle.flat_actions.specs.Actions.{ChangesNothing}
 use Rattle.flat_actions.specs.Actions.{IsFor, Word, Pointer, views_of, work_of, runtime_basis}
 use Rattle.flat_actions.proofs.Judged.{judged_then, located_then, after_judge}
 use Rattle.lib_wrappers.specs.ComparingRoutines.Answering.{IsAnswered}
@@ -224,6 +225,9 @@ module _ (map : MapSizes) (mapped : AreMapped map) (entry : View) (IsGood : Byte
           turns = s.turns;
         }
 
+        nothing_changed : (z : State) → IsSameBut 12 (worked c y) z → ChangesNothing f z
+        nothing_changed z b = record { memory = b.memory; shows = shows_same z b }
+
         module _ (p q : Place) (first : judge size.word a x.objects ≡ Inside p)
             (second : judge size.word b x.objects ≡ Inside q) where
           abbrev xs : List ℕ
@@ -298,9 +302,9 @@ module _ (map : MapSizes) (mapped : AreMapped map) (entry : View) (IsGood : Byte
             after_judge c C 10 (3 + 4 * W) 12 22 35 z line 12 (judge size.word b x.objects) R wz
             (right_judged z wz same)
             (λ e z2 same2. refused g k (Word 11) x f run (Spatial line) x.work z2
-            (start ∙ by_second a b size line x p Out e) (shows_same z2 (same_then 12 (worked c y) z z2 same same2)))
+            (start ∙ by_second a b size line x p Out e) (nothing_changed z2 (same_then 12 (worked c y) z z2 same same2)))
             (λ e z2 same2. refused g k (Word 11) x f run (Temporal line) x.work z2
-            (start ∙ by_second a b size line x p Dead e) (shows_same z2 (same_then 12 (worked c y) z z2 same same2)))
+            (start ∙ by_second a b size line x p Dead e) (nothing_changed z2 (same_then 12 (worked c y) z z2 same same2)))
             (λ q e z2 wz2 same2. behind p q first e z2 (same_then 12 (worked c y) z z2 same same2))
 
         both : Reaches c C (1 + (10 + (10 + (3 + 4 * W)))) (Goes 1 y) 35 R
@@ -312,9 +316,9 @@ module _ (map : MapSizes) (mapped : AreMapped map) (entry : View) (IsGood : Byte
             (λ t. after_judge c C 10 (10 + (3 + 4 * W)) 2 12 35 (worked c y) line 12 (judge size.word a x.objects) R wy
             left_judged
             (λ e z same. refused g k (Word 11) x f run (Spatial line) x.work z (by_first a b size line x ne Out e)
-            (shows_same z same))
+            (nothing_changed z same))
             (λ e z same. refused g k (Word 11) x f run (Temporal line) x.work z (by_first a b size line x ne Dead e)
-            (shows_same z same))
+            (nothing_changed z same))
             (λ p e z wz same. right_part p e z wz same)))
 
       pub memcmp_alone : Reaches c C (26 + 4 * W) (Goes 0 f) 35 R

@@ -299,7 +299,7 @@ module _ (map : MapSizes) (charge weight line : ℕ) (g : Views) (k : Keys) (fun
               (branch c C 6 18 (stepped f) Bne 6 (Register 2) 1 31 Q has.1.1.1.1.0
               (λ t. absurd (if_apart _ _ t (omega arith)))
               (λ t. ended c C 5 (Spatial line) (worked c (stepped f)) 19 31 Q has.1.1.1.1.1.0
-              (refl, refl, working, shows_on f0 (loaded f) _ l.shows refl refl refl refl refl))));
+              (refl, refl, working, record { memory = h.memory; shows = shows_on f0 (loaded f) _ l.shows refl refl refl refl refl }))));
         }
 
     further : byte ≢ ch → byte ≢ 0 → (j : ℕ) → left ≡ suc j → Seeks j (w + 1) (moved 1 p)

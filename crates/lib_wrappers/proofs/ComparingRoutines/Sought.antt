@@ -38,6 +38,7 @@ use Rattle.flat_routines.proofs.Spaces.Quiet.{quiet_words}
 use Rattle.flat_actions.specs.Judgement.Judging.{IsSameBut, IsJudged}
 use Rattle.flat_actions.specs.Judgement.Code.{judge_code}
 use Rattle.flat_actions.proofs.Judgement.Judges.{judges}
+use Rattle.flat_actions.specs.Actions.{ChangesNothing}
 use Rattle.flat_actions.specs.Actions.{IsFor, Word, Pointer, views_of, work_of, runtime_basis}
 use Rattle.flat_actions.proofs.Judged.{after_judge}
 use Rattle.lib_wrappers.specs.ComparingRoutines.Answering.{IsAnswered}
@@ -168,6 +169,9 @@ module _ (map : MapSizes) (mapped : AreMapped map) (entry : View) (IsGood : Byte
         turns = s.turns;
       }
 
+      nothing_changed : (z : State) → IsSameBut 12 y z → ChangesNothing f z
+      nothing_changed z b = record { memory = b.memory; shows = shows_same z b }
+
       -- the loop answers for the whole
       sought_then : (z : State) (left spent : ℕ) → strchr v byte line x ≡ seek_within (suc left) ch v line x
           → (state_of (seek_within (suc left) ch v line x)).work ≡ x.work + spent
@@ -207,11 +211,11 @@ module _ (map : MapSizes) (mapped : AreMapped map) (entry : View) (IsGood : Byte
           (after_judge c C 10 (3 + (5 + 6 * W)) 1 11 31 y line 12 (judge 1 v x.objects) R
           (quiet_words c (Constant 11 1 ∷ []) f (tt, tt) w) judged
           (λ e z same. refused g k (Pointer own_into) x f (strchr v byte line x) (Spatial line) x.work z
-          (seek_out v ch line x (reach v) e) (shows_same z same))
+          (seek_out v ch line x (reach v) e) (nothing_changed z same))
           (λ e z same.
           let l = one_reached x v Dead e dead_not_out in
           refused g k (Pointer own_into) x f (strchr v byte line x) (Temporal line) x.work z
-          (ap (λ i. seek_within i ch v line x) l.1 ∙ seek_dead v ch line x l.0 e) (shows_same z same))
+          (ap (λ i. seek_within i ch v line x) l.1 ∙ seek_dead v ch line x l.0 e) (nothing_changed z same))
           (λ q e z wz same. behind q e z same)))
 
 -- ---- over other registers

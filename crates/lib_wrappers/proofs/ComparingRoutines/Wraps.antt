@@ -19,10 +19,11 @@ use Rattle.flat_routines.proofs.Distinct.{AreRegisters, register_of, registers_r
 use Rattle.flat_routines.proofs.Wrapped.{routine_that_may_end}
 use Rattle.flat_routines.specs.Objects.StandsFor.{Views, Keys}
 use Rattle.shadow_space.proofs.Entries.{context_of, agrees_shows, agrees_memory}
+use Rattle.flat_actions.specs.Actions.{ChangesNothing}
 use Rattle.flat_actions.specs.Actions.{IsFor, Holder, registers_of, IsGivenIn, AreHeldBy, Leaves, views_of, work_of}
 use Rattle.flat_actions.specs.Actions.{runtime_basis}
 use Rattle.flat_actions.specs.Actions.{IsAction}
-use Rattle.flat_actions.proofs.Standing.{given_still, ended_still}
+use Rattle.flat_actions.proofs.Standing.{given_still, ended_still, unwritten_same}
 use Rattle.lib_wrappers.specs.ComparingRoutines.Answering.{IsAnswered}
 
 shows_seen : (f : ℕ → ℕ) (s v : State) → ShowsNothing (through f s) v → ShowsNothing s v
@@ -37,11 +38,11 @@ shows_seen f s v h = record {
 -- an access is refused
 pub refused : (g : Views) (k : Keys) (result : Holder) (x : Source) (f : State) (o : Completed Value) (e : Ending)
     (w : ℕ)
-    (z : State) → o ≡ Ended e (at_work w x) → ShowsNothing f z
+    (z : State) → o ≡ Ended e (at_work w x) → ChangesNothing f z
     → IsAnswered g k result x f o (Halts (code_of e) (report_of e) z)
-refused g k result x f o e w z is shows =
+refused g k result x f o e w z is still =
     subst (λ u. IsAnswered g k result x f u (Halts (code_of e) (report_of e) z)) (sym is)
-    (refl, refl, record { work = w; same = refl }, shows)
+    (refl, refl, record { work = w; same = refl }, still)
 
 -- the routine alone answers, over registers that are seen in others
 abbrev pub AnswersAlone : MapSizes → View → (Bytes → Type 0) → (f : ℕ → ℕ) → List FlatInstruction → List Holder
@@ -90,7 +91,8 @@ module _ (sizes : MapSizes) (entry : View) (IsGood : Bytes → Type 0) (ins own 
       ended (Ended e x') status report h =
           subst (λ z. Leaves g k IsGood result t x s (Ended e z) (Halts status report s')) (sym h.2.same)
           (ended_still e x h.2.work status report s s' stands.shown
-          (agrees_shows count f y s s' agrees (shows_seen f s y h.3)) h.0 h.1)
+          (agrees_shows count f y s s' agrees (shows_seen f s y h.3.shows))
+          (unwritten_same (agrees_memory count f y s' agrees ∙ h.3.memory)) h.0 h.1)
       ended (Paused x') status report h = absurd h
 
     pub answers_act : IsAction (runtime_basis sizes entry IsGood) run arguments result t constant factor

@@ -1,4 +1,4 @@
--- Bytes of object space moved.
+-- Bytes moved, of object space and of the runtime's spaces.
 use Rattle.std.proofs.Common.{◌≡◌, ◌≢◌, ℕ, ◌+◌, ◌*◌, ◌%◌, ◌^◌, ◌<◌, List, [], ◌∷◌, true, refl, sym, ap}
 use Rattle.std.proofs.Common.{◌∙◌, subst, arith, ⊎_elim}
 use Rattle.addr_map.specs.Places.{MapSizes}
@@ -8,6 +8,7 @@ use Rattle.rv_isa.specs.Results.{extended}
 use Rattle.flat_meaning.specs.declared.instruction.FlatInstruction.{FlatInstruction}
 use Rattle.flat_meaning.specs.declared.instruction.FlatInstruction.TheVariants.{Load, Store}
 use Rattle.flat_meaning.specs.Memory.{Bytes, put, load, store}
+use Rattle.flat_meaning.specs.Spaces.{is_allowed}
 use Rattle.flat_meaning.specs.State.{State}
 use Rattle.flat_meaning.specs.Words.{IsOfWords}
 use Rattle.flat_meaning.specs.Meaning.{Context}
@@ -24,7 +25,8 @@ use Rattle.flat_actions.proofs.Standing.{others_trans}
 use Rattle.lib_wrappers.specs.MovingRoutines.Copying.{OneByte, Cells, AreCells, HasCopied, IsToCopy, CopiesOne}
 use Rattle.lib_wrappers.specs.MovingRoutines.Copying.{move_cells}
 use Rattle.lib_wrappers.specs.MovingRoutines.Copying.{IsToMoveCells, HasMovedCells}
-use Rattle.lib_wrappers.specs.MovingRoutines.Moving.{byte_body, byte_places, move_bytes_code}
+use Rattle.lib_wrappers.specs.MovingRoutines.Moving.{byte_body, byte_places, move_bytes_code, IsUsableRange}
+use Rattle.lib_wrappers.specs.MovingRoutines.Moving.{IsToMoveUsable, IsUsableMoveRoutine}
 use Rattle.lib_wrappers.proofs.MovingRoutines.Steps.{both_quiet, quiet_weaken, IsGlued, glued, named}
 use Rattle.lib_wrappers.proofs.MovingRoutines.Cells.{cells_move}
 
@@ -43,13 +45,18 @@ byte_beside m a v b ne = put_other m a (v % 256) b ne
 
 -- ---- one byte
 
--- the bytes of object space; what stands at any address is known
+-- a byte that may be used
+pub record IsUsable (map : MapSizes) (address : ℕ) : Type 0 where
+  pub allowed : is_allowed map address 1 ≡ true
+  pub small : address < 2 ^ 62
+
+-- the bytes that may be used; what stands at any address is known
 abbrev pub bytes_of : MapSizes → Cells
 bytes_of map = record {
   size = OneByte;
   Content = ℕ;
   content = λ m a. m a;
-  IsCell = λ a. IsObjectRange map a 1;
+  IsCell = IsUsable map;
   IsKnown = λ a. Unit {0};
   Changes = λ m m'. Unit {0};
   IsGood = λ m. Unit {0};
@@ -65,7 +72,7 @@ loop_registers t = t ∷ (t + 1) ∷ (t + 2) ∷ (t + 3) ∷ []
 abbrev own_body : List FlatInstruction
 own_body = Load Lbu 4 2 0 ∷ Store Sb 1 0 4 ∷ []
 
-module _ (map : MapSizes) (ok : IsLaidOut map) (t charge weight : ℕ) where
+module _ (map : MapSizes) (t charge weight : ℕ) where
   abbrev c : Context
   c = in_runtime map charge weight
 
@@ -74,8 +81,7 @@ module _ (map : MapSizes) (ok : IsLaidOut map) (t charge weight : ℕ) where
   unfolding put extended
   copied s s' p g =
       let a = s.values (t + 1) in let b = s.values (t + 2) in
-      let small = ok.small in
-      let to_last = p.to_cell.last in let from_last = p.from_cell.last in
+      let to_small = p.to_cell.small in let from_small = p.from_cell.small in
       let at_a : (a + 0) % 2 ^ 64 ≡ a = omega arith in
       let at_b : (b + 0) % 2 ^ 64 ≡ b = omega arith in
       let v = load 1 s.memory ((b + 0) % 2 ^ 64) in
@@ -103,10 +109,11 @@ module _ (map : MapSizes) (ok : IsLaidOut map) (t charge weight : ℕ) where
       → AreAllowed c own_body (through (named (loop_registers t) (t + 4) 1) s)
   unfolding put
   allowed s w p =
-      let small = ok.small in
-      let a = p.to_cell.last in let b = p.from_cell.last in (
-        object_allowed map ((s.values (t + 2) + 0) % 2 ^ 64) (s.values (t + 2)) 1 (omega arith) p.from_cell.first b,
-        (object_allowed map ((s.values (t + 1) + 0) % 2 ^ 64) (s.values (t + 1)) 1 (omega arith) p.to_cell.first a, tt),
+      let a = p.to_cell.small in let b = p.from_cell.small in
+      let to : (s.values (t + 1) + 0) % 2 ^ 64 ≡ s.values (t + 1) = omega arith in
+      let from : (s.values (t + 2) + 0) % 2 ^ 64 ≡ s.values (t + 2) = omega arith in (
+        ap (λ x. is_allowed map x 1) from ∙ p.from_cell.allowed,
+        (ap (λ x. is_allowed map x 1) to ∙ p.to_cell.allowed, tt),
       )
 
   pub byte_copies : CopiesOne c (bytes_of map) t 2 (byte_body t)
@@ -129,20 +136,24 @@ module _ (map : MapSizes) (ok : IsLaidOut map) (t charge weight : ℕ) where
     abbrev IsMovedSince : State → State → State → Type 0
     IsMovedSince s = HasMovedCells (bytes_of map) n (s.values to) (s.values from) t
 
-    ready : (s y : State) → IsToMove map to from bytes n s → IsPlaced s y
+    usable : (a j : ℕ) → IsUsableRange map a n → j < n → IsUsable map (a + 1 * j)
+    usable a j r l =
+        let small = r.small in
+        let e : a + j ≡ a + 1 * j = omega arith in
+        record { allowed = subst (λ x. is_allowed map x 1 ≡ true) e (r.usable j l); small = omega arith }
+
+    ready : (s y : State) → IsToMoveUsable map to from bytes n s → IsPlaced s y
         → IsToMoveCells (bytes_of map) n (s.values to) (s.values from) t y
     unfolding put
     ready s y p g =
-        let small = ok.small in
-        let a = p.to_range.first in let b = p.to_range.last in
-        let d = p.from_range.first in let e = p.from_range.last in
+        let b = p.to_range.small in let e = p.from_range.small in
         record {
           left = sym (g.values 3 (omega arith)) ∙ p.size_is;
           to_is = sym (g.values 4 (omega arith));
           from_is = sym (g.values 5 (omega arith));
           ranges = record {
-            to_cells = λ j l. record { first = omega arith; last = omega arith };
-            from_cells = λ j l. record { first = omega arith; last = omega arith };
+            to_cells = λ j l. usable (s.values to) j p.to_range l;
+            from_cells = λ j l. usable (s.values from) j p.from_range l;
             to_small = λ some. omega arith;
             from_small = λ some. omega arith;
           };
@@ -170,25 +181,47 @@ module _ (map : MapSizes) (ok : IsLaidOut map) (t charge weight : ℕ) where
           others = others_trans [] t s y z g.others h.others;
         }
 
-    pub bytes_move : Does c (move_bytes_code to from bytes t) (IsToMove map to from bytes n) (λ s. 16 + 7 * n)
+    pub bytes_move : Does c (move_bytes_code to from bytes t) (IsToMoveUsable map to from bytes n) (λ s. 16 + 7 * n)
         (λ s. Either (HasMovedBytes to from n t s) Never)
     bytes_move = record {
       from = λ code pc s has w p.
           (let fits : n < 2 ^ 64 = subst (λ x. x < 2 ^ 64) p.size_is (w.values bytes) in
           (quiet_weaken c (move_bytes_code to from bytes t) (3 + (7 + (n * 7 + 1))) (16 + 7 * n)
-          (IsToMove map to from bytes n) (IsToMove map to from bytes n) (HasMovedBytes to from n t)
+          (IsToMoveUsable map to from bytes n) (IsToMoveUsable map to from bytes n) (HasMovedBytes to from n t)
           (HasMovedBytes to from n t) (omega arith) (λ s p. p) (λ s s' p h. h)
           (both_quiet c (byte_places to from bytes t) (move_cells OneByte t (byte_body t)) 3 (7 + (n * 7 + 1))
-          (IsToMove map to from bytes n) IsPlaced
+          (IsToMoveUsable map to from bytes n) IsPlaced
           (λ s. IsToMoveCells (bytes_of map) n (s.values to) (s.values from) t) (λ s. IsMovedSince s)
           (HasMovedBytes to from n t)
-          (glued c (to ∷ from ∷ bytes ∷ []) t 3 own_places (IsToMove map to from bytes n) below refl
+          (glued c (to ∷ from ∷ bytes ∷ []) t 3 own_places (IsToMoveUsable map to from bytes n) below refl
           (λ s w p. (tt, (tt, (tt, tt)))))
           (λ s. cells_move c (bytes_of map) (are_bytes map) t (byte_body t) 2 byte_copies n (s.values to)
           (s.values from) fits)
           ready (λ s y z p g h. moved s y z g h))).from code pc s has w p);
     }
 
+pub moves_usable : (map : MapSizes) (to from bytes t : ℕ) → AreBelow t (to ∷ from ∷ bytes ∷ [])
+    → IsUsableMoveRoutine map to from bytes t (move_bytes_code to from bytes t)
+moves_usable map to from bytes t below n charge weight = bytes_move map t charge weight to from bytes below n
+
+-- a range of object space may be used
+pub object_usable : (map : MapSizes) → IsLaidOut map → (a n : ℕ) → IsObjectRange map a n → IsUsableRange map a n
+object_usable map ok a n r =
+    let small = ok.small in let first = r.first in let last = r.last in
+    record {
+      usable = λ i l. object_allowed map (a + i) (a + i) 1 refl (omega arith) (omega arith);
+      small = omega arith;
+    }
+
 pub moves_bytes : (map : MapSizes) (to from bytes t : ℕ) → IsLaidOut map → AreBelow t (to ∷ from ∷ bytes ∷ [])
     → IsByteMoveRoutine map to from bytes t (move_bytes_code to from bytes t)
-moves_bytes map to from bytes t ok below n charge weight = bytes_move map ok t charge weight to from bytes below n
+moves_bytes map to from bytes t ok below n charge weight =
+    quiet_weaken (in_runtime map charge weight) (move_bytes_code to from bytes t) (16 + 7 * n) (16 + 7 * n)
+    (IsToMoveUsable map to from bytes n) (IsToMove map to from bytes n) (HasMovedBytes to from n t)
+    (HasMovedBytes to from n t) (omega arith)
+    (λ s p. record {
+      size_is = p.size_is;
+      to_range = object_usable map ok (s.values to) n p.to_range;
+      from_range = object_usable map ok (s.values from) n p.from_range;
+    })
+    (λ s s' p h. h) (moves_usable map to from bytes t below n charge weight)

@@ -22,7 +22,7 @@ use Rattle.flat_routines.specs.Objects.StandsFor.{Views, Keys}
 use Rattle.flat_actions.specs.Judgement.Judging.{IsSameBut, IsJudged}
 use Rattle.flat_actions.specs.Actions.{IsShown, Holder, registers_of, Leaves}
 use Rattle.flat_actions.proofs.Judged.{judged_then, located_then, after_judge}
-use Rattle.flat_actions.proofs.Standing.{others_trans, ended_still}
+use Rattle.flat_actions.proofs.Standing.{others_trans, ended_still, unwritten_same, unwritten_since}
 
 -- the work that an outcome has done since a state
 abbrev pub work_done : Completed Value → Source → ℕ
@@ -51,6 +51,7 @@ module _ (g : Views) (k : Keys) (IsGood : Bytes → Type 0) (result : Holder) (t
     report_is = h.report_is;
     shown = h.shown;
     turns = h.turns ∙ s.shows.turns;
+    unwritten = unwritten_since s.memory h.unwritten;
   }
   left_since f f' (Gives v x') (Halts status report f2) s h = h
   left_since f f' (Ended e x') (Continues f2) s h = h
@@ -80,10 +81,10 @@ module _ (g : Views) (k : Keys) (IsGood : Bytes → Type 0) (result : Holder) (t
           (judges.from code pc f (has_front code pc judging act has) w p)
           (λ e f' s. subst (λ o. Left f o (Halts (code_of (Spatial line)) (report_of (Spatial line)) f'))
           (sym (whole_is Outside e))
-          (ended_still (Spatial line) x x.work _ _ f f' (shown f p) s.shows refl refl))
+          (ended_still (Spatial line) x x.work _ _ f f' (shown f p) s.shows (unwritten_same s.memory) refl refl))
           (λ e f' s. subst (λ o. Left f o (Halts (code_of (Temporal line)) (report_of (Temporal line)) f'))
           (sym (whole_is Dead e))
-          (ended_still (Temporal line) x x.work _ _ f f' (shown f p) s.shows refl refl))
+          (ended_still (Temporal line) x x.work _ _ f f' (shown f p) s.shows (unwritten_same s.memory) refl refl))
           (λ q e f' w' s.
           let same : next q x ≡ whole = sym (whole_is (Inside q) e) in
           weaken c code (K + F * work_done (next q x) x) (K + F * work_done whole x)

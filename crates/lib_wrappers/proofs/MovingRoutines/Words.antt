@@ -92,22 +92,22 @@ first_word d = (d + 7) / 8
 abbrev pub end_word : (d n : ℕ) → ℕ
 end_word d n = (d + n) / 8
 
-record AreSome (d s n k a b : ℕ) : Type 0 where
-  equal : d % 8 ≡ s % 8
-  some : first_word d < end_word d n
-  count_is : k ≡ end_word d n - first_word d
-  first_is : a ≡ 8 * first_word d
-  source_is : b ≡ 8 * first_word d + s - d
+pub record AreSome (d s n k a b : ℕ) : Type 0 where
+  pub equal : d % 8 ≡ s % 8
+  pub some : first_word d < end_word d n
+  pub count_is : k ≡ end_word d n - first_word d
+  pub first_is : a ≡ 8 * first_word d
+  pub source_is : b ≡ 8 * first_word d + s - d
 
-record AreNone (d s n k : ℕ) : Type 0 where
-  none : k ≡ 0
-  why : (d % 8 ≢ s % 8) ⊎ (end_word d n ≤ first_word d)
+pub record AreNone (d s n k : ℕ) : Type 0 where
+  pub none : k ≡ 0
+  pub why : (d % 8 ≢ s % 8) ⊎ (end_word d n ≤ first_word d)
 
-record HasCounted (d s n t : ℕ) (x y : State) : Type 0 where
-  words : AreSome d s n (y.values t) (y.values (t + 1)) (y.values (t + 2)) ⊎ AreNone d s n (y.values t)
-  memory : y.memory ≡ x.memory
-  shows : ShowsNothing x y
-  others : OthersStay [] t x y
+pub record HasCounted (d s n t : ℕ) (x y : State) : Type 0 where
+  pub words : AreSome d s n (y.values t) (y.values (t + 1)) (y.values (t + 2)) ⊎ AreNone d s n (y.values t)
+  pub memory : y.memory ≡ x.memory
+  pub shows : ShowsNothing x y
+  pub others : OthersStay [] t x y
 
 -- over registers of its own: 0 to 2 the range, 3 to 5 the words, 6 for work
 record Counted (d s n : ℕ) (v y : State) : Type 0 where
@@ -116,9 +116,9 @@ record Counted (d s n : ℕ) (v y : State) : Type 0 where
   shows : ShowsNothing v y
 
 -- the ranges alone
-record AreLow (d s n : ℕ) : Type 0 where
-  to_low : d + n < 2 ^ 32
-  from_low : s + n < 2 ^ 32
+pub record AreLow (d s n : ℕ) : Type 0 where
+  pub to_low : d + n < 2 ^ 32
+  pub from_low : s + n < 2 ^ 32
 
 abbrev alone : List FlatInstruction
 alone = count_words 0 1 2 3 4 5 6
@@ -200,7 +200,7 @@ module _ (c : Context) (v : State) (low : AreLow (v.values 0) (v.values 1) (v.va
         shows = record { input = refl; output = refl; taken = refl; accesses = refl; turns = refl };
       }))))))
 
-counts : (c : Context) (to from bytes t : ℕ) → AreBelow t (to ∷ from ∷ bytes ∷ [])
+pub counts : (c : Context) (to from bytes t : ℕ) → AreBelow t (to ∷ from ∷ bytes ∷ [])
     → Does c (count_words to from bytes t (t + 1) (t + 2) (t + 3))
     (λ s. AreLow (s.values to) (s.values from) (s.values bytes)) (λ s. 13)
     (λ s. Either (HasCounted (s.values to) (s.values from) (s.values bytes) t s) Never)

@@ -32,7 +32,7 @@ use Rattle.flat_operators.proofs.Values.{int_by_word}
 use Rattle.flat_actions.specs.Actions.{Basis, Holder, Word, context_in, views_of, IsFor, AreHeldBy, HasGiven}
 use Rattle.flat_actions.specs.Actions.{HasEnded, Leaves, IsAction}
 use Rattle.flat_actions.specs.Scanning.{IsWorked}
-use Rattle.flat_actions.proofs.Standing.{ended_still, good_still, keeps_same, stays_same, AreAllBelow}
+use Rattle.flat_actions.proofs.Standing.{ended_still, unwritten_same, good_still, keeps_same, stays_same, AreAllBelow}
 use Rattle.lib_wrappers.specs.PrintingRoutines.Digits.{HasPrinted}
 use Rattle.lib_wrappers.specs.PrintingRoutines.Formats.{cursor_of, counted_code, IsPrintCode}
 use Rattle.lib_wrappers.proofs.PrintingRoutines.Printable.{IsPrintable, directive_count, printable_kept}
@@ -190,8 +190,8 @@ module _ (map : MapSizes) (mapped : AreMapped map) (entry : View) (IsGood : Byte
         (ends_there c code a (Goes pc f) (pc + length print.scanning) (pc + length (print.scanning ++ (start ++ tail)))
         (IsFormatted map t ps hs vs 0 x f (Ended e x')) (R f (Ended e x')) run (λ f1 never. never)
         (λ status report f1 h.
-        subst (λ y. HasEnded e y status report f f1) (sym h.2.same)
-        (ended_still e x x'.work status report f f1 p.shown h.3 h.0 h.1)))
+        subst (λ y. HasEnded map e y status report f f1) (sym h.2.same)
+        (ended_still e x x'.work status report f f1 p.shown h.3.shows (unwritten_same h.3.memory) h.0 h.1)))
     from_formatted (Paused x') code pc f has words p run = absurd run.holds
 
   pub prints : (print : IsPrintCode basis line ps hs into t w code_of_it) (format : List ℕ) → pieces format ≡ Some ps

@@ -28,6 +28,8 @@ use Rattle.flat_routines.proofs.Rules.{weaken, next, arrived}
 use Rattle.flat_routines.proofs.Showing.{shows_both}
 use Rattle.flat_routines.specs.Objects.StandsFor.{Views, Keys}
 use Rattle.flat_routines.proofs.Spaces.Quiet.{shows_itself}
+use Rattle.flat_actions.specs.Actions.{ChangesNothing}
+use Rattle.flat_actions.proofs.Standing.{nothing_then}
 use Rattle.flat_actions.specs.Actions.{Basis, context_in, views_of, IsFor, Holder, Nowhere, Word, Pointer}
 use Rattle.flat_actions.specs.Actions.{registers_of}
 use Rattle.flat_actions.specs.Actions.{IsHeldBy, AreHeldBy, work_of}
@@ -63,7 +65,7 @@ abbrev pub IsFormatted : MapSizes → (scratch : ℕ) → List Piece → List Ho
 IsFormatted m t ps hs vs i x f (Gives bytes x') (Continues f') =
     IsWorked x x' × IsAfterScans t i f f' × IsPrintable m t ps hs vs i f' bytes
 IsFormatted m t ps hs vs i x f (Ended e x') (Halts status report f') =
-    (status ≡ code_of e) × (report ≡ report_of e) × IsWorked x x' × ShowsNothing f f'
+    (status ≡ code_of e) × (report ≡ report_of e) × IsWorked x x' × ChangesNothing f f'
 IsFormatted m t ps hs vs i x f (Gives bytes x') (Halts status report f') = ⊥
 IsFormatted m t ps hs vs i x f (Ended e x') (Continues f') = ⊥
 IsFormatted m t ps hs vs i x f (Paused x') o = ⊥
@@ -183,7 +185,7 @@ module _ (basis : Basis) (line t w : ℕ) (functions : ℕ) (types : ℕ → ℕ
     ),
   )
   with_argument d h v first ps hs vs i x y f f1 (Ended e x') (Halts status report f') worked after low by q =
-      (q.0, q.1, worked_both x y x' worked q.2, shows_both f f1 f' after.shows q.3)
+      (q.0, q.1, worked_both x y x' worked q.2, nothing_then (record { memory = after.memory; shows = after.shows }) q.3)
   with_argument d h v first ps hs vs i x y f f1 (Gives bytes x') (Halts status report f') worked after low by q = q
   with_argument d h v first ps hs vs i x y f f1 (Ended e x') (Continues f') worked after low by q = q
   with_argument d h v first ps hs vs i x y f f1 (Paused x') o worked after low by q = q

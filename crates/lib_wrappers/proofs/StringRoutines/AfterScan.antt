@@ -2,6 +2,7 @@
 use Rattle.std.proofs.Common.{◌≡◌, ℕ, ◌+◌, ◌≤◌, List, refl, sym, subst, arith}
 use Rattle.sb_base.specs.declared.ending.Ending.{Ending}
 use Rattle.sb_base.specs.Endings.{code_of, report_of}
+use Rattle.addr_map.specs.Places.{MapSizes}
 use Rattle.source_meaning.specs.State.{State as Source, Outcome as Completed, Gives, Ended, Paused}
 use Rattle.source_meaning.specs.Acting.{state_of}
 use Rattle.flat_meaning.specs.declared.instruction.FlatInstruction.{FlatInstruction}
@@ -9,11 +10,10 @@ use Rattle.flat_meaning.specs.State.{State}
 use Rattle.flat_meaning.specs.Words.{IsOfWords}
 use Rattle.flat_meaning.specs.Meaning.{Context, Goes}
 use Rattle.flat_routines.specs.Routine.{Outcome, Continues, Halts, Reaches, Either, Never}
-use Rattle.flat_routines.specs.Metadata.{ShowsNothing}
 use Rattle.flat_routines.proofs.Rules.{weaken, ends_there, next}
-use Rattle.flat_actions.specs.Actions.{IsShown, HasEnded}
+use Rattle.flat_actions.specs.Actions.{IsShown, HasEnded, ChangesNothing}
 use Rattle.flat_actions.specs.Scanning.{IsWorked, HasScanned, IsScanned}
-use Rattle.flat_actions.proofs.Standing.{ended_still}
+use Rattle.flat_actions.proofs.Standing.{ended_still, unwritten_same}
 
 -- a scan takes no work back
 works_on : (word cursor t : ℕ) (x : Source) (f : State) (r : Completed (List ℕ)) (o : Outcome)
@@ -25,18 +25,18 @@ works_on word cursor t x f (Ended e x') (Continues f') i = absurd i
 works_on word cursor t x f (Paused x') o i = absurd i
 
 -- the run is over where a scan ends it
-pub over : (x x' : Source) (e : Ending) (f f' : State) → IsShown x f → IsWorked x x' → ShowsNothing f f'
-    → HasEnded e x' (code_of e) (report_of e) f f'
-over x x' e f f' shown worked shows =
-    subst (λ y. HasEnded e y (code_of e) (report_of e) f f') (sym worked.same)
-    (ended_still e x x'.work (code_of e) (report_of e) f f' shown shows refl refl)
+pub over : {map : MapSizes} (x x' : Source) (e : Ending) (f f' : State) → IsShown x f → IsWorked x x'
+    → ChangesNothing f f' → HasEnded map e x' (code_of e) (report_of e) f f'
+over {map} x x' e f f' shown worked still =
+    subst (λ y. HasEnded map e y (code_of e) (report_of e) f f') (sym worked.same)
+    (ended_still e x x'.work (code_of e) (report_of e) f f' shown still.shows (unwritten_same still.memory) refl refl)
 
 module _ (c : Context) (code : List FlatInstruction) where
   pub after_scan : (a total : ℕ) (b : List ℕ → Source → ℕ) (pc middle end : ℕ) (f : State) (word cursor t : ℕ)
       (x : Source) (r : Completed (List ℕ)) (R : Outcome → Type 0) → IsOfWords f
       → Reaches c code a (Goes pc f) middle (IsScanned word cursor t x f r)
       → ((e : Ending) (x' : Source) → r ≡ Ended e x' → IsWorked x x'
-      → (a ≤ total) × ((f' : State) → ShowsNothing f f' → R (Halts (code_of e) (report_of e) f')))
+      → (a ≤ total) × ((f' : State) → ChangesNothing f f' → R (Halts (code_of e) (report_of e) f')))
       → ((bytes : List ℕ) (x' : Source) → r ≡ Gives bytes x' → x.work ≤ x'.work → a + b bytes x' ≤ total)
       → ((bytes : List ℕ) (x' : Source) → r ≡ Gives bytes x' → (f' : State) → IsOfWords f' → IsWorked x x'
       → HasScanned word bytes cursor t f f' → Reaches c code (b bytes x') (Goes middle f') end R)

@@ -10,6 +10,7 @@ use Rattle.flat_routines.specs.Routine.{Outcome, Continues, Halts}
 use Rattle.flat_routines.specs.Metadata.{ShowsNothing}
 use Rattle.flat_routines.specs.Objects.StandsFor.{Views, Keys}
 use Rattle.flat_actions.specs.Actions.{Nowhere, Leaves}
+use Rattle.flat_actions.proofs.Standing.{unwritten_since}
 
 -- registers below t, memory and what is shown are as before
 pub record IsSince (t : ℕ) (f f' : State) : Type 0 where
@@ -38,6 +39,7 @@ module _ (g : Views) (k : Keys) (IsGood : Bytes → Type 0) where
     report_is = h.report_is;
     shown = h.shown;
     turns = h.turns ∙ s.shows.turns;
+    unwritten = unwritten_since s.memory h.unwritten;
   }
   left_from t u w x f f' (Gives v x') (Halts status report f2) le s h = h
   left_from t u w x f f' (Ended e x') (Continues f2) le s h = h

@@ -35,6 +35,7 @@ use Rattle.flat_routines.proofs.Branches.{if_differ, if_same, if_equal, if_unequ
 use Rattle.flat_routines.proofs.Showing.{shows_on}
 use Rattle.flat_routines.proofs.Words.{byte_loaded}
 use Rattle.behaviours.specs.Shown.{Read}
+use Rattle.flat_actions.specs.Actions.{ChangesNothing}
 use Rattle.flat_actions.specs.Scanning.{IsWorked}
 use Rattle.lib_wrappers.specs.StringRoutines.Scanning.{scan_loop}
 use Rattle.flat_actions.proofs.Looking.{worked_on, looked}
@@ -60,7 +61,7 @@ pub record HasFound (word : ℕ) (bytes : List ℕ) (s v : State) : Type 0 where
 abbrev pub Found : (start : State) → Source → (word : ℕ) → Completed (List ℕ) → Outcome → Type 0
 Found s x word (Gives bytes x') (Continues v) = IsWorked x x' × HasFound word bytes s v
 Found s x word (Ended e x') (Halts status report v) =
-    (status ≡ code_of e) × (report ≡ report_of e) × IsWorked x x' × ShowsNothing s v
+    (status ≡ code_of e) × (report ≡ report_of e) × IsWorked x x' × ChangesNothing s v
 Found s x word (Gives bytes x') (Halts status report v) = ⊥
 Found s x word (Ended e x') (Continues v) = ⊥
 Found s x word (Paused x') o = ⊥
@@ -162,7 +163,7 @@ module _ (c : Context) (runtime : c.is_runtime ≡ true) (code : List FlatInstru
                 (branch c code 1 q f Bne 6 (Register 2) 1 (pc + 6 + length limited) R at.0
                 (λ t. absurd (eqb-false _ _ (if_differ (f.values 6) (f.values 2) t) same))
                 (λ t. ended c code 0 (Spatial line) (worked c f) (q + 1) (pc + 6 + length limited) R at.1.0
-                (refl, refl, no_work x, shows_on start f _ h.shows refl refl refl refl refl)));
+                (refl, refl, no_work x, record { memory = h.memory; shows = shows_on start f _ h.shows refl refl refl refl refl })));
           }
       by (inr differ) =
           let w = h.within in let p = h.cursor_is in let u = h.bound_is in

@@ -31,6 +31,8 @@ use Rattle.flat_routines.proofs.Wrapped.{routine_that_may_end}
 use Rattle.flat_routines.proofs.Showing.{shows_both}
 use Rattle.flat_routines.specs.Objects.StandsFor.{Views, Keys}
 use Rattle.shadow_space.proofs.Entries.{agrees_shows, agrees_memory}
+use Rattle.flat_actions.specs.Actions.{ChangesNothing}
+use Rattle.flat_actions.proofs.Standing.{nothing_then}
 use Rattle.flat_actions.specs.Judgement.Judging.{IsSameBut}
 use Rattle.flat_actions.specs.Actions.{Basis, Pointer, IsHeldBy, IsFor, context_in, views_of, work_of}
 use Rattle.flat_actions.specs.Scanning.{IsScanned, IsScanRoutine}
@@ -149,13 +151,16 @@ module _ (basis : Basis) (runtime : basis.is_runtime ≡ true) (mapped : AreMapp
           found.0,
           found.1,
           found.2,
-          agrees_shows 9 names u f f' agrees (let q = found.3 in record {
-            input = q.input;
-            output = q.output;
-            taken = q.taken;
-            accesses = q.accesses;
-            turns = q.turns;
-          }),
+          record {
+            memory = agrees_memory 9 names u f' agrees ∙ found.3.memory;
+            shows = agrees_shows 9 names u f f' agrees (let q = found.3.shows in record {
+              input = q.input;
+              output = q.output;
+              taken = q.taken;
+              accesses = q.accesses;
+              turns = q.turns;
+            });
+          },
         )
         was_ended (Paused x') f f' u status report found agrees only = absurd found
 
@@ -228,7 +233,7 @@ module _ (basis : Basis) (runtime : basis.is_runtime ≡ true) (mapped : AreMapp
         others = others_trans (cursor ∷ []) t f f' y s.others i.1.others;
       },
     )
-    scanned_from (Ended e x') f f' (Halts status report y) s i = (i.0, i.1, i.2, shows_both f f' y s.shows i.3)
+    scanned_from (Ended e x') f f' (Halts status report y) s i = (i.0, i.1, i.2, nothing_then (record { memory = s.memory; shows = s.shows }) i.3)
     scanned_from (Gives bytes x') f f' (Halts status report y) s i = absurd i
     scanned_from (Ended e x') f f' (Continues y) s i = absurd i
     scanned_from (Paused x') f f' o s i = absurd i
@@ -264,12 +269,12 @@ module _ (basis : Basis) (runtime : basis.is_runtime ≡ true) (mapped : AreMapp
           (λ e f' same. subst (λ r. IsScanned v.word cursor t x f r
           (Halts (code_of (Spatial line)) (report_of (Spatial line)) f'))
           (sym (scan_outside n (behind_of l line) x v line (none_left l line x v n (f.values limit) p.2) e))
-          (refl, refl, no_work x, (still f f' s same).shows))
+          (refl, refl, no_work x, (let u = still f f' s same in record { memory = u.memory; shows = u.shows })))
           (λ e f' same. subst (λ r. IsScanned v.word cursor t x f r
           (Halts (code_of (Temporal line)) (report_of (Temporal line)) f'))
           (sym (scan_dead n (behind_of l line) x v line
           (some_left l v n (f.values limit) p.2 (around x.objects v Dead e (λ q. let z : Dead ≡ Outside = q in cc))) e))
-          (refl, refl, no_work x, (still f f' s same).shows))
+          (refl, refl, no_work x, (let u = still f f' s same in record { memory = u.memory; shows = u.shows })))
           (λ q e f' words same.
           let u = still f f' s same in
           weaken c code (2 + 6 * W) (2 + 6 * W) (Goes (pc + 1 + length J) f') end _ R (omega arith)

@@ -8,7 +8,7 @@ use Rattle.flat_meaning.specs.State.{State}
 use Rattle.flat_routines.specs.Routine.{Outcome, Continues, Halts}
 use Rattle.flat_routines.specs.Metadata.{ShowsNothing}
 use Rattle.flat_routines.specs.Objects.StandsFor.{Views, Keys}
-use Rattle.flat_actions.specs.Actions.{Holder, IsGivenIn}
+use Rattle.flat_actions.specs.Actions.{Holder, IsGivenIn, ChangesNothing}
 
 -- only work was done in the source
 pub record IsWorking (before after : Source) : Type 0 where
@@ -28,7 +28,7 @@ pub record HasAnswered (views : Views) (keys : Keys) (result : Holder) (before :
 abbrev pub IsAnswered : Views → Keys → (result : Holder) → Source → State → Completed Value → Outcome → Type 0
 IsAnswered g k result x f (Gives v x') (Continues f') = HasAnswered g k result x f v x' f'
 IsAnswered g k result x f (Ended e x') (Halts status report f') =
-    (status ≡ code_of e) × (report ≡ report_of e) × IsWorking x x' × ShowsNothing f f'
+    (status ≡ code_of e) × (report ≡ report_of e) × IsWorking x x' × ChangesNothing f f'
 IsAnswered g k result x f (Gives v x') (Halts status report f') = ⊥
 IsAnswered g k result x f (Ended e x') (Continues f') = ⊥
 IsAnswered g k result x f (Paused x') o = ⊥

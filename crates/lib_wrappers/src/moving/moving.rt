@@ -5,7 +5,7 @@ ghost use Rattle.addr_map.specs.Places.{AreMapped};
 ghost use Rattle.flat_routines.specs.Registers.{AreBelow};
 ghost use Rattle.flat_actions.specs.Ranges.{IsByteMoveRoutine, IsTaggedMoveRoutine};
 ghost use Rattle.lib_wrappers.specs.MovingRoutines.Copying.{choose_order, copy_loop};
-ghost use Rattle.lib_wrappers.specs.MovingRoutines.Moving.{move_bytes_code};
+ghost use Rattle.lib_wrappers.specs.MovingRoutines.Moving.{move_bytes_code, IsUsableMoveRoutine};
 ghost use Rattle.lib_wrappers.specs.MovingRoutines.Tagged.{CopiesEntry, count_words, move_words};
 
 use addr_map::AddrMap;
@@ -31,6 +31,25 @@ pub fn move_bytes(
     requires below { AreBelow scratch (to ∷ from ∷ bytes ∷ []) }
     requires room { scratch + 8 ≤ 2 ^ 31 }
     ensures { IfOk result (λ r. IsByteMoveRoutine map.now to from bytes scratch r.items) }
+{
+    move_bytes_instructions(alloc, to, from, bytes, scratch)
+}
+
+/// Moves as many bytes as `bytes` holds from the address in `from` on to those from the address in `to` on, as by
+/// `memmove`, also where the ranges overlap: of object space or of the runtime's spaces. It may write the registers from
+/// `scratch` on, and shows nothing else. The only refusal is that memory fails.
+pub fn move_usable(
+    alloc: Global,
+    map: &AddrMap,
+    to: u32,
+    from: u32,
+    bytes: u32,
+    scratch: u32,
+) -> Result<Vec<FlatInstruction>, AllocError>
+    requires map { AreMapped map.now }
+    requires below { AreBelow scratch (to ∷ from ∷ bytes ∷ []) }
+    requires room { scratch + 8 ≤ 2 ^ 31 }
+    ensures { IfOk result (λ r. IsUsableMoveRoutine map.now to from bytes scratch r.items) }
 {
     move_bytes_instructions(alloc, to, from, bytes, scratch)
 }
@@ -77,8 +96,9 @@ fn move_bytes_instructions(
     joined(alloc, &places, cells.as_slice())
 }
 
-// Cells of so many bytes, a power of two, moved from the first or from the last one on.
-fn cell_instructions(
+/// Cells of so many bytes, two to the power of `shift`, moved by `body` from the first or from the last one on. The
+/// only refusal is that memory fails.
+pub fn cell_instructions(
     alloc: Global,
     unit: u64,
     shift: u64,
@@ -255,7 +275,9 @@ fn word_instructions(
     joined(alloc, count.as_slice(), cells.as_slice())
 }
 
-fn count_instructions(
+/// How many whole words a range has that is moved, none where the two places are not equal modulo 8, and the first of them
+/// there and in the range to move from: in the registers from `scratch` on. The only refusal is that memory fails.
+pub fn count_instructions(
     alloc: Global,
     to: u32,
     from: u32,

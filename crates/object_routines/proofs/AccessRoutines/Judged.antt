@@ -36,6 +36,7 @@ use Rattle.flat_routines.specs.Objects.StandsFor.{Views, Keys}
 use Rattle.flat_actions.specs.Judgement.Judging.{IsSameBut}
 use Rattle.flat_actions.specs.Actions.{IsFor, Holder, Word, Pointer as InPointer, registers_of, AreHeldBy}
 use Rattle.flat_actions.specs.Actions.{Leaves, Basis, context_in, IsAction, IsActionIn, views_of, work_of}
+use Rattle.flat_actions.proofs.Standing.{unwritten_same, unwritten_since}
 use Rattle.flat_actions.proofs.Standing.{for_still, held_still, none_of_none, others_trans, shown_still}
 use Rattle.flat_actions.specs.Judgement.Testing.{IsTested}
 use Rattle.flat_actions.specs.Judgement.Code.{spatial_code, temporal_code}
@@ -125,6 +126,7 @@ leaves_after g k IsGood result t x f f' same (Ended e x') (Halts status report z
   report_is = h.report_is;
   shown = h.shown;
   turns = h.turns âˆ™ same.shows.turns;
+  unwritten = unwritten_since same.memory h.unwritten;
 }
 leaves_after g k IsGood result t x f f' same (Gives v x') (Halts status report z) h = h
 leaves_after g k IsGood result t x f f' same (Ended e x') (Continues z) h = h
@@ -172,6 +174,7 @@ module _ (basis : Basis) (mapped : AreMapped basis.map) (h : Held) (n line t : â
             report_is = b;
             shown = shown_still x f z same.shows stands.shown;
             turns = same.shows.turns;
+            unwritten = unwritten_same same.memory;
           })
 
       -- the access behind both tests

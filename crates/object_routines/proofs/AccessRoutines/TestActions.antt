@@ -20,7 +20,7 @@ use Rattle.flat_routines.specs.Objects.StandsFor.{Views, Keys}
 use Rattle.flat_actions.specs.Actions.{Basis, IsFor, Nowhere, Pointer, Leaves, IsAction, IsActionIn, context_in}
 use Rattle.flat_actions.specs.Actions.{views_of}
 use Rattle.flat_actions.specs.Actions.{work_of}
-use Rattle.flat_actions.proofs.Standing.{given_still, ended_still}
+use Rattle.flat_actions.proofs.Standing.{given_still, ended_still, unwritten_same}
 use Rattle.flat_actions.specs.Judgement.Testing.{IsTested, IsSpatialRoutine, IsTemporalRoutine}
 
 tested_leaves : (g : Views) (k : Keys) (IsGood : Bytes → Type 0) (t : ℕ) (x : Source) (f : State) → IsFor g k IsGood x f
@@ -31,7 +31,7 @@ tested_leaves g k IsGood t x f stands true e (Continues z) same =
 tested_leaves g k IsGood t x f stands true e (Halts status report z) h = absurd h
 tested_leaves g k IsGood t x f stands false e (Continues z) h = absurd h
 tested_leaves g k IsGood t x f stands false e (Halts status report z) h =
-    ended_still e x x.work status report f z stands.shown h.2.shows h.0 h.1
+    ended_still e x x.work status report f z stands.shown h.2.shows (unwritten_same h.2.memory) h.0 h.1
 
 -- of a known number of bytes
 pub spatial_acts : (basis : Basis) (h : Held) (n line t : ℕ) (r : List FlatInstruction) → 1 ≤ n → n < 2 ^ 64

@@ -3,7 +3,7 @@ use Rattle.std.proofs.Common.{◌≡◌, ◌≢◌, ℕ, suc, ◌+◌, ◌-◌, 
 use Rattle.std.proofs.Common.{false}
 use Rattle.std.proofs.Common.{if◌then◌else◌, Option, Some, None, length, refl, sym, ap, ◌∙◌, subst, arith}
 use Rattle.std.proofs.Common.{length-append}
-use Rattle.std.proofs.Common.{⊎_elim}
+use Rattle.std.proofs.Common.{⊎_elim, inl, inr}
 use Rattle.std.specs.Prelude.{nat_lt}
 use Rattle.std.proofs.lemmas.Bool.{cases_lt, lt-ltb, le-ltb}
 use Rattle.sb_base.specs.declared.ending.Ending.TheVariants.{Keys as KeysSpent}
@@ -54,6 +54,7 @@ use Rattle.heap_space.specs.Routines.{IsPlacedIn, place_of, IsPlaceRoutine}
 use Rattle.heap_space.proofs.Lists.{rows_length, too_many}
 use Rattle.heap_space.proofs.Counting.{rows_counted}
 use Rattle.heap_space.proofs.Objects.{place_by_rows}
+use Rattle.flat_routines.proofs.Regions.{spaces_follow}
 use Rattle.heap_space.proofs.Regions.{table_laid_out, last_of_heap}
 use Rattle.flat_actions.specs.Actions.{AreSpacesGood, IsFor, Pointer, Leaves, HasGiven, HasEnded, views_of, work_of}
 use Rattle.flat_actions.proofs.Standing.{shown_still, given_still, ended_still}
@@ -206,7 +207,7 @@ module _ (map : MapSizes) (mapped : AreMapped map) (entry : View) (IsGood : Byte
     -- ---- no key
 
     spent_ended : (s3 : State) → IsSought map size into t x.keys z s s3
-        → HasEnded (KeysSpent line) (sought_in x) (code_of (KeysSpent line)) (report_of (KeysSpent line)) s
+        → HasEnded map (KeysSpent line) (sought_in x) (code_of (KeysSpent line)) (report_of (KeysSpent line)) s
         (counted c (End (KeysSpent line)) (worked c (worked c s3)))
     spent_ended s3 d =
         ended_still (KeysSpent line) x (x.work + (1 + block_count x.objects)) (code_of (KeysSpent line))
@@ -217,7 +218,11 @@ module _ (map : MapSizes) (mapped : AreMapped map) (entry : View) (IsGood : Byte
           taken = h.taken;
           accesses = h.accesses;
           turns = h.turns;
-        }) refl refl
+        })
+        (let follow = spaces_follow map in
+        let shadow = follow.shadow in let locks = follow.locks in let table = follow.table in
+        record { low = λ a l. d.memory a (inl (omega arith)); behind = λ a l. d.memory a (inr (omega arith)) })
+        refl refl
 
     -- ---- a block
 

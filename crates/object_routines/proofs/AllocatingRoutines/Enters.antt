@@ -42,6 +42,7 @@ use Rattle.lock_space.proofs.Spaces.{locks_laid_out}
 use Rattle.heap_space.specs.Table.{block_total, block_rows, row_cell}
 use Rattle.heap_space.proofs.Lists.{rows_length}
 use Rattle.flat_actions.specs.Actions.{AreSpacesGood, IsFor, HasEnded, views_of}
+use Rattle.flat_actions.proofs.Standing.{unwritten_same}
 use Rattle.flat_actions.proofs.Standing.{shown_still, ended_still}
 use Rattle.flat_routines.proofs.Spaces.Quiet.{shows_worked, worked_words}
 use Rattle.object_routines.specs.declared.allocating.entering.EntryRegisters.{EntryRegisters}
@@ -193,9 +194,9 @@ module _ (map : MapSizes) (mapped : AreMapped map) (entry : View) (IsGood : Byte
     end_is : objects_end vs x.stacked ≡ base + extent
     end_is = end_by_bytes vs x.stacked can.some
 
-    over : (e : Ending) (s' : State) → ShowsNothing s s'
-        → HasEnded e x (code_of e) (report_of e) s (counted c (End e) s')
-    over e s' shows =
+    over : (e : Ending) (s' : State) → ShowsNothing s s' → s'.memory ≡ s.memory
+        → HasEnded map e x (code_of e) (report_of e) s (counted c (End e) s')
+    over e s' shows memory =
         ended_still e x x.work (code_of e) (report_of e) s (counted c (End e) s') f.shown
         (record {
           input = shows.input;
@@ -203,7 +204,7 @@ module _ (map : MapSizes) (mapped : AreMapped map) (entry : View) (IsGood : Byte
           taken = shows.taken;
           accesses = shows.accesses;
           turns = shows.turns;
-        }) refl refl
+        }) (unwritten_same memory) refl refl
 
     -- ---- no room
 
@@ -223,7 +224,7 @@ module _ (map : MapSizes) (mapped : AreMapped map) (entry : View) (IsGood : Byte
         goes_into c code 1 (pc + 5) s1 Bgeu t (Register bytes) 1 (pc + length whole) R at_test.0
         (is_below (s1.values t) (s1.values bytes) (omega arith))
         (ended c code 0 (StackSpent line) (worked c s1) (pc + 5 + 1) (pc + length whole) R at_test.1.0
-        (over (StackSpent line) (worked c s1) (shows_worked c s s1 d1.shows))))))
+        (over (StackSpent line) (worked c s1) (shows_worked c s s1 d1.shows) d1.memory)))))
 
     -- ---- keys
 
@@ -305,7 +306,7 @@ module _ (map : MapSizes) (mapped : AreMapped map) (entry : View) (IsGood : Byte
           goes_into c code 1 (pc + 16) s2 Bne t (Number 0) 1 (pc + length whole) R at_keys.0
           (do_not_differ (s2.values t) 0 (d2.left ∙ none_left x.keys map.budgets.keys spent))
           (ended c code 0 (KeysSpent line) (worked c s2) (pc + 16 + 1) (pc + length whole) R at_keys.1.0
-          (over (KeysSpent line) (worked c s2) (shows_worked c s s2 d2.shows))))))
+          (over (KeysSpent line) (worked c s2) (shows_worked c s s2 d2.shows) d2.memory)))))
 
       -- ---- the objects
 

@@ -42,6 +42,7 @@ use Rattle.lock_space.proofs.Spaces.{locks_laid_out, allowed_at}
 use Rattle.heap_space.specs.Rows.{HasStart, size_of}
 use Rattle.heap_space.specs.Table.{block_total, block_rows, IsTableGood}
 use Rattle.heap_space.specs.Routines.{HasFound, IsFound, IsFindRoutine}
+use Rattle.flat_actions.specs.Actions.{ChangesNothing}
 use Rattle.flat_actions.specs.Actions.{IsFor, Pointer, IsHeldBy}
 use Rattle.flat_actions.specs.Actions.{views_of}
 use Rattle.object_routines.specs.AllocatingRoutines.Freeing.{life_test, found_test}
@@ -102,7 +103,7 @@ module _ (map : MapSizes) (mapped : AreMapped map) (entry : View) (IsGood : Byte
 
   -- the run is over with an ending
   abbrev Over : (e : Ending) → (R : Outcome → Type 0) → Type 0
-  Over e R = (s' : State) → ShowsNothing s s' → R (Halts (code_of e) (report_of e) s')
+  Over e R = (s' : State) → ChangesNothing s s' → R (Halts (code_of e) (report_of e) s')
 
   -- ---- no object
 
@@ -113,7 +114,7 @@ module _ (map : MapSizes) (mapped : AreMapped map) (entry : View) (IsGood : Byte
       (do_not_differ (s.values h.tag.lock) 0 (lock_is ∙ empty))
       (ended c code 0 (BadFree line) (worked c s) (pc + 1) end R has.1.0
       (over (counted c (End (BadFree line)) (worked c s))
-      (shows_counted (BadFree line) (worked c s) (shows_worked c s s itself))))
+      (record { memory = refl; shows = shows_counted (BadFree line) (worked c s) (shows_worked c s s itself) })))
 
   -- only registers of its own changed, and one has the size of the block
   pub record IsTested (size' : ℕ) (s2 : State) : Type 0 where
@@ -206,7 +207,7 @@ module _ (map : MapSizes) (mapped : AreMapped map) (entry : View) (IsGood : Byte
         (sym l.word ∙ e ∙ l.others h.tag.key below.1.1.1.0 tt ∙ key_there)))
         (ended c code 0 (Temporal line) (worked c s1) (pc + 1 + 1 + 1 + 1) end R has.1.1.1.1.0
         (over (counted c (End (Temporal line)) (worked c s1))
-        (shows_counted (Temporal line) (worked c s1) (shows_worked c s s1 l.shows)))))
+        (record { memory = l.memory; shows = shows_counted (Temporal line) (worked c s1) (shows_worked c s s1 l.shows) }))))
 
     module _ (live : (object_at x.objects n).is_live ≡ true) where
       abbrev answer : Option ℕ
@@ -262,7 +263,7 @@ module _ (map : MapSizes) (mapped : AreMapped map) (entry : View) (IsGood : Byte
           (do_not_differ (s2.values (t + 2)) 0 none_there)
           (ended c code 0 (BadFree line) (worked c s2) (pc + 5 + length find + 1) end R at_found.1.0
           (over (counted c (End (BadFree line)) (worked c s2))
-          (shows_counted (BadFree line) (worked c s2) (shows_worked c s s2 a.shows)))))
+          (record { memory = a.memory; shows = shows_counted (BadFree line) (worked c s2) (shows_worked c s s2 a.shows) }))))
 
       starts : (z : ℕ) → answer ≡ Some z
           → (is_block_start (object_at x.objects n) v.word ≡ true) × HasStart v.word (block_rows map s.memory)

@@ -38,8 +38,10 @@ use Rattle.lock_space.specs.Routines.{IsReleaseRoutine}
 use Rattle.heap_space.specs.Table.{block_total}
 use Rattle.heap_space.specs.Routines.{IsFindRoutine}
 use Rattle.heap_space.specs.Routines.{IsReleaseRoutine as IsUnlistRoutine}
+use Rattle.flat_actions.specs.Actions.{ChangesNothing}
 use Rattle.flat_actions.specs.Actions.{IsFor, Pointer, Nowhere, AreHeldBy, IsHeldBy, Leaves, runtime_basis}
 use Rattle.flat_actions.specs.Actions.{views_of, context_in, work_of}
+use Rattle.flat_actions.proofs.Standing.{unwritten_same}
 use Rattle.flat_actions.proofs.Standing.{for_still, given_still, ended_still, keeps_same}
 use Rattle.object_routines.specs.AllocatingRoutines.Freeing.{IsFreeRoutine, life_test, found_test, end_code, free_code}
 use Rattle.flat_routines.proofs.Spaces.Quiet.{shows_worked}
@@ -119,12 +121,12 @@ module _ (map : MapSizes) (mapped : AreMapped map) (entry : View) (IsGood : Byte
       abbrev B : ℕ
       B = 19 + 26 * work_of (free v line) x
 
-      over : (n : ℕ) (e : Ending) → free v line x ≡ Ended e (at_work n x) → (s' : State) → ShowsNothing s1 s'
+      over : (n : ℕ) (e : Ending) → free v line x ≡ Ended e (at_work n x) → (s' : State) → ChangesNothing s1 s'
           → R (Halts (code_of e) (report_of e) s')
-      over n e o s' shows =
+      over n e o s' still =
           subst (λ o. Leaves g k IsGood Nowhere t x s o (Halts (code_of e) (report_of e) s')) (sym o)
           (ended_still e x n (code_of e) (report_of e) s s' f.shown
-          (shows_both s s1 s' (shows_worked c s s itself) shows) refl refl)
+          (shows_both s s1 s' (shows_worked c s s itself) still.shows) (unwritten_same still.memory) refl refl)
 
       work_is : {o : Completed Value} → free v line x ≡ o → B ≡ 19 + 26 * ((state_of o).work - x.work)
       work_is e = ap (λ o. 19 + 26 * ((state_of o).work - x.work)) e

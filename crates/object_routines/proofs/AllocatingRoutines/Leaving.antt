@@ -9,6 +9,7 @@ use Rattle.flat_routines.specs.Routine.{Outcome, Continues, Halts, Either}
 use Rattle.flat_routines.specs.Metadata.{ShowsNothing}
 use Rattle.flat_routines.specs.Objects.StandsFor.{Views, Keys}
 use Rattle.flat_actions.specs.Actions.{Holder, registers_of, Leaves}
+use Rattle.flat_actions.proofs.Standing.{unwritten_since}
 
 module _ (g : Views) (k : Keys) (IsGood : Bytes → Type 0) (result : Holder) (t u : ℕ) (le : t ≤ u) (x : Source)
     (s s1 : State) (memory : s1.memory ≡ s.memory) (shows : ShowsNothing s s1)
@@ -32,6 +33,7 @@ module _ (g : Views) (k : Keys) (IsGood : Bytes → Type 0) (result : Holder) (t
     report_is = h.report_is;
     shown = h.shown;
     turns = h.turns ∙ shows.turns;
+    unwritten = unwritten_since memory h.unwritten;
   }
   leaves_from (Gives v x') (Halts status report s') h = absurd h
   leaves_from (Ended e x') (Continues s') h = absurd h

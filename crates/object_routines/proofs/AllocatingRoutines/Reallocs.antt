@@ -40,9 +40,11 @@ use Rattle.lock_space.specs.Routines.{IsReleaseRoutine}
 use Rattle.heap_space.specs.Table.{block_total}
 use Rattle.heap_space.specs.Routines.{IsFindRoutine}
 use Rattle.heap_space.specs.Routines.{IsReleaseRoutine as IsUnlistRoutine}
+use Rattle.flat_actions.specs.Actions.{ChangesNothing}
 use Rattle.flat_actions.specs.Actions.{IsFor, Word, Pointer, AreHeldBy, IsHeldBy, Leaves, views_of, context_in}
 use Rattle.flat_actions.specs.Actions.{work_of}
 use Rattle.flat_actions.specs.Ranges.{IsTaggedMoveRoutine}
+use Rattle.flat_actions.proofs.Standing.{unwritten_same}
 use Rattle.flat_actions.proofs.Standing.{for_still, ended_still}
 use Rattle.flat_routines.proofs.Spaces.Quiet.{shows_worked, worked_words}
 use Rattle.flat_actions.specs.Actions.{runtime_basis}
@@ -259,12 +261,12 @@ module _ (map : MapSizes) (mapped : AreMapped map) (entry : View) (IsGood : Byte
       work_is : {o : Completed Value} → run ≡ o → B ≡ 99 + 30 * ((state_of o).work - x.work)
       work_is e = ap (λ o. 99 + 30 * ((state_of o).work - x.work)) e
 
-      over : (n : ℕ) (e : Ending) → run ≡ Ended e (at_work n x) → (s' : State) → ShowsNothing s1 s'
+      over : (n : ℕ) (e : Ending) → run ≡ Ended e (at_work n x) → (s' : State) → ChangesNothing s1 s'
           → R (Halts (code_of e) (report_of e) s')
-      over n e o s' shows =
+      over n e o s' still =
           subst (λ o. Leaves g k IsGood (Pointer into) t x s o (Halts (code_of e) (report_of e) s')) (sym o)
           (ended_still e x n (code_of e) (report_of e) s s' f.shown
-          (shows_both s s1 s' (shows_worked c s s itself) shows) refl refl)
+          (shows_both s s1 s' (shows_worked c s s itself) still.shows) (unwritten_same still.memory) refl refl)
 
       module _ (n : ℕ) (b : Bounds) (e : freed v line x ≡ Gives n x) (q : IsFreed k x v n b) where
         abbrev a : Completed Value

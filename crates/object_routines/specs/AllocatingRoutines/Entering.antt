@@ -99,7 +99,7 @@ pub record HasEntered (views : Views) (k : Keys) (IsGood : Bytes
 abbrev pub IsEntered : Views → Keys → (IsGood : Bytes → Type 0) → EntryRegisters → (scratch : ℕ) → Source → State
     → Completed Block → Outcome → Type 0
 IsEntered g k IsGood to t x f (Gives b x') (Continues f') = HasEntered g k IsGood to t x f b.homes x' f'
-IsEntered g k IsGood to t x f (Ended e x') (Halts status report f') = HasEnded e x' status report f f'
+IsEntered g k IsGood to t x f (Ended e x') (Halts status report f') = HasEnded g.sizes e x' status report f f'
 IsEntered g k IsGood to t x f (Gives b x') (Halts status report f') = ⊥
 IsEntered g k IsGood to t x f (Ended e x') (Continues f') = ⊥
 IsEntered g k IsGood to t x f (Paused x') o = ⊥

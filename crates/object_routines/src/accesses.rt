@@ -8,6 +8,6 @@ pub mod storing;
 
 pub use crate::accesses::checked::{checked_load, checked_store};
 pub use crate::accesses::held::HeldScalar;
-pub use crate::accesses::loading::load;
+pub use crate::accesses::loading::{load, load_operator};
 pub use crate::accesses::storing::store;
 pub use flat_actions::{spatial_check, temporal_check};

@@ -62,8 +62,9 @@ fn load_integer(
     Vec::from_slice(alloc, &code)
 }
 
+/// The operator that loads an integer of a type: of its width, with its sign.
 #[tactic(auto, unfolding(crate::specs::AccessRoutines::Accessing::load_op))]
-fn load_operator(of: IntType) -> LoadOp
+pub fn load_operator(of: IntType) -> LoadOp
     ensures { result ≡ load_op of }
 {
     match of {

@@ -1,0 +1,14 @@
+pub mod Areas
+pub mod Behind
+pub mod Bodies
+pub mod Contents
+pub mod MoveAreas
+pub mod Parts
+pub mod PutRanges
+pub mod PutValues
+pub mod ReadParts
+pub mod Spaces
+pub mod TakeRanges
+pub mod Values
+pub mod WordLoops
+pub mod ZeroAreas

@@ -1,0 +1,14 @@
+use Rattle.std.proofs.Common.{sym, subst}
+use Rattle.std.proofs.lemmas.Result.{IfOk-weaker}
+use Rattle.object_routines.specs.declared.accesses.held.HeldScalar.TheVariants.{Integer}
+use Rattle.area_routines.specs.Reading.{IsReadPartRoutine}
+use Rattle.area_routines.proofs.ReadParts.{integers_read}
+use Rattle.area_routines.proofs.reading.read_integer.Goals as goal
+
+pub returns : goal.returns
+returns c =
+    let a = c.args in
+    IfOk-weaker _ _ _
+    (λ r e. subst (IsReadPartRoutine a.part (Integer a.of a.into) a.scratch) (sym e)
+    (integers_read a.of a.into a.part a.scratch))
+    c.integer_instructions.ensures

@@ -1,0 +1,9 @@
+pub mod Areas
+pub mod Loops
+pub mod Moving
+pub mod Parts
+pub mod Putting
+pub mod Reading
+pub mod Taking
+pub mod Values
+pub mod Zeroing

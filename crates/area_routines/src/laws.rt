@@ -1,0 +1,36 @@
+//! What keeps areas, and what areas keep: laws, each as the contract of a function that does nothing.
+
+ghost use Rattle.std.specs.Prelude.{◌≡◌, ◌≤◌, ◌<◌, ℕ};
+ghost use Rattle.addr_map.specs.declared.region.Region.TheVariants.{StructureValues};
+ghost use Rattle.addr_map.specs.Places.{MapSizes, AreMapped, region_start};
+ghost use Rattle.obj_memory.specs.Objects.{ObjectState, Objects};
+ghost use Rattle.obj_memory.specs.Sound.{IsSoundObject};
+ghost use Rattle.source_meaning.specs.State.{State as Source};
+ghost use Rattle.flat_meaning.specs.Memory.{Bytes};
+ghost use Rattle.flat_meaning.specs.State.{State};
+ghost use Rattle.flat_routines.specs.Metadata.{ShowsNothing};
+ghost use Rattle.flat_routines.specs.Objects.StandsFor.{Views, Keys};
+ghost use Rattle.flat_actions.specs.Actions.{KeepsHeld, IsFor, views_of};
+ghost use Rattle.area_routines.specs.Areas.{IsArea};
+
+use shadow_space::ShadowForm;
+
+/// An area holds what it held, whatever routines do that leave the spaces behind the table of blocks as they were, while
+/// objects are made with keys of their own: the contents hold no tags of those.
+pub fn areas_stay()
+    ensures { (map : MapSizes) (g : Views) (before after : Keys) (objects : Objects) (c : ObjectState) (address : ℕ)
+        (m m' : Bytes) → region_start map StructureValues ≤ address
+        → ((b : ℕ) → region_start map StructureValues ≤ b → m' b ≡ m b) → KeepsHeld objects before after
+        → IsSoundObject g.functions objects c → IsArea g before c address m → IsArea g after c address m' }
+{}
+
+/// A memory that changes behind the table of blocks alone, as where an area is written, stands for the same state of the
+/// source.
+pub fn objects_stay_where_areas_change<S: ShadowForm>()
+    ensures { (map : MapSizes) → AreMapped map → (functions : ℕ) (types : ℕ → ℕ) (k : Keys) (x : Source) (f f' : State)
+        → ((b : ℕ) → b < region_start map StructureValues → f'.memory b ≡ f.memory b) → ShowsNothing f f'
+        → IsFor (views_of map functions types S.entry) k (S.IsGood map) x f
+        → IsFor (views_of map functions types S.entry) k (S.IsGood map) x f' }
+{
+    S::entries_are_local();
+}

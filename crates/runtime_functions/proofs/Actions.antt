@@ -265,11 +265,11 @@ module _ (s : CallSite) (a n line w : ℕ) where
   abbrev ended_cost : ℕ
   ended_cost = 16 + 2 * (a + (1 + n)) + 1 + w
 
-  pub told : (e : Ending) (x' : Source) (status : ℕ) (report : List ℕ) (z : State) (stage : Stage)
-      → HasEnded e x' status report (begins_in s a) z → Reports s a n status report z stage
+  pub told : {map : MapSizes} (e : Ending) (x' : Source) (status : ℕ) (report : List ℕ) (z : State) (stage : Stage)
+      → HasEnded map e x' status report (begins_in s a) z → Reports s a n status report z stage
       → z.work ≤ (begins_in s a).work + (w + length report)
-      → HasTold (at_line_of line e) line s n ended_cost x' stage ⊎ HasExited (at_line_of line e) x' stage
-  told e x' status report z stage ended (Returned e' r is code same y t back) work = by (return_status e) refl
+      → HasTold map (at_line_of line e) line s n ended_cost x' stage ⊎ HasExited map (at_line_of line e) s x' stage
+  told {map} e x' status report z stage ended (Returned e' r is code same y t back) work = by (return_status e) refl
     where
       words : length (report_of e) ≡ length (report_of e')
       words = ap length (sym ended.report_is ∙ same)
@@ -284,7 +284,8 @@ module _ (s : CallSite) (a n line w : ℕ) where
             turns = ap (λ (q : State). q.turns) t.same;
           }) ended.shown)
 
-      by : (o : Option ReturnStatus) → return_status e ≡ o → HasTold (at_line_of line e) line s n ended_cost x' stage ⊎ HasExited (at_line_of line e) x' stage
+      by : (o : Option ReturnStatus) → return_status e ≡ o
+          → HasTold map (at_line_of line e) line s n ended_cost x' stage ⊎ HasExited map (at_line_of line e) s x' stage
       by None none =
           let some = some_report e' r is in
           let empty : length (report_of e) ≡ 0 = ap length (no_report e none) in
@@ -296,16 +297,26 @@ module _ (s : CallSite) (a n line w : ℕ) where
         status = back.status_is ∙ same_number e e' q r kind is (sym ended.status_is ∙ code);
         ending_is = told_at line e q kind;
         shown = shown;
+        unwritten = (let same = memory_is s a n (status_number r) y stage back ∙ ap (λ (q : State). q.memory) t.same in
+            record {
+              low = λ b l. ap (λ (q : Bytes). q b) same ∙ ended.unwritten.low b l;
+              behind = λ b l. ap (λ (q : Bytes). q b) same ∙ ended.unwritten.behind b l;
+            });
       })
-  told e x' status report z stage ended (Exited empty over) work = by (return_status e) refl
+  told {map} e x' status report z stage ended (Exited empty over) work = by (return_status e) refl
     where
-      by : (o : Option ReturnStatus) → return_status e ≡ o → HasTold (at_line_of line e) line s n ended_cost x' stage ⊎ HasExited (at_line_of line e) x' stage
+      by : (o : Option ReturnStatus) → return_status e ≡ o
+          → HasTold map (at_line_of line e) line s n ended_cost x' stage ⊎ HasExited map (at_line_of line e) s x' stage
       by None none = inr (record {
         state = z;
         no_status = (same_kind line e).0 ∙ none;
         over = over ∙ ap (λ q. Over q report z) (ended.status_is ∙ sym (same_kind line e).1)
             ∙ ap (λ q. Over (code_of (at_line_of line e)) q z) empty;
         shown = ended.shown;
+        unwritten = record {
+          low = λ b l. ended.unwritten.low b l;
+          behind = λ b l. ended.unwritten.behind b l;
+        };
       })
       by (Some q) kind =
           let some = some_report e q kind in
@@ -385,7 +396,7 @@ module _ (m : MapSizes) (entry : View) (IsGood : Bytes → Type 0) (P : Source �
       (λ f. steps) (λ f. Leaves g k IsGood face.result face.scratch x f (at_line 1 vs x)))
       (sym of_runtime) (act.does functions types k x vs own.charge own.weight)
 
-  at_one : IsReady g k IsGood face s x vs → P x vs
+  pub at_one : IsReady g k IsGood face s x vs → P x vs
       → ComesBehind m p s (steps + 3) (Q (outcome_at line (at_line 1 vs x)))
   at_one ready premise =
       let held = arguments_held s a g k x.objects face.arguments vs act.laid.taken ready.held in

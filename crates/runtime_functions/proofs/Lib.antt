@@ -3,4 +3,6 @@ pub mod Calls
 pub mod Actions
 pub mod LibraryCalls
 pub mod Entering
+pub mod CopyCalls
+pub mod ZeroCalls
 mod Listed

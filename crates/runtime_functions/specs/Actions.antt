@@ -19,7 +19,7 @@ use Rattle.flat_routines.specs.Metadata.{View}
 use Rattle.flat_routines.specs.Objects.StandsFor.{Views, Keys}
 use Rattle.flat_actions.specs.Actions.{runtime_basis, IsShown, IsFor, Holder, Nowhere, Word, Pointer}
 use Rattle.flat_actions.specs.Actions.{registers_of, AreHeldBy, IsGivenIn, StaysElsewhere, KeepsHeld, IsActionIn}
-use Rattle.flat_actions.specs.Actions.{work_of}
+use Rattle.flat_actions.specs.Actions.{StaysUnwritten, work_of}
 use Rattle.runtime_functions.specs.declared.status.ReturnStatus.{ReturnStatus}
 use Rattle.runtime_functions.specs.Status.{return_status, status_number, ending_at}
 use Rattle.runtime_functions.specs.Functions.{IsRuntimeFunction}
@@ -123,27 +123,31 @@ pub record HasCompleted (views : Views) (keys : Keys) (IsGood : Bytes → Type 0
       behind.state.values
   pub elsewhere : StaysElsewhere views.sizes after.objects site.state.memory behind.state.memory
 
--- it ended the run of the source: the status tells how, and at the line of the call it is that ending
-pub record HasTold (ending : Ending) (line : ℕ) (site : CallSite) (results bound : ℕ) (after : Source) (stage : Stage)
+-- it ended the run of the source: the status tells how, and at the line of the call it is that ending; nothing was
+-- written before
+pub record HasTold (map : MapSizes) (ending : Ending) (line : ℕ) (site : CallSite) (results bound : ℕ) (after : Source) (stage : Stage)
     : Type 0 where
   pub behind : IsBehind site results bound stage
   pub kind : ReturnStatus
   pub status : behind.state.values site.into ≡ status_number kind
   pub ending_is : ending_at kind line ≡ Some ending
   pub shown : IsShown after behind.state
+  pub unwritten : StaysUnwritten map site.state.memory behind.state.memory
 
 -- an exit has no status: the run of the program is over
-pub record HasExited (ending : Ending) (after : Source) (stage : Stage) : Type 0 where
-  pub state : State
-  pub no_status : return_status ending ≡ None
-  pub over : stage ≡ Over (code_of ending) [] state
-  pub shown : IsShown after state
+pub record HasExited (map : MapSizes) (ending : Ending) (site : CallSite) (after : Source) (stage : Stage) : Type 0
+  where
+    pub state : State
+    pub no_status : return_status ending ≡ None
+    pub over : stage ≡ Over (code_of ending) [] state
+    pub shown : IsShown after state
+    pub unwritten : StaysUnwritten map site.state.memory state.memory
 
 -- by what comes of the run of the source at the line of the call
 abbrev pub IsServed : Views → Keys → (Bytes → Type 0) → (result : Holder) → CallSite
     → (parameters results bound line : ℕ) → Source → Completed Value → Stage → Type 0
 IsServed g k IsGood result s a n b line x (Gives v x') stage = HasCompleted g k IsGood result s a n b x v x' stage
-IsServed g k IsGood result s a n b line x (Ended e x') stage = HasTold e line s n b x' stage ⊎ HasExited e x' stage
+IsServed g k IsGood result s a n b line x (Ended e x') stage = HasTold g.sizes e line s n b x' stage ⊎ HasExited g.sizes e s x' stage
 IsServed g k IsGood result s a n b line x (Paused x') stage = ⊥
 
 -- from the call the run of the program comes, within so many steps, to where this holds

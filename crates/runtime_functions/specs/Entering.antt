@@ -50,7 +50,8 @@ pub record HasEnteredBlock (views : Views) (keys : Keys) (IsGood : Bytes → Typ
 abbrev pub IsBlockServed : Views → Keys → (Bytes → Type 0) → CallSite → (bound line : ℕ) → Source → Completed Block
     → Stage → Type 0
 IsBlockServed g k IsGood s b line x (Gives block x') stage = HasEnteredBlock g k IsGood s b x block.homes x' stage
-IsBlockServed g k IsGood s b line x (Ended e x') stage = HasTold e line s 4 b x' stage ⊎ HasExited e x' stage
+IsBlockServed g k IsGood s b line x (Ended e x') stage =
+    HasTold g.sizes e line s 4 b x' stage ⊎ HasExited g.sizes e s x' stage
 IsBlockServed g k IsGood s b line x (Paused x') stage = ⊥
 
 -- the steps of the routine

@@ -5,3 +5,5 @@ pub mod Actions
 pub mod Library
 pub mod Runtime
 pub mod Entering
+pub mod Copying
+pub mod Zeroing

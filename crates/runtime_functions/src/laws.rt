@@ -2,7 +2,7 @@
 //! any result is a public lemma of `proofs/Calls`.
 
 ghost use Rattle.std.specs.Prelude.{◌≡◌, ◌+◌, ℕ, List, length};
-ghost use Rattle.addr_map.specs.Places.{MapSizes};
+ghost use Rattle.addr_map.specs.Places.{MapSizes, AreMapped};
 ghost use Rattle.flat_meaning.specs.declared.instruction.FlatInstruction.{FlatInstruction};
 ghost use Rattle.flat_meaning.specs.declared.function.FlatFunction.{FlatFunction};
 ghost use Rattle.flat_meaning.specs.declared.function.FlatProgram.{FlatProgram};
@@ -18,6 +18,9 @@ ghost use Rattle.flat_actions.specs.Actions.{views_of};
 ghost use Rattle.object_routines.specs.AllocatingRoutines.Premises.{AreStanding};
 ghost use Rattle.runtime_functions.specs.declared.library.LibraryFunction.{LibraryFunction};
 ghost use Rattle.runtime_functions.specs.declared.runtime.RuntimeFunction.TheVariants.{Library, Enter};
+ghost use Rattle.runtime_functions.specs.declared.runtime.RuntimeFunction.TheVariants.{Zero, CopyTagged};
+ghost use Rattle.runtime_functions.specs.Zeroing.{zeroing, IsToZeroObject, zeroing_interface};
+ghost use Rattle.runtime_functions.specs.Copying.{copying, AreToCopy, copying_interface};
 ghost use Rattle.runtime_functions.specs.Calls.{CallSite, CallsFunction, CallsRuntime, ComesOfCall, begins_in};
 ghost use Rattle.runtime_functions.specs.Calls.{waits_at};
 ghost use Rattle.runtime_functions.specs.Actions.{IsReady, ServesCall};
@@ -63,3 +66,24 @@ pub fn calls_of_enter_make_the_objects_of_a_block<S: ShadowForm>()
 {
     runs_do_the_same_at_each_line();
 }
+
+/// The call that moves a range with its entries assigns a structure, at any line, as the source does where both places
+/// are bytes of live objects.
+pub fn calls_of_copy_tagged_assign_structures<S: ShadowForm>()
+    ensures { (m : MapSizes) → AreMapped m → (p : FlatProgram) (s : CallSite) (fn : FlatFunction)
+        → IsOfRuntime m S.entry (S.IsGood m) CopyTagged fn → CallsFunction m p s fn
+        → (functions : ℕ) (types : ℕ → ℕ) (k : Keys) (x : Source) (vs : List Value) (line : ℕ)
+        → IsReady (views_of m functions types S.entry) k (S.IsGood m) copying_interface s x vs → AreToCopy x vs
+        → ServesCall m p (views_of m functions types S.entry) k (S.IsGood m) copying_interface s 3 0 line x
+        (copying line vs) }
+{}
+
+/// The call that makes a range zero sets a live object to zero bytes and no tags, as the source does, at any line.
+pub fn calls_of_zero_set_objects_to_zero<S: ShadowForm>()
+    ensures { (m : MapSizes) → AreMapped m → (p : FlatProgram) (s : CallSite) (fn : FlatFunction)
+        → IsOfRuntime m S.entry (S.IsGood m) Zero fn → CallsFunction m p s fn
+        → (n functions : ℕ) (types : ℕ → ℕ) (k : Keys) (x : Source) (vs : List Value) (line : ℕ)
+        → IsReady (views_of m functions types S.entry) k (S.IsGood m) zeroing_interface s x vs → IsToZeroObject n x vs
+        → ServesCall m p (views_of m functions types S.entry) k (S.IsGood m) zeroing_interface s 2 0 line x
+        (zeroing n line vs) }
+{}

@@ -9,6 +9,7 @@ ghost use Rattle.runtime_functions.specs.Runtime.{IsOfRuntime, AreOfRuntime};
 use crate::function::{RuntimeFrame, runtime_function};
 use crate::library::{LibraryFunction, library_code};
 use addr_map::AddrMap;
+use area_routines::{make_zero, put_structure, take_part, take_structure};
 use c_tree::Directive;
 use flat_meaning::{FlatFunction, FlatInstruction};
 use flat_routines::{Entry, Held};
@@ -38,9 +39,17 @@ pub enum RuntimeFunction {
     /// Makes the objects of a block that is entered, by the end of the object stack and by their bytes. Gives where they
     /// begin and end, their key and their lock word.
     Enter,
+    /// Makes the contents of a structure of zeros in an area, by where it begins and its bytes.
+    ZeroArea,
+    /// Takes the contents of a structure to an area: to where it begins, from an address, so many bytes.
+    TakeArea,
+    /// Puts a part of contents to a place: to an address, so many bytes, and the registers of the part.
+    PutArea,
+    /// Takes a part of contents to an area: to where it begins, so many bytes, and the registers of the part.
+    MoveArea,
 }
 
-const RUNTIME: [RuntimeFunction; 26] = [
+const RUNTIME: [RuntimeFunction; 30] = [
     RuntimeFunction::Library(LibraryFunction::Malloc),
     RuntimeFunction::Library(LibraryFunction::Calloc),
     RuntimeFunction::Library(LibraryFunction::Free),
@@ -67,6 +76,10 @@ const RUNTIME: [RuntimeFunction; 26] = [
     RuntimeFunction::Zero,
     RuntimeFunction::CopyTagged,
     RuntimeFunction::Enter,
+    RuntimeFunction::ZeroArea,
+    RuntimeFunction::TakeArea,
+    RuntimeFunction::PutArea,
+    RuntimeFunction::MoveArea,
 ];
 
 /// All of them, in the order of their numbers.
@@ -90,6 +103,17 @@ const POINTER: Held = Held {
     },
 };
 
+// Those of a part of contents, behind where to and how many bytes.
+const PART: Held = Held {
+    value: 2,
+    tag: Entry {
+        base: 3,
+        bound: 4,
+        key: 5,
+        lock: 6,
+    },
+};
+
 // Those that a block is entered with.
 const ENTERED: EntryRegisters = EntryRegisters {
     first: 3,
@@ -106,9 +130,13 @@ impl RuntimeFunction {
         match self {
             RuntimeFunction::Library(function) => function.parameters(),
             RuntimeFunction::Scan => 5,
-            RuntimeFunction::PutBytes | RuntimeFunction::Zero | RuntimeFunction::Enter => 2,
+            RuntimeFunction::PutBytes
+            | RuntimeFunction::Zero
+            | RuntimeFunction::Enter
+            | RuntimeFunction::ZeroArea => 2,
             RuntimeFunction::PutNumber(_) => 1,
-            RuntimeFunction::CopyTagged => 3,
+            RuntimeFunction::CopyTagged | RuntimeFunction::TakeArea => 3,
+            RuntimeFunction::PutArea | RuntimeFunction::MoveArea => 7,
         }
     }
 
@@ -119,7 +147,13 @@ impl RuntimeFunction {
         match self {
             RuntimeFunction::Library(function) => function.results(),
             RuntimeFunction::Scan | RuntimeFunction::PutNumber(_) => 1,
-            RuntimeFunction::PutBytes | RuntimeFunction::Zero | RuntimeFunction::CopyTagged => 0,
+            RuntimeFunction::PutBytes
+            | RuntimeFunction::Zero
+            | RuntimeFunction::CopyTagged
+            | RuntimeFunction::ZeroArea
+            | RuntimeFunction::TakeArea
+            | RuntimeFunction::PutArea
+            | RuntimeFunction::MoveArea => 0,
             RuntimeFunction::Enter => 4,
         }
     }
@@ -143,6 +177,10 @@ fn runtime_code<S: ShadowForm>(
         RuntimeFunction::Zero => zero::<S>(alloc, map, 0, 1, 3),
         RuntimeFunction::CopyTagged => move_tagged::<S>(alloc, map, 0, 1, 2, 4),
         RuntimeFunction::Enter => enter::<S>(alloc, map, 0, 1, ENTERED, line, 7),
+        RuntimeFunction::ZeroArea => make_zero::<S>(alloc, map, 0, 1, 3),
+        RuntimeFunction::TakeArea => take_structure::<S>(alloc, map, 0, 1, 2, 4),
+        RuntimeFunction::PutArea => put_structure::<S>(alloc, map, 0, PART, 1, 8),
+        RuntimeFunction::MoveArea => take_part::<S>(alloc, map, 0, PART, 1, 8),
     }
 }
 

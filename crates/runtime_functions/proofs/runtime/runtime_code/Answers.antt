@@ -50,3 +50,31 @@ returns-in-Enter g c =
     IfOk-weaker _ _ _
     (λ r h. runtime_code_of_same a.map.now g.S.ShadowForm.entry (g.S.ShadowForm.IsGood a.map.now) a.line _ _ _
     c.in-Enter.is h) c.enter.ensures
+
+pub returns-in-ZeroArea : goal.returns-in-ZeroArea
+returns-in-ZeroArea g c =
+    let a = c.args in
+    IfOk-weaker _ _ _
+    (λ r h. runtime_code_of_same a.map.now g.S.ShadowForm.entry (g.S.ShadowForm.IsGood a.map.now) a.line _ _ _
+    c.in-ZeroArea.is h) c.make_zero.ensures
+
+pub returns-in-TakeArea : goal.returns-in-TakeArea
+returns-in-TakeArea g c =
+    let a = c.args in
+    IfOk-weaker _ _ _
+    (λ r h. runtime_code_of_same a.map.now g.S.ShadowForm.entry (g.S.ShadowForm.IsGood a.map.now) a.line _ _ _
+    c.in-TakeArea.is h) c.take_structure.ensures
+
+pub returns-in-PutArea : goal.returns-in-PutArea
+returns-in-PutArea g c =
+    let a = c.args in
+    IfOk-weaker _ _ _
+    (λ r h. runtime_code_of_same a.map.now g.S.ShadowForm.entry (g.S.ShadowForm.IsGood a.map.now) a.line _ _ _
+    c.in-PutArea.is h) c.put_structure.ensures
+
+pub returns-in-MoveArea : goal.returns-in-MoveArea
+returns-in-MoveArea g c =
+    let a = c.args in
+    IfOk-weaker _ _ _
+    (λ r h. runtime_code_of_same a.map.now g.S.ShadowForm.entry (g.S.ShadowForm.IsGood a.map.now) a.line _ _ _
+    c.in-MoveArea.is h) c.take_part.ensures

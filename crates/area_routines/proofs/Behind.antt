@@ -58,17 +58,17 @@ module _ (map : MapSizes) (mapped : AreMapped map) (functions : ℕ) (types : �
     placed = st.placed;
     keyed = st.keyed;
     here = λ n live. (
-      let p = st.placed n live in
-      let first = p.first in let last = p.last in let small = (laid_out map mapped).cells in
-      let room = (laid_out map mapped).small in
-      record {
-        bytes = λ j l. same ((object_at objects n).address + j) (
-            let a = lie.shadow in let b = lie.locks in let c = lie.table in omega arith)
-            ∙ (st.here n live).bytes j l;
-        tags = λ w l. (local m m' shadow good.shadow).1 ((object_at objects n).address + 8 * w)
-            (word_of map functions objects (object_at objects n) w (st.sound.at n) p l)
-            ∙ (st.here n live).tags w l;
-      });
+        let p = st.placed n live in
+        let first = p.first in let last = p.last in let small = (laid_out map mapped).cells in
+        let room = (laid_out map mapped).small in
+        record {
+          bytes = λ j l. same ((object_at objects n).address + j) (
+              let a = lie.shadow in let b = lie.locks in let c = lie.table in omega arith)
+              ∙ (st.here n live).bytes j l;
+          tags = λ w l. (local m m' shadow good.shadow).1 ((object_at objects n).address + 8 * w)
+              (word_of map functions objects (object_at objects n) w (st.sound.at n) p l)
+              ∙ (st.here n live).tags w l;
+        });
     locks = record {
       live = λ n live. lock_same (k.held n).lock (st.keyed.each n (live_is_made objects n live)).lock
           ∙ st.locks.live n live;

@@ -96,8 +96,11 @@ module _ (map : MapSizes) (t charge weight a e n : ℕ) (lies : IsSpaceRange map
       (omega arith, (omega arith, (omega arith, tt))) refl
       (λ s w p. (
         tt,
-        (let small = lies.small in let first = lies.first in let last = lies.last in let at = p.word in
-            allowed_at map ((s.values (t + 1) + 0) % 2 ^ 64) (a + 8 * j) 8 (omega arith) (omega arith) (omega arith), tt),
+        (
+          let small = lies.small in let first = lies.first in let last = lies.last in let at = p.word in
+              allowed_at map ((s.values (t + 1) + 0) % 2 ^ 64) (a + 8 * j) 8 (omega arith) (omega arith) (omega arith),
+          tt,
+        ),
       )))
 
 -- ---- entries stored and loaded

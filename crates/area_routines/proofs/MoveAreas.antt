@@ -210,8 +210,11 @@ module _ (map : MapSizes) (mapped : AreMapped map) (to : ℕ) (h : Held) (bytes 
       record {
         first = sym (g.values 5 (omega arith)) ∙ omega arith;
         count = ⊎_elim
-            (λ (e : offset % 8 ≡ 0). inl (e, is ∙ all_counted (s.values bytes / 8) w (omega arith) (omega arith)
-            ∙ omega arith))
+            (λ (e : offset % 8 ≡ 0). inl (
+              e,
+              is ∙ all_counted (s.values bytes / 8) w (omega arith) (omega arith)
+                  ∙ omega arith,
+            ))
             (λ (ne : offset % 8 ≢ 0). inr (ne, is ∙ none_counted (s.values bytes / 8) w (λ q. ne (omega arith))))
             (cases_eq (offset % 8) 0);
         word = ap y.values (let e : t + 1 + 1 ≡ t + 2 = omega arith in e) ∙ sym (g.values 7 (omega arith));
@@ -368,11 +371,17 @@ module _ (map : MapSizes) (mapped : AreMapped map) (to : ℕ) (h : Held) (bytes 
       = sym (g.values 6 (omega arith)) in
       record {
         count = ⊎_elim
-            (λ (e : offset % 8 ≡ 0). inl (e, is
-            ∙ ap (λ i. product 64 words ((1 + (2 ^ 64 - bit_of i)) % 2 ^ 64)) (lt-ltb w 1 (omega arith))
-            ∙ omega arith))
-            (λ (ne : offset % 8 ≢ 0). inr (ne, is
-            ∙ ap (λ i. product 64 words ((1 + (2 ^ 64 - bit_of i)) % 2 ^ 64)) (le-ltb w 1 (some ne)) ∙ omega arith))
+            (λ (e : offset % 8 ≡ 0). inl (
+              e,
+              is
+                  ∙ ap (λ i. product 64 words ((1 + (2 ^ 64 - bit_of i)) % 2 ^ 64)) (lt-ltb w 1 (omega arith))
+                  ∙ omega arith,
+            ))
+            (λ (ne : offset % 8 ≢ 0). inr (
+              ne,
+              is
+                  ∙ ap (λ i. product 64 words ((1 + (2 ^ 64 - bit_of i)) % 2 ^ 64)) (le-ltb w 1 (some ne)) ∙ omega arith,
+            ))
             (cases_eq (offset % 8) 0);
         word = ap y.values (let e : t + 1 + 1 ≡ t + 2 = omega arith in e) ∙ sym (g.values 7 (omega arith)) ∙ q.1;
         entry = ap y.values (let e : t + 1 + 2 ≡ t + 3 = omega arith in e) ∙ sym (g.values 8 (omega arith));

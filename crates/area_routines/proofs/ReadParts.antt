@@ -229,13 +229,31 @@ module _ (g : Views) (mapped : AreMapped g.sizes) (k : Keys) (c : ObjectState) (
         let at = λ (i : ℕ). λ (l : i + 8 ≤ 32). allowed_at g.sizes ((e + i) % 2 ^ 64) (a + (offset_of + i)) 8
         (omega arith) (omega arith) (omega arith) in (
           allowed_at g.sizes ((s.values h.value + 0) % 2 ^ 64) (a + q) 8 (omega arith) (omega arith) (omega arith),
-          (tt, (tt, (tt, (tt, (tt, (tt, (
-            at 0 (omega arith),
+          (
+            tt,
             (
-              at 8 (omega arith),
-              (at 16 (omega arith), (at 24 (omega arith), (tt, (tt, (tt, (tt, tt)))))),
+              tt,
+              (
+                tt,
+                (
+                  tt,
+                  (
+                    tt,
+                    (
+                      tt,
+                      (
+                        at 0 (omega arith),
+                        (
+                          at 8 (omega arith),
+                          (at 16 (omega arith), (at 24 (omega arith), (tt, (tt, (tt, (tt, tt)))))),
+                        ),
+                      ),
+                    ),
+                  ),
+                ),
+              ),
             ),
-          ))))))),
+          ),
         )
 
     loads_word : Does cx (read_word h t) IsReady (λ s. 15) (λ s. Either (HasWord s) Never)

@@ -89,10 +89,16 @@ module _ (map : MapSizes) (mapped : AreMapped map) (entry : View) (IsGood : Byte
       let is : y.values t ≡ product 64 (s.values bytes / 8) (bit_of (nat_lt w 1)) = sym (g.values 3 (omega arith)) in
       record {
         count = ⊎_elim
-            (λ (e : s.values from % 8 ≡ 0). inl (e, is ∙ all_counted (s.values bytes / 8) w (omega arith) (omega arith)
-            ∙ omega arith))
-            (λ (ne : s.values from % 8 ≢ 0). inr (ne, is ∙ none_counted (s.values bytes / 8) w
-            (λ q. ne (omega arith))))
+            (λ (e : s.values from % 8 ≡ 0). inl (
+              e,
+              is ∙ all_counted (s.values bytes / 8) w (omega arith) (omega arith)
+                  ∙ omega arith,
+            ))
+            (λ (ne : s.values from % 8 ≢ 0). inr (
+              ne,
+              is ∙ none_counted (s.values bytes / 8) w
+                  (λ q. ne (omega arith)),
+            ))
             (cases_eq (s.values from % 8) 0);
         word = sym (g.values 4 (omega arith));
         entries = sym (g.values 5 (omega arith)) ∙ omega arith;

@@ -51,11 +51,7 @@ pub fn word_loop(
 }
 
 /// The four words of an entry stored from the address in `at` on. The only refusal is that memory fails.
-pub fn store_entry(
-    alloc: Global,
-    at: u32,
-    entry: Entry,
-) -> Result<Vec<FlatInstruction>, AllocError>
+pub fn store_entry(alloc: Global, at: u32, entry: Entry) -> Result<Vec<FlatInstruction>, AllocError>
     ensures items { IfOk result (λ r. r.items ≡ store_entry at entry) }
     ensures short { IfOk result (λ r. length r.items ≤ 4) }
 {
@@ -89,11 +85,7 @@ pub fn store_entry(
 }
 
 /// The four words of an entry loaded from the address in `at` on. The only refusal is that memory fails.
-pub fn load_entry(
-    alloc: Global,
-    at: u32,
-    entry: Entry,
-) -> Result<Vec<FlatInstruction>, AllocError>
+pub fn load_entry(alloc: Global, at: u32, entry: Entry) -> Result<Vec<FlatInstruction>, AllocError>
     ensures items { IfOk result (λ r. r.items ≡ load_entry at entry) }
     ensures short { IfOk result (λ r. length r.items ≤ 4) }
 {

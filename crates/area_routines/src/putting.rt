@@ -95,11 +95,7 @@ fn put_instructions(
 }
 
 // From the address of a word in an area to that of its entry.
-fn entry_place(
-    alloc: Global,
-    part: Held,
-    place: u32,
-) -> Result<Vec<FlatInstruction>, AllocError>
+fn entry_place(alloc: Global, part: Held, place: u32) -> Result<Vec<FlatInstruction>, AllocError>
     ensures { IfOk result (λ r. r.items ≡ entry_place part place) }
 {
     let code = [

@@ -40,19 +40,19 @@ use Rattle.runtime_functions.proofs.LibraryCalls.{price_at_most}
 -- ---- in the source
 
 module _ (x : Source) (line size : ℕ) (dv sv : Value) (d : IsDirect x.objects dv size) (s : IsDirect x.objects sv size)
-    where
-  abbrev to : Place
-  to = place_in x.objects d.object dv.word
+  where
+    abbrev to : Place
+    to = place_in x.objects d.object dv.word
 
-  abbrev from : Place
-  from = place_in x.objects s.object sv.word
+    abbrev from : Place
+    from = place_in x.objects s.object sv.word
 
-  copied_is : (copy_structure size false dv line sv >> done (integer 0)) x ≡ Gives (integer 0) (with_moved x size to from)
-  copied_is =
-      ap (λ w. on (on (place_or_stop w line x) (λ p y. on (place_or_stop (named sv y.objects) line y)
-      (λ q. move_bytes size p q))) (λ u y. Gives (integer 0) y)) (named_is x.objects dv size d)
-      ∙ ap (λ w. on (on (place_or_stop w line x) (λ q. move_bytes size to q)) (λ u y. Gives (integer 0) y))
-      (named_is x.objects sv size s)
+    copied_is : (copy_structure size false dv line sv >> done (integer 0)) x ≡ Gives (integer 0) (with_moved x size to from)
+    copied_is =
+        ap (λ w. on (on (place_or_stop w line x) (λ p y. on (place_or_stop (named sv y.objects) line y)
+        (λ q. move_bytes size p q))) (λ u y. Gives (integer 0) y)) (named_is x.objects dv size d)
+        ∙ ap (λ w. on (on (place_or_stop w line x) (λ q. move_bytes size to q)) (λ u y. Gives (integer 0) y))
+        (named_is x.objects sv size s)
 
 -- ---- in flat code
 

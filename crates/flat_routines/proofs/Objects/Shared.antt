@@ -14,8 +14,7 @@ one_key g k objects m n i j st ni ij jl sn si sj e =
     let an = ((q.each n (omega arith)).other sn).0 in
     let aj = ((q.each j jl).other sj).0 in
     let low = q.rising n i ni (omega arith) sn si in
-    let high = q.rising i j ij jl si sj in
-    (
+    let high = q.rising i j ij jl si sj in (
       q.shared i n (omega arith) (omega arith) si sn (omega arith),
       q.shared j n jl (omega arith) sj sn (omega arith),
     )

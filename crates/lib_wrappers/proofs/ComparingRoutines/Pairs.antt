@@ -328,8 +328,12 @@ module _ (map : MapSizes) (charge weight line : ℕ) (g : Views) (k : Keys) (fun
                 (equal Q 5
                 (branch c C 4 28 (stepped f) Bne 11 (Register 2) 1 37 Q has.1.1.1.1.1.0
                 (λ t. absurd (if_apart _ _ t (omega arith)))
-                (λ t. ended c C 3 (Spatial line) (worked c (stepped f)) 29 37 Q has.1.1.1.1.1.1.0
-                (refl, refl, working (w + 1 + 1), record { memory = h.memory; shows = shows_on f0 f _ h.shows refl refl refl refl refl }))));
+                (λ t. ended c C 3 (Spatial line) (worked c (stepped f)) 29 37 Q has.1.1.1.1.1.1.0 (
+                  refl,
+                  refl,
+                  working (w + 1 + 1),
+                  record { memory = h.memory; shows = shows_on f0 f _ h.shows refl refl refl refl refl },
+                ))));
           }
 
       -- up to the test of the second bound
@@ -366,8 +370,12 @@ module _ (map : MapSizes) (charge weight line : ℕ) (g : Views) (k : Keys) (fun
                 (first_more j more Q 8
                 (branch c C 7 31 (both_stepped f) Bne 12 (Register 7) 1 37 Q has.1.1.1.1.1.1.1.1.0
                 (λ t. absurd (if_apart _ _ t (omega arith)))
-                (λ t. ended c C 6 (Spatial line) (worked c (both_stepped f)) 32 37 Q has.1.1.1.1.1.1.1.1.1.0
-                (refl, refl, working (w + 1 + 1 + 1), record { memory = h.memory; shows = shows_on f0 f _ h.shows refl refl refl refl refl }))));
+                (λ t. ended c C 6 (Spatial line) (worked c (both_stepped f)) 32 37 Q has.1.1.1.1.1.1.1.1.1.0 (
+                  refl,
+                  refl,
+                  working (w + 1 + 1 + 1),
+                  record { memory = h.memory; shows = shows_on f0 f _ h.shows refl refl refl refl refl },
+                ))));
           }
         where
           second_refused : on (look (moved 1 q) line (at_work (w + 1 + 1 + 1) x0)) (λ u.

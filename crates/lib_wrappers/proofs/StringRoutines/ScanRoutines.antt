@@ -233,7 +233,8 @@ module _ (basis : Basis) (runtime : basis.is_runtime ≡ true) (mapped : AreMapp
         others = others_trans (cursor ∷ []) t f f' y s.others i.1.others;
       },
     )
-    scanned_from (Ended e x') f f' (Halts status report y) s i = (i.0, i.1, i.2, nothing_then (record { memory = s.memory; shows = s.shows }) i.3)
+    scanned_from (Ended e x') f f' (Halts status report y) s i =
+        (i.0, i.1, i.2, nothing_then (record { memory = s.memory; shows = s.shows }) i.3)
     scanned_from (Gives bytes x') f f' (Halts status report y) s i = absurd i
     scanned_from (Ended e x') f f' (Continues y) s i = absurd i
     scanned_from (Paused x') f f' o s i = absurd i

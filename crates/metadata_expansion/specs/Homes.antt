@@ -28,9 +28,11 @@ abbrev pub temporary_homes : (word count : ℕ) → List ℕ
 temporary_homes w zero = []
 temporary_homes w (suc n) = temporary_homes w n ++ ((w + n) ∷ 0 ∷ 0 ∷ 0 ∷ 0 ∷ [])
 
--- a word for each word of a variable, for each temporary, and for each register behind them
+-- A word for each register behind those of the temporaries, for each word of a variable, and for each temporary. The
+-- first stand next to the return address, so that one instruction reaches them however large the record is.
 abbrev pub homes : CodeFunction → List ℕ
 homes c =
+    let free = free_count c in
     let variables = words_in (all_variables c) in
     let count = most_temporaries c.code in
-    words_from 0 variables ++ (temporary_homes variables count ++ words_from (variables + count) (free_count c))
+    words_from free variables ++ (temporary_homes (free + variables) count ++ words_from 0 free)

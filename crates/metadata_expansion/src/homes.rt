@@ -68,10 +68,10 @@ pub fn homes(
     requires { AreRegisters registers.now function.now }
     ensures { IfOk result (λ list. list.items ≡ homes function.now) }
 {
+    let free = free_count(function) as u32;
     let mut list = Vec::new(alloc);
-    put_words(&mut list, 0, registers.words)?;
-    put_temporary_homes(&mut list, registers.words, registers.temporaries)?;
-    let word = registers.words + registers.temporaries;
-    put_words(&mut list, word, free_count(function) as u32)?;
+    put_words(&mut list, free, registers.words)?;
+    put_temporary_homes(&mut list, free + registers.words, registers.temporaries)?;
+    put_words(&mut list, 0, free)?;
     Ok(list)
 }

@@ -15,7 +15,7 @@ use Rattle.flat_meaning.specs.declared.instruction.FlatInstruction.TheVariants a
 use Rattle.flat_meaning.specs.declared.function.FlatFunction.{FlatFunction}
 use Rattle.flat_meaning.specs.declared.function.FlatProgram.{FlatProgram}
 use Rattle.flat_meaning.specs.Calls.{function_in}
-use Rattle.flat_meaning.specs.Meaning.{parameters_of, results_of, body_of}
+use Rattle.flat_meaning.specs.Meaning.{parameters_of, body_of}
 use Rattle.reg_plan.specs.declared.plan.FunctionPlan.{FunctionPlan}
 use Rattle.reg_plan.specs.Tests.{AreAccepted}
 use Rattle.machine_laws.specs.Calls.Calls.{entry_block}
@@ -23,8 +23,9 @@ use Rattle.machine_laws.specs.Following.Code.{keeping, block}
 use Rattle.machine_laws.proofs.Following.Sound.{sound}
 use Rattle.machine_laws.specs.Layout.Lists.{plain, tail_of, items_at, items_from, items_of}
 use Rattle.machine_laws.specs.Segments.Segments.{function_words}
-use Rattle.image_laws.specs.CodeSizes.Sizes.{right_words, instruction_words, body_words, most_words}
-use Rattle.image_laws.proofs.CodeSizes.Blocks.{operands_length, block_length, entry_most}
+use Rattle.image_laws.specs.CodeSizes.Sizes.{home_words, right_words, passed_words, instruction_words, body_words}
+use Rattle.image_laws.specs.CodeSizes.Sizes.{most_words}
+use Rattle.image_laws.proofs.CodeSizes.Blocks.{operands_length, block_length, entry_most, at_homes}
 
 -- no form takes more words than the longest
 item_words : (f : Form) (p t : ℕ) (i : Item) → length (map word_of (instrs_of f p t i)) ≤ size_of Far i
@@ -61,20 +62,20 @@ size_plain (i ∷ is) = let r = size_plain is in omega arith
 
 module _ (m : MapSizes) (p : FlatProgram) (plans : List FunctionPlan) (ok : AreAccepted p plans) (f : ℕ)
     (g : FlatFunction) (there : function_in p f ≡ Some g) where
-  block_most : (pc : ℕ) (i : FlatInstruction)
-      → length (block m p plans f pc i)
-      ≤ instruction_words p (keeping p plans f).room (results_of (function_in p f)) i
+  block_most : (pc : ℕ) (i : FlatInstruction) → length (block m p plans f pc i) ≤ instruction_words p g i
   block_most = block_length p plans (sound p plans ok) f g there m
 
   branch_most : (pc : ℕ) (op : _) (y : ℕ) (z : _) (past : ℕ)
-      → length (block m p plans f pc (flat.Branch op y z past)) ≤ 3 + right_words z
+      → length (block m p plans f pc (flat.Branch op y z past)) ≤ home_words g y + right_words g z
   unfolding block
-  branch_most pc op y z past = operands_length (keeping p plans f).place (keeping p plans f).base y z
+  branch_most pc op y z past =
+      operands_length g (keeping p plans f).place (at_homes p plans (sound p plans ok) f g there)
+      (keeping p plans f).base y z
 
   -- the block of an instruction that stays, or goes, and what stands behind it
   with_tail : (n pc : ℕ) (i : FlatInstruction) → longest_size (tail_of (keeping p plans f) n pc i) ≡ 0
       → length (block m p plans f pc i) + longest_size (tail_of (keeping p plans f) n pc i)
-      ≤ instruction_words p (keeping p plans f).room (results_of (function_in p f)) i
+      ≤ instruction_words p g i
   with_tail n pc i none = let b = block_most pc i in omega arith
 
   no_block : (pc : ℕ) (i : FlatInstruction) → block m p plans f pc i ≡ [] → length (block m p plans f pc i) ≡ 0
@@ -90,7 +91,7 @@ module _ (m : MapSizes) (p : FlatProgram) (plans : List FunctionPlan) (ok : AreA
 
   both_most : (n pc : ℕ) (i : FlatInstruction)
       → length (block m p plans f pc i) + longest_size (tail_of (keeping p plans f) n pc i)
-      ≤ instruction_words p (keeping p plans f).room (results_of (function_in p f)) i
+      ≤ instruction_words p g i
   both_most n pc (flat.Branch op y z past) = let b = branch_most pc op y z past in omega arith
   both_most n pc (flat.JumpForward zero) = let b = forward_block pc zero in omega arith
   both_most n pc (flat.JumpForward (suc past)) = let b = forward_block pc (suc past) in omega arith
@@ -113,7 +114,7 @@ module _ (m : MapSizes) (p : FlatProgram) (plans : List FunctionPlan) (ok : AreA
 
   item_most : (n pc : ℕ) (i : FlatInstruction)
       → longest_size (items_at m p plans f n pc i)
-      ≤ instruction_words p (keeping p plans f).room (results_of (function_in p f)) i
+      ≤ instruction_words p g i
   item_most n pc i =
       let b = both_most n pc i in
       let a = size_append (plain (block m p plans f pc i)) (tail_of (keeping p plans f) n pc i) in
@@ -122,7 +123,7 @@ module _ (m : MapSizes) (p : FlatProgram) (plans : List FunctionPlan) (ok : AreA
 
   from_most : (n pc : ℕ) (is : List FlatInstruction)
       → longest_size (items_from m p plans f n pc is)
-      ≤ 1 + body_words p (keeping p plans f).room (results_of (function_in p f)) is
+      ≤ 1 + body_words p g is
   from_most n pc [] = omega arith
   from_most n pc (i ∷ is) =
       let first = item_most n pc i in
@@ -135,17 +136,13 @@ module _ (m : MapSizes) (p : FlatProgram) (plans : List FunctionPlan) (ok : AreA
       let n = parameters_of (function_in p f) in
       let body = body_of (function_in p f) in
       let entry = entry_block (keeping p plans f) n in
-      let e = entry_most (keeping p plans f) n in
+      let e = entry_most g (keeping p plans f) (at_homes p plans (sound p plans ok) f g there) n in
       let s = size_plain entry in
       let rest = from_most (length body) 0 body in
       let a = size_append (plain entry) (items_from m p plans f (length body) 0 body) in
-      let room = (keeping p plans f).room in
-      let few : longest_size (items_of m p plans f)
-      ≤ 2 + 6 * n + body_words p room (results_of (function_in p f)) body = omega arith in
-      let same : room ≡ g.room = (sound p plans ok).room f g there in
-      subst (λ q. longest_size (items_of m p plans f) ≤ 2 + 6 * g.parameters + body_words p q g.results g.body) same
-      (subst (λ o. longest_size (items_of m p plans f)
-      ≤ 2 + 6 * parameters_of o + body_words p room (results_of o) (body_of o)) there few)
+      let few : longest_size (items_of m p plans f) ≤ 2 + passed_words g 0 n + body_words p g body = omega arith in
+      subst (λ o. longest_size (items_of m p plans f)
+      ≤ 2 + passed_words g 0 (parameters_of o) + body_words p g (body_of o)) there few
 
   pub function_length : length (function_words m p plans f) ≤ most_words p g
   unfolding words_of

@@ -13,7 +13,7 @@ use Rattle.flat_meaning.specs.declared.instruction.FlatInstruction.TheVariants a
 use Rattle.flat_meaning.specs.declared.function.FlatFunction.{FlatFunction}
 use Rattle.flat_meaning.specs.declared.function.FlatProgram.{FlatProgram}
 use Rattle.flat_meaning.specs.Calls.{function_in}
-use Rattle.flat_meaning.specs.Meaning.{results_of, body_of}
+use Rattle.flat_meaning.specs.Meaning.{parameters_of, results_of, body_of}
 use Rattle.reg_plan.specs.declared.plan.FunctionPlan.{FunctionPlan}
 use Rattle.reg_plan.specs.Tests.{AreAccepted}
 use Rattle.machine_laws.specs.Segments.Segments.{is_of, function_words, words_if, words_below, code_bytes}
@@ -23,6 +23,7 @@ use Rattle.machine_laws.specs.Blocks.Immediates.{is_immediate, immediate_of, imm
 use Rattle.image_laws.specs.CodeSizes.Sizes.{constant_words, right_words, operator_words, instruction_words}
 use Rattle.image_laws.specs.CodeSizes.Sizes.{more_words, body_words, most_words, most_if, most_below, instructions_if}
 use Rattle.image_laws.specs.CodeSizes.Sizes.{instructions_below, HandsOver}
+use Rattle.image_laws.proofs.CodeSizes.Blocks.{home_most, passed_most}
 use Rattle.image_laws.proofs.CodeSizes.Lists.{function_length}
 
 module _ (m : MapSizes) (p : FlatProgram) (plans : List FunctionPlan) (ok : AreAccepted p plans) where
@@ -60,49 +61,62 @@ few_for_constant n = by (is_immediate n) (nat_lt n (2 ^ 31 - 2 ^ 11) || nat_le (
     by false true = omega arith
     by false false = omega arith
 
-few_for_right : (z : RightOperand) → right_words z ≤ 11
-few_for_right (right.Register z) = omega arith
-few_for_right (right.Number n) = by (n == 0)
+few_for_right : (g : FlatFunction) (z : RightOperand) → right_words g z ≤ 11
+few_for_right g (right.Register z) = let h = home_most g z in omega arith
+few_for_right g (right.Number n) = by (n == 0)
   where
     by : (b : Bool) → (if b then 0 else constant_words (low_bits 64 n)) ≤ 11
     by true = omega arith
     by false = few_for_constant (low_bits 64 n)
 
-few_for_operator : (z : RightOperand) (short : Option Instr) → operator_words z short ≤ 18
-few_for_operator z (Some i) = omega arith
-few_for_operator z None = let r = few_for_right z in omega arith
+few_for_operator : (g : FlatFunction) (x y : ℕ) (z : RightOperand) (short : Option Instr)
+    → operator_words g x y z short ≤ 18
+few_for_operator g x y z (Some i) = let a = home_most g x in let b = home_most g y in omega arith
+few_for_operator g x y z None =
+    let a = home_most g x in let b = home_most g y in let r = few_for_right g z in omega arith
 
-pub few_for_each : (p : FlatProgram) (room r : ℕ) (i : FlatInstruction)
-    → instruction_words p room r i ≤ 18 + more_words p r i
-few_for_each p room r (flat.Constant x n) = let c = few_for_constant (low_bits 64 n) in omega arith
-few_for_each p room r (flat.Operate op x y z) = few_for_operator z (immediate_of op 0 0 z)
-few_for_each p room r (flat.Operate32 op x y z) = few_for_operator z (immediate32_of op 0 0 z)
-few_for_each p room r (flat.Branch op y z past) = let c = few_for_right z in omega arith
-few_for_each p room r (flat.Call g first x) =
-    let c = few_for_constant room in let a = few_for_constant (row_address p g) in omega arith
-few_for_each p room r (flat.CallAddress y first n x k) = let c = few_for_constant room in omega arith
-few_for_each p room r (flat.End e) = omega arith
-few_for_each p room r (flat.Move x y) = omega arith
-few_for_each p room r (flat.Load op x y o) = omega arith
-few_for_each p room r (flat.Store op y o x) = omega arith
-few_for_each p room r (flat.JumpForward past) = omega arith
-few_for_each p room r (flat.JumpBack back) = omega arith
-few_for_each p room r flat.Turn = omega arith
-few_for_each p room r (flat.Return y) = omega arith
-few_for_each p room r (flat.Get x) = omega arith
-few_for_each p room r (flat.Put x) = omega arith
-few_for_each p room r (flat.Exit x) = omega arith
-few_for_each p room r (flat.Charged x) = omega arith
+pub few_for_each : (p : FlatProgram) (g : FlatFunction) (i : FlatInstruction)
+    → instruction_words p g i ≤ 18 + more_words p g.results i
+few_for_each p g (flat.Constant x n) =
+    let c = few_for_constant (low_bits 64 n) in let a = home_most g x in omega arith
+few_for_each p g (flat.Operate op x y z) = few_for_operator g x y z (immediate_of op 0 0 z)
+few_for_each p g (flat.Operate32 op x y z) = few_for_operator g x y z (immediate32_of op 0 0 z)
+few_for_each p g (flat.Branch op y z past) =
+    let c = few_for_right g z in let a = home_most g y in omega arith
+few_for_each p g (flat.Call f first x) =
+    let c = few_for_constant g.room in
+    let a = few_for_constant (row_address p f) in
+    let d = passed_most g first (parameters_of (function_in p f)) in
+    let e = passed_most g x (results_of (function_in p f)) in
+    omega arith
+few_for_each p g (flat.CallAddress y first n x k) =
+    let c = few_for_constant g.room in
+    let a = home_most g y in
+    let d = passed_most g first n in
+    let e = passed_most g x k in
+    omega arith
+few_for_each p g (flat.End e) = omega arith
+few_for_each p g (flat.Move x y) = let a = home_most g x in let b = home_most g y in omega arith
+few_for_each p g (flat.Load op x y o) = let a = home_most g x in let b = home_most g y in omega arith
+few_for_each p g (flat.Store op y o x) = let a = home_most g x in let b = home_most g y in omega arith
+few_for_each p g (flat.JumpForward past) = omega arith
+few_for_each p g (flat.JumpBack back) = omega arith
+few_for_each p g flat.Turn = omega arith
+few_for_each p g (flat.Return y) = let d = passed_most g y g.results in omega arith
+few_for_each p g (flat.Get x) = let a = home_most g x in omega arith
+few_for_each p g (flat.Put x) = let a = home_most g x in omega arith
+few_for_each p g (flat.Exit x) = let a = home_most g x in omega arith
+few_for_each p g (flat.Charged x) = let a = home_most g x in omega arith
 
 module _ (p : FlatProgram) (v : ℕ) (few : HandsOver p v) where
-  body_most : (room r : ℕ) (is : List FlatInstruction)
-      → ((pc : ℕ) (i : FlatInstruction) → slice_get is pc ≡ Some i → more_words p r i ≤ 84 + 12 * v)
-      → body_words p room r is ≤ (102 + 12 * v) * length is
-  body_most room r [] h = omega arith
-  body_most room r (i ∷ is) h =
-      let each = few_for_each p room r i in
+  body_most : (g : FlatFunction) (is : List FlatInstruction)
+      → ((pc : ℕ) (i : FlatInstruction) → slice_get is pc ≡ Some i → more_words p g.results i ≤ 84 + 12 * v)
+      → body_words p g is ≤ (102 + 12 * v) * length is
+  body_most g [] h = omega arith
+  body_most g (i ∷ is) h =
+      let each = few_for_each p g i in
       let first = h 0 i refl in
-      let rest = body_most room r is (λ pc j e. h (suc pc) j e) in
+      let rest = body_most g is (λ pc j e. h (suc pc) j e) in
       omega arith
 
   some_most : (f : ℕ) (o : Option FlatFunction) → function_in p f ≡ o
@@ -119,7 +133,8 @@ module _ (p : FlatProgram) (v : ℕ) (few : HandsOver p v) where
       by true = omega arith
       by false =
           let a = few.parameters f g there in
-          let b = body_most g.room g.results g.body few_of in
+          let d = passed_most g 0 g.parameters in
+          let b = body_most g g.body few_of in
           omega arith
 
   all_most : (n : ℕ) → most_below p n ≤ (102 + 12 * v) * instructions_below p n + (4 + 6 * v) * n

@@ -4,7 +4,7 @@ use Rattle.std.proofs.Common.{arith, List, [], ◌∷◌, ◌++◌, length, leng
 use Rattle.std.specs.Prelude.{slice_get}
 use Rattle.std.proofs.lemmas.Bool.{cases_lt}
 use Rattle.tac_ir.specs.declared.function.CodeFunction.{CodeFunction}
-use Rattle.metadata_plan.specs.Registers.{words_in, all_variables, most_temporaries}
+use Rattle.metadata_plan.specs.Registers.{words_in, all_variables, most_temporaries, first_free}
 use Rattle.metadata_expansion.specs.Homes.{free_count, words_from, temporary_homes, homes}
 use Rattle.metadata_expansion.specs.Numbers.{register_count}
 use Rattle.image_laws.proofs.Plans.Roles.{Role, OfVariable, OfTemporary, Scratch}
@@ -58,47 +58,52 @@ module _ (c : CodeFunction) where
 
   -- the homes of variables, of temporaries, and of the registers behind them
   abbrev front : List ℕ
-  front = words_from 0 variables
+  front = words_from (free_count c) variables
 
   abbrev middle : List ℕ
-  middle = temporary_homes variables count
+  middle = temporary_homes (free_count c + variables) count
 
   abbrev back : List ℕ
-  back = words_from (variables + count) (free_count c)
+  back = words_from 0 (free_count c)
 
   pub homes_length : length (homes c) ≡ register_count c
   homes_length =
       let a = length-append front (middle ++ back) in
       let b = length-append middle back in
-      let d = words_length 0 variables in
-      let e = temporaries_length variables count in
-      let f = words_length (variables + count) (free_count c) in
+      let d = words_length (free_count c) variables in
+      let e = temporaries_length (free_count c + variables) count in
+      let f = words_length 0 (free_count c) in
       omega (arith, a, b, d, e, f)
 
   -- the word of a register by what it is for
   pub word : (y : ℕ) → Role c y → ℕ
-  word y (OfVariable lt) = y
-  word y (OfTemporary z lt e) = words_in (all_variables c) + z
-  word y (Scratch j lt e) = words_in (all_variables c) + most_temporaries c.code + j
+  word y (OfVariable lt) = free_count c + y
+  word y (OfTemporary z lt e) = free_count c + words_in (all_variables c) + z
+  word y (Scratch j lt e) = j
+
+  pub scratch_word : (y j : ℕ) (lt : j < free_count c) (e : y ≡ first_free c + j) → word y (Scratch j lt e) ≡ j
+  unfolding word
+  scratch_word y j lt e = refl
 
   pub home_at : (y : ℕ) (r : Role c y) → slice_get (homes c) y ≡ Some (word y r)
   unfolding word
   home_at y (OfVariable lt) =
-      let z : 0 + y ≡ y = omega arith in
-      get_left front (middle ++ back) y y (words_at 0 variables y lt ∙ ap Some z)
+      get_left front (middle ++ back) y (free_count c + y) (words_at (free_count c) variables y lt)
   home_at y (OfTemporary z lt e) =
-      let long = words_length 0 variables in
+      let long = words_length (free_count c) variables in
       let seam : y ≡ length front + 5 * z = omega (arith, long, e) in
       get_right front (middle ++ back) y (5 * z) seam
-      ∙ get_left middle back (5 * z) (variables + z) (temporaries_at variables count z lt)
+      ∙ get_left middle back (5 * z) (free_count c + variables + z)
+      (temporaries_at (free_count c + variables) count z lt)
   home_at y (Scratch j lt e) =
-      let long = words_length 0 variables in
-      let long' = temporaries_length variables count in
+      let long = words_length (free_count c) variables in
+      let long' = temporaries_length (free_count c + variables) count in
+      let none : 0 + j ≡ j = omega arith in
       let seam : y ≡ length front + (5 * count + j) = omega (arith, long, e) in
       let seam' : 5 * count + j ≡ length middle + j = omega (arith, long') in
       get_right front (middle ++ back) y (5 * count + j) seam
       ∙ get_right middle back (5 * count + j) j seam'
-      ∙ words_at (variables + count) (free_count c) j lt
+      ∙ (words_at 0 (free_count c) j lt ∙ ap Some none)
 
   pub word_low : (y : ℕ) (r : Role c y) → word y r < words_in (all_variables c) + most_temporaries c.code + free_count c
   unfolding word
@@ -113,14 +118,14 @@ module _ (c : CodeFunction) where
 
   pub words_differ : (x y : ℕ) (q : Role c x) (r : Role c y) → word x q ≡ word y r → x ≡ y
   unfolding word
-  words_differ x y (OfVariable lt) (OfVariable lt') e = e
+  words_differ x y (OfVariable lt) (OfVariable lt') e = omega (arith, e)
   words_differ x y (OfVariable lt) (OfTemporary z lt' a) e = absurd (omega (arith, lt, e))
-  words_differ x y (OfVariable lt) (Scratch j lt' a) e = absurd (omega (arith, lt, e))
+  words_differ x y (OfVariable lt) (Scratch j lt' a) e = absurd (omega (arith, lt', e))
   words_differ x y (OfTemporary z lt a) (OfVariable lt') e = absurd (omega (arith, lt', e))
   words_differ x y (OfTemporary z lt a) (OfTemporary z' lt' b) e = omega (arith, a, b, e)
-  words_differ x y (OfTemporary z lt a) (Scratch j lt' b) e = absurd (omega (arith, lt, e))
-  words_differ x y (Scratch j lt a) (OfVariable lt') e = absurd (omega (arith, lt', e))
-  words_differ x y (Scratch j lt a) (OfTemporary z lt' b) e = absurd (omega (arith, lt', e))
+  words_differ x y (OfTemporary z lt a) (Scratch j lt' b) e = absurd (omega (arith, lt', e))
+  words_differ x y (Scratch j lt a) (OfVariable lt') e = absurd (omega (arith, lt, e))
+  words_differ x y (Scratch j lt a) (OfTemporary z lt' b) e = absurd (omega (arith, lt, e))
   words_differ x y (Scratch j lt a) (Scratch j' lt' b) e = omega (arith, a, b, e)
 
   -- every home lies within the activation record

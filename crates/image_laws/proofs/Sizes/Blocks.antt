@@ -1,11 +1,12 @@
 -- How many words the blocks of instructions have at most, with the jumps behind them.
 use Rattle.std.proofs.Common.{◌≡◌, ℕ, zero, suc, ◌+◌, ◌-◌, ◌*◌, ◌^◌, ◌<◌, ◌≤◌, Bool, true, false, List, [], ◌∷◌, ◌++◌}
-use Rattle.std.proofs.Common.{length, refl, arith}
+use Rattle.std.proofs.Common.{length, refl, ap, arith}
 use Rattle.std.specs.Prelude.{if◌then◌else◌, nat_lt}
 use Rattle.sb_base.specs.declared.ending.Ending.TheVariants as ending
 use Rattle.addr_map.specs.Places.{MapSizes}
 use Rattle.obj_memory.specs.declared.int_type.IntType.{IntType}
 use Rattle.obj_memory.specs.declared.int_type.IntType.TheVariants.{UnsignedChar}
+use Rattle.obj_memory.specs.declared.operator.BinaryOperator.{BinaryOperator}
 use Rattle.obj_memory.specs.declared.value.Scalar.{Scalar}
 use Rattle.obj_memory.specs.declared.value.Scalar.TheVariants.{Integer, Pointer}
 use Rattle.c_tree.specs.declared.expression.Kind.{Kind}
@@ -27,6 +28,7 @@ use Rattle.tac_ir.specs.Meaning as code
 use Rattle.rv_isa.specs.declared.instruction.BranchOp.TheVariants.{Beq, Bltu}
 use Rattle.flat_meaning.specs.declared.instruction.RightOperand.TheVariants as right
 use Rattle.flat_meaning.specs.declared.instruction.FlatInstruction.TheVariants as flat
+use Rattle.flat_meaning.specs.declared.function.FlatFunction.{FlatFunction}
 use Rattle.flat_meaning.specs.declared.function.FlatProgram.{FlatProgram}
 use Rattle.flat_meaning.specs.Calls.{function_in}
 use Rattle.flat_meaning.specs.Meaning.{parameters_of, results_of}
@@ -39,7 +41,8 @@ use Rattle.metadata_plan.specs.Laid.{jump, jump_unless, jumps, place_of, laid_fr
 use Rattle.metadata_plan.specs.OperatorLists.Operators.{operators}
 use Rattle.metadata_expansion.specs.Numbers.{line_in, greatest_line, word_in, greatest_word}
 use Rattle.program_lowering.specs.ExpressionCode.Weights.{weight_of, code_weight}
-use Rattle.image_laws.specs.CodeSizes.Sizes.{constant_words, instruction_words, body_words}
+use Rattle.image_laws.specs.CodeSizes.Sizes.{constant_words, home_words, passed_words, instruction_words, body_words}
+use Rattle.image_laws.proofs.CodeSizes.Blocks.{home_most, passed_most}
 use Rattle.image_laws.proofs.CodeSizes.Programs.{few_for_constant}
 use Rattle.image_laws.proofs.Sizes.Numbers.{few_constant, branch_few}
 use Rattle.image_laws.proofs.Sizes.Words.{words}
@@ -54,21 +57,30 @@ pub record Calls (p : FlatProgram) (m : MapSizes) (t : Tac) : Type 0 where
   pub parameters : (f n : ℕ) → takes (code.function_in t f) n ≡ true → parameters_of (function_in p f) ≤ n
   pub gives : (f n : ℕ) → takes (code.function_in t f) n ≡ true → results_of (function_in p f) ≡ 1
 
-module _ (p : FlatProgram) (room : ℕ) where
-  pub jump_words : (a b : ℕ) → instruction_words p room 1 (jump a b) ≤ 2
+-- the first registers behind those of the temporaries, each of which one instruction reaches
+pub record AreNear (g : FlatFunction) (s : ℕ) : Type 0 where
+  pub first : home_words g s ≡ 1
+  pub second : home_words g (s + 1) ≡ 1
+  pub third : home_words g (s + 2) ≡ 1
+
+passed_one : (g : FlatFunction) (y : ℕ) → passed_words g y 1 ≤ 4
+unfolding passed_words
+passed_one g y = omega (arith, home_most g (y + 0))
+
+module _ (p : FlatProgram) (g : FlatFunction) where
+  pub jump_words : (a b : ℕ) → instruction_words p g (jump a b) ≤ 2
   jump_words a b = by (nat_lt a b)
     where
-      by : (d : Bool) → instruction_words p room 1 (if d then flat.JumpForward (b - (a + 1)) else flat.JumpBack
-          (a - b)) ≤ 2
+      by : (d : Bool) → instruction_words p g (if d then flat.JumpForward (b - (a + 1)) else flat.JumpBack (a - b)) ≤ 2
       by true = omega arith
       by false = omega arith
 
-  unless_words : (d : Bool) (a b : ℕ) → body_words p room 1 (jump_unless d a b) ≤ 2
+  unless_words : (d : Bool) (a b : ℕ) → body_words p g (jump_unless d a b) ≤ 2
   unless_words true a b = omega arith
   unless_words false a b = let h = jump_words a b in omega (arith, h)
 
   pub jumps_words : (c : CodeFunction) (address : ℕ → ℕ) (n pc : ℕ) (nodes : List ℕ)
-      → body_words p room 1 (jumps c address n pc nodes) ≤ 2 * length nodes
+      → body_words p g (jumps c address n pc nodes) ≤ 2 * length nodes
   jumps_words c address n pc [] = omega arith
   jumps_words c address n pc (x ∷ []) = unless_words (falls c n x) pc (address x)
   jumps_words c address n pc (x ∷ y ∷ ms) =
@@ -76,173 +88,224 @@ module _ (p : FlatProgram) (room : ℕ) where
       let b = unless_words (falls c n x) (pc + 1) (address x) in
       omega (arith, a, b)
 
-  kept_words : (f : Fixity) (t : IntType) (x d n s : ℕ) → body_words p room 1 (kept_by operators f t x d n s) ≤ 25
-  kept_words Prefix t x d n s =
-      let h = conversion_words p room 1 t x n in
-      let a = words_append p room 1 (operators.convert t x n s) (flat.Move d x ∷ []) in omega (arith, h, a)
-  kept_words Postfix t x d n s = let h = conversion_words p room 1 t x n in omega (arith, h)
+  moved_words : (x y : ℕ) → instruction_words p g (flat.Move x y) ≤ 7
+  moved_words x y = omega (arith, home_most g x, home_most g y)
 
-  one_words : (right : RightOperand) (r : ℕ) → body_words p room 1 (right_code right r) ≤ 5
-  one_words (Temporary b) r = omega arith
-  one_words One r = let h = few_constant 1 (omega arith) in omega (arith, h)
+  pub zeroed_words : (x : ℕ) → instruction_words p g (flat.Constant x 0) ≤ 5
+  zeroed_words x = let h = few_constant 0 (omega arith) in omega (arith, h, home_most g x)
 
-  update_words : (c : CodeFunction) (u : Update) (k : Scalar) (f : Fixity) (line d x : ℕ) (right : RightOperand)
-      → line < 2 ^ 32 → body_words p room 1 (update_code operators c u k f line d x right) ≤ 180
-  update_words c (Arithmetic q t) (Integer k) f line d x right lt =
-      let s = first_free c in
-      let before = operators.convert t s (variable_register c x) (s + 2) in
-      let one = right_code right (s + 1) in
-      let operator = operators.binary q t s s (right_register c right (s + 1)) (s + 2) line in
-      let after = kept_by operators f k (variable_register c x) (temporary_register c d) s (s + 2) in
-      let h1 = conversion_words p room 1 t s (variable_register c x) in
-      let h2 = one_words right (s + 1) in
-      let h3 = binary_words p room 1 q t line s s (right_register c right (s + 1)) (s + 2) lt in
-      let h4 = kept_words f k (variable_register c x) (temporary_register c d) s (s + 2) in
-      let a1 = words_append p room 1 before (one ++ (operator ++ after)) in
-      let a2 = words_append p room 1 one (operator ++ after) in
-      let a3 = words_append p room 1 operator after in
-      omega (arith, h1, h2, h3, h4, a1, a2, a3)
-  update_words c (Arithmetic q t) Pointer f line d x right lt = omega arith
-  update_words c (Forward size) k f line d x right lt = omega arith
-  update_words c (Back size) k f line d x right lt = omega arith
+  converted_words : (kind : Kind) (x y s : ℕ) → body_words p g (conversion operators kind x y s) ≤ 18
+  converted_words Void x y s = omega (arith, zeroed_words x)
+  converted_words (OfScalar (Integer t)) x y s =
+      let h = conversion_words p g t x y in omega (arith, h, home_most g x, home_most g y)
+  converted_words (OfScalar Pointer) x y s = omega (arith, zeroed_words x)
+  converted_words (Structure size) x y s = omega (arith, zeroed_words x)
+  converted_words (Array size) x y s = omega (arith, zeroed_words x)
 
-  converted_words : (kind : Kind) (x y s : ℕ) → body_words p room 1 (conversion operators kind x y s) ≤ 18
-  converted_words Void x y s = let h = few_constant 0 (omega arith) in omega (arith, h)
-  converted_words (OfScalar (Integer t)) x y s = conversion_words p room 1 t x y
-  converted_words (OfScalar Pointer) x y s = let h = few_constant 0 (omega arith) in omega (arith, h)
-  converted_words (Structure size) x y s = let h = few_constant 0 (omega arith) in omega (arith, h)
-  converted_words (Array size) x y s = let h = few_constant 0 (omega arith) in omega (arith, h)
+  library_words : (r : Routine) (line d s : ℕ) → body_words p g (library_code operators r line d s) ≤ 27
+  library_words routine.Putchar line d s =
+      let h = conversion_words p g UnsignedChar d d in omega (arith, h, home_most g d)
+  library_words routine.Getchar line d s = omega (arith, home_most g d)
+  library_words routine.Exit line d s = omega (arith, home_most g d)
+  library_words routine.Abort line d s = omega arith
+  library_words routine.Malloc line d s = omega arith
+  library_words routine.Calloc line d s = omega arith
+  library_words routine.Free line d s = omega arith
+  library_words routine.Realloc line d s = omega arith
+  library_words routine.Memcpy line d s = omega arith
+  library_words routine.Memmove line d s = omega arith
+  library_words routine.Memset line d s = omega arith
+  library_words routine.Memcmp line d s = omega arith
+  library_words routine.Strlen line d s = omega arith
+  library_words routine.Strcmp line d s = omega arith
+  library_words routine.Strcpy line d s = omega arith
+  library_words routine.Strncpy line d s = omega arith
+  library_words routine.Strcat line d s = omega arith
+  library_words routine.Strchr line d s = omega arith
+  library_words routine.Puts line d s = omega arith
 
-  library_words : (r : Routine) (line d s : ℕ) → line < 2 ^ 32
-      → body_words p room 1 (library_code operators r line d s) ≤ 74
-  library_words routine.Putchar line d s lt = let h = conversion_words p room 1 UnsignedChar d d in omega (arith, h)
-  library_words routine.Getchar line d s lt = omega arith
-  library_words routine.Exit line d s lt = omega arith
-  library_words routine.Abort line d s lt = omega arith
-  library_words routine.Malloc line d s lt = omega arith
-  library_words routine.Calloc line d s lt = omega arith
-  library_words routine.Free line d s lt = omega arith
-  library_words routine.Realloc line d s lt = omega arith
-  library_words routine.Memcpy line d s lt = omega arith
-  library_words routine.Memmove line d s lt = omega arith
-  library_words routine.Memset line d s lt = omega arith
-  library_words routine.Memcmp line d s lt = omega arith
-  library_words routine.Strlen line d s lt = omega arith
-  library_words routine.Strcmp line d s lt = omega arith
-  library_words routine.Strcpy line d s lt = omega arith
-  library_words routine.Strncpy line d s lt = omega arith
-  library_words routine.Strcat line d s lt = omega arith
-  library_words routine.Strchr line d s lt = omega arith
-  library_words routine.Puts line d s lt = omega arith
-
-  moves_words : (c : CodeFunction) (r d n : ℕ) → body_words p room 1 (argument_moves c r d n) ≤ 7 * n
+  moves_words : (c : CodeFunction) (r d n : ℕ) → body_words p g (argument_moves c r d n) ≤ 7 * n
   moves_words c r d zero = omega arith
-  moves_words c r d (suc n) = let h = moves_words c (r + 1) (d + 1) n in omega (arith, h)
+  moves_words c r d (suc n) =
+      let h = moves_words c (r + 1) (d + 1) n in omega (arith, h, moved_words r (temporary_register c d))
 
   -- a node that is never reached ends the run
-  unreached : body_words p room 1 (flat.End (ending.Abort 1) ∷ []) ≤ 56
+  unreached : body_words p g (flat.End (ending.Abort 1) ∷ []) ≤ 4
   unreached = omega arith
 
-  module _ (m : MapSizes) (t : Tac) (known : Calls p m t) (c : CodeFunction) where
-    tests_words : (bytes line s : ℕ) → line < 2 ^ 32 → body_words p room 1 (call_tests m bytes line s) ≤ 118
-    tests_words bytes line s lt =
-        let few = known.budget in
-        let h = branch_few p room 1 Bltu s (m.budgets.calls + 1 - bytes) 1 (omega (arith, few)) in
-        omega (arith, h)
+  -- ---- updates
 
-    call_words : (f line d n : ℕ) → line < 2 ^ 32 → takes (code.function_in t f) n ≡ true
-        → body_words p room 1 (call_code m t c f line d n) ≤ 217 + 13 * n
-    call_words f line d n lt e =
-        let s = first_free c in
-        let tests = call_tests m (room_in (code.function_in t f)) line s in
-        let moves = argument_moves c s d n in
-        let last = flat.Call f s (temporary_register c d) ∷ [] in
-        let h1 = tests_words (room_in (code.function_in t f)) line s lt in
-        let h2 = moves_words c s d n in
-        let a1 = words_append p room 1 tests (moves ++ last) in
-        let a2 = words_append p room 1 moves last in
-        let aim = known.address f n e in
-        let q1 = few_for_constant room in
-        let q2 = known.parameters f n e in
-        let q3 = known.gives f n e in
-        omega (arith, h1, h2, a1, a2, aim, q1, q2, q3)
+  -- the new value, from a register behind those of the temporaries
+  kept_words : (f : Fixity) (t : IntType) (x d s n : ℕ) → home_words g s ≡ 1
+      → body_words p g (kept_by operators f t x d s n) ≤ 23
+  kept_words Prefix t x d s n near =
+      let h = conversion_words p g t x s in
+      let a = words_append p g (operators.convert t x s n) (flat.Move d x ∷ []) in
+      omega (arith, h, a, near, home_most g x, home_most g d)
+  kept_words Postfix t x d s n near =
+      let h = conversion_words p g t x s in omega (arith, h, near, home_most g x, home_most g d)
 
-    called_words : (f line d n : ℕ) → line < 2 ^ 32 → body_words p room 1
-        (block operators m t c (tac.Call f line d n 0))
-        ≤ 217 + 13 * n
-    called_words f line d n lt = by (takes (code.function_in t f) n) refl
-      where
-        by : (b : Bool) → takes (code.function_in t f) n ≡ b
-            → body_words p room 1 (if b then call_code m t c f line d n else flat.End (ending.Abort line) ∷ [])
-            ≤ 217 + 13 * n
-        by true e = call_words f line d n lt e
-        by false e = omega arith
+  -- the right operand with the two looks that an operator takes at it
+  one_words : (c : CodeFunction) (right : RightOperand) (r : ℕ) → home_words g r ≡ 1
+      → body_words p g (right_code right r) + 2 * home_words g (right_register c right r) ≤ 6
+  one_words c (Temporary b) r near = omega (arith, home_most g (temporary_register c b))
+  one_words c One r near = let h = few_constant 1 (omega arith) in omega (arith, h, near)
 
-    pub block_words : (ts : List (List ℕ)) (i : Instruction) → word_in i < 2 ^ 64 → line_in i < 2 ^ 32
-        → body_words p room 1 (block operators m t c i) + 2 * length (successors i) ≤ weight_of ts i (words 60)
-    block_words ts tac.Reserved w l = let h = unreached in omega (arith, h)
-    block_words ts (tac.Constant d v next) w l =
-        let h = constant_code_words p room 1 (temporary_register c d) v w in omega (arith, h)
-    block_words ts (tac.GetPlain d x next) w l = omega arith
-    block_words ts (tac.SetPlain x a next) w l = omega arith
-    block_words ts (tac.UpdatePlain u k f line d x right next) w l =
-        let h = update_words c u k f line d x right l in omega (arith, h)
-    block_words ts (tac.ZeroOf kind d next) w l = let h = few_constant 0 (omega arith) in omega (arith, h)
-    block_words ts (tac.Convert kind d a next) w l =
-        let h = converted_words kind (temporary_register c d) (temporary_register c a) (first_free c) in omega
-        (arith, h)
-    block_words ts (tac.Unary q ty d a next) w l =
-        let h = unary_words p room 1 q ty (temporary_register c d) (temporary_register c a) (first_free c) in omega
-        (arith, h)
-    block_words ts (tac.Binary q ty line d a b next) w l =
-        let h = binary_words p room 1 q ty line (temporary_register c d) (temporary_register c a)
-        (temporary_register c b)
-        (first_free c) l in
-        omega (arith, h)
-    block_words ts (tac.Branch a x y) w l = omega arith
-    block_words ts (tac.Case a v x y) w l =
-        let h = constant_code_words p room 1 (first_free c) v w in
-        let test = flat.Branch Beq (temporary_register c a) (right.Register (first_free c)) 1 in
-        let q = words_append p room 1 (operators.constant (first_free c) v (first_free c + 1)) (test ∷ []) in
-        omega (arith, h, q)
-    block_words ts (tac.Turn counted next) w l = omega arith
-    block_words ts (tac.Library r line d n next) w l =
-        let h = library_words r line (temporary_register c d) (first_free c) l in omega (arith, h)
-    block_words ts (tac.Call f line d n next) w l = let h = called_words f line d n l in omega (arith, h)
-    block_words ts (tac.Return a) w l = omega arith
-    block_words ts (tac.FunctionPointer d f next) w l = let h = unreached in omega (arith, h)
-    block_words ts (tac.HomePointer d x next) w l = let h = unreached in omega (arith, h)
-    block_words ts (tac.StaticPointer d n next) w l = let h = unreached in omega (arith, h)
-    block_words ts (tac.Offset form size d a b next) w l = let h = unreached in omega (arith, h)
-    block_words ts (tac.Difference size d a b next) w l = let h = unreached in omega (arith, h)
-    block_words ts (tac.Narrow offset size d a next) w l = let h = unreached in omega (arith, h)
-    block_words ts (tac.Member offset size d a next) w l = let h = unreached in omega (arith, h)
-    block_words ts (tac.Take kind line zero a next) w l = let h = unreached in omega (arith, h)
-    block_words ts (tac.Take kind line (suc d) a next) w l = let h = unreached in omega (arith, h)
-    block_words ts (tac.Read kind mode line key d a next) w l = let h = unreached in omega (arith, h)
-    block_words ts (tac.Write kind mode line key d a b next) w l = let h = unreached in omega (arith, h)
-    block_words ts (tac.Update u k f mode line at key d a right next) w l = let h = unreached in omega (arith, h)
-    block_words ts (tac.Judge test size line key a next) w l = let h = unreached in omega (arith, h)
-    block_words ts (tac.Zero x next) w l = let h = unreached in omega (arith, h)
-    block_words ts (tac.StorePart kind line x offset a next) w l = let h = unreached in omega (arith, h)
-    block_words ts (tac.StoreText n x offset next) w l = let h = unreached in omega (arith, h)
-    block_words ts (tac.Print x line d n next) w l = let h = unreached in omega (arith, h)
-    block_words ts (tac.CallThrough type line d n next) w l = let h = unreached in omega (arith, h)
-    block_words ts (tac.EnterBlock b line next) w l = let h = unreached in omega (arith, h)
-    block_words ts (tac.LeaveBlock b next) w l = let h = unreached in omega (arith, h)
-    block_words ts (tac.Skip next) w l = let h = unreached in omega (arith, h)
+  -- an update with three such registers
+  updated_words : (c : CodeFunction) (q : BinaryOperator) (t k : IntType) (f : Fixity) (line d v s : ℕ) (right : RightOperand)
+      → home_words g s ≡ 1 → home_words g (s + 1) ≡ 1 → home_words g (s + 2) ≡ 1 → body_words p g
+      (operators.convert t s v (s + 2)
+      ++ (right_code right (s + 1)
+      ++ (operators.binary q t s s (right_register c right (s + 1)) (s + 2) line
+      ++ kept_by operators f k v d s (s + 2)))) ≤ 61
+  updated_words c q t k f line d v s right first second third =
+      let r = right_register c right (s + 1) in
+      let before = operators.convert t s v (s + 2) in
+      let one = right_code right (s + 1) in
+      let operator = operators.binary q t s s r (s + 2) line in
+      let after = kept_by operators f k v d s (s + 2) in
+      let h1 = conversion_words p g t s v in
+      let h2 = one_words c right (s + 1) second in
+      let h3 = binary_words p g q t line s s r (s + 2) in
+      let h4 = kept_words f k v d s (s + 2) first in
+      let a1 = words_append p g before (one ++ (operator ++ after)) in
+      let a2 = words_append p g one (operator ++ after) in
+      let a3 = words_append p g operator after in
+      omega (arith, h1, h2, h3, h4, a1, a2, a3, first, third, home_most g v)
 
-    pub code_words : (ts : List (List ℕ)) (is : List Instruction) (n : ℕ) → greatest_word is < 2 ^ 64
-        → greatest_line is < 2 ^ 32
-        → body_words p room 1 (laid_from operators m t c n is) ≤ code_weight ts is (words 60)
-    code_words ts [] n w l = omega arith
-    code_words ts (i ∷ is) n w l =
-        let later = laid_from operators m t c (suc n) is in
-        let own = block operators m t c i in
-        let behind = jumps c (place_of operators m t c) n (place_of operators m t c n + length own) (successors i) in
-        let h = block_words ts i (omega (arith, w)) (omega (arith, l)) in
-        let r = code_words ts is (suc n) (omega (arith, w)) (omega (arith, l)) in
-        let j = jumps_words c (place_of operators m t c) n (place_of operators m t c n + length own) (successors i) in
-        let a = words_append p room 1 later (own ++ behind) in
-        let b = words_append p room 1 own behind in
-        omega (arith, h, r, j, a, b)
+  module _ (c : CodeFunction) (near : AreNear g (first_free c)) where
+    update_words : (u : Update) (k : Scalar) (f : Fixity) (line d x : ℕ) (right : RightOperand)
+        → body_words p g (update_code operators c u k f line d x right) ≤ 61
+    update_words (Arithmetic q t) (Integer k) f line d x right =
+        updated_words c q t k f line (temporary_register c d) (variable_register c x) (first_free c) right near.first
+        near.second near.third
+    update_words (Arithmetic q t) Pointer f line d x right = omega arith
+    update_words (Forward size) k f line d x right = omega arith
+    update_words (Back size) k f line d x right = omega arith
+
+    -- ---- calls
+
+    module _ (m : MapSizes) (t : Tac) (known : Calls p m t) (gives : g.results ≡ 1) where
+      tests_words : (bytes line : ℕ) → body_words p g (call_tests m bytes line (first_free c)) ≤ 24
+      tests_words bytes line =
+          let few = known.budget in
+          let h = branch_few p g Bltu (first_free c) (m.budgets.calls + 1 - bytes) 1 (omega (arith, few)) in
+          omega (arith, h, near.first)
+
+      call_words : (f line d n : ℕ) → takes (code.function_in t f) n ≡ true
+          → body_words p g (call_code m t c f line d n) ≤ 121 + 13 * n
+      call_words f line d n e =
+          let s = first_free c in
+          let tests = call_tests m (room_in (code.function_in t f)) line s in
+          let moves = argument_moves c s d n in
+          let last = flat.Call f s (temporary_register c d) ∷ [] in
+          let h1 = tests_words (room_in (code.function_in t f)) line in
+          let h2 = moves_words c s d n in
+          let a1 = words_append p g tests (moves ++ last) in
+          let a2 = words_append p g moves last in
+          let aim = known.address f n e in
+          let q1 = few_for_constant g.room in
+          let q2 = known.parameters f n e in
+          let given = passed_most g s (parameters_of (function_in p f)) in
+          let q3 = ap (passed_words g (temporary_register c d)) (known.gives f n e) in
+          let back = passed_one g (temporary_register c d) in
+          omega (arith, h1, h2, a1, a2, aim, q1, q2, given, q3, back)
+
+      called_words : (f line d n : ℕ)
+          → body_words p g (block operators m t c (tac.Call f line d n 0)) ≤ 121 + 13 * n
+      called_words f line d n = by (takes (code.function_in t f) n) refl
+        where
+          by : (b : Bool) → takes (code.function_in t f) n ≡ b
+              → body_words p g (if b then call_code m t c f line d n else flat.End (ending.Abort line) ∷ [])
+              ≤ 121 + 13 * n
+          by true e = call_words f line d n e
+          by false e = omega arith
+
+      -- ---- all instructions
+
+      pub block_words : (ts : List (List ℕ)) (i : Instruction) → word_in i < 2 ^ 64 → line_in i < 2 ^ 32
+          → body_words p g (block operators m t c i) + 2 * length (successors i) ≤ weight_of ts i (words 8)
+      block_words ts tac.Reserved w l = omega (arith, unreached)
+      block_words ts (tac.Constant d v next) w l =
+          let h = constant_code_words p g (temporary_register c d) v w in
+          omega (arith, h, home_most g (temporary_register c d))
+      block_words ts (tac.GetPlain d x next) w l =
+          omega (arith, moved_words (temporary_register c d) (variable_register c x))
+      block_words ts (tac.SetPlain x a next) w l =
+          omega (arith, moved_words (variable_register c x) (temporary_register c a))
+      block_words ts (tac.UpdatePlain u k f line d x right next) w l =
+          omega (arith, update_words u k f line d x right)
+      block_words ts (tac.ZeroOf kind d next) w l = omega (arith, zeroed_words (temporary_register c d))
+      block_words ts (tac.Convert kind d a next) w l =
+          let h = converted_words kind (temporary_register c d) (temporary_register c a) (first_free c) in omega
+          (arith, h)
+      block_words ts (tac.Unary q ty d a next) w l =
+          let h = unary_words p g q ty (temporary_register c d) (temporary_register c a) (first_free c) in
+          omega (
+            arith,
+            h,
+            near.first,
+            home_most g (temporary_register c d),
+            home_most g (temporary_register c a),
+          )
+      block_words ts (tac.Binary q ty line d a b next) w l =
+          let h = binary_words p g q ty line (temporary_register c d) (temporary_register c a)
+          (temporary_register c b)
+          (first_free c) in
+          omega (
+            arith,
+            h,
+            near.first,
+            home_most g (temporary_register c d),
+            home_most g (temporary_register c a),
+            home_most g (temporary_register c b),
+          )
+      block_words ts (tac.Branch a x y) w l = omega (arith, home_most g (temporary_register c a))
+      block_words ts (tac.Case a v x y) w l =
+          let h = constant_code_words p g (first_free c) v w in
+          let test = flat.Branch Beq (temporary_register c a) (right.Register (first_free c)) 1 in
+          let q = words_append p g (operators.constant (first_free c) v (first_free c + 1)) (test ∷ []) in
+          omega (arith, h, q, near.first, home_most g (temporary_register c a))
+      block_words ts (tac.Turn counted next) w l = omega arith
+      block_words ts (tac.Library r line d n next) w l =
+          omega (arith, library_words r line (temporary_register c d) (first_free c))
+      block_words ts (tac.Call f line d n next) w l = omega (arith, called_words f line d n)
+      block_words ts (tac.Return a) w l =
+          let one = ap (passed_words g (temporary_register c a)) gives in
+          omega (arith, one, passed_one g (temporary_register c a))
+      block_words ts (tac.FunctionPointer d f next) w l = omega (arith, unreached)
+      block_words ts (tac.HomePointer d x next) w l = omega (arith, unreached)
+      block_words ts (tac.StaticPointer d n next) w l = omega (arith, unreached)
+      block_words ts (tac.Offset form size d a b next) w l = omega (arith, unreached)
+      block_words ts (tac.Difference size d a b next) w l = omega (arith, unreached)
+      block_words ts (tac.Narrow offset size d a next) w l = omega (arith, unreached)
+      block_words ts (tac.Member offset size d a next) w l = omega (arith, unreached)
+      block_words ts (tac.Take kind line zero a next) w l = omega (arith, unreached)
+      block_words ts (tac.Take kind line (suc d) a next) w l = omega (arith, unreached)
+      block_words ts (tac.Read kind mode line key d a next) w l = omega (arith, unreached)
+      block_words ts (tac.Write kind mode line key d a b next) w l = omega (arith, unreached)
+      block_words ts (tac.Update u k f mode line at key d a right next) w l = omega (arith, unreached)
+      block_words ts (tac.Judge test size line key a next) w l = omega (arith, unreached)
+      block_words ts (tac.Zero x next) w l = omega (arith, unreached)
+      block_words ts (tac.StorePart kind line x offset a next) w l = omega (arith, unreached)
+      block_words ts (tac.StoreText n x offset next) w l = omega (arith, unreached)
+      block_words ts (tac.Print x line d n next) w l = omega (arith, unreached)
+      block_words ts (tac.CallThrough type line d n next) w l = omega (arith, unreached)
+      block_words ts (tac.EnterBlock b line next) w l = omega (arith, unreached)
+      block_words ts (tac.LeaveBlock b next) w l = omega (arith, unreached)
+      block_words ts (tac.Skip next) w l = omega (arith, unreached)
+
+      pub code_words : (ts : List (List ℕ)) (is : List Instruction) (n : ℕ) → greatest_word is < 2 ^ 64
+          → greatest_line is < 2 ^ 32
+          → body_words p g (laid_from operators m t c n is) ≤ code_weight ts is (words 8)
+      code_words ts [] n w l = omega arith
+      code_words ts (i ∷ is) n w l =
+          let later = laid_from operators m t c (suc n) is in
+          let own = block operators m t c i in
+          let behind = jumps c (place_of operators m t c) n (place_of operators m t c n + length own) (successors i) in
+          let h = block_words ts i (omega (arith, w)) (omega (arith, l)) in
+          let r = code_words ts is (suc n) (omega (arith, w)) (omega (arith, l)) in
+          let j = jumps_words c (place_of operators m t c) n (place_of operators m t c n + length own) (successors i) in
+          let a = words_append p g later (own ++ behind) in
+          let b = words_append p g own behind in
+          omega (arith, h, r, j, a, b)

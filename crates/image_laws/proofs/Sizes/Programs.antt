@@ -109,9 +109,9 @@ bytes_of_nodes p t r m v i low weighed ins integers few functions small plans by
     let most = 256 * functions_nodes p.functions in
     let all = program_light p (suc most) v i in
     let limit = weighed.by (words (suc most)) (even_words (suc most)) in
-    let same = weighs_the_same t.texts most 60 t r ins (omega (arith, all, limit)) in
-    let own = program_light p 60 v i in
-    let text = weighed.by (words 60) (even_words 60) in
+    let same = weighs_the_same t.texts most 8 t r ins (omega (arith, all, limit)) in
+    let own = program_light p 8 v i in
+    let text = weighed.by (words 8) (even_words 8) in
     let total = program_words m r few count integers small t.texts in
     let frame = same_frames m r few count integers small r.functions p.functions headers in
     omega (arith, bytes, same, own, text, total, frame)

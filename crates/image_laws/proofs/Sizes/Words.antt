@@ -4,8 +4,9 @@ use Rattle.std.proofs.Common.{ℕ, ◌+◌, ◌*◌, List, length, refl}
 use Rattle.c_tree.specs.declared.program.Variable.{Variable}
 use Rattle.program_lowering.specs.ExpressionCode.Weights.{Weights, IsEven}
 
--- A node of the text may have 256. A call reports where its activation record does not fit, and saves registers; a
--- division reports a zero divisor; a node that is reserved for a turn and not filled reports too.
+-- A node of the text may have 256. A call ends the run where its activation record does not fit, and saves registers;
+-- a division ends it at a zero divisor, and so does a node that is reserved for a turn and not filled. A variable or a
+-- temporary has a home that three words reach, a register behind those of the temporaries one that one word reaches.
 abbrev pub words : (other : ℕ) → Weights
 words other = record {
   skip = other;
@@ -13,13 +14,13 @@ words other = record {
   function_pointer = other;
   get_plain = 9;
   set_plain = λ x. 9;
-  update_plain = λ x k. 182;
+  update_plain = λ x k. 63;
   home_pointer = other;
   static_pointer = other;
   zero_of = λ kind. 7;
   convert = λ kind. 20;
-  unary = 35;
-  binary = 134;
+  unary = 31;
+  binary = 40;
   offset = other;
   difference = other;
   narrow = other;
@@ -33,16 +34,16 @@ words other = record {
   zero = other;
   store_part = λ kind. other;
   store_text = λ bytes. other;
-  branch = 12;
-  case = 54;
-  turn = 60;
-  library = λ r. 76;
+  branch = 10;
+  case = 34;
+  turn = 4;
+  library = λ r. 29;
   print = λ format. other;
-  call = λ f n. 219 + 13 * n;
+  call = λ f n. 123 + 13 * n;
   call_through = λ type n. other;
   enter_block = other;
   leave_block = other;
-  return = 8;
+  return = 6;
 }
 
 pub even_words : (other : ℕ) → IsEven (words other)

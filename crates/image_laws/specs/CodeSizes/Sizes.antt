@@ -11,6 +11,7 @@ use Rattle.flat_meaning.specs.declared.function.FlatFunction.{FlatFunction}
 use Rattle.flat_meaning.specs.declared.function.FlatProgram.{FlatProgram}
 use Rattle.flat_meaning.specs.Calls.{function_in}
 use Rattle.flat_meaning.specs.Meaning.{parameters_of, results_of, instruction_at}
+use Rattle.machine_laws.specs.Blocks.Places.{home}
 use Rattle.machine_laws.specs.Calls.Table.{row_address}
 use Rattle.machine_laws.specs.Blocks.Immediates.{is_immediate, immediate_of, immediate32_of}
 
@@ -19,53 +20,66 @@ abbrev pub constant_words : ℕ → ℕ
 constant_words n =
     if is_immediate n then 1 else (if nat_lt n (2 ^ 31 - 2 ^ 11) || nat_le (2 ^ 64 - 2 ^ 31) n then 2 else 11)
 
--- a right operand in a register: from a home three words
-abbrev pub right_words : RightOperand → ℕ
-right_words (right.Register z) = 3
-right_words (right.Number n) = if n == 0 then 0 else constant_words (low_bits 64 n)
+-- The word so many bytes behind the address in a register: one word of code within 2048 bytes, else three.
+abbrev pub offset_words : (offset : ℕ) → ℕ
+offset_words o = if nat_lt o (2 ^ 11) then 1 else 3
 
--- an operator between two homes, with the instruction that has its right operand in itself, where there is one
-abbrev pub operator_words : RightOperand → Option Instr → ℕ
-operator_words z (Some i) = 7
-operator_words z None = 7 + right_words z
+-- how many words of code reach the home of a register in the activation record of a function
+unfoldable pub home_words : FlatFunction → (register : ℕ) → ℕ
+home_words g y = offset_words (home g y)
 
--- A call that hands over and gets back so many values, in a function whose activation record has so many bytes, where
--- the callee's address takes so many words: each of the eleven registers is saved and restored at most once.
-abbrev pub call_words : (room aim values : ℕ) → ℕ
-call_words room aim n = 67 + aim + 2 * (constant_words room + 1) + 6 * n
+-- a right operand in a register
+abbrev pub right_words : FlatFunction → RightOperand → ℕ
+right_words g (right.Register z) = home_words g z
+right_words g (right.Number n) = if n == 0 then 0 else constant_words (low_bits 64 n)
 
--- an instruction with its jump or branch in the longest form, in a function whose activation record has so many bytes,
--- and that gives so many results, where each value is kept in its home, which three words reach; an ending is its line
--- and the jump to a tail
-abbrev pub instruction_words : FlatProgram → (room results : ℕ) → FlatInstruction → ℕ
-instruction_words p room r (flat.Constant x n) = constant_words (low_bits 64 n) + 3
-instruction_words p room r (flat.Move x y) = 7
-instruction_words p room r (flat.Operate op x y z) = operator_words z (immediate_of op 0 0 z)
-instruction_words p room r (flat.Operate32 op x y z) = operator_words z (immediate32_of op 0 0 z)
-instruction_words p room r (flat.Load op x y o) = 7
-instruction_words p room r (flat.Store op y o x) = 7
-instruction_words p room r (flat.Branch op y z past) = 6 + right_words z
-instruction_words p room r (flat.JumpForward past) = 2
-instruction_words p room r (flat.JumpBack back) = 2
-instruction_words p room r flat.Turn = 1
-instruction_words p room r (flat.Call g first x) =
-    call_words room (constant_words (row_address p g))
-    (parameters_of (function_in p g) + results_of (function_in p g))
-instruction_words p room r (flat.CallAddress y first n x k) = call_words room 3 (n + k)
-instruction_words p room r (flat.Return y) = 2 + 6 * r
-instruction_words p room r (flat.Get x) = 12
-instruction_words p room r (flat.Put x) = 9
-instruction_words p room r (flat.Exit x) = 6
-instruction_words p room r (flat.End e) = 4
-instruction_words p room r (flat.Charged x) = 15
+-- an operator between homes, with the instruction that has its right operand in itself, where there is one
+abbrev pub operator_words : FlatFunction → (into left : ℕ) → RightOperand → Option Instr → ℕ
+operator_words g x y z (Some i) = home_words g y + home_words g x + 1
+operator_words g x y z None = home_words g y + home_words g x + right_words g z + 1
 
-abbrev pub body_words : FlatProgram → (room results : ℕ) → List FlatInstruction → ℕ
-body_words p room r [] = 0
-body_words p room r (i ∷ is) = instruction_words p room r i + body_words p room r is
+-- so many values, from a register on, come from their homes to the words of arguments, or go from there to their homes
+unfoldable pub passed_words : FlatFunction → (first count : ℕ) → ℕ
+passed_words g y zero = 0
+passed_words g y (suc n) = passed_words g y n + (home_words g (y + n) + offset_words (8 * n))
 
--- of a function: one word keeps its return address, one stands at its end
+-- A call where the callee's address and the values that are handed over and given back take so many words, in a
+-- function whose activation record has so many bytes: each of the eleven registers is saved and restored at most once.
+abbrev pub call_words : (room aim passed : ℕ) → ℕ
+call_words room aim n = 67 + aim + 2 * (constant_words room + 1) + n
+
+-- an instruction of a function with its jump or branch in the longest form, where each value is kept in its home; an
+-- ending is its line and the jump to a tail
+abbrev pub instruction_words : FlatProgram → FlatFunction → FlatInstruction → ℕ
+instruction_words p g (flat.Constant x n) = constant_words (low_bits 64 n) + home_words g x
+instruction_words p g (flat.Move x y) = home_words g y + home_words g x + 1
+instruction_words p g (flat.Operate op x y z) = operator_words g x y z (immediate_of op 0 0 z)
+instruction_words p g (flat.Operate32 op x y z) = operator_words g x y z (immediate32_of op 0 0 z)
+instruction_words p g (flat.Load op x y o) = home_words g y + home_words g x + 1
+instruction_words p g (flat.Store op y o x) = home_words g y + home_words g x + 1
+instruction_words p g (flat.Branch op y z past) = home_words g y + right_words g z + 3
+instruction_words p g (flat.JumpForward past) = 2
+instruction_words p g (flat.JumpBack back) = 2
+instruction_words p g flat.Turn = 1
+instruction_words p g (flat.Call f first x) =
+    call_words g.room (constant_words (row_address p f))
+    (passed_words g first (parameters_of (function_in p f)) + passed_words g x (results_of (function_in p f)))
+instruction_words p g (flat.CallAddress y first n x k) =
+    call_words g.room (home_words g y) (passed_words g first n + passed_words g x k)
+instruction_words p g (flat.Return y) = 2 + passed_words g y g.results
+instruction_words p g (flat.Get x) = home_words g x + 9
+instruction_words p g (flat.Put x) = home_words g x + 6
+instruction_words p g (flat.Exit x) = home_words g x + 3
+instruction_words p g (flat.End e) = 4
+instruction_words p g (flat.Charged x) = home_words g x + 12
+
+abbrev pub body_words : FlatProgram → FlatFunction → List FlatInstruction → ℕ
+body_words p g [] = 0
+body_words p g (i ∷ is) = instruction_words p g i + body_words p g is
+
+-- of a function: one word keeps its return address, and one stands at its end
 abbrev pub most_words : FlatProgram → FlatFunction → ℕ
-most_words p g = 2 + 6 * g.parameters + body_words p g.room g.results g.body
+most_words p g = 2 + passed_words g 0 g.parameters + body_words p g g.body
 
 -- of the functions of the program below a number
 abbrev pub most_if : FlatProgram → Option FlatFunction → ℕ

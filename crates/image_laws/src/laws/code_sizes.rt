@@ -15,8 +15,8 @@ ghost use Rattle.image_laws.specs.CodeSizes.Sizes.{instruction_words, more_words
 ghost use Rattle.image_laws.specs.CodeSizes.Sizes.{instructions_below};
 ghost use Rattle.image_laws.specs.CodeSizes.Sizes.{HandsOver};
 
-/// The code of a function has at most the words of its instructions, each by its kind and its numbers, six for each
-/// value that it takes, and two of its own.
+/// The code of a function has at most the words of its instructions, each by its kind, its numbers and the homes of its
+/// registers, those that take its arguments, and two of its own.
 pub fn functions_have_few_words()
     ensures { (map : MapSizes) (p : FlatProgram) (plans : List FunctionPlan) (f : ℕ) (g : FlatFunction)
         → AreAccepted p plans → function_in p f ≡ Some g → length (function_words map p plans f) ≤ most_words p g }
@@ -25,8 +25,8 @@ pub fn functions_have_few_words()
 /// An instruction has at most eighteen words, and six more for each value that it hands over, gets back or returns, 84
 /// for a call.
 pub fn instructions_have_few_words()
-    ensures { (p : FlatProgram) (room results : ℕ) (i : FlatInstruction)
-        → instruction_words p room results i ≤ 18 + more_words p results i }
+    ensures { (p : FlatProgram) (g : FlatFunction) (i : FlatInstruction)
+        → instruction_words p g i ≤ 18 + more_words p g.results i }
 {}
 
 /// The compiled code has at most the bytes of all of them.

@@ -38,7 +38,7 @@ fn function(alloc: Global, text: &str) -> Result<FlatFunction> {
     Ok(FlatFunction {
         parameters,
         results,
-        room: 8 + 8 * names,
+        room: u64::from(8 + 8 * names),
         is_runtime: words.next() == Some("runtime"),
         homes: Items::from_vec(homes(alloc, names)?),
         body: Items::from_vec(instructions),

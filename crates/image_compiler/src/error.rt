@@ -8,8 +8,7 @@ use std::alloc::AllocError;
 /// Why a program has no image.
 #[derive(Clone, Copy, Debug)]
 pub enum CompileError {
-    /// Numbers do not fit flat code: a function has 2^32 virtual registers or more, or 2^31 instructions or more, or a
-    /// room of 2^32 bytes or more.
+    /// Numbers do not fit flat code: a function has 2^32 virtual registers or more, or 2^31 instructions or more.
     NumbersTooLarge,
     /// The machine code of the functions takes more than 8388608 bytes, this many: at most 1024 for each node of the
     /// text.

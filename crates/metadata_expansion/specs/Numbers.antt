@@ -1,5 +1,5 @@
 -- The numbers of an expansion that have to fit an instruction of flat code: the words of constants have 64 bits, and
--- all others 32.
+-- all others 32. The bytes of an activation record have 64 bits and fit.
 use Rattle.std.specs.Prelude.{◌≡◌, ℕ, ◌+◌, ◌^◌, ◌<◌, max, List, [], ◌∷◌, length, Some, slice_get}
 use Rattle.addr_map.specs.Places.{MapSizes}
 use Rattle.tac_ir.specs.declared.instruction.Instruction.{Instruction}
@@ -53,7 +53,6 @@ body_size m t c = begin_size operators m t c + size_from operators m t c 0 c.cod
 pub record AreSmall (map : MapSizes) (code : Tac) (function : CodeFunction) : Type 0 where
   pub registers : register_count function < 2 ^ 32
   pub instructions : body_size map code function < 2 ^ 31
-  pub room : function.room < 2 ^ 32
   pub callees : greatest_callee function.code < 2 ^ 32
   pub words : greatest_word function.code < 2 ^ 64
   pub lines : greatest_line function.code < 2 ^ 32

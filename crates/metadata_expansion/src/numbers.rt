@@ -144,7 +144,7 @@ fn is_small(
     // Read for the bound that its type gives, as above.
     let _line = function.line.number();
     let greatest = greatest_callee(function.code.as_slice());
-    if function.room < 1 << 32 && greatest < 1 << 32 && has_few_registers(function) {
+    if greatest < 1 << 32 && has_few_registers(function) {
         return is_short(alloc, map, program, function);
     }
     Ok(false)

@@ -45,7 +45,7 @@ fn expand_function(
     Ok(FlatFunction {
         parameters: words_in(function.parameters.as_slice()),
         results: 1,
-        room: function.room as u32,
+        room: function.room,
         is_runtime: false,
         homes: Items::from_vec(homes),
         body: Items::from_vec(body),

@@ -35,7 +35,7 @@ fn has_home(function: &FlatFunction, register: usize) -> bool
     ensures no { HasHome function.now register → result ≡ true }
 {
     match home_of(function, register) {
-        Some(word) => 8 * u64::from(word) + 16 <= u64::from(function.room),
+        Some(word) => 8 * u64::from(word) + 16 <= function.room,
         None => false,
     }
 }

@@ -140,7 +140,7 @@ pub fn runtime_function(
     Ok(FlatFunction {
         parameters: frame.parameters,
         results: frame.results + 1,
-        room: 16 + 8 * frame.registers,
+        room: u64::from(16 + 8 * frame.registers),
         is_runtime: true,
         homes: Items::from_vec(homes),
         body: Items::from_vec(body),

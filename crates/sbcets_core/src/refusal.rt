@@ -111,7 +111,7 @@ pub enum SourceRefusal {
     /// The function with this number has a room of 2^64 bytes or more.
     #[error("a function of the source has too much room")]
     RoomTooLarge(usize),
-    /// A function has 2^32 virtual registers or more, or 2^31 instructions or more, or a room of 2^32 bytes or more.
+    /// A function has 2^32 virtual registers or more, or 2^31 instructions or more.
     #[error("the numbers of a function are too large")]
     NumbersTooLarge,
     /// The function with this number has 2^28 words of code or more, if each branch and jump has its longest form.

@@ -78,7 +78,7 @@ fn charged_from(map: &AddrMap, function: &FlatFunction) -> u64
     if function.is_runtime {
         begin
     } else {
-        begin.saturating_sub(u64::from(function.room))
+        begin.saturating_sub(function.room)
     }
 }
 

@@ -280,7 +280,7 @@ fn put_moves(code: &mut Vec<Instr>, function: &FlatFunction, op: RegOp) -> Resul
         ++ (constant right_scratch function.now.room
         ++ Op op (frame_register function.now) (frame_register function.now) right_scratch ∷ [])) }
 {
-    put_constant(code, right_scratch(), u64::from(function.room))?;
+    put_constant(code, right_scratch(), function.room)?;
     let base = frame_register(function);
     code.push(Instr::Op {
         op,

@@ -1,2 +1,4 @@
 pub mod Holding
 pub mod Meaning
+pub mod Tables
+pub mod Bodies

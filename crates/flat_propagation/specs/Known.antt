@@ -120,3 +120,8 @@ unfoldable pub known_at : List FlatInstruction → (place : ℕ) → Facts
 known_at body zero = nothing
 known_at body (suc pc) =
     if is_target body (suc pc) then nothing else after_at (known_at body pc) (slice_get body pc)
+
+-- what the instruction before a place tells, whether or not a jump leads there
+unfoldable pub arriving_at : List FlatInstruction → (place : ℕ) → Facts
+arriving_at body zero = nothing
+arriving_at body (suc pc) = after_at (known_at body pc) (slice_get body pc)

@@ -118,7 +118,8 @@ fn reach(entries: &mut Vec<Entry>, register: u32) -> Result<(), AllocError>
     ensures facts { (block y : ℕ) → fact_among entries.new.items block y ≡ fact_among entries.old.items block y }
     ensures before { (time : ℕ) → 0 < time → AreBefore entries.old.items time → AreBefore entries.new.items time }
 {
-    while entries.len() <= register as usize {
+    let missing = (register as usize + 1).saturating_sub(entries.len());
+    for step in 0..missing {
         entries.push(Entry {
             fact: Fact::Unknown,
             recorded: 0,
@@ -130,6 +131,7 @@ fn reach(entries: &mut Vec<Entry>, register: u32) -> Result<(), AllocError>
 
 impl FactTable {
     /// The table in which nothing is known.
+    #[tactic(auto, unfolding(crate::specs::Tables::facts_of))]
     pub fn new(alloc: Global) -> FactTable
         ensures nothing { (y : ℕ) → facts_of result y ≡ Unknown }
         ensures before { (time : ℕ) → IsBefore result time }
@@ -141,6 +143,7 @@ impl FactTable {
     }
 
     /// What is known of a register.
+    #[tactic(auto, unfolding(crate::specs::Tables::facts_of))]
     pub fn fact(&self, register: u32) -> Fact
         ensures { result ≡ facts_of self.now register }
     {
@@ -148,6 +151,7 @@ impl FactTable {
     }
 
     /// A basic block begins at a time: nothing is known.
+    #[tactic(auto, unfolding(crate::specs::Tables::facts_of))]
     pub fn forget(&mut self, time: usize)
         requires { IsBefore self.old time }
         ensures nothing { (y : ℕ) → facts_of self.new y ≡ Unknown }
@@ -157,6 +161,7 @@ impl FactTable {
     }
 
     /// A register is made anew at a time, and this is known of it. It fails only for want of memory.
+    #[tactic(auto, unfolding(crate::specs::Tables::facts_of))]
     pub fn make(&mut self, register: u32, fact: Fact, time: usize) -> Result<(), AllocError>
         requires begun { 0 < time }
         requires before { IsBefore self.old time }

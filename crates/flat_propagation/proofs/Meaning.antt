@@ -322,7 +322,7 @@ module _ (m : MapSizes) (p : FlatProgram) where
       by None = refl
       by (Some g) = refl
 
-  of_program_same : (f : ℕ) → is_of_program (function_in q f) ≡ is_of_program (function_in p f)
+  pub of_program_same : (f : ℕ) → is_of_program (function_in q f) ≡ is_of_program (function_in p f)
   of_program_same f = by_function is_of_program by f
     where
       by : (o : Option FlatFunction) → is_of_program (option_map propagated_function o) ≡ is_of_program o
@@ -654,9 +654,13 @@ module _ (m : MapSizes) (p : FlatProgram) where
       ap (run (step m q) n) (step_same x w h)
       ∙ run_same keeps n (step m p x) (keeps x w) (step_knows x w h)
 
+  pub same_run : ((x : Stage) → HasWords x → HasWords (step m p x)) → (memory : Bytes) (input : List ℕ)
+      → AreBytes memory → (n : ℕ) → run (step m q) n (started q memory input) ≡ run (step m p) n (started p memory input)
+  unfolding propagated known_at
+  same_run keeps memory input bytes n =
+      run_same keeps n (started p memory input)
+      (record { values = λ x. omega arith; memory = bytes }, tt) (λ y. tt, tt)
+
   pub same_meaning : ((x : Stage) → HasWords x → HasWords (step m p x)) → (memory : Bytes) (input : List ℕ)
       → AreBytes memory → (n : ℕ) → flat_meaning m q memory input n ≡ flat_meaning m p memory input n
-  unfolding propagated known_at
-  same_meaning keeps memory input bytes n =
-      ap seen (run_same keeps n (started p memory input)
-      (record { values = λ x. omega arith; memory = bytes }, tt) (λ y. tt, tt))
+  same_meaning keeps memory input bytes n = ap seen (same_run keeps memory input bytes n)

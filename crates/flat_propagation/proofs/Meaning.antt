@@ -262,7 +262,7 @@ next_knows body pc i at P none h = subst (λ n. P (known_at body n)) (sym (add-o
 
 -- ---- programs
 
-get_rewritten : (body is : List FlatInstruction) (a n : ℕ)
+pub get_rewritten : (body is : List FlatInstruction) (a n : ℕ)
     → slice_get (rewritten_from body a is) n ≡ option_map (rewritten (known_at body (a + n))) (slice_get is n)
 unfolding rewritten_from
 get_rewritten body [] a n = refl

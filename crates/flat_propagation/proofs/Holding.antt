@@ -1,8 +1,8 @@
 -- Facts hold on: behind an instruction those hold that are known there.
-use Rattle.std.proofs.Common.{◌≡◌, ◌⊎◌, inl, inr, ⊎_elim, ℕ, zero, suc, ◌+◌, ◌-◌, ◌*◌, ◌%◌, ◌^◌, ◌<◌, ◌≤◌, refl, sym, ap, ◌∙◌, subst}
-use Rattle.std.proofs.Common.{arith, Bool, true, false, not, List, [], ◌∷◌, Option, Some, None, add-one}
-use Rattle.std.specs.Prelude.{slice_get, nat_lt, nat_eq, ◌==◌, ◌||◌, if◌then◌else◌}
-use Rattle.std.proofs.lemmas.Bool.{ltb-true, lt-ltb, eqb-true, eq-eqb, cases_Bool, cases_lt, or_left, or_right, false≢true}
+use Rattle.std.proofs.Common.{◌≡◌, ⊎_elim, ℕ, ◌^◌, ◌<◌, refl, sym, ap, ◌∙◌, subst}
+use Rattle.std.proofs.Common.{arith, Bool, true, false, not}
+use Rattle.std.specs.Prelude.{nat_lt, ◌==◌, ◌||◌, if◌then◌else◌}
+use Rattle.std.proofs.lemmas.Bool.{ltb-true, lt-ltb, eqb-true, eq-eqb, cases_Bool, false≢true}
 use Rattle.words.specs.TwosComplement.{low_bits}
 use Rattle.words.specs.Operations.{difference}
 use Rattle.rv_isa.specs.declared.instruction.BranchOp.{BranchOp}
@@ -18,7 +18,7 @@ use Rattle.flat_meaning.specs.Meaning.{right_value}
 use Rattle.flat_meaning.specs.Words.{AreWords}
 use Rattle.flat_propagation.specs.declared.fact.Fact.{Fact}
 use Rattle.flat_propagation.specs.declared.fact.Fact.TheVariants.{Unknown, Same, Word, Difference, Condition}
-use Rattle.flat_propagation.specs.Facts.{Facts, nothing, Says, Hold, opposite, names, right_names, unless_named, with_fact}
+use Rattle.flat_propagation.specs.Facts.{Facts, Says, Hold, opposite, names, right_names, unless_named, with_fact}
 use Rattle.flat_propagation.specs.Known.{source, source_but, register_or_zero, right_source_but, copied, if_branchable}
 use Rattle.flat_propagation.specs.Known.{is_zero, turned, if_one, computed}
 

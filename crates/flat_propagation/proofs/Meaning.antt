@@ -1,7 +1,7 @@
 -- A propagated program does the same steps.
-use Rattle.std.proofs.Common.{◌≡◌, ◌⊎◌, ⊎_elim, ℕ, zero, suc, ◌+◌, ◌-◌, ◌*◌, ◌%◌, ◌/◌, ◌^◌, ◌<◌, ◌≤◌, refl, sym, ap, ◌∙◌, subst}
+use Rattle.std.proofs.Common.{◌≡◌, ℕ, zero, suc, ◌+◌, ◌-◌, ◌*◌, ◌%◌, ◌/◌, ◌^◌, refl, sym, ap, ◌∙◌, subst}
 use Rattle.std.proofs.Common.{arith, Bool, true, false, not, List, [], ◌∷◌, ◌++◌, Option, Some, None, add-one}
-use Rattle.std.specs.Prelude.{slice_get, nat_lt, nat_le, nat_eq, ◌==◌, ◌&&◌, ◌||◌, if◌then◌else◌, map}
+use Rattle.std.specs.Prelude.{slice_get, nat_le, ◌==◌, ◌&&◌, if◌then◌else◌}
 use Rattle.std.specs.Option.{option_map}
 use Rattle.std.proofs.lemmas.Option.{slice_get-map, same_Some, none-some}
 use Rattle.std.proofs.lemmas.Bool.{eqb-true, eq-eqb, or_left, or_right}
@@ -10,11 +10,8 @@ use Rattle.behaviours.specs.Steps.{run}
 use Rattle.addr_map.specs.declared.region.Region.TheVariants.{RuntimeCalls}
 use Rattle.addr_map.specs.Places.{MapSizes, region_size, functions_begin, function_address}
 use Rattle.words.specs.TwosComplement.{low_bits}
-use Rattle.words.specs.Operations.{difference}
 use Rattle.rv_isa.specs.declared.instruction.BranchOp.{BranchOp}
 use Rattle.rv_isa.specs.declared.instruction.BranchOp.TheVariants.{Beq, Bne, Blt, Bge, Bltu, Bgeu}
-use Rattle.rv_isa.specs.declared.instruction.LoadOp.{LoadOp}
-use Rattle.rv_isa.specs.declared.instruction.StoreOp.{StoreOp}
 use Rattle.rv_isa.specs.Results.{wrap, low_word, bit_of, branch_taken, reg_result, reg32_result, load_bytes, extended}
 use Rattle.rv_isa.specs.Results.{store_bytes}
 use Rattle.flat_meaning.specs.declared.instruction.RightOperand.{RightOperand}
@@ -26,10 +23,10 @@ use Rattle.flat_meaning.specs.declared.instruction.FlatInstruction.TheVariants.{
 use Rattle.flat_meaning.specs.declared.instruction.FlatInstruction.TheVariants.{Return, Get, Put, Exit, End, Charged}
 use Rattle.flat_meaning.specs.declared.function.FlatFunction.{FlatFunction}
 use Rattle.flat_meaning.specs.declared.function.FlatProgram.{FlatProgram}
-use Rattle.flat_meaning.specs.Memory.{Bytes, AreBytes, put, store, load}
+use Rattle.flat_meaning.specs.Memory.{Bytes, AreBytes, store, load}
 use Rattle.flat_meaning.specs.Spaces.{is_allowed}
 use Rattle.flat_meaning.specs.State.{Values, State, Frame, Stage, Stands, Over, Stuck, seen}
-use Rattle.flat_meaning.specs.Calls.{function_in, is_of_program, room_if, rooms, charged, arguments, with_results}
+use Rattle.flat_meaning.specs.Calls.{function_in, is_of_program, room_if, rooms, charged, arguments}
 use Rattle.flat_meaning.specs.Calls.{function_at}
 use Rattle.flat_meaning.specs.Meaning.{Context, Local, Goes, Ends, Leaves, Fails, right_value, with_register}
 use Rattle.flat_meaning.specs.Meaning.{with_access, address_in, loads, stores, received, local, has_room, enters}
@@ -40,7 +37,7 @@ use Rattle.flat_meaning.specs.Words.{AreWords, HasWords}
 use Rattle.flat_propagation.specs.declared.fact.Fact.{Fact}
 use Rattle.flat_propagation.specs.declared.fact.Fact.TheVariants.{Unknown, Same, Word, Difference, Condition}
 use Rattle.flat_propagation.specs.Facts.{Facts, nothing, Says, Hold, opposite}
-use Rattle.flat_propagation.specs.Known.{source, source_but, register_or_zero, right_source_but, copied, computed}
+use Rattle.flat_propagation.specs.Known.{source, source_but, right_source_but, copied, computed}
 use Rattle.flat_propagation.specs.Known.{after, jumps_to, some_jumps_to, is_target, after_at, known_at}
 use Rattle.flat_propagation.specs.Propagated.{is_short, takes, takes32, register_or_number, right_but, right_source}
 use Rattle.flat_propagation.specs.Propagated.{unless_zero, if_zero, compared, compared_zero, branch_on, moved}
@@ -74,12 +71,14 @@ branch_is P past h op fact y (Number n) =
     unless_is (Word n) = h Bne y (Number 0)
     unless_is (Difference a b) = h Bne a b
     unless_is (Condition op a b) = h op a b
+
     if_is : (fact : Fact) → P (if_zero fact y past)
     if_is Unknown = h Beq y (Number 0)
     if_is (Same z) = h Beq z (Number 0)
     if_is (Word n) = h Beq y (Number 0)
     if_is (Difference a b) = h Beq a b
     if_is (Condition op a b) = h (opposite op) a b
+
     zero_is : (op : BranchOp) (fact : Fact) → P (compared_zero op fact y past)
     zero_is Bne fact = unless_is fact
     zero_is Beq fact = if_is fact

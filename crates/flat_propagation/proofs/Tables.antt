@@ -1,9 +1,9 @@
 -- A table in which a register is made anew.
-use Rattle.std.proofs.Common.{◌≡◌, ◌≢◌, ◌⊎◌, inl, inr, ⊎_elim, ℕ, zero, suc, ◌+◌, ◌<◌, ◌≤◌, refl, sym, ap, ◌∙◌, subst}
+use Rattle.std.proofs.Common.{◌≡◌, ◌⊎◌, inl, inr, ⊎_elim, ℕ, zero, suc, ◌+◌, ◌<◌, ◌≤◌, refl, sym, ap, ◌∙◌, subst}
 use Rattle.std.proofs.Common.{arith, Bool, true, false, not, List, [], ◌∷◌, ◌++◌, length, Option, Some, None}
-use Rattle.std.specs.Prelude.{slice_get, slice_set, nat_le, nat_eq, ◌==◌, ◌&&◌, ◌||◌, if◌then◌else◌}
+use Rattle.std.specs.Prelude.{slice_get, slice_set, nat_le, ◌==◌, ◌&&◌, ◌||◌, if◌then◌else◌}
 use Rattle.std.proofs.lemmas.Bool.{eqb-true, eq-eqb, le-leb, leb-true, cases_Bool, false≢true}
-use Rattle.std.proofs.lemmas.Option.{same_Some, none-some}
+use Rattle.std.proofs.lemmas.Option.{same_Some}
 use Rattle.flat_meaning.specs.declared.instruction.RightOperand.{RightOperand}
 use Rattle.flat_meaning.specs.declared.instruction.RightOperand.TheVariants.{Register, Number}
 use Rattle.flat_propagation.specs.declared.fact.Fact.{Fact}
@@ -11,7 +11,7 @@ use Rattle.flat_propagation.specs.declared.fact.Fact.TheVariants.{Unknown, Same,
 use Rattle.flat_propagation.specs.declared.table.Entry.{Entry}
 use Rattle.flat_propagation.specs.declared.table.FactTable.{FactTable}
 use Rattle.flat_propagation.specs.Facts.{names, right_names, unless_named, with_fact}
-use Rattle.flat_propagation.specs.Tables.{made_by, made_at, right_stays, stays, fact_by, fact_among, facts_of}
+use Rattle.flat_propagation.specs.Tables.{made_by, made_at, right_stays, stays, fact_by, fact_among}
 use Rattle.flat_propagation.specs.Tables.{AreBefore, IsBefore}
 use Rattle.flat_propagation.proofs.Holding.{either}
 

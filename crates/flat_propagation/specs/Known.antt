@@ -1,5 +1,5 @@
 -- What is known before each instruction of a function: what the instructions of its basic block before it tell.
-use Rattle.std.specs.Prelude.{ℕ, zero, suc, ◌+◌, ◌-◌, Bool, true, false, ◌||◌, ◌==◌, if◌then◌else◌}
+use Rattle.std.specs.Prelude.{ℕ, zero, suc, ◌+◌, ◌-◌, Bool, false, ◌||◌, ◌==◌, if◌then◌else◌}
 use Rattle.std.specs.Prelude.{List, [], ◌∷◌, Option, Some, None, slice_get}
 use Rattle.rv_isa.specs.declared.instruction.BranchOp.TheVariants.{Beq, Blt, Bltu}
 use Rattle.rv_isa.specs.declared.instruction.RegOp.{RegOp}

@@ -177,13 +177,7 @@ pub fn rewritten(table: &FactTable, instruction: &FlatInstruction) -> FlatInstru
             left,
             right,
             past,
-        } => branch_on(
-            op,
-            table.fact(left),
-            left,
-            past,
-            right_source(table, right),
-        ),
+        } => branch_on(op, table.fact(left), left, past, right_source(table, right)),
         FlatInstruction::CallAddress {
             at,
             first,

@@ -1,4 +1,4 @@
-use Rattle.std.proofs.Common.{◌≡◌, ◌+◌, ◌++◌, ◌∷◌, [], List, sym, ◌∙◌, ap, subst, length, length-append, arith}
+use Rattle.std.proofs.Common.{◌∷◌, [], List, sym, ◌∙◌, ap, subst, length, length-append, arith}
 use Rattle.flat_propagation.specs.declared.table.Entry.{Entry}
 use Rattle.flat_propagation.specs.Tables.{fact_among, AreBefore}
 use Rattle.flat_propagation.proofs.Tables.{blank, padded, padded_before}

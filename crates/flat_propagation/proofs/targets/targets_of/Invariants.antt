@@ -1,4 +1,4 @@
-use Rattle.std.proofs.Common.{◌≡◌, ℕ, ◌<◌, length, drop}
+use Rattle.std.proofs.Common.{◌≡◌, ℕ, ◌<◌, drop}
 use Rattle.std.specs.Prelude.{◌||◌}
 use Rattle.data_flow.specs.NodeSets.{is_in, node_count}
 use Rattle.flat_propagation.specs.Known.{some_jumps_to, is_target}

@@ -1,10 +1,8 @@
-use Rattle.std.proofs.Common.{◌≡◌, ◌+◌, ◌≤◌, List, sym, ◌∙◌, ap, subst, arith}
+use Rattle.std.proofs.Common.{◌+◌, sym, subst, arith}
 use Rattle.std.specs.Prelude.{slice_set}
 use Rattle.flat_propagation.specs.declared.fact.Fact.{Fact}
-use Rattle.flat_propagation.specs.declared.table.Entry.{Entry}
-use Rattle.flat_propagation.specs.Facts.{with_fact}
-use Rattle.flat_propagation.specs.Tables.{fact_among, facts_of, AreBefore}
-use Rattle.flat_propagation.proofs.Tables.{made_facts, made_before, made_over}
+use Rattle.flat_propagation.specs.Tables.{facts_of, AreBefore}
+use Rattle.flat_propagation.proofs.Tables.{made_before, made_over}
 use Rattle.flat_propagation.proofs.table.FactTable.make.Goals as goal
 
 pub returns-clause-facts : goal.returns-clause-facts

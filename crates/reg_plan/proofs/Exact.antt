@@ -8,11 +8,12 @@ use Rattle.flat_meaning.specs.declared.instruction.FlatInstruction.{FlatInstruct
 use Rattle.flat_meaning.specs.declared.function.FlatFunction.{FlatFunction}
 use Rattle.flat_meaning.specs.declared.function.FlatProgram.{FlatProgram}
 use Rattle.reg_plan.specs.declared.plan.FunctionPlan.{FunctionPlan}
-use Rattle.reg_plan.specs.Effects.{made_by, is_among}
+use Rattle.reg_plan.specs.Effects.{made_by, makes_only, unless_only, always_made_by, is_among}
 use Rattle.reg_plan.specs.Accepted.{IsLive, AreClosed, IsAccepted, covers, intervals_of}
 use Rattle.reg_plan.specs.Colours.{range_of}
 use Rattle.reg_plan.specs.Tests.{IsClosedAt, AreApart, IsKept}
 use Rattle.data_flow.proofs.Visits.{cases_of}
+use Rattle.reg_plan.proofs.Represents.{always_parts}
 
 same : (body : List FlatInstruction) (pc : ℕ) (i j : FlatInstruction) → slice_get body pc ≡ Some i
     → slice_get body pc ≡ Some j → j ≡ i
@@ -23,9 +24,10 @@ pub closed_from : (p : FlatProgram) (f : ℕ) (body : List FlatInstruction) (pla
     → ((pc : ℕ) (i : FlatInstruction) → slice_get body pc ≡ Some i → IsClosedAt p f (length body) plan pc i)
     → AreClosed p f body plan
 closed_from p f body plan each = record {
-  read = λ pc y r. (each pc r.0 r.1).read y r.2;
+  read = λ pc y r wanted. (each pc r.0 r.1).read (λ x e. wanted x (r.0, r.1, e)) y r.2;
   made = λ pc q y l m. ((each pc l.0 l.1).flows q l.2 l.3).live y
-      (subst (λ i. is_among (made_by p i) y ≡ true) (same body pc l.0 m.0 l.1 m.1) m.2);
+      (subst (λ i. is_among (always_made_by p i) y ≡ true) (same body pc l.0 m.0 l.1 m.1)
+      (ap (λ o. is_among (unless_only o (made_by p m.0)) y) m.3 ∙ m.2));
   rest = λ pc q y l h not_made. ((each pc l.0 l.1).flows q l.2 l.3).rest y h
       (⊎_elim (λ e. absurd (not_made (l.0, l.1, e))) (λ e. e) (cases_of (is_among (made_by p l.0) y)));
 }
@@ -33,9 +35,10 @@ closed_from p f body plan each = record {
 pub closed_at : (p : FlatProgram) (f : ℕ) (body : List FlatInstruction) (plan : FunctionPlan) → AreClosed p f body plan
     → (pc : ℕ) (i : FlatInstruction) → slice_get body pc ≡ Some i → IsClosedAt p f (length body) plan pc i
 closed_at p f body plan c pc i is = record {
-  read = λ y r. c.read pc y (i, is, r);
+  read = λ wanted y r. c.read pc y (i, is, r)
+      (λ x m. wanted x (ap makes_only (sym (same body pc i m.0 is m.1)) ∙ m.2));
   flows = λ q l lt. record {
-    live = λ y m. c.made pc q y (i, is, l, lt) (i, is, m);
+    live = λ y m. let o = always_parts p i y m in c.made pc q y (i, is, l, lt) (i, is, o.0, o.1);
     rest = λ y h n. c.rest pc q y (i, is, l, lt) h
         (λ m. true≢false (sym (subst (λ j. is_among (made_by p j) y ≡ true) (same body pc i m.0 is m.1) m.2) ∙ n));
   };

@@ -20,7 +20,7 @@ use Rattle.data_flow.proofs.Lists.{at_front, at_end}
 pub needed_is_named : (p : FlatProgram) (f : ℕ) (body : List FlatInstruction) (n : ℕ) → IsNamed p f body n → (pc y : ℕ)
     → IsNeeded p f body pc y → y < n
 needed_is_named p f body n named _ _ (Read pc y r) = named.read pc y r
-needed_is_named p f body n named _ _ (Made pc q y l m) = named.made pc y m
+needed_is_named p f body n named _ _ (Made pc q y l m) = named.made pc y (m.0, m.1, m.2)
 needed_is_named p f body n named _ _ (Before pc q y l k not_made) = needed_is_named p f body n named q y k
 
 some_place : (places : List Place) (y : ℕ) → y < length places → (place : Place) × (slice_get places y ≡ Some place)
@@ -40,7 +40,7 @@ least_plan p number f plan count few can need only size colours =
     record {
       accepted = record {
         closed = record {
-          read = λ pc y r. live pc y (Read pc y r);
+          read = λ pc y r wanted. live pc y (Read pc y r);
           made = λ pc q y l m. live q y (Made pc q y l m);
           rest = λ pc q y l h m. live pc y (Before pc q y l (only q y h) m);
         };

@@ -11,7 +11,7 @@ use Rattle.reg_plan.specs.declared.plan.LiveInterval.{LiveInterval}
 use Rattle.reg_plan.specs.declared.plan.Place.{Place}
 use Rattle.reg_plan.specs.declared.plan.Place.TheVariants.{Register}
 use Rattle.reg_plan.specs.declared.plan.FunctionPlan.{FunctionPlan}
-use Rattle.reg_plan.specs.Needs.{ReadsAt, MakesAt, LeadsAt}
+use Rattle.reg_plan.specs.Needs.{ReadsAt, MakesAt, AlwaysMakesAt, MakesOnlyAt, LeadsAt}
 
 abbrev pub intervals_of : Option (Vec LiveInterval Global) → List LiveInterval
 intervals_of None = []
@@ -30,12 +30,14 @@ is_live plan pc y = covers (intervals_of (slice_get plan.live.items y)) pc
 abbrev pub IsLive : FunctionPlan → (place y : ℕ) → Type 0
 IsLive plan pc y = is_live plan pc y ≡ true
 
--- The live ranges are closed backwards over all paths: what an instruction reads is live before it, what it makes is
--- live behind it, and what else is live behind it is live before it.
+-- The live ranges are closed backwards over all paths: what an instruction reads is live before it, but for one that
+-- makes no more than a value that is not live behind it; what it makes whether or not that is needed is live behind it;
+-- and what else is live behind it is live before it.
 pub record AreClosed (program : FlatProgram) (function : ℕ) (body : List FlatInstruction)
     (plan : FunctionPlan) : Type 0 where
-  pub read : (pc y : ℕ) → ReadsAt program function body pc y → IsLive plan pc y
-  pub made : (pc q y : ℕ) → LeadsAt body pc q → MakesAt program body pc y → IsLive plan q y
+  pub read : (pc y : ℕ) → ReadsAt program function body pc y
+      → ((x : ℕ) → MakesOnlyAt body pc x → IsLive plan (pc + 1) x) → IsLive plan pc y
+  pub made : (pc q y : ℕ) → LeadsAt body pc q → AlwaysMakesAt program body pc y → IsLive plan q y
   pub rest : (pc q y : ℕ) → LeadsAt body pc q → IsLive plan q y → (MakesAt program body pc y → ⊥) → IsLive plan pc y
 
 -- the home of a virtual register is a word of the activation record behind the first, which has the return address

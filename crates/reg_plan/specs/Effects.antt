@@ -79,6 +79,24 @@ made_by p (Exit x) = none
 made_by p (End e) = none
 made_by p (Charged x) = one x
 
+-- the virtual register that is all an instruction changes, if it changes no more than one: nothing is done for it where
+-- that is not needed
+abbrev pub makes_only : FlatInstruction → Option ℕ
+makes_only (Constant x n) = Some x
+makes_only (Move x y) = Some x
+makes_only (Operate op x y z) = Some x
+makes_only (Operate32 op x y z) = Some x
+makes_only (Charged x) = Some x
+makes_only i = None
+
+abbrev pub unless_only : Option ℕ → Span → Span
+unless_only (Some x) s = none
+unless_only None s = s
+
+-- what it makes whether or not that is needed
+abbrev pub always_made_by : FlatProgram → FlatInstruction → Span
+always_made_by p i = unless_only (makes_only i) (made_by p i)
+
 -- where it leads within its function: to the next instruction or where it jumps
 abbrev pub next_of : FlatInstruction → (place : ℕ) → Option ℕ
 next_of (Constant x n) pc = Some (pc + 1)

@@ -7,7 +7,7 @@ use Rattle.data_flow.specs.Relations.{IsRelated}
 use Rattle.flat_meaning.specs.declared.instruction.FlatInstruction.{FlatInstruction}
 use Rattle.flat_meaning.specs.declared.function.FlatProgram.{FlatProgram}
 use Rattle.reg_plan.specs.declared.flow.Problem.{Problem}
-use Rattle.reg_plan.specs.Needs.{ReadsAt, MakesAt, LeadsAt}
+use Rattle.reg_plan.specs.Needs.{ReadsAt, MakesAt, AlwaysMakesAt, LeadsAt}
 
 -- the numbers of which something holds are related to a node more, and no others
 pub record Gains (old new : Relation) (P : ℕ → Type 0) (node : ℕ) : Type 0 where
@@ -15,7 +15,7 @@ pub record Gains (old new : Relation) (P : ℕ → Type 0) (node : ℕ) : Type 0
   pub kept : (y v : ℕ) → IsRelated old y v → IsRelated new y v
   pub only : (y v : ℕ) → IsRelated new y v → IsRelated old y v ⊎ (P y × (v ≡ node))
 
--- the edge to a place is added, if it is one of the function, and there the facts of what the instruction makes
+-- the edge to a place is added, if it is one of the function, and there the facts of what the instruction always makes
 pub record AddsSuccessor (old new : Problem) (made : ℕ → Type 0) (place : ℕ) (to : Option ℕ) (count : ℕ) : Type 0 where
   pub edge : (q : ℕ) → to ≡ Some q → q < count → IsRelated new.edges q place
   pub generates : (q y : ℕ) → to ≡ Some q → q < count → made y → IsRelated new.generated y q
@@ -27,17 +27,18 @@ pub record AddsSuccessor (old new : Problem) (made : ℕ → Type 0) (place : �
       → IsRelated old.generated y v ⊎ ((to ≡ Some v) × (v < count) × made y)
   pub killed : new.killed ≡ old.killed
 
--- the problem has an edge for each place where an instruction leads, and the facts of what it reads and makes; all of
--- the first so many instructions, and no others
+-- the problem has an edge for each place where an instruction leads, and the facts of what it reads and always makes;
+-- all of the first so many instructions, and no others
 pub record Represents (program : FlatProgram) (function : ℕ) (body : List FlatInstruction) (done : ℕ)
     (problem : Problem) : Type
     0 where
   pub edges : (pc q : ℕ) → pc < done → LeadsAt body pc q → IsRelated problem.edges q pc
   pub edges_only : (q pc : ℕ) → IsRelated problem.edges q pc → LeadsAt body pc q
   pub read : (pc y : ℕ) → pc < done → ReadsAt program function body pc y → IsRelated problem.generated y pc
-  pub made : (pc q y : ℕ) → pc < done → LeadsAt body pc q → MakesAt program body pc y → IsRelated problem.generated y q
+  pub made : (pc q y : ℕ) → pc < done → LeadsAt body pc q → AlwaysMakesAt program body pc y
+      → IsRelated problem.generated y q
   pub generated_only : (y v : ℕ) → IsRelated problem.generated y v
-      → ReadsAt program function body v y ⊎ ((pc : ℕ) × LeadsAt body pc v × MakesAt program body pc y)
+      → ReadsAt program function body v y ⊎ ((pc : ℕ) × LeadsAt body pc v × AlwaysMakesAt program body pc y)
   pub killed : (pc y : ℕ) → pc < done → MakesAt program body pc y → IsRelated problem.killed y pc
   pub killed_only : (y pc : ℕ) → IsRelated problem.killed y pc → MakesAt program body pc y
 

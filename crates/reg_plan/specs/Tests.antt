@@ -1,5 +1,5 @@
 -- The parts of the test whether a plan is accepted.
-use Rattle.std.specs.Prelude.{◌≡◌, ℕ, ◌<◌, List, length, Some, true, false, slice_get}
+use Rattle.std.specs.Prelude.{◌≡◌, ℕ, ◌+◌, ◌<◌, List, length, Some, true, false, slice_get}
 use Rattle.flat_meaning.specs.declared.instruction.FlatInstruction.{FlatInstruction}
 use Rattle.flat_meaning.specs.declared.function.FlatFunction.{FlatFunction}
 use Rattle.flat_meaning.specs.declared.function.FlatProgram.{FlatProgram}
@@ -9,21 +9,26 @@ use Rattle.reg_plan.specs.declared.plan.LiveInterval.{LiveInterval}
 use Rattle.reg_plan.specs.declared.plan.Place.{Place}
 use Rattle.reg_plan.specs.declared.plan.Place.TheVariants.{Register}
 use Rattle.reg_plan.specs.declared.plan.FunctionPlan.{FunctionPlan}
-use Rattle.reg_plan.specs.Effects.{read_by, is_read, made_by, is_among, Leads}
+use Rattle.reg_plan.specs.Effects.{read_by, is_read, made_by, makes_only, always_made_by, is_among, Leads}
 use Rattle.reg_plan.specs.Colours.{range_of}
 use Rattle.reg_plan.specs.Accepted.{IsLive, HasHome, IsAccepted, covers}
 
--- what an instruction makes is live behind it, and what else is live there is live before it
-pub record Flows (plan : FunctionPlan) (made : Span) (from to : ℕ) : Type 0 where
-  pub live : (y : ℕ) → is_among made y ≡ true → IsLive plan to y
+-- what an instruction always makes is live behind it, and what it does not make and is live there is live before it
+pub record Flows (plan : FunctionPlan) (made always : Span) (from to : ℕ) : Type 0 where
+  pub live : (y : ℕ) → is_among always y ≡ true → IsLive plan to y
   pub rest : (y : ℕ) → IsLive plan to y → is_among made y ≡ false → IsLive plan from y
+
+-- what an instruction only makes is live behind it
+abbrev pub IsWanted : FunctionPlan → (place : ℕ) → FlatInstruction → Type 0
+IsWanted plan pc i = (x : ℕ) → makes_only i ≡ Some x → IsLive plan (pc + 1) x
 
 -- the live ranges are closed at an instruction
 pub record IsClosedAt (program : FlatProgram) (function : ℕ) (count : ℕ) (plan : FunctionPlan) (pc : ℕ)
     (instruction : FlatInstruction) : Type
     0 where
-  pub read : (y : ℕ) → is_read (read_by program function instruction) y ≡ true → IsLive plan pc y
-  pub flows : (q : ℕ) → Leads instruction pc q → q < count → Flows plan (made_by program instruction) pc q
+  pub read : IsWanted plan pc instruction → (y : ℕ) → is_read (read_by program function instruction) y ≡ true → IsLive plan pc y
+  pub flows : (q : ℕ) → Leads instruction pc q → q < count → Flows plan (made_by program instruction) (always_made_by program instruction)
+      pc q
 
 -- the plans of all functions are accepted
 pub record AreAccepted (program : FlatProgram) (plans : List FunctionPlan) : Type 0 where

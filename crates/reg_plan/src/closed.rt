@@ -3,11 +3,11 @@
 ghost use Rattle.std.specs.Prelude.{◌≡◌, ◌<◌, ◌≤◌, ◌^◌, ◌+◌, ◌&&◌, ℕ, length, Some, true, false};
 ghost use Rattle.std.specs.Prelude.{not, slice_get};
 ghost use Rattle.flat_meaning.specs.declared.instruction.FlatInstruction.{FlatInstruction};
-ghost use Rattle.reg_plan.specs.Effects.{is_among, is_read, read_by, made_by, next_of, taken_of};
+ghost use Rattle.reg_plan.specs.Effects.{is_among, is_read, read_by, made_by, makes_only, always_made_by, next_of, taken_of};
 ghost use Rattle.reg_plan.specs.Accepted.{holds, covers, is_live, IsLive};
-ghost use Rattle.reg_plan.specs.Tests.{Flows, IsClosedAt};
+ghost use Rattle.reg_plan.specs.Tests.{Flows, IsWanted, IsClosedAt};
 
-use crate::effects::{Reads, Span, made_by, next_of, read_by, taken_of};
+use crate::effects::{Reads, Span, always_made_by, made_by, makes_only, next_of, read_by, taken_of};
 use crate::plan::{FunctionPlan, LiveInterval};
 use flat_meaning::{FlatInstruction, FlatProgram};
 
@@ -85,12 +85,19 @@ fn none_is_lost(plan: &FunctionPlan, made: Span, from: u64, to: u64) -> bool
 }
 
 // Whether the live ranges are closed at where an instruction leads, if that is one of so many instructions.
-fn flows(plan: &FunctionPlan, made: Span, from: u64, to: Option<u64>, count: u64) -> bool
-    ensures yes { result ≡ true → (q : ℕ) → to ≡ Some q → q < count → Flows plan.now made from q }
-    ensures no { ((q : ℕ) → to ≡ Some q → q < count → Flows plan.now made from q) → result ≡ true }
+fn flows(
+    plan: &FunctionPlan,
+    made: Span,
+    always: Span,
+    from: u64,
+    to: Option<u64>,
+    count: u64,
+) -> bool
+    ensures yes { result ≡ true → (q : ℕ) → to ≡ Some q → q < count → Flows plan.now made always from q }
+    ensures no { ((q : ℕ) → to ≡ Some q → q < count → Flows plan.now made always from q) → result ≡ true }
 {
     match to {
-        Some(next) if next < count => are_live(plan, next, made)
+        Some(next) if next < count => are_live(plan, next, always)
             && none_is_lost(plan, made, from, next),
         _ => true,
     }
@@ -104,6 +111,36 @@ fn reads_are_live(plan: &FunctionPlan, place: u64, reads: Reads) -> bool
     are_live(plan, place, reads.left)
         && are_live(plan, place, reads.right)
         && are_live(plan, place, reads.others)
+}
+
+// Whether what an instruction only makes is live behind it.
+fn is_wanted(plan: &FunctionPlan, place: u64, instruction: &FlatInstruction) -> bool
+    requires { place < 2 ^ 32 }
+    ensures yes { result ≡ true → IsWanted plan.now place instruction.now }
+    ensures no { IsWanted plan.now place instruction.now → result ≡ true }
+{
+    match makes_only(instruction) {
+        Some(register) => is_live(plan, place + 1, u64::from(register)),
+        None => true,
+    }
+}
+
+// Whether what an instruction reads is live, or what it only makes is not.
+fn reads_where_wanted(
+    program: &FlatProgram,
+    number: u32,
+    plan: &FunctionPlan,
+    place: u64,
+    instruction: &FlatInstruction,
+) -> bool
+    requires { place < 2 ^ 32 }
+    ensures yes { result ≡ true → IsWanted plan.now place instruction.now → (y : ℕ)
+        → is_read (read_by program.now number instruction.now) y ≡ true → IsLive plan.now place y }
+    ensures no { (IsWanted plan.now place instruction.now → (y : ℕ)
+        → is_read (read_by program.now number instruction.now) y ≡ true → IsLive plan.now place y) → result ≡ true }
+{
+    !is_wanted(plan, place, instruction)
+        || reads_are_live(plan, place, read_by(program, number, instruction))
 }
 
 // Whether the live ranges are closed at an instruction.
@@ -120,9 +157,10 @@ fn is_closed_at(
     ensures no { IsClosedAt program.now number count plan.now place instruction.now → result ≡ true }
 {
     let made = made_by(program, instruction);
-    reads_are_live(plan, place, read_by(program, number, instruction))
-        && flows(plan, made, place, next_of(instruction, place), count)
-        && flows(plan, made, place, taken_of(instruction, place), count)
+    let always = always_made_by(program, instruction);
+    reads_where_wanted(program, number, plan, place, instruction)
+        && flows(plan, made, always, place, next_of(instruction, place), count)
+        && flows(plan, made, always, place, taken_of(instruction, place), count)
 }
 
 /// Whether the live ranges are closed at all instructions of a function.

@@ -2,6 +2,7 @@
 
 ghost use Rattle.std.specs.Prelude.{◌≡◌, ◌<◌, ◌^◌};
 ghost use Rattle.reg_plan.specs.Effects.{one, none, many, two, operand, read_by, made_by, next_of, taken_of};
+ghost use Rattle.reg_plan.specs.Effects.{makes_only, unless_only, always_made_by};
 ghost use Rattle.flat_meaning.specs.Calls.{function_in};
 ghost use Rattle.flat_meaning.specs.Meaning.{parameters_of, results_of};
 
@@ -146,6 +147,31 @@ pub fn made_by(program: &FlatProgram, instruction: &FlatInstruction) -> Span
         FlatInstruction::Get { into } => Span::one(into),
         FlatInstruction::Charged { into } => Span::one(into),
         _ => Span::NONE,
+    }
+}
+
+/// The virtual register that is all an instruction changes, if it changes no more than one: nothing is done for it where
+/// that is not needed.
+pub fn makes_only(instruction: &FlatInstruction) -> Option<u32>
+    ensures { result ≡ makes_only instruction.now }
+{
+    match *instruction {
+        FlatInstruction::Constant { into, .. } => Some(into),
+        FlatInstruction::Move { into, .. } => Some(into),
+        FlatInstruction::Operate { into, .. } => Some(into),
+        FlatInstruction::Operate32 { into, .. } => Some(into),
+        FlatInstruction::Charged { into } => Some(into),
+        _ => None,
+    }
+}
+
+/// What an instruction makes whether or not that is needed.
+pub fn always_made_by(program: &FlatProgram, instruction: &FlatInstruction) -> Span
+    ensures { result ≡ always_made_by program.now instruction.now }
+{
+    match makes_only(instruction) {
+        Some(_) => Span::NONE,
+        None => made_by(program, instruction),
     }
 }
 

@@ -4,10 +4,10 @@ ghost use Rattle.std.specs.Prelude.{◌≡◌, ◌<◌, ◌≤◌, ◌+◌, ◌^
 ghost use Rattle.std.specs.Prelude.{true, slice_get};
 ghost use Rattle.data_flow.specs.Relations.{IsRelated};
 ghost use Rattle.flat_meaning.specs.declared.instruction.FlatInstruction.{FlatInstruction};
-ghost use Rattle.reg_plan.specs.Effects.{is_among, is_read, read_by, made_by, next_of, taken_of};
+ghost use Rattle.reg_plan.specs.Effects.{is_among, is_read, read_by, made_by, always_made_by, next_of, taken_of};
 ghost use Rattle.reg_plan.specs.Flow.{Gains, AddsSuccessor, Represents, IsNamed, HasSizes};
 
-use crate::effects::{Reads, Span, made_by, next_of, read_by, taken_of};
+use crate::effects::{Reads, Span, always_made_by, made_by, next_of, read_by, taken_of};
 use data_flow::Relation;
 use flat_meaning::{FlatInstruction, FlatProgram};
 use std::alloc::{AllocError, Global};
@@ -17,7 +17,7 @@ use std::alloc::{AllocError, Global};
 pub struct Problem {
     /// From each instruction to those that lead to it.
     pub edges: Relation,
-    /// From each virtual register to the instructions that read it, and those behind one that makes it.
+    /// From each virtual register to the instructions that read it, and those behind one that always makes it.
     pub generated: Relation,
     /// From each virtual register to the instructions that make it.
     pub killed: Relation,
@@ -49,7 +49,8 @@ fn relate_reads(relation: &mut Relation, reads: Reads, node: u32) -> Result<(), 
     Ok(())
 }
 
-// Adds the edge to where an instruction leads, if that is one of so many instructions, and the facts that it makes.
+// Adds the edge to where an instruction leads, if that is one of so many instructions, and the facts that it always
+// makes.
 fn add_successor(
     problem: &mut Problem,
     made: Span,
@@ -90,16 +91,16 @@ fn add_instruction(
 {
     let instruction = &body[place as usize];
     let count = body.len() as u32;
-    let made = made_by(program, instruction);
     relate_reads(
         &mut problem.generated,
         read_by(program, function, instruction),
         place,
     )?;
-    relate_span(&mut problem.killed, made, place)?;
+    relate_span(&mut problem.killed, made_by(program, instruction), place)?;
+    let always = always_made_by(program, instruction);
     let at = u64::from(place);
-    add_successor(problem, made, place, next_of(instruction, at), count)?;
-    add_successor(problem, made, place, taken_of(instruction, at), count)?;
+    add_successor(problem, always, place, next_of(instruction, at), count)?;
+    add_successor(problem, always, place, taken_of(instruction, at), count)?;
     Ok(())
 }
 

@@ -233,7 +233,7 @@ module _ (p : FlatProgram) (f : ℕ) (g : FlatFunction) (plan : FunctionPlan) wh
 
     closed : AreClosed p f g.body plan
     closed = record {
-      read = λ pc y r.
+      read = λ pc y r wanted.
           let s = step_at pc r.0 r.1 in
           let lt = read_below c (read_by p f r.0) y s.reads r.2 in
           modus (is_read (read_by p f r.0) y) (is_live plan pc y)

@@ -395,14 +395,27 @@ module _ (p : FlatProgram) (plans : List FunctionPlan) (ok : IsSound p plans) (f
   local_most m i =
       local_length g (keeping p plans f).place at_homes (keeping p plans f).base (charged_from m p f) p i
 
+  needed_most : (m : MapSizes) (b : Bool) (i : FlatInstruction)
+      → length (if b then [] else local_block (keeping p plans f).place (keeping p plans f).base (charged_from m p f) i)
+      ≤ instruction_words p (keeping p plans f).room (results_of (function_in p f)) i
+  needed_most m b i =
+      let k = keeping p plans f in
+      let a = local_most m i in
+      choice b [] (local_block k.place k.base (charged_from m p f) i)
+      (instruction_words p k.room (results_of (function_in p f)) i) (omega arith) a
+
   -- all instructions, but for the jump or the branch behind a block
   pub block_length : (m : MapSizes) (pc : ℕ) (i : FlatInstruction)
       → length (block m p plans f pc i) ≤ instruction_words p g i
   unfolding block
-  block_length m pc (flat.Constant x n) = local_most m (flat.Constant x n)
-  block_length m pc (flat.Move x y) = local_most m (flat.Move x y)
-  block_length m pc (flat.Operate op x y z) = local_most m (flat.Operate op x y z)
-  block_length m pc (flat.Operate32 op x y z) = local_most m (flat.Operate32 op x y z)
+  block_length m pc (flat.Constant x n) =
+      needed_most m (not ((keeping p plans f).live (pc + 1) x)) (flat.Constant x n)
+  block_length m pc (flat.Move x y) =
+      needed_most m (not ((keeping p plans f).live (pc + 1) x)) (flat.Move x y)
+  block_length m pc (flat.Operate op x y z) =
+      needed_most m (not ((keeping p plans f).live (pc + 1) x)) (flat.Operate op x y z)
+  block_length m pc (flat.Operate32 op x y z) =
+      needed_most m (not ((keeping p plans f).live (pc + 1) x)) (flat.Operate32 op x y z)
   block_length m pc (flat.Load op x y o) = local_most m (flat.Load op x y o)
   block_length m pc (flat.Store op y o x) = local_most m (flat.Store op y o x)
   block_length m pc (flat.Branch op y z past) = local_most m (flat.Branch op y z past)
@@ -439,4 +452,5 @@ module _ (p : FlatProgram) (plans : List FunctionPlan) (ok : IsSound p plans) (f
   block_length m pc (flat.Put x) = local_most m (flat.Put x)
   block_length m pc (flat.Exit x) = local_most m (flat.Exit x)
   block_length m pc (flat.End e) = ends (tails_address p) e
-  block_length m pc (flat.Charged x) = local_most m (flat.Charged x)
+  block_length m pc (flat.Charged x) =
+      needed_most m (not ((keeping p plans f).live (pc + 1) x)) (flat.Charged x)

@@ -39,6 +39,7 @@ use Rattle.reg_plan.proofs.Plans.{needed_is_named}
 use Rattle.machine_laws.specs.Blocks.Places.{callee_scratch, right_scratch}
 use Rattle.machine_laws.specs.Blocks.Blocks.{constant, used, fetch, keep, store_at}
 use Rattle.machine_laws.proofs.Blocks.Lengths.{constant_length, fetch_length, keep_length, store_length}
+use Rattle.machine_laws.proofs.Blocks.Lengths.{choice}
 use Rattle.machine_laws.proofs.Blocks.Reports.{choice_few}
 use Rattle.machine_laws.specs.Calls.Calls.{Keeping, save, restore, save_one, restore_one, give, take, advance, retreat}
 use Rattle.machine_laws.specs.Calls.Calls.{call_block, back_block, entry_block}
@@ -149,9 +150,10 @@ module _ (m : MapSizes) (p : FlatProgram) (plans : List FunctionPlan) (f n : ℕ
       let k = keeping p plans f in
       let a = constant_length 6 (charged_from m p f) in
       let b = keep_length (k.place x) k.base 5 in
+      let whole = constant 6 (charged_from m p f) ++ (Op Sub (used (k.place x) 5) 2 6 ∷ keep (k.place x) k.base 5) in
       let c = length-append (constant 6 (charged_from m p f))
       (Op Sub (used (k.place x) 5) 2 6 ∷ keep (k.place x) k.base 5) in
-      omega arith
+      choice (not (k.live (pc + 1) x)) [] whole 15 (omega arith) (omega arith)
 
   branch_most : (pc : ℕ) (op : BranchOp) (y w past : ℕ)
       → length (block m p plans f pc (flat.Branch op y (right.Number w) past)) ≤ 14

@@ -94,7 +94,7 @@ module _ (m : MapSizes) (t : Tac) (p : FlatProgram) (f : ℕ) (gives : results_o
   needed_late : (pc y : ℕ) → IsNeeded p f (entry_code m t) pc y → 4 ≤ pc
   needed_late _ _ (Read pc y r) = reads_late pc y r
   needed_late _ _ (Made pc q y l r) =
-      let late = makes_late pc y r in
+      let late = makes_late pc y (r.0, r.1, r.2) in
       let same = same_Some r.0 l.0 (sym r.1 ∙ l.1) in
       let next = maker_onward p f gives l.0 y pc q (subst (λ z. is_among (made_by p z) y ≡ true) same r.2) l.2 in
       omega (arith, late, next)

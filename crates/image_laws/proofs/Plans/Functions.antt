@@ -53,7 +53,7 @@ module _ (m : MapSizes) (t : Tac) (c : CodeFunction) (p : FlatProgram) (f : ℕ)
       → ((k : ℕ) × ReadWithin p f gives body k pc y)
       ⊎ ((q : ℕ) × LeadsAt body q pc × MakesAt p body q y)
   needed_by _ _ (Read pc y r) high = inl (1, (r.0, r.1, inl r.2))
-  needed_by _ _ (Made pc q y l r) high = inr (pc, l, r)
+  needed_by _ _ (Made pc q y l r) high = inr (pc, l, (r.0, r.1, r.2))
   needed_by _ _ (Before pc q y l h not_made) high =
       ⊎_elim
       (λ path. inl (
@@ -127,7 +127,7 @@ module _ (m : MapSizes) (t : Tac) (c : CodeFunction) (p : FlatProgram) (f : ℕ)
       (λ h. absurd (zeroed_reads pc y (omega (arith, variable_count c part.variables, le, lt, h)) r))
       (cases_lt y (length c.parameters + pc))
   needed_behind _ _ (Made pc q y l r) le lt =
-      let next = made_next pc q y l r in
+      let next = made_next pc q y l (r.0, r.1, r.2) in
       ⊎_elim (λ h. h)
       (λ h.
       let early : pc < length c.variables = omega (arith, variable_count c part.variables, lt, h, next) in

@@ -1,7 +1,7 @@
 -- Every instruction that stands for flat code fits its fields.
 use Rattle.std.proofs.Common.{ℕ, zero, suc, ◌+◌, ◌-◌, ◌*◌, ◌/◌, ◌%◌, ◌^◌, ◌<◌, List, [], ◌∷◌, ◌++◌, length}
 use Rattle.std.proofs.Common.{Bool, true, false, Option, Some, None, arith}
-use Rattle.std.specs.Prelude.{◌==◌, nat_lt, nat_le, if◌then◌else◌}
+use Rattle.std.specs.Prelude.{◌==◌, nat_lt, nat_le, not, if◌then◌else◌}
 use Rattle.addr_map.specs.Places.{MapSizes}
 use Rattle.words.specs.TwosComplement.{low_bits, negated}
 use Rattle.sb_base.specs.declared.ending.Ending.{Ending}
@@ -479,17 +479,21 @@ block_fits m p plans f pc (flat.Return y) =
     both (return_block k y (results_of (function_in p f))) _ (return_fits k y (results_of (function_in p f)) h)
     ((omega arith, omega arith, omega arith), tt)
 block_fits m p plans f pc (flat.Constant x n) =
-    let h = keeping_fits p plans f in local_fits (keeping p plans f).place (keeping p plans f).base (charged_from m p f)
-    (flat.Constant x n) h.base h.places
+    let h = keeping_fits p plans f in
+    one_fits (not ((keeping p plans f).live (pc + 1) x)) _
+    (local_fits (keeping p plans f).place (keeping p plans f).base (charged_from m p f) (flat.Constant x n) h.base h.places)
 block_fits m p plans f pc (flat.Move x y) =
-    let h = keeping_fits p plans f in local_fits (keeping p plans f).place (keeping p plans f).base (charged_from m p f)
-    (flat.Move x y) h.base h.places
+    let h = keeping_fits p plans f in
+    one_fits (not ((keeping p plans f).live (pc + 1) x)) _
+    (local_fits (keeping p plans f).place (keeping p plans f).base (charged_from m p f) (flat.Move x y) h.base h.places)
 block_fits m p plans f pc (flat.Operate op x y z) =
-    let h = keeping_fits p plans f in local_fits (keeping p plans f).place (keeping p plans f).base (charged_from m p f)
-    (flat.Operate op x y z) h.base h.places
+    let h = keeping_fits p plans f in
+    one_fits (not ((keeping p plans f).live (pc + 1) x)) _
+    (local_fits (keeping p plans f).place (keeping p plans f).base (charged_from m p f) (flat.Operate op x y z) h.base h.places)
 block_fits m p plans f pc (flat.Operate32 op x y z) =
-    let h = keeping_fits p plans f in local_fits (keeping p plans f).place (keeping p plans f).base (charged_from m p f)
-    (flat.Operate32 op x y z) h.base h.places
+    let h = keeping_fits p plans f in
+    one_fits (not ((keeping p plans f).live (pc + 1) x)) _
+    (local_fits (keeping p plans f).place (keeping p plans f).base (charged_from m p f) (flat.Operate32 op x y z) h.base h.places)
 block_fits m p plans f pc (flat.Load op x y o) =
     let h = keeping_fits p plans f in local_fits (keeping p plans f).place (keeping p plans f).base (charged_from m p f)
     (flat.Load op x y o) h.base h.places
@@ -519,8 +523,9 @@ block_fits m p plans f pc (flat.Exit x) =
     (flat.Exit x) h.base h.places
 block_fits m p plans f pc (flat.End e) = end_fits (tails_address p) e
 block_fits m p plans f pc (flat.Charged x) =
-    let h = keeping_fits p plans f in local_fits (keeping p plans f).place (keeping p plans f).base (charged_from m p f)
-    (flat.Charged x) h.base h.places
+    let h = keeping_fits p plans f in
+    one_fits (not ((keeping p plans f).live (pc + 1) x)) _
+    (local_fits (keeping p plans f).place (keeping p plans f).base (charged_from m p f) (flat.Charged x) h.base h.places)
 
 pub used_field : (k : Keeping) (y : ℕ) → HasFields k → used (k.place y) 5 < 32
 used_field k y h = used_fits (k.place y) 5 (h.places y) (omega arith)

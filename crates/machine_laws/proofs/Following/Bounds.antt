@@ -1,7 +1,7 @@
 -- How many instructions a block has at most: by how many reach a home in the function's record.
-use Rattle.std.proofs.Common.{◌≡◌, ℕ, ◌+◌, ◌-◌, ◌*◌, ◌%◌, ◌^◌, ◌<◌, ◌≤◌, inl, sym, ap, ◌∙◌, subst, Bool, true, false}
+use Rattle.std.proofs.Common.{◌≡◌, ℕ, ◌+◌, ◌-◌, ◌*◌, ◌%◌, ◌^◌, ◌<◌, ◌≤◌, inl, refl, sym, ap, ◌∙◌, subst, Bool, true, false}
 use Rattle.std.proofs.Common.{List, [], ◌∷◌, ◌++◌, length, Option, Some, None, arith, length-append}
-use Rattle.std.specs.Prelude.{nat_le, if◌then◌else◌}
+use Rattle.std.specs.Prelude.{nat_le, not, if◌then◌else◌}
 use Rattle.addr_map.specs.Places.{MapSizes}
 use Rattle.words.specs.TwosComplement.{low_bits}
 use Rattle.sb_base.specs.declared.ending.Ending.{Ending}
@@ -14,6 +14,7 @@ use Rattle.rv_isa.specs.declared.instruction.RegOp32.{RegOp32}
 use Rattle.rv_isa.specs.declared.instruction.BranchOp.{BranchOp}
 use Rattle.rv_isa.specs.declared.instruction.ImmOp.TheVariants.{Addi}
 use Rattle.rv_isa.specs.declared.instruction.StoreOp.TheVariants.{Sb}
+use Rattle.rv_isa.specs.declared.instruction.Instr.{Instr}
 use Rattle.rv_isa.specs.declared.instruction.Instr.TheVariants.{Load, Store, Op, Op32, OpImm, Ecall}
 use Rattle.flat_meaning.specs.declared.instruction.RightOperand.{RightOperand}
 use Rattle.flat_meaning.specs.declared.instruction.RightOperand.TheVariants as right
@@ -24,7 +25,7 @@ use Rattle.flat_meaning.specs.Calls.{function_in}
 use Rattle.flat_meaning.specs.Meaning.{weight_of}
 use Rattle.reg_plan.specs.declared.plan.FunctionPlan.{FunctionPlan}
 use Rattle.machine_laws.specs.Blocks.Blocks.{IsShort, RightIsShort, constant, used, used_right, fetch, keep, operands}
-use Rattle.machine_laws.specs.Blocks.Blocks.{asks, is_same}
+use Rattle.machine_laws.specs.Blocks.Blocks.{asks, is_same, operator_block}
 use Rattle.machine_laws.specs.Blocks.Immediates.{immediate_of, immediate32_of}
 use Rattle.machine_laws.specs.Blocks.Effects.{IsIn, RightIsIn}
 use Rattle.machine_laws.proofs.Blocks.Lengths.{short_constant_length, short_bits_length, home_reach, choice}
@@ -68,47 +69,64 @@ module _ (m : MapSizes) (p : FlatProgram) (plans : List FunctionPlan) (f pc : �
   abbrev pub RightIsPlaced : RightOperand → Type 0
   RightIsPlaced z = RightIsIn (keeping p plans f).room (keeping p plans f).place z
 
-  pub constant_bound : (x n : ℕ) → IsPlaced x → IsShort n
+  -- one that is not needed has none
+  abbrev pub IsNeeded : ℕ → Type 0
+  IsNeeded x = (keeping p plans f).live (pc + 1) x ≡ true
+
+  needed_bound : (x most : ℕ) (is : List Instr) → (IsNeeded x → length is ≤ most)
+      → length (if not ((keeping p plans f).live (pc + 1) x) then [] else is) ≤ most
+  needed_bound x most is h = by ((keeping p plans f).live (pc + 1) x) h
+    where
+      by : (b : Bool) → (b ≡ true → length is ≤ most) → length (if not b then [] else is) ≤ most
+      by true h' = h' refl
+      by false h' = omega arith
+
+  pub constant_bound : (x n : ℕ) → (IsNeeded x → IsPlaced x) → IsShort n
       → length (block m p plans f pc (flat.Constant x n)) ≤ home_reach (keeping p plans f).room + 2
   unfolding block
   constant_bound x n hx short =
       let k = keeping p plans f in
       let a = short_bits_length (used (k.place x) 5) n short in
-      let b = keep_reach k.room (k.place x) k.base 5 hx in
+      needed_bound x (home_reach k.room + 2) (constant (used (k.place x) 5) (low_bits 64 n) ++ keep (k.place x) k.base 5)
+      (λ e. let b = keep_reach k.room (k.place x) k.base 5 (hx e) in
       let c = length-append (constant (used (k.place x) 5) (low_bits 64 n)) (keep (k.place x) k.base 5) in
-      omega arith
+      omega arith)
 
-  pub move_bound : (x y : ℕ) → IsPlaced x → IsPlaced y
+  pub move_bound : (x y : ℕ) → (IsNeeded x → IsPlaced x) → (IsNeeded x → IsPlaced y)
       → length (block m p plans f pc (flat.Move x y)) ≤ 2 * home_reach (keeping p plans f).room + 1
   unfolding block
   move_bound x y hx hy =
       let k = keeping p plans f in
-      let a = fetch_reach k.room (k.place y) k.base 5 hy in
-      let b = keep_reach k.room (k.place x) k.base 5 hx in
       let copy = OpImm Addi (used (k.place x) 5) (used (k.place y) 5) 0 ∷ keep (k.place x) k.base 5 in
+      needed_bound x (2 * home_reach k.room + 1)
+      (if is_same (k.place x) (k.place y) then [] else fetch (k.place y) k.base 5 ++ copy)
+      (λ e. let a = fetch_reach k.room (k.place y) k.base 5 (hy e) in
+      let b = keep_reach k.room (k.place x) k.base 5 (hx e) in
       let c = length-append (fetch (k.place y) k.base 5) copy in
       choice (is_same (k.place x) (k.place y)) [] (fetch (k.place y) k.base 5 ++ copy) (2 * home_reach k.room + 1)
-      (omega arith) (omega arith)
+      (omega arith) (omega arith))
 
-  pub operate_bound : (op : RegOp) (x y : ℕ) (z : RightOperand) → IsPlaced x → IsPlaced y → RightIsPlaced z
-      → RightIsShort z
+  pub operate_bound : (op : RegOp) (x y : ℕ) (z : RightOperand) → (IsNeeded x → IsPlaced x)
+      → (IsNeeded x → IsPlaced y) → (IsNeeded x → RightIsPlaced z) → RightIsShort z
       → length (block m p plans f pc (flat.Operate op x y z)) ≤ 3 * home_reach (keeping p plans f).room + 2
   unfolding block
   operate_bound op x y z hx hy hz short =
       let k = keeping p plans f in
-      operator_reach k.room k.place k.base (k.place x) y z
-      (immediate_of op (used (k.place x) 5) (used (k.place y) 5) z)
-      (Op op (used (k.place x) 5) (used (k.place y) 5) (used_right k.place z)) hx hy hz short
+      let own = immediate_of op (used (k.place x) 5) (used (k.place y) 5) z in
+      let two = Op op (used (k.place x) 5) (used (k.place y) 5) (used_right k.place z) in
+      needed_bound x (3 * home_reach k.room + 2) (operator_block k.place k.base (k.place x) y z own two)
+      (λ e. operator_reach k.room k.place k.base (k.place x) y z own two (hx e) (hy e) (hz e) short)
 
-  pub operate32_bound : (op : RegOp32) (x y : ℕ) (z : RightOperand) → IsPlaced x → IsPlaced y → RightIsPlaced z
-      → RightIsShort z
+  pub operate32_bound : (op : RegOp32) (x y : ℕ) (z : RightOperand) → (IsNeeded x → IsPlaced x)
+      → (IsNeeded x → IsPlaced y) → (IsNeeded x → RightIsPlaced z) → RightIsShort z
       → length (block m p plans f pc (flat.Operate32 op x y z)) ≤ 3 * home_reach (keeping p plans f).room + 2
   unfolding block
   operate32_bound op x y z hx hy hz short =
       let k = keeping p plans f in
-      operator_reach k.room k.place k.base (k.place x) y z
-      (immediate32_of op (used (k.place x) 5) (used (k.place y) 5) z)
-      (Op32 op (used (k.place x) 5) (used (k.place y) 5) (used_right k.place z)) hx hy hz short
+      let own = immediate32_of op (used (k.place x) 5) (used (k.place y) 5) z in
+      let two = Op32 op (used (k.place x) 5) (used (k.place y) 5) (used_right k.place z) in
+      needed_bound x (3 * home_reach k.room + 2) (operator_block k.place k.base (k.place x) y z own two)
+      (λ e. operator_reach k.room k.place k.base (k.place x) y z own two (hx e) (hy e) (hz e) short)
 
   pub load_bound : (op : LoadOp) (x y o : ℕ) → IsPlaced x → IsPlaced y
       → length (block m p plans f pc (flat.Load op x y o)) ≤ 2 * home_reach (keeping p plans f).room + 1
@@ -138,16 +156,18 @@ module _ (m : MapSizes) (p : FlatProgram) (plans : List FunctionPlan) (f pc : �
   branch_bound op y z past hy hz short =
       let k = keeping p plans f in operands_reach k.room k.place k.base y z hy hz short
 
-  pub charged_bound : (x : ℕ) → IsPlaced x → charged_from m p f < 2 ^ 31 - 2 ^ 11
+  pub charged_bound : (x : ℕ) → (IsNeeded x → IsPlaced x) → charged_from m p f < 2 ^ 31 - 2 ^ 11
       → length (block m p plans f pc (flat.Charged x)) ≤ home_reach (keeping p plans f).room + 3
   unfolding block
   charged_bound x hx small =
       let k = keeping p plans f in
       let a = short_constant_length 6 (charged_from m p f) (inl small) in
-      let b = keep_reach k.room (k.place x) k.base 5 hx in
+      needed_bound x (home_reach k.room + 3)
+      (constant 6 (charged_from m p f) ++ (Op Sub (used (k.place x) 5) 2 6 ∷ keep (k.place x) k.base 5))
+      (λ e. let b = keep_reach k.room (k.place x) k.base 5 (hx e) in
       let c = length-append (constant 6 (charged_from m p f))
       (Op Sub (used (k.place x) 5) 2 6 ∷ keep (k.place x) k.base 5) in
-      omega arith
+      omega arith)
 
   pub get_bound : (x : ℕ) → IsPlaced x
       → length (block m p plans f pc (flat.Get x)) ≤ home_reach (keeping p plans f).room + 9

@@ -41,24 +41,26 @@ use Rattle.flat_meaning.specs.Meaning.{instruction_at, is_runtime_function, righ
 use Rattle.flat_meaning.specs.Words.{AreWords, IsOfWords}
 use Rattle.flat_meaning.proofs.Stored as stored
 use Rattle.reg_plan.specs.declared.plan.FunctionPlan.{FunctionPlan}
-use Rattle.reg_plan.specs.Effects.{read_by, is_read, made_by, is_among, many, one, none, two, operand, Leads}
+use Rattle.reg_plan.specs.Effects.{read_by, is_read, made_by, makes_only, is_among, many, one, none, two}
+use Rattle.reg_plan.specs.Effects.{operand, Leads}
 use Rattle.machine_laws.specs.declared.location.Location.{Location}
 use Rattle.machine_laws.specs.declared.location.Location.TheVariants as location
-use Rattle.machine_laws.specs.Blocks.Blocks.{used, used_right, fetch, keep, operands}
+use Rattle.machine_laws.specs.Blocks.Blocks.{used, used_right, fetch, keep, operands, local_block}
 use Rattle.machine_laws.specs.Blocks.Effects.{RightIsIn, RightIsKept, IsIn, kept, IsNoScratch, Puts, HasFrame}
 use Rattle.machine_laws.proofs.Blocks.Pieces.{low_apart, saved_apart}
 use Rattle.machine_laws.proofs.Blocks.Local.{constant_puts, move_puts, operate_puts, operate32_puts}
 use Rattle.machine_laws.proofs.Blocks.Local.{load_puts, store_saves, charged_puts, has_operands}
 use Rattle.machine_laws.specs.Calls.Calls.{Keeping}
 use Rattle.machine_laws.proofs.Calls.Words.{kept_above}
-use Rattle.machine_laws.specs.Following.Code.{keeping, block, charged_from, IsLaid, IsEncodable, JumpStands}
+use Rattle.machine_laws.specs.Following.Code.{keeping, block, charged_from, GoesOn, IsLaid, IsEncodable, JumpStands}
 use Rattle.machine_laws.specs.Following.Matching.{object_bytes, space_bytes, IsOfFlat, record_of, IsAt, ShowsSame}
 use Rattle.machine_laws.specs.Following.Matching.{Meets}
 use Rattle.machine_laws.specs.Following.Start.{layout_of}
 use Rattle.machine_laws.proofs.Following.Runs.{Comes, straight_comes, then_comes, jumps, branches}
 use Rattle.machine_laws.proofs.Following.Regions.{AreRegions, allowed_data, allowed_flat, allowed_before}
 use Rattle.machine_laws.proofs.Following.Sound.{IsSound}
-use Rattle.machine_laws.proofs.Following.Standing.{among_one, frame_of, made, moves, before_untouched, record_behind}
+use Rattle.machine_laws.proofs.Following.Standing.{among_one, frame_of, made, unneeded, moves, before_untouched}
+use Rattle.machine_laws.proofs.Following.Standing.{record_behind}
 
 -- a state has these values, this memory and these accesses, and else is as another
 pub record Becomes (s s' : State) (values : Values) (memory : Bytes) (accesses : List Access) : Type 0 where
@@ -169,13 +171,13 @@ module _ (m : MapSizes) (p : FlatProgram) (plans : List FunctionPlan) (table cod
       (c : Configuration) (is : List Instr) (accesses : List Access)
       (h : Meets m p plans (layout_of m table code) address f pc s frames c)
       → function_in p f ≡ Some g → instruction_at p f pc ≡ Some i
-      → Leads i pc (pc + 1) → pc + 1 < length g.body → made_by p i ≡ one x
+      → Leads i pc (pc + 1) → (keeping p plans f).live (pc + 1) x ≡ true → made_by p i ≡ one x
       → Becomes s s' (put s.values x n) s.memory accesses
       → AllStand (layout_of m table code) (address f pc) is → address f (pc + 1) ≡ address f pc + 4 * length is
       → Puts (object_bytes m) (space_bytes m) (record_of m p f frames) (keeping p plans f).room is h.view
       ((keeping p plans f).place x) n accesses
       → Steps f (pc + 1) s' frames c (length is)
-  result_steps f pc x n g i s s' frames c is accesses h there at leads inside makes b stand next u =
+  result_steps f pc x n g i s s' frames c is accesses h there at leads live makes b stand next u =
       let go = straight_comes (layout_of m table code) fit is c h.view
       (subst (λ q. AllStand (layout_of m table code) q is) (sym h.pc_is) stand) u.go h.shows in
       record {
@@ -188,7 +190,7 @@ module _ (m : MapSizes) (p : FlatProgram) (plans : List FunctionPlan) (table cod
           shows = go.shows;
           pc_is = u.pc ∙ ap (λ q. q + 4 * length is) h.pc_is ∙ sym next;
           is_at = made m p plans address regions ok can.rooms f pc x n g i s s' frames h.view is (object_bytes m)
-              accesses there at leads inside makes b.values_are b.memory_is u h.is_at;
+              accesses there at leads live makes b.values_are b.memory_is u h.is_at;
           accesses = u.accesses_are ∙ sym b.accesses_are;
           outside = still_shows c go.after s s' (put s.values x n) s.memory accesses go.stays b h.outside;
         };
@@ -214,25 +216,45 @@ module _ (m : MapSizes) (p : FlatProgram) (plans : List FunctionPlan) (table cod
   right_fits (right.Register z) values w = w z
   right_fits (right.Number n) values w = omega arith
 
-  -- where the result of an instruction goes
+  -- what an instruction always makes is live behind it
+  pub made_live : (f pc x : ℕ) (g : FlatFunction) (i : FlatInstruction) → function_in p f ≡ Some g
+      → instruction_at p f pc ≡ Some i → Leads i pc (pc + 1) → pc + 1 < length g.body → made_by p i ≡ one x
+      → makes_only i ≡ None → (keeping p plans f).live (pc + 1) x ≡ true
+  made_live f pc x g i there at leads inside makes always =
+      ok.makes f pc g i there at (pc + 1) x leads inside (ap (λ q. is_among q x) makes ∙ among_one x) always
+
+  -- where it goes
   pub made_in : (f pc x : ℕ) (g : FlatFunction) (i : FlatInstruction) → function_in p f ≡ Some g
-      → instruction_at p f pc ≡ Some i
-      → Leads i pc (pc + 1) → pc + 1 < length g.body → made_by p i ≡ one x
-      → IsIn (keeping p plans f).room ((keeping p plans f).place x)
-  made_in f pc x g i there at leads inside makes = place_in f (pc + 1) x g there
-      (ok.makes f pc g i there at (pc + 1) x leads inside (ap (λ q. is_among q x) makes ∙ among_one x))
+      → instruction_at p f pc ≡ Some i → Leads i pc (pc + 1) → pc + 1 < length g.body → made_by p i ≡ one x
+      → makes_only i ≡ None → IsIn (keeping p plans f).room ((keeping p plans f).place x)
+  made_in f pc x g i there at leads inside makes always =
+      place_in f (pc + 1) x g there (made_live f pc x g i there at leads inside makes always)
+
+  -- what an instruction only makes is needed behind it
+  abbrev pub IsWanted : (f pc : ℕ) → FlatInstruction → Type 0
+  IsWanted f pc i = (x : ℕ) → makes_only i ≡ Some x → (keeping p plans f).live (pc + 1) x ≡ true
+
+  pub wanted_one : (f pc x : ℕ) (i : FlatInstruction) → makes_only i ≡ Some x
+      → (keeping p plans f).live (pc + 1) x ≡ true → IsWanted f pc i
+  wanted_one f pc x i only live y e =
+      let w : Some x ≡ Some y = sym only ∙ e in
+      let same : x ≡ y = cc in
+      subst (λ z. (keeping p plans f).live (pc + 1) z ≡ true) same live
+
+  pub wanted_none : (f pc : ℕ) (i : FlatInstruction) → makes_only i ≡ None → IsWanted f pc i
+  wanted_none f pc i always y e = let w : None ≡ Some y = sym always ∙ e in cc
 
   pub operator_reads : (f pc y : ℕ) (z : RightOperand) (g : FlatFunction) (i : FlatInstruction) → function_in p f
       ≡ Some g
       → instruction_at p f pc ≡ Some i
-      → read_by p f i ≡ two (one y) (operand z)
+      → read_by p f i ≡ two (one y) (operand z) → IsWanted f pc i
       → ((keeping p plans f).live pc y ≡ true) × RightIsLive (keeping p plans f) pc z
-  operator_reads f pc y (right.Register z) g i there at e = (
-    ok.reads f pc g i there at y (ap (λ r. is_read r y) e ∙ rw (among_one y) refl),
-    ok.reads f pc g i there at z (ap (λ r. is_read r z) e ∙ rw (among_one z) (or-true (is_among (one y) z))),
+  operator_reads f pc y (right.Register z) g i there at e wanted = (
+    ok.reads f pc g i there at wanted y (ap (λ r. is_read r y) e ∙ rw (among_one y) refl),
+    ok.reads f pc g i there at wanted z (ap (λ r. is_read r z) e ∙ rw (among_one z) (or-true (is_among (one y) z))),
   )
-  operator_reads f pc y (right.Number n) g i there at e =
-      (ok.reads f pc g i there at y (ap (λ r. is_read r y) e ∙ rw (among_one y) refl), tt)
+  operator_reads f pc y (right.Number n) g i there at e wanted =
+      (ok.reads f pc g i there at wanted y (ap (λ r. is_read r y) e ∙ rw (among_one y) refl), tt)
 
   -- an instruction that makes nothing leaves what is kept, where registers but scratch registers stay, and of
   -- memory all
@@ -279,78 +301,106 @@ module _ (m : MapSizes) (p : FlatProgram) (plans : List FunctionPlan) (table cod
     frame : HasFrame (space_bytes m) (keeping p plans f).base (record_of m p f frames) (keeping p plans f).room h.view
     frame = frame_of m p plans address regions ok can.rooms f pc g s frames h.view there h.is_at
 
-    pub constant_steps : (x n : ℕ) → instruction_at p f pc ≡ Some (flat.Constant x n) → pc + 1 < length g.body
+    -- a value goes to its place where it is needed behind the instruction that only makes it; else nothing is done
+    value_steps : (x n : ℕ) (i : FlatInstruction) (is : List Instr) → instruction_at p f pc ≡ Some i → GoesOn i
+        → Leads i pc (pc + 1) → made_by p i ≡ one x
+        → block m p plans f pc i ≡ (if not ((keeping p plans f).live (pc + 1) x) then [] else is)
+        → Becomes s s' (put s.values x n) s.memory s.accesses
+        → ((keeping p plans f).live (pc + 1) x ≡ true
+        → Puts (object_bytes m) (space_bytes m) (record_of m p f frames) (keeping p plans f).room is h.view
+        ((keeping p plans f).place x) n h.view.accesses)
+        → Steps f (pc + 1) s' frames c (length (block m p plans f pc i))
+    value_steps x n i is at on leads makes same b puts = by ((keeping p plans f).live (pc + 1) x) refl
+      where
+        by : (d : Bool) → (keeping p plans f).live (pc + 1) x ≡ d
+            → Steps f (pc + 1) s' frames c (length (block m p plans f pc i))
+        by true live =
+            let w : block m p plans f pc i ≡ is = same ∙ ap (λ z. if not z then [] else is) live in
+            subst (λ z. Steps f (pc + 1) s' frames c (length z)) (sym w)
+            (result_steps f pc x n g i s s' frames c is s.accesses h there at leads live makes b
+            (subst (λ z. AllStand (layout_of m table code) (address f pc) z) w (laid.blocks f pc i at))
+            (laid.next f pc i at on ∙ ap (λ z. address f pc + 4 * length z) w)
+            (subst (λ a. Puts (object_bytes m) (space_bytes m) (record_of m p f frames) (keeping p plans f).room is
+            h.view ((keeping p plans f).place x) n a) h.accesses (puts live)))
+        by false dead =
+            let w : block m p plans f pc i ≡ [] = same ∙ ap (λ z. if not z then [] else is) dead in
+            let stays : address f (pc + 1) ≡ address f pc =
+            laid.next f pc i at on ∙ ap (λ z. address f pc + 4 * length z) w ∙ omega arith in
+            let go = straight_comes (layout_of m table code) fit [] c h.view tt tt h.shows in
+            record {
+              steps = 0;
+              few = omega arith;
+              after = go.after;
+              is = go.is;
+              meets = record {
+                view = h.view;
+                shows = go.shows;
+                pc_is = h.pc_is ∙ sym stays;
+                is_at = unneeded m p plans address regions ok can.rooms f pc x n g i s s' frames h.view there at leads
+                    dead makes b.values_are b.memory_is h.is_at;
+                accesses = h.accesses ∙ sym b.accesses_are;
+                outside = still_shows c go.after s s' (put s.values x n) s.memory s.accesses go.stays b h.outside;
+              };
+            }
+
+    pub constant_steps : (x n : ℕ) → instruction_at p f pc ≡ Some (flat.Constant x n)
         → Becomes s s' (put s.values x (low_bits 64 n)) s.memory s.accesses
         → Steps f (pc + 1) s' frames c (length (block m p plans f pc (flat.Constant x n)))
     unfolding block
-    constant_steps x n at inside b =
+    constant_steps x n at b =
         let k = keeping p plans f in
-        result_steps f pc x (low_bits 64 n) g (flat.Constant x n) s s' frames c
-        (block m p plans f pc (flat.Constant x n)) s.accesses h there at (inl refl) inside refl b
-        (laid.blocks f pc (flat.Constant x n) at) (laid.next f pc (flat.Constant x n) at tt)
-        (subst (λ a. Puts (object_bytes m) (space_bytes m) (record_of m p f frames) k.room
-        (block m p plans f pc (flat.Constant x n)) h.view (k.place x) (low_bits 64 n) a) h.accesses
-        (constant_puts (object_bytes m) (space_bytes m) k.base (record_of m p f frames) k.room k.place (k.place x)
-        (low_bits 64 n) h.view h.is_at.zero_is (omega arith) frame
-        (made_in f pc x g (flat.Constant x n) there at (inl refl) inside refl)))
+        value_steps x (low_bits 64 n) (flat.Constant x n) (local_block k.place k.base (charged_from m p f)
+        (flat.Constant x n)) at tt (inl refl) refl refl b
+        (λ live. constant_puts (object_bytes m) (space_bytes m) k.base (record_of m p f frames) k.room k.place
+        (k.place x) (low_bits 64 n) h.view h.is_at.zero_is (omega arith) frame (place_in f (pc + 1) x g there live))
 
-    pub move_steps : (x y : ℕ) → instruction_at p f pc ≡ Some (flat.Move x y) → pc + 1 < length g.body
+    pub move_steps : (x y : ℕ) → instruction_at p f pc ≡ Some (flat.Move x y)
         → Becomes s s' (put s.values x (s.values y)) s.memory s.accesses
         → Steps f (pc + 1) s' frames c (length (block m p plans f pc (flat.Move x y)))
     unfolding block
-    move_steps x y at inside b =
+    move_steps x y at b =
         let k = keeping p plans f in
-        let live = ok.reads f pc g (flat.Move x y) there at y (rw (among_one y) refl) in
-        result_steps f pc x (s.values y) g (flat.Move x y) s s' frames c
-        (block m p plans f pc (flat.Move x y)) s.accesses h there at (inl refl) inside refl b
-        (laid.blocks f pc (flat.Move x y) at) (laid.next f pc (flat.Move x y) at tt)
-        (subst (λ a. Puts (object_bytes m) (space_bytes m) (record_of m p f frames) k.room
-        (block m p plans f pc (flat.Move x y)) h.view (k.place x) (s.values y) a) h.accesses
-        (move_puts (object_bytes m) (space_bytes m) k.base (record_of m p f frames) k.room k.place (k.place x)
-        (k.place y) (s.values y) h.view (words.values y) frame
-        (made_in f pc x g (flat.Move x y) there at (inl refl) inside refl) (place_in f pc y g there live)
-        (h.is_at.held y live)))
+        let i = flat.Move x y in
+        value_steps x (s.values y) i (local_block k.place k.base (charged_from m p f) i) at tt (inl refl) refl refl b
+        (λ live. let y_live = ok.reads f pc g i there at (wanted_one f pc x i refl live) y (rw (among_one y) refl) in
+        move_puts (object_bytes m) (space_bytes m) k.base (record_of m p f frames) k.room k.place (k.place x)
+        (k.place y) (s.values y) h.view (words.values y) frame (place_in f (pc + 1) x g there live)
+        (place_in f pc y g there y_live) (h.is_at.held y y_live))
 
     pub operate_steps : (op : RegOp) (x y : ℕ) (z : RightOperand)
-        → instruction_at p f pc ≡ Some (flat.Operate op x y z) → pc + 1 < length g.body
+        → instruction_at p f pc ≡ Some (flat.Operate op x y z)
         → Becomes s s' (put s.values x (reg_result op (s.values y) (right_value z s.values))) s.memory s.accesses
         → Steps f (pc + 1) s' frames c (length (block m p plans f pc (flat.Operate op x y z)))
     unfolding block
-    operate_steps op x y z at inside b =
+    operate_steps op x y z at b =
         let k = keeping p plans f in
         let i = flat.Operate op x y z in
-        let n = reg_result op (s.values y) (right_value z s.values) in
-        let live = operator_reads f pc y z g i there at refl in
-        result_steps f pc x n g i s s' frames c (block m p plans f pc i) s.accesses h there at (inl refl) inside refl b
-        (laid.blocks f pc i at) (laid.next f pc i at tt)
-        (subst (λ a. Puts (object_bytes m) (space_bytes m) (record_of m p f frames) k.room (block m p plans f pc i)
-        h.view (k.place x) n a) h.accesses
-        (operate_puts (object_bytes m) (space_bytes m) k.base (record_of m p f frames) k.room k.place op (k.place x) y z
-        h.view s.values h.is_at.zero_is frame (made_in f pc x g i there at (inl refl) inside refl)
-        (place_in f pc y g there live.0) (right_in f pc g z there live.1) (h.is_at.held y live.0)
-        (right_kept f pc z s frames h.view h.is_at live.1)
-        (reg_fits op (s.values y) (right_value z s.values) (words.values y) (right_fits z s.values words.values))))
+        value_steps x (reg_result op (s.values y) (right_value z s.values)) i
+        (local_block k.place k.base (charged_from m p f) i) at tt (inl refl) refl refl b
+        (λ live. let reads = operator_reads f pc y z g i there at refl (wanted_one f pc x i refl live) in
+        operate_puts (object_bytes m) (space_bytes m) k.base (record_of m p f frames) k.room k.place op (k.place x) y z
+        h.view s.values h.is_at.zero_is frame (place_in f (pc + 1) x g there live)
+        (place_in f pc y g there reads.0) (right_in f pc g z there reads.1) (h.is_at.held y reads.0)
+        (right_kept f pc z s frames h.view h.is_at reads.1)
+        (reg_fits op (s.values y) (right_value z s.values) (words.values y) (right_fits z s.values words.values)))
 
     pub operate32_steps : (op : RegOp32) (x y : ℕ) (z : RightOperand)
-        → instruction_at p f pc ≡ Some (flat.Operate32 op x y z) → pc + 1 < length g.body
+        → instruction_at p f pc ≡ Some (flat.Operate32 op x y z)
         → Becomes s s' (put s.values x (reg32_result op (low_word (s.values y)) (low_word (right_value z s.values))))
         s.memory s.accesses
         → Steps f (pc + 1) s' frames c (length (block m p plans f pc (flat.Operate32 op x y z)))
     unfolding block
-    operate32_steps op x y z at inside b =
+    operate32_steps op x y z at b =
         let k = keeping p plans f in
         let i = flat.Operate32 op x y z in
-        let n = reg32_result op (low_word (s.values y)) (low_word (right_value z s.values)) in
-        let live = operator_reads f pc y z g i there at refl in
-        result_steps f pc x n g i s s' frames c (block m p plans f pc i) s.accesses h there at (inl refl) inside refl b
-        (laid.blocks f pc i at) (laid.next f pc i at tt)
-        (subst (λ a. Puts (object_bytes m) (space_bytes m) (record_of m p f frames) k.room (block m p plans f pc i)
-        h.view (k.place x) n a) h.accesses
-        (operate32_puts (object_bytes m) (space_bytes m) k.base (record_of m p f frames) k.room k.place op (k.place x) y
-        z h.view s.values h.is_at.zero_is frame (made_in f pc x g i there at (inl refl) inside refl)
-        (place_in f pc y g there live.0) (right_in f pc g z there live.1) (h.is_at.held y live.0)
-        (right_kept f pc z s frames h.view h.is_at live.1)
-        (reg32_fits op (low_word (s.values y)) (low_word (right_value z s.values)) (omega arith) (omega arith))))
+        value_steps x (reg32_result op (low_word (s.values y)) (low_word (right_value z s.values))) i
+        (local_block k.place k.base (charged_from m p f) i) at tt (inl refl) refl refl b
+        (λ live. let reads = operator_reads f pc y z g i there at refl (wanted_one f pc x i refl live) in
+        operate32_puts (object_bytes m) (space_bytes m) k.base (record_of m p f frames) k.room k.place op (k.place x) y z
+        h.view s.values h.is_at.zero_is frame (place_in f (pc + 1) x g there live)
+        (place_in f pc y g there reads.0) (right_in f pc g z there reads.1) (h.is_at.held y reads.0)
+        (right_kept f pc z s frames h.view h.is_at reads.1)
+        (reg32_fits op (low_word (s.values y)) (low_word (right_value z s.values)) (omega arith) (omega arith)))
 
     pub load_steps : (op : LoadOp) (x y o : ℕ) → instruction_at p f pc ≡ Some (flat.Load op x y o)
         → pc + 1 < length g.body → is_allowed m (wrap (s.values y + o)) (load_bytes op) ≡ true
@@ -365,7 +415,7 @@ module _ (m : MapSizes) (p : FlatProgram) (plans : List FunctionPlan) (table cod
         let a = wrap (s.values y + o) in
         let size = load_bytes op in
         let n = extended op (load size s.memory a) in
-        let live = ok.reads f pc g i there at y (rw (among_one y) refl) in
+        let live = ok.reads f pc g i there at (wanted_none f pc i refl) y (rw (among_one y) refl) in
         let is = block m p plans f pc i in
         let front = fetch (k.place y) k.base 5 in
         let pc' = address f pc + 4 * length front in
@@ -377,7 +427,7 @@ module _ (m : MapSizes) (p : FlatProgram) (plans : List FunctionPlan) (table cod
         (stored.load_fits size s.memory a words.memory)) in
         let u = load_puts (object_bytes m) (space_bytes m) k.base (record_of m p f frames) k.room k.place op (k.place x)
         y o h.view s.values pc' (can.load_offset f pc op x y o at) frame
-        (made_in f pc x g i there at (inl refl) inside refl) (place_in f pc y g there live) (h.is_at.held y live)
+        (made_in f pc x g i there at (inl refl) inside refl refl) (place_in f pc y g there live) (h.is_at.held y live)
         (allowed_data m regions a size allowed) fits (ap (λ q. q + 4 * length front) (sym h.pc_is)) in
         let seen : h.view.accesses ++ accesses_by pc' (Some (record { address = a; size = size; kind = Read }))
         ≡ s.accesses ++ shown_access m (is_runtime_function (function_in p f)) a size Read =
@@ -385,8 +435,8 @@ module _ (m : MapSizes) (p : FlatProgram) (plans : List FunctionPlan) (table cod
         ∙ ap (λ q. s.accesses ++ q) (access_by m regions (is_runtime_function (function_in p f)) pc' a size Read
         (code_address f pc (length front) i at (omega (arith, long))) (some_loaded op) allowed) in
         result_steps f pc x n g i s s' frames c is
-        (s.accesses ++ shown_access m (is_runtime_function (function_in p f)) a size Read) h there at (inl refl) inside
-        refl b (laid.blocks f pc i at) (laid.next f pc i at tt)
+        (s.accesses ++ shown_access m (is_runtime_function (function_in p f)) a size Read) h there at (inl refl)
+        (made_live f pc x g i there at (inl refl) inside refl refl) refl b (laid.blocks f pc i at) (laid.next f pc i at tt)
         (subst (λ q. Puts (object_bytes m) (space_bytes m) (record_of m p f frames) k.room is h.view (k.place x) n
         q) seen
         (subst (λ q. Puts (object_bytes m) (space_bytes m) (record_of m p f frames) k.room is h.view (k.place x)
@@ -409,8 +459,9 @@ module _ (m : MapSizes) (p : FlatProgram) (plans : List FunctionPlan) (table cod
         let front = operands k.place k.base y (right.Register x) in
         let pc' = address f pc + 4 * length front in
         let long = length-append front (Store op (used (k.place y) 5) (used (k.place x) 6) (o % 2 ^ 12) ∷ []) in
-        let y_live = ok.reads f pc g i there at y (rw (among_one y) refl) in
-        let x_live = ok.reads f pc g i there at x (rw (among_one x) (or-true (is_among (one y) x))) in
+        let wanted = wanted_none f pc i refl in
+        let y_live = ok.reads f pc g i there at wanted y (rw (among_one y) refl) in
+        let x_live = ok.reads f pc g i there at wanted x (rw (among_one x) (or-true (is_among (one y) x))) in
         let u = store_saves (object_bytes m) (space_bytes m) k.base (record_of m p f frames) k.room k.place op x y o
         h.view s.values pc' (can.store_offset f pc op y o x at) h.is_at.zero_is frame (place_in f pc y g there y_live)
         (place_in f pc x g there x_live) (h.is_at.held y y_live) (h.is_at.held x x_live)
@@ -524,7 +575,7 @@ module _ (m : MapSizes) (p : FlatProgram) (plans : List FunctionPlan) (table cod
         let i = flat.Branch op y z past in
         let l = layout_of m table code in
         let is = operands k.place k.base y z in
-        let live = operator_reads f pc y z g i there at refl in
+        let live = operator_reads f pc y z g i there at refl (wanted_none f pc i refl) in
         let u = has_operands (object_bytes m) (space_bytes m) k.base (record_of m p f frames) k.room k.place y z h.view
         s.values h.is_at.zero_is frame (place_in f pc y g there live.0) (right_in f pc g z there live.1)
         (h.is_at.held y live.0) (right_kept f pc z s frames h.view h.is_at live.1) in
@@ -564,14 +615,14 @@ module _ (m : MapSizes) (p : FlatProgram) (plans : List FunctionPlan) (table cod
         choose true yes_to no_to most e step l1 l2 = step yes_to l1 e
         choose false yes_to no_to most e step l1 l2 = step no_to l2 e
 
-    pub charged_steps : (x : ℕ) → instruction_at p f pc ≡ Some (flat.Charged x) → pc + 1 < length g.body
+    pub charged_steps : (x : ℕ) → instruction_at p f pc ≡ Some (flat.Charged x)
         → Becomes s s' (put s.values x (wrap (charged p f frames))) s.memory s.accesses
         → Steps f (pc + 1) s' frames c (length (block m p plans f pc (flat.Charged x)))
     unfolding block
-    charged_steps x at inside b =
+    charged_steps x at b =
         let k = keeping p plans f in
         let i = flat.Charged x in
-        let is = block m p plans f pc i in
+        let is = local_block k.place k.base (charged_from m p f) i in
         let begin = charged_from m p f in
         let top = region_start m Calls + rooms false p frames in
         let fits = h.is_at.program_fits in
@@ -581,16 +632,12 @@ module _ (m : MapSizes) (p : FlatProgram) (plans : List FunctionPlan) (table cod
         omega (arith, regions.calls, regions.end) in
         let same : top - begin ≡ charged p f frames = omega arith in
         let small : wrap (charged p f frames) ≡ charged p f frames = omega (arith, regions.calls, regions.end) in
-        result_steps f pc x (wrap (charged p f frames)) g i s s' frames c is s.accesses h there at (inl refl) inside
-        refl b (laid.blocks f pc i at) (laid.next f pc i at tt)
-        (subst (λ a. Puts (object_bytes m) (space_bytes m) (record_of m p f frames) k.room is h.view (k.place x)
-        (wrap (charged p f frames)) a) h.accesses
-        (subst (λ n. Puts (object_bytes m) (space_bytes m) (record_of m p f frames) k.room is h.view (k.place x)
+        value_steps x (wrap (charged p f frames)) i is at tt (inl refl) refl refl b
+        (λ live. subst (λ n. Puts (object_bytes m) (space_bytes m) (record_of m p f frames) k.room is h.view (k.place x)
         n h.view.accesses) (same ∙ sym small)
         (charged_puts (object_bytes m) (space_bytes m) k.base (record_of m p f frames) k.room k.place (k.place x)
         begin top h.view h.is_at.zero_is (omega (arith, regions.calls, regions.end)) h.is_at.program_top (omega arith)
-        (omega (arith, regions.calls, regions.end)) frame
-        (made_in f pc x g i there at (inl refl) inside refl))))
+        (omega (arith, regions.calls, regions.end)) frame (place_in f (pc + 1) x g there live)))
 
     pub turn_takes_one : (at : instruction_at p f pc ≡ Some flat.Turn) (b : Becomes s s' s.values s.memory s.accesses)
         → (turn_steps at b).steps ≡ 1

@@ -50,7 +50,7 @@ use Rattle.machine_laws.proofs.Following.Runs.{Comes, straight_comes, all_append
 use Rattle.machine_laws.proofs.Following.Regions.{AreRegions, flat_before}
 use Rattle.machine_laws.proofs.Following.Sound.{IsSound}
 use Rattle.machine_laws.proofs.Following.Standing.{frame_of, made, moves, before_untouched, record_behind, among_one}
-use Rattle.machine_laws.proofs.Following.Locals.{among_none, Steps}
+use Rattle.machine_laws.proofs.Following.Locals.{among_none, wanted_none, Steps}
 use Rattle.machine_laws.proofs.Following.Asks.{asking, asking_asks, IsAsking, immediate, immediate_other}
 use Rattle.machine_laws.proofs.Following.Tails.{tells, ends}
 use Rattle.machine_laws.proofs.Following.Asks.{stored_byte, receiving, receives}
@@ -130,7 +130,8 @@ module _ (m : MapSizes) (p : FlatProgram) (plans : List FunctionPlan) (table cod
         let l = layout_of m table code in
         let i = flat.Put x in
         let fp = record_of m p f frames in
-        let live = ok.reads f pc g i there at x (rw (among_one x) refl) in
+        let live = ok.reads f pc g i there at (wanted_none m p plans table code address entry regions ok fit laid can f pc i refl) x
+        (rw (among_one x) refl) in
         let inside = (ok.kept f pc g there).inside x live in
         let front = fetch (k.place x) k.base 5 in
         let last = Store Sb 3 (used (k.place x) 5) 0 ∷ asking 64 1 1 in
@@ -225,8 +226,8 @@ module _ (m : MapSizes) (p : FlatProgram) (plans : List FunctionPlan) (table cod
         let i = flat.Get x in
         let fp = record_of m p f frames in
         let rd = used (k.place x) 5 in
-        let x_in = (ok.kept f (pc + 1) g there).inside x
-        (ok.makes f pc g i there at (pc + 1) x (inl refl) inside (among_one x)) in
+        let x_live = ok.makes f pc g i there at (pc + 1) x (inl refl) inside (among_one x) refl in
+        let x_in = (ok.kept f (pc + 1) g there).inside x x_live in
         let front = receiving rd in
         let tail = front ++ keep (k.place x) k.base 5 in
         let frame_w = frame_of m p plans address regions ok can.rooms f pc g s frames w there is_at in
@@ -264,7 +265,7 @@ module _ (m : MapSizes) (p : FlatProgram) (plans : List FunctionPlan) (table cod
             pc_is = u.pc ∙ ap (λ q. q + 4 * length tail) pc_is
                 ∙ sym (laid.next f pc i at tt ∙ ap (λ q. address f pc + 4 * q) whole ∙ omega arith);
             is_at = made m p plans address regions ok can.rooms f pc x n g i s s' frames w tail (object_bytes m)
-                w.accesses there at (inl refl) inside refl values memory u is_at;
+                w.accesses there at (inl refl) x_live refl values memory u is_at;
             accesses = u.accesses_are ∙ seen ∙ sym accesses;
             outside = record {
               input = go.stays.input ∙ outside.input;
@@ -390,7 +391,8 @@ module _ (m : MapSizes) (p : FlatProgram) (plans : List FunctionPlan) (table cod
         let l = layout_of m table code in
         let i = flat.Exit x in
         let fp = record_of m p f frames in
-        let live = ok.reads f pc g i there at x (rw (among_one x) refl) in
+        let live = ok.reads f pc g i there at (wanted_none m p plans table code address entry regions ok fit laid can f pc i refl) x
+        (rw (among_one x) refl) in
         let inside = (ok.kept f pc g there).inside x live in
         let front = fetch (k.place x) k.base 5 in
         let last = OpImm Addi 10 (used (k.place x) 5) 0 ∷ OpImm Addi 17 0 93 ∷ [] in

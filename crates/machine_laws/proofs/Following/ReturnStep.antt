@@ -38,7 +38,7 @@ use Rattle.machine_laws.proofs.Following.Runs.{Comes, straight_comes, all_append
 use Rattle.machine_laws.proofs.Following.Regions.{AreRegions, flat_before}
 use Rattle.machine_laws.proofs.Following.Sound.{IsSound}
 use Rattle.machine_laws.proofs.Following.Standing.{frame_of, IsKind, kind, wait_same, record_behind, function_there}
-use Rattle.machine_laws.proofs.Following.Locals.{among_from, or_last, Steps}
+use Rattle.machine_laws.proofs.Following.Locals.{among_from, or_last, wanted_none, Steps}
 use Rattle.machine_laws.proofs.Following.CallSim.{IsWaiting, outside_by, base_by}
 use Rattle.machine_laws.proofs.Following.ReturnSim.{call_of, leaves, Backs, backs}
 
@@ -240,7 +240,7 @@ module _ (m : MapSizes) (p : FlatProgram) (plans : List FunctionPlan) (table cod
       let count : q.shape.results ≡ g.results = q.results_are ∙ results in
       let few = can.results f g there in
       let reads : (j : ℕ) → j < g.results → kf.live pc (y + j) ≡ true =
-      λ j lt. ok.reads f pc g i there at (y + j) (read_one y (results_of (function_in p f)) j (omega (
+      λ j lt. ok.reads f pc g i there at (wanted_none m p plans table code address entry regions ok fit laid can f pc i refl) (y + j) (read_one y (results_of (function_in p f)) j (omega (
         arith,
         results,
       ))) in

@@ -11,7 +11,7 @@ use Rattle.flat_meaning.specs.Meaning.{instruction_at, body_of}
 use Rattle.reg_plan.specs.declared.plan.Place.{Place}
 use Rattle.reg_plan.specs.declared.plan.Place.TheVariants as place
 use Rattle.reg_plan.specs.declared.plan.FunctionPlan.{FunctionPlan}
-use Rattle.reg_plan.specs.Effects.{read_by, is_read, made_by, is_among, Leads}
+use Rattle.reg_plan.specs.Effects.{read_by, is_read, made_by, makes_only, is_among, Leads}
 use Rattle.reg_plan.specs.Needs.{MakesAt}
 use Rattle.reg_plan.specs.Accepted.{is_live, covers, intervals_of, HasHome, IsAccepted}
 use Rattle.reg_plan.specs.Tests.{AreAccepted}
@@ -34,6 +34,10 @@ pub get_some : {A : Type 0} (xs : List A) (k : ℕ) → k < length xs → (x : A
 get_some [] k lt = absurd (omega arith)
 get_some (y ∷ ys) zero lt = (y, refl)
 get_some (y ∷ ys) (suc k) lt = get_some ys k (omega arith)
+
+same_at : (body : List FlatInstruction) (pc : ℕ) (i j : FlatInstruction) → slice_get body pc ≡ Some i
+    → slice_get body pc ≡ Some j → i ≡ j
+same_at body pc i j a b = let w : Some i ≡ Some j = sym a ∙ b in cc
 
 -- ---- registers
 
@@ -180,11 +184,11 @@ pub record IsSound (p : FlatProgram) (plans : List FunctionPlan) : Type 0 where
   pub counted : (f pc y : ℕ) (g : FlatFunction) → function_in p f ≡ Some g → (keeping p plans f).live pc y ≡ true
       → y < (keeping p plans f).count
   pub reads : (f pc : ℕ) (g : FlatFunction) (i : FlatInstruction) → function_in p f ≡ Some g
-      → instruction_at p f pc ≡ Some i → (y : ℕ) → is_read (read_by p f i) y ≡ true
-      → (keeping p plans f).live pc y ≡ true
+      → instruction_at p f pc ≡ Some i → ((x : ℕ) → makes_only i ≡ Some x → (keeping p plans f).live (pc + 1) x ≡ true)
+      → (y : ℕ) → is_read (read_by p f i) y ≡ true → (keeping p plans f).live pc y ≡ true
   pub makes : (f pc : ℕ) (g : FlatFunction) (i : FlatInstruction) → function_in p f ≡ Some g
       → instruction_at p f pc ≡ Some i → (q y : ℕ) → Leads i pc q → q < length g.body
-      → is_among (made_by p i) y ≡ true → (keeping p plans f).live q y ≡ true
+      → is_among (made_by p i) y ≡ true → makes_only i ≡ None → (keeping p plans f).live q y ≡ true
   pub rest : (f pc : ℕ) (g : FlatFunction) (i : FlatInstruction) → function_in p f ≡ Some g
       → instruction_at p f pc ≡ Some i → (q y : ℕ) → Leads i pc q → (keeping p plans f).live q y ≡ true
       → is_among (made_by p i) y ≡ false → (keeping p plans f).live pc y ≡ true
@@ -219,12 +223,14 @@ module _ (p : FlatProgram) (plans : List FunctionPlan) (ok : AreAccepted p plans
         subst (λ k. AreKept k (k.live pc)) (sym q.2) (are_kept p f g q.0 q.1 pc);
     counted = λ f pc y g there. let q = planned f g there in
         subst (λ k. k.live pc y ≡ true → y < k.count) (sym q.2) (counted p f g q.0 q.1 pc y);
-    reads = λ f pc g i there at y e. let q = planned f g there in let b = body_is f pc g i there at in
+    reads = λ f pc g i there at wanted y e. let q = planned f g there in let b = body_is f pc g i there at in
         subst (λ k. k.live pc y ≡ true) (sym q.2)
-        (live_from p f g q.0 q.1 pc y (get_below g.body pc i b) (q.1.closed.read pc y (i, b, e)));
-    makes = λ f pc g i there at to y leads lt e. let q = planned f g there in let b = body_is f pc g i there at in
+        (live_from p f g q.0 q.1 pc y (get_below g.body pc i b) (q.1.closed.read pc y (i, b, e)
+        (λ x w. (live_is p f g q.0 q.1 (pc + 1) x (subst (λ k. k.live (pc + 1) x ≡ true) q.2
+        (wanted x (ap makes_only (same_at g.body pc i w.0 b w.1) ∙ w.2)))).1)));
+    makes = λ f pc g i there at to y leads lt e always. let q = planned f g there in let b = body_is f pc g i there at in
         subst (λ k. k.live to y ≡ true) (sym q.2)
-        (live_from p f g q.0 q.1 to y lt (q.1.closed.made pc to y (i, b, leads, lt) (i, b, e)));
+        (live_from p f g q.0 q.1 to y lt (q.1.closed.made pc to y (i, b, leads, lt) (i, b, e, always)));
     rest = λ f pc g i there at to y leads live e. let q = planned f g there in let b = body_is f pc g i there at in
         let l = live_is p f g q.0 q.1 to y (subst (λ k. k.live to y ≡ true) q.2 live) in
         subst (λ k. k.live pc y ≡ true) (sym q.2)

@@ -23,7 +23,7 @@ use Rattle.flat_meaning.specs.Meaning.{goes_to, local, context, right_value, wit
 use Rattle.flat_meaning.specs.Meaning.{enters, enters_at, returns, has_room, waiting}
 use Rattle.flat_meaning.specs.Words.{IsOfWords}
 use Rattle.reg_plan.specs.declared.plan.FunctionPlan.{FunctionPlan}
-use Rattle.reg_plan.specs.Effects.{is_among, is_read, many, one, none, read_by, Leads}
+use Rattle.reg_plan.specs.Effects.{is_among, is_read, many, one, none, read_by, makes_only, Leads}
 use Rattle.rv_sim.specs.Run.{Configuration}
 use Rattle.machine_laws.specs.View.Views.{View, Fits}
 use Rattle.machine_laws.specs.declared.location.Location.{Location}
@@ -34,6 +34,7 @@ use Rattle.machine_laws.proofs.Blocks.Pieces.{constant_gives, fetches}
 use Rattle.machine_laws.proofs.Blocks.Lengths.{short_constant_length, fetch_length}
 use Rattle.machine_laws.specs.Calls.Calls.{call_block, entry_block, save, give, advance, restore}
 use Rattle.machine_laws.specs.Calls.Calls.{take, retreat}
+use Rattle.machine_laws.specs.Calls.Calls.{Keeping}
 use Rattle.machine_laws.specs.Calls.Effects.{AreOwn}
 use Rattle.machine_laws.proofs.Calls.Lengths.{save_length, restore_length, give_length, take_length, advance_length}
 use Rattle.machine_laws.proofs.Calls.Lengths.{retreat_length, return_length, entry_length}
@@ -48,7 +49,8 @@ use Rattle.machine_laws.proofs.Following.Sound.{IsSound}
 use Rattle.machine_laws.proofs.Following.Standing.{among_one, function_there, frame_of, IsKind, kind}
 use Rattle.machine_laws.proofs.Following.Locals.{Becomes, constant_steps, move_steps}
 use Rattle.machine_laws.proofs.Following.Locals.{operate_steps, operate32_steps, jump_steps, next_steps, turn_steps}
-use Rattle.machine_laws.proofs.Following.Locals.{turn_takes_one, branch_steps, charged_steps, place_in, made_in}
+use Rattle.machine_laws.proofs.Following.Locals.{turn_takes_one, branch_steps, charged_steps, place_in}
+use Rattle.machine_laws.proofs.Following.Locals.{wanted_one, wanted_none}
 use Rattle.machine_laws.proofs.Following.Locals.{right_in}
 use Rattle.machine_laws.proofs.Following.Locals.{among_from, operator_reads, or_last}
 use Rattle.machine_laws.proofs.Following.Outside.{put_steps, exit_steps, end_steps}
@@ -76,6 +78,13 @@ found_by p a q e = by (function_address ((a - functions_begin) / 16) == a
         let is_k : k ≡ q = cc in
         sym (eqb-true (function_address k) a parts.0) ∙ sym (program_row p k parts.1) ∙ ap (row_address p) is_k
     by false it e' = cc
+
+-- a call makes not one value alone
+shape_only : (p : FlatProgram) (k : Keeping) (i : FlatInstruction) (c : CallShape) → shape_of p k i ≡ Some c
+    → makes_only i ≡ None
+shape_only p k (flat.Call g first x) c e = refl
+shape_only p k (flat.CallAddress y first n x r) c e = refl
+shape_only p k i c e = cc
 
 less_rooms : (p : FlatProgram) (x : Frame) (xs : List Frame)
     → (room_if false (function_in p x.function) + rooms false p xs ≡ rooms false p (x ∷ xs))
@@ -185,7 +194,8 @@ module _ (m : MapSizes) (p : FlatProgram) (plans : List FunctionPlan) (table cod
           callee_is = callee_is;
           count = sym (eqb-true callee.parameters shape.count a.0);
           results = sym (eqb-true callee.results shape.results b.0);
-          reads = λ j lt. ok.reads f pc g i there at (shape.first + j) (reads j lt);
+          reads = λ j lt. ok.reads f pc g i there at (wanted_none m p plans table code address entry regions ok fit laid can f pc i
+              (shape_only p (keeping p plans f) i shape shape_is)) (shape.first + j) (reads j lt);
           rest = λ y live other. ok.rest f pc g i there at (pc + 1) y leads live
               (ap (λ q. is_among q y) call.makes ∙ other);
           no_six = no_six;
@@ -289,7 +299,8 @@ module _ (m : MapSizes) (p : FlatProgram) (plans : List FunctionPlan) (table cod
     address_stage y first n x r (Some to) at e fine =
         let k = keeping p plans f in
         let i = flat.CallAddress y first n x r in
-        let live = ok.reads f pc g i there at y (or_first (is_among (one y) y) (is_among none y)
+        let live = ok.reads f pc g i there at
+        (wanted_none m p plans table code address entry regions ok fit laid can f pc i refl) y (or_first (is_among (one y) y) (is_among none y)
         (is_among (many first n) y) (among_one y)) in
         let inside = (ok.kept f pc g there).inside y live in
         let shape : CallShape = record {
@@ -392,30 +403,25 @@ module _ (m : MapSizes) (p : FlatProgram) (plans : List FunctionPlan) (table cod
         (goes_to m p i f pc t frames (local (context m p f frames) i pc t)) c (6 * cost p f i) t.turns t.work
     instruction_stage (flat.Constant x n) at fine =
         let s' = with_register x (low_bits 64 n) t in
-        let inside = inside_of m p plans table code address entry regions ok fit laid can
-        f (pc + 1) g s' frames fine there in
         let st = constant_steps m p plans table code address entry regions ok fit laid can f pc g t s' frames c h words
-        there x n at inside
+        there x n at
         (plain m p plans table code address entry regions ok fit laid can t (put t.values x (low_bits 64 n))) in
         let bound = constant_bound m p plans f pc x n
-        (made_in m p plans table code address entry regions ok fit laid can f pc x g (flat.Constant x n) there
-        at (inl refl) inside refl)
+        (place_in m p plans table code address entry regions ok fit laid can f (pc + 1) x g there)
         (can.constant f pc x n at) in
         from_steps m p plans table code address entry regions ok fit laid can f (pc + 1) s' frames c _
         (6 * weight_of (function_in p f))
         t.turns t.work st (omega (arith, bound, weight.twice, weight.some)) (omega arith) refl
     instruction_stage (flat.Move x y) at fine =
         let s' = with_register x (t.values y) t in
-        let inside = inside_of m p plans table code address entry regions ok fit laid can
-        f (pc + 1) g s' frames fine there in
         let st = move_steps m p plans table code address entry regions ok fit laid can f pc g t s' frames c h words
-        there x y at inside
+        there x y at
         (plain m p plans table code address entry regions ok fit laid can t (put t.values x (t.values y))) in
         let bound = move_bound m p plans f pc x y
-        (made_in m p plans table code address entry regions ok fit laid can f pc x g (flat.Move x y) there
-        at (inl refl) inside refl)
-        (place_in m p plans table code address entry regions ok fit laid can f pc y g there
-        (ok.reads f pc g (flat.Move x y) there at y (rw (among_one y) refl))) in
+        (place_in m p plans table code address entry regions ok fit laid can f (pc + 1) x g there)
+        (λ live. place_in m p plans table code address entry regions ok fit laid can f pc y g there
+        (ok.reads f pc g (flat.Move x y) there at
+        (wanted_one m p plans table code address entry regions ok fit laid can f pc x (flat.Move x y) refl live) y (rw (among_one y) refl))) in
         from_steps m p plans table code address entry regions ok fit laid can f (pc + 1) s' frames c _
         (6 * weight_of (function_in p f))
         t.turns t.work st (omega (arith, bound, weight.twice, weight.some)) (omega arith) refl
@@ -423,17 +429,15 @@ module _ (m : MapSizes) (p : FlatProgram) (plans : List FunctionPlan) (table cod
         let n = reg_result op (t.values y) (right_value z t.values) in
         let s' = with_register x n t in
         let i = flat.Operate op x y z in
-        let inside = inside_of m p plans table code address entry regions ok fit laid can
-        f (pc + 1) g s' frames fine there in
         let st = operate_steps m p plans table code address entry regions ok fit laid can f pc g t s' frames c h words
-        there op x y z at inside
+        there op x y z at
         (plain m p plans table code address entry regions ok fit laid can t (put t.values x n)) in
-        let live = operator_reads m p plans table code address entry regions ok fit laid can
-        f pc y z g i there at refl in
+        let reads = λ (live : (keeping p plans f).live (pc + 1) x ≡ true). operator_reads m p plans table code address entry regions ok fit laid can
+        f pc y z g i there at refl (wanted_one m p plans table code address entry regions ok fit laid can f pc x i refl live) in
         let bound = operate_bound m p plans f pc op x y z
-        (made_in m p plans table code address entry regions ok fit laid can f pc x g i there at (inl refl) inside refl)
-        (place_in m p plans table code address entry regions ok fit laid can f pc y g there live.0)
-        (right_in m p plans table code address entry regions ok fit laid can f pc g z there live.1)
+        (place_in m p plans table code address entry regions ok fit laid can f (pc + 1) x g there)
+        (λ live. place_in m p plans table code address entry regions ok fit laid can f pc y g there (reads live).0)
+        (λ live. right_in m p plans table code address entry regions ok fit laid can f pc g z there (reads live).1)
         (can.operate f pc op x y z at) in
         from_steps m p plans table code address entry regions ok fit laid can f (pc + 1) s' frames c _
         (6 * weight_of (function_in p f))
@@ -442,17 +446,15 @@ module _ (m : MapSizes) (p : FlatProgram) (plans : List FunctionPlan) (table cod
         let n = reg32_result op (low_word (t.values y)) (low_word (right_value z t.values)) in
         let s' = with_register x n t in
         let i = flat.Operate32 op x y z in
-        let inside = inside_of m p plans table code address entry regions ok fit laid can
-        f (pc + 1) g s' frames fine there in
         let st = operate32_steps m p plans table code address entry regions ok fit laid can f pc g t s' frames c h words
-        there op x y z at inside
+        there op x y z at
         (plain m p plans table code address entry regions ok fit laid can t (put t.values x n)) in
-        let live = operator_reads m p plans table code address entry regions ok fit laid can
-        f pc y z g i there at refl in
+        let reads = λ (live : (keeping p plans f).live (pc + 1) x ≡ true). operator_reads m p plans table code address entry regions ok fit laid can
+        f pc y z g i there at refl (wanted_one m p plans table code address entry regions ok fit laid can f pc x i refl live) in
         let bound = operate32_bound m p plans f pc op x y z
-        (made_in m p plans table code address entry regions ok fit laid can f pc x g i there at (inl refl) inside refl)
-        (place_in m p plans table code address entry regions ok fit laid can f pc y g there live.0)
-        (right_in m p plans table code address entry regions ok fit laid can f pc g z there live.1)
+        (place_in m p plans table code address entry regions ok fit laid can f (pc + 1) x g there)
+        (λ live. place_in m p plans table code address entry regions ok fit laid can f pc y g there (reads live).0)
+        (λ live. right_in m p plans table code address entry regions ok fit laid can f pc g z there (reads live).1)
         (can.operate32 f pc op x y z at) in
         from_steps m p plans table code address entry regions ok fit laid can f (pc + 1) s' frames c _
         (6 * weight_of (function_in p f))
@@ -469,7 +471,8 @@ module _ (m : MapSizes) (p : FlatProgram) (plans : List FunctionPlan) (table cod
         there
         op y z past at (same m p plans table code address entry regions ok fit laid can t) in
         let live = operator_reads m p plans table code address entry regions ok fit laid can
-        f pc y z g (flat.Branch op y z past) there at refl in
+        f pc y z g (flat.Branch op y z past) there at refl
+        (wanted_none m p plans table code address entry regions ok fit laid can f pc (flat.Branch op y z past) refl) in
         let bound = branch_bound m p plans f pc op y z past
         (place_in m p plans table code address entry regions ok fit laid can f pc y g there live.0)
         (right_in m p plans table code address entry regions ok fit laid can f pc g z there live.1)
@@ -513,7 +516,8 @@ module _ (m : MapSizes) (p : FlatProgram) (plans : List FunctionPlan) (table cod
         at refl refl refl refl refl refl in
         let bound = put_bound m p plans f pc x
         (place_in m p plans table code address entry regions ok fit laid can f pc x g there
-        (ok.reads f pc g (flat.Put x) there at x (rw (among_one x) refl))) in
+        (ok.reads f pc g (flat.Put x) there at
+        (wanted_none m p plans table code address entry regions ok fit laid can f pc (flat.Put x) refl) x (rw (among_one x) refl))) in
         from_steps m p plans table code address entry regions ok fit laid can f (pc + 1) s' frames c _
         (6 * (2 * weight_of (function_in p f))) t.turns
         t.work st (omega (arith, bound, weight.twice, weight.some)) (omega arith) refl
@@ -523,7 +527,8 @@ module _ (m : MapSizes) (p : FlatProgram) (plans : List FunctionPlan) (table cod
         at refl refl refl in
         let bound = exit_bound m p plans f pc x
         (place_in m p plans table code address entry regions ok fit laid can f pc x g there
-        (ok.reads f pc g (flat.Exit x) there at x (rw (among_one x) refl))) in
+        (ok.reads f pc g (flat.Exit x) there at
+        (wanted_none m p plans table code address entry regions ok fit laid can f pc (flat.Exit x) refl) x (rw (among_one x) refl))) in
         from_ends m p plans table code address entry regions ok fit laid can (t.values x % 256) [] t c _
         (6 * weight_of (function_in p f)) t.turns
         t.work st (omega (arith, bound, weight.twice, weight.some)) (omega arith) refl
@@ -538,14 +543,11 @@ module _ (m : MapSizes) (p : FlatProgram) (plans : List FunctionPlan) (table cod
     instruction_stage (flat.Charged x) at fine =
         let n = wrap (charged p f frames) in
         let s' = with_register x n t in
-        let inside = inside_of m p plans table code address entry regions ok fit laid can
-        f (pc + 1) g s' frames fine there in
         let st = charged_steps m p plans table code address entry regions ok fit laid can f pc g t s' frames c h words
-        there x at inside
+        there x at
         (plain m p plans table code address entry regions ok fit laid can t (put t.values x n)) in
         let bound = charged_bound m p plans f pc x
-        (made_in m p plans table code address entry regions ok fit laid can f pc x g (flat.Charged x) there
-        at (inl refl) inside refl)
+        (place_in m p plans table code address entry regions ok fit laid can f (pc + 1) x g there)
         (omega (arith, regions.calls, regions.end)) in
         from_steps m p plans table code address entry regions ok fit laid can f (pc + 1) s' frames c _
         (6 * weight_of (function_in p f))

@@ -1,6 +1,6 @@
 -- The records that wait, and what the machine's registers and memory keep.
 use Rattle.std.proofs.Common.{◌≡◌, ◌≢◌, ℕ, ◌+◌, ◌-◌, ◌<◌, ◌≤◌, inl, inr, refl, sym, ap, ◌∙◌}
-use Rattle.std.proofs.Common.{arith, ⊎_elim, Bool, true, false, List, [], ◌∷◌, length, Option, Some, None}
+use Rattle.std.proofs.Common.{arith, ⊎_elim, Bool, true, false, true≢false, List, [], ◌∷◌, length, Option, Some, None}
 use Rattle.std.specs.Prelude.{slice_get, if◌then◌else◌, nat_le, nat_lt}
 use Rattle.std.proofs.lemmas.Bool.{cases_eq, and_parts, leb-true, ltb-true, le-leb, lt-ltb, cases_Bool}
 use Rattle.addr_map.specs.Places.{MapSizes, region_start}
@@ -37,6 +37,12 @@ function_there p f pc i at = by (function_in p f) refl
 -- a register is among those that are it alone
 pub among_one : (z : ℕ) → is_among (one z) z ≡ true
 among_one z = rw (le-leb z z (omega arith), lt-ltb z (z + 1) (omega arith)) refl
+
+pub among_other : (z y : ℕ) → y ≢ z → is_among (one z) y ≡ false
+among_other z y ne = ⊎_elim
+    (λ e. let q = and_parts (nat_le z y) (nat_lt y (z + 1)) e in
+    let a = leb-true z y q.0 in let b = ltb-true y (z + 1) q.1 in absurd (ne (omega arith)))
+    (λ e. e) (cases_Bool (is_among (one z) y))
 
 module _ (m : MapSizes) (p : FlatProgram) (plans : List FunctionPlan) (address : (function pc : ℕ) → ℕ)
     (regions : AreRegions m) (ok : IsSound p plans)
@@ -225,22 +231,20 @@ module _ (m : MapSizes) (p : FlatProgram) (plans : List FunctionPlan) (address :
     wait = wait_same frames f v.memory w.memory u h.wait;
   }
 
-  -- a value is made, and goes to its place
+  -- a value is made that is needed, and goes to its place
   pub made : (f pc x n : ℕ) (g : FlatFunction) (i : FlatInstruction) (s s' : State) (frames : List Frame) (v : View)
       (is : List Instr) (o : ℕ) (accesses : List Access) → function_in p f ≡ Some g → instruction_at p f pc ≡ Some i
-      → Leads i pc (pc + 1) → pc + 1 < length g.body → made_by p i ≡ one x
+      → Leads i pc (pc + 1) → (keeping p plans f).live (pc + 1) x ≡ true → made_by p i ≡ one x
       → s'.values ≡ put s.values x n → s'.memory ≡ s.memory
       → Puts o (space_bytes m) (record_of m p f frames) (keeping p plans f).room is v ((keeping p plans f).place x) n
       accesses
       → IsAt m p plans address f pc s frames v → IsAt m p plans address f (pc + 1) s' frames (performs is v)
-  made f pc x n g i s s' frames v is o accesses there at leads inside makes values memory u h =
+  made f pc x n g i s s' frames v is o accesses there at leads x_live makes values memory u h =
       let k = keeping p plans f in
       let fp = record_of m p f frames in
       let behind = record_behind f frames in
       let kept_next = ok.kept f (pc + 1) g there in
       let kept_here = ok.kept f pc g there in
-      let x_live : k.live (pc + 1) x ≡ true = ok.makes f pc g i there at (pc + 1) x leads inside
-      (ap (λ q. is_among q x) makes ∙ among_one x) in
       moves f pc (pc + 1) s s' frames v (performs is v) h u.low
       (homes_untouched f pc g s frames v (performs is v).memory there h u.memory)
       (λ a fl. let b = flat_before m regions a fl in
@@ -254,9 +258,21 @@ module _ (m : MapSizes) (p : FlatProgram) (plans : List FunctionPlan) (address :
       u.others (k.place y) (kept_here.inside y live_here) (kept_next.apart y x live x_live ne)
       ∙ h.held y live_here ∙ sym (ap (λ z. z y) values ∙ put_other s.values x n y ne))
       (cases_eq y x))
-    where
-      among_other : (z y : ℕ) → y ≢ z → is_among (one z) y ≡ false
-      among_other z y ne = ⊎_elim
-          (λ e. let q = and_parts (nat_le z y) (nat_lt y (z + 1)) e in
-          let a = leb-true z y q.0 in let b = ltb-true y (z + 1) q.1 in absurd (ne (omega arith)))
-          (λ e. e) (cases_Bool (is_among (one z) y))
+
+  -- a value is made that is not needed: nothing is done
+  pub unneeded : (f pc x n : ℕ) (g : FlatFunction) (i : FlatInstruction) (s s' : State) (frames : List Frame) (v : View)
+      → function_in p f ≡ Some g → instruction_at p f pc ≡ Some i → Leads i pc (pc + 1)
+      → (keeping p plans f).live (pc + 1) x ≡ false → made_by p i ≡ one x
+      → s'.values ≡ put s.values x n → s'.memory ≡ s.memory
+      → IsAt m p plans address f pc s frames v → IsAt m p plans address f (pc + 1) s' frames v
+  unneeded f pc x n g i s s' frames v there at leads dead makes values memory h =
+      let k = keeping p plans f in
+      let behind = record_behind f frames in
+      moves f pc (pc + 1) s s' frames v v h (λ r lt. refl)
+      (before_untouched f frames v.memory v.memory (λ a low. refl))
+      (λ a fl. h.same a fl ∙ sym (ap (λ z. z a) memory))
+      (λ y live. ⊎_elim
+      (λ e. absurd (true≢false (sym live ∙ ap (k.live (pc + 1)) e ∙ dead)))
+      (λ ne. h.held y (ok.rest f pc g i there at (pc + 1) y leads live
+      (ap (λ q. is_among q y) makes ∙ among_other x y ne)) ∙ sym (ap (λ z. z y) values ∙ put_other s.values x n y ne))
+      (cases_eq y x))

@@ -34,7 +34,7 @@ use Rattle.machine_laws.proofs.Following.Bounds.{weighs, load_bound, store_bound
 use Rattle.machine_laws.proofs.Following.Regions.{AreRegions}
 use Rattle.machine_laws.proofs.Following.Sound.{IsSound}
 use Rattle.machine_laws.proofs.Following.Standing.{among_one}
-use Rattle.machine_laws.proofs.Following.Locals.{Becomes, Steps, place_in, made_in}
+use Rattle.machine_laws.proofs.Following.Locals.{Becomes, Steps, place_in, made_in, wanted_none}
 use Rattle.machine_laws.proofs.Following.Locals.{load_steps, store_steps}
 use Rattle.machine_laws.proofs.Following.Outside.{Ends, get_nothing_steps, get_byte_steps}
 
@@ -212,9 +212,11 @@ module _ (m : MapSizes) (p : FlatProgram) (plans : List FunctionPlan) (table cod
         }) in
         let i = flat.Load op x y o in
         let bound = load_bound m p plans f pc op x y o
-        (made_in m p plans table code address entry regions ok fit laid can f pc x g i there at (inl refl) inside refl)
+        (made_in m p plans table code address entry regions ok fit laid can f pc x g i there at (inl refl) inside refl
+        refl)
         (place_in m p plans table code address entry regions ok fit laid can f pc y g there
-        (ok.reads f pc g i there at y (rw (among_one y) refl))) in
+        (ok.reads f pc g i there at (wanted_none m p plans table code address entry regions ok fit laid can f pc i refl) y
+        (rw (among_one y) refl))) in
         let w = weighs p f (keeping p plans f).room g there (ok.room f g there) in
         let turns = access_turns shows t extra in
         let done = access_work shows t extra in
@@ -255,9 +257,11 @@ module _ (m : MapSizes) (p : FlatProgram) (plans : List FunctionPlan) (table cod
         let i = flat.Store op y o x in
         let bound = store_bound m p plans f pc op y o x
         (place_in m p plans table code address entry regions ok fit laid can f pc y g there
-        (ok.reads f pc g i there at y (rw (among_one y) refl)))
+        (ok.reads f pc g i there at (wanted_none m p plans table code address entry regions ok fit laid can f pc i refl) y
+        (rw (among_one y) refl)))
         (place_in m p plans table code address entry regions ok fit laid can f pc x g there
-        (ok.reads f pc g i there at x (rw (among_one x) (or-true (is_among (one y) x))))) in
+        (ok.reads f pc g i there at (wanted_none m p plans table code address entry regions ok fit laid can f pc i refl) x
+        (rw (among_one x) (or-true (is_among (one y) x))))) in
         let w = weighs p f (keeping p plans f).room g there (ok.room f g there) in
         let turns = access_turns shows t' extra in
         let done = access_work shows t' extra in
@@ -278,7 +282,7 @@ module _ (m : MapSizes) (p : FlatProgram) (plans : List FunctionPlan) (table cod
         there x at inside e refl refl refl refl refl refl in
         let bound = get_bound m p plans f pc x
         (made_in m p plans table code address entry regions ok fit laid can f pc x g (flat.Get x) there
-        at (inl refl) inside refl) in
+        at (inl refl) inside refl refl) in
         let w = weighs p f (keeping p plans f).room g there (ok.room f g there) in
         let done : s'.work ≡ t.work = refl in
         from_steps f (pc + 1) s' frames c (length (block m p plans f pc (flat.Get x)))
@@ -291,7 +295,7 @@ module _ (m : MapSizes) (p : FlatProgram) (plans : List FunctionPlan) (table cod
         there x byte rest at inside e refl refl refl (ap (drop 1) e) refl refl in
         let bound = get_bound m p plans f pc x
         (made_in m p plans table code address entry regions ok fit laid can f pc x g (flat.Get x) there
-        at (inl refl) inside refl) in
+        at (inl refl) inside refl refl) in
         let w = weighs p f (keeping p plans f).room g there (ok.room f g there) in
         let done : s'.work ≡ t.work = refl in
         from_steps f (pc + 1) s' frames c (length (block m p plans f pc (flat.Get x)))

@@ -1,5 +1,6 @@
 -- The machine's instructions for each instruction of a program under its plans, and where they stand.
 use Rattle.std.specs.Prelude.{◌≡◌, ℕ, suc, ◌+◌, ◌-◌, ◌*◌, ◌^◌, ◌%◌, ◌<◌, ◌≤◌, Bool, true, false, not, ◌&&◌, nat_lt, List}
+use Rattle.std.specs.Prelude.{if◌then◌else◌}
 use Rattle.std.specs.Prelude.{[], ◌∷◌, ◌++◌, length, Option, Some, None, slice_get}
 use Rattle.sb_base.specs.declared.ending.Ending.{Ending}
 use Rattle.sb_base.specs.Endings.{code_of}
@@ -24,7 +25,7 @@ use Rattle.flat_meaning.specs.declared.function.FlatProgram.{FlatProgram}
 use Rattle.flat_meaning.specs.Calls.{function_in, room_if}
 use Rattle.flat_meaning.specs.Meaning.{parameters_of, results_of, instruction_at, is_runtime_function}
 use Rattle.reg_plan.specs.declared.plan.FunctionPlan.{FunctionPlan}
-use Rattle.reg_plan.specs.Effects.{is_among, many}
+use Rattle.reg_plan.specs.Effects.{is_among, many, makes_only}
 use Rattle.reg_plan.specs.Accepted.{is_live}
 use Rattle.machine_laws.specs.declared.location.Location.TheVariants.{Frame}
 use Rattle.machine_laws.specs.Blocks.Places.{home, location, frame_register, callee_scratch, left_scratch}
@@ -111,14 +112,20 @@ shaped_block k pc (Some c) = call_part k pc c ++ back_part k pc c
 abbrev pub charged_from : MapSizes → FlatProgram → (function : ℕ) → ℕ
 charged_from m p f = region_start m Calls - room_if false (function_in p f)
 
--- all instructions but a jump or a branch
+-- whether all that an instruction changes is a value that is not needed behind it
+abbrev pub is_unneeded : Keeping → (pc : ℕ) → Option ℕ → Bool
+is_unneeded k pc None = false
+is_unneeded k pc (Some x) = not (k.live (pc + 1) x)
+
+-- all instructions but a jump or a branch; for a value that is not needed there are none
 abbrev pub block_in : MapSizes → FlatProgram → (function : ℕ) → Keeping → (pc : ℕ) → FlatInstruction → List Instr
 block_in m p f k pc (flat.Call g first x) = shaped_block k pc (shape_of p k (flat.Call g first x))
 block_in m p f k pc (flat.CallAddress y first n x r) =
     shaped_block k pc (shape_of p k (flat.CallAddress y first n x r))
 block_in m p f k pc (flat.Return y) = return_block k y (results_of (function_in p f)) ++ (Jalr 0 1 0 ∷ [])
 block_in m p f k pc (flat.End e) = end_block (tails_address p) e
-block_in m p f k pc i = local_block k.place k.base (charged_from m p f) i
+block_in m p f k pc i =
+    if is_unneeded k pc (makes_only i) then [] else local_block k.place k.base (charged_from m p f) i
 
 unfoldable pub block : MapSizes → FlatProgram → List FunctionPlan → (function pc : ℕ) → FlatInstruction → List Instr
 block m p plans f pc i = block_in m p f (keeping p plans f) pc i

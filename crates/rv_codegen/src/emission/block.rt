@@ -1,6 +1,8 @@
 //! The instructions that stand for an instruction of flat code.
 
-ghost use Rattle.std.specs.Prelude.{◌≡◌, ◌+◌, ◌-◌, ◌<◌, ◌^◌, ◌++◌, true, false, length, Some, OnOk};
+ghost use Rattle.std.specs.Prelude.{◌≡◌, ◌+◌, ◌-◌, ◌<◌, ◌^◌, ◌++◌, [], true, false, length, Some, OnOk};
+ghost use Rattle.std.specs.Prelude.{if◌then◌else◌};
+ghost use Rattle.reg_plan.specs.Effects.{makes_only};
 ghost use Rattle.reg_plan.specs.Order.{IsLookup, IsLookupAt};
 ghost use Rattle.reg_plan.specs.Saves.Saves.{is_call, saved_below, saved_at};
 ghost use Rattle.addr_map.specs.Places.{region_start};
@@ -9,13 +11,13 @@ ghost use Rattle.flat_meaning.specs.Calls.{function_in, room_if};
 ghost use Rattle.flat_meaning.specs.Meaning.{parameters_of, results_of};
 ghost use Rattle.machine_laws.specs.Blocks.Blocks.{local_block, used, used_right};
 ghost use Rattle.machine_laws.specs.Blocks.Places.{location, frame_register, left_scratch};
-ghost use Rattle.machine_laws.specs.Following.Code.{block, keeping};
+ghost use Rattle.machine_laws.specs.Following.Code.{block, keeping, is_unneeded};
 ghost use Rattle.machine_laws.specs.Calls.Calls.{entry_block};
 ghost use Rattle.machine_laws.specs.Calls.Table.{source_count};
-ghost use Rattle.rv_codegen.specs.EmittedCode.Kept.{block_of};
+ghost use Rattle.rv_codegen.specs.EmittedCode.Kept.{block_of, kept_by};
 
 use crate::emission::calls::{
-    Arguments, CallSite, Results, put_call, put_call_address, put_entry_of, put_return,
+    Arguments, CallSite, Results, is_live, put_call, put_call_address, put_entry_of, put_return,
 };
 use crate::emission::endings::put_end;
 use crate::emission::local::{
@@ -26,6 +28,7 @@ use crate::emission::table::{row_address, tails_address};
 use crate::emission::values::{self, put_operands};
 use addr_map::{AddrMap, Region};
 use flat_meaning::{FlatFunction, FlatInstruction, FlatProgram, RightOperand};
+use reg_plan::effects::makes_only;
 use reg_plan::{FunctionPlan, LiveLookup};
 use rv_isa::{Instr, Reg};
 use std::alloc::AllocError;
@@ -134,6 +137,47 @@ fn put_local(
     }
 }
 
+// Whether all that an instruction changes is a value that is not needed behind it.
+fn is_unneeded(function: &FlatFunction, plan: &FunctionPlan, placed: &PlacedInstruction) -> bool
+    requires { IsLookup placed.now.live plan.now }
+    ensures { result
+        ≡ is_unneeded (kept_by function.now plan.now) placed.now.place (makes_only placed.now.instruction.now) }
+{
+    match makes_only(placed.instruction) {
+        Some(register) => !is_live(
+            function,
+            plan,
+            placed.live,
+            u64::from(placed.place) + 1,
+            u64::from(register),
+        ),
+        None => false,
+    }
+}
+
+// Puts the instructions that stand for one that stays in its function, unless its value is not needed.
+#[tactic(auto, using(crate::proofs::EmittedCode::Lists::nothing_behind))]
+fn put_needed(
+    code: &mut Vec<Instr>,
+    function: &FlatFunction,
+    plan: &FunctionPlan,
+    begin: u64,
+    placed: &PlacedInstruction,
+) -> Result<(), AllocError>
+    requires { IsLookup placed.now.live plan.now }
+    ensures { OnOk result
+        (code.new.items ≡ code.old.items
+        ++ (if is_unneeded (kept_by function.now plan.now) placed.now.place (makes_only placed.now.instruction.now)
+        then []
+        else local_block (location function.now plan.now) (frame_register function.now) begin
+        placed.now.instruction.now)) }
+{
+    if is_unneeded(function, plan, placed) {
+        return Ok(());
+    }
+    put_local(code, function, plan, begin, placed.instruction)
+}
+
 // Puts the instructions that stand for one of a function under its plan.
 fn put_block_in(
     code: &mut Vec<Instr>,
@@ -200,7 +244,7 @@ fn put_block_in(
         }
         FlatInstruction::Return { from } => put_return(code, function, plan, from),
         FlatInstruction::End(ending) => put_end(code, tails_address(sources), &ending),
-        _ => put_local(code, function, plan, begin, placed.instruction),
+        _ => put_needed(code, function, plan, begin, placed),
     }
 }
 

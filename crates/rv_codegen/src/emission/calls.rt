@@ -33,8 +33,8 @@ pub(crate) fn argument_words() -> Reg
     Reg::new(3)
 }
 
-// Whether a virtual register is live before an instruction of the function.
-fn is_live(
+/// Whether a virtual register is live before an instruction of the function.
+pub(crate) fn is_live(
     function: &FlatFunction,
     plan: &FunctionPlan,
     live: LiveLookup,

@@ -4,9 +4,9 @@ use Rattle.std.proofs.lemmas.Option.{slice_get_read}
 use Rattle.flat_meaning.specs.declared.instruction.FlatInstruction.{FlatInstruction}
 use Rattle.reg_plan.specs.declared.effects.Span.{Span}
 use Rattle.reg_plan.specs.declared.effects.Reads.{Reads}
-use Rattle.reg_plan.specs.Effects.{is_among, is_read, made_by, next_of, taken_of}
+use Rattle.reg_plan.specs.Effects.{is_among, is_read, always_made_by, next_of, taken_of}
 use Rattle.reg_plan.specs.Flow.{Gains, AddsSuccessor, HasSizes}
-use Rattle.reg_plan.proofs.Represents.{represents_more}
+use Rattle.reg_plan.proofs.Represents.{represents_more, always_parts}
 use Rattle.reg_plan.proofs.flow.add_instruction.Goals as goal
 
 here : (body : List FlatInstruction) (pc : ℕ) (i : FlatInstruction) → pc < length body → i ≡ get_or body pc i
@@ -31,7 +31,7 @@ relate_span-requires c y h =
       i,
       here c.args.body.now c.args.place i c.requires.place c.index-body-place.is,
       subst
-          (λ (s : Span). is_among s y ≡ true) c.made_by-made.ensures h,
+          (λ (s : Span). is_among s y ≡ true) c.made_by.ensures h,
     )
 
 pub add_successor-requires-clause-facts : goal.add_successor-requires-clause-facts
@@ -40,8 +40,8 @@ add_successor-requires-clause-facts c y h =
     let k : y < length c.args.problem.now.killed.rows.items = c.requires.named.made c.args.place y (
       i,
       here c.args.body.now c.args.place i c.requires.place c.index-body-place.is,
-      subst
-          (λ (s : Span). is_among s y ≡ true) c.made_by-made.ensures h,
+      (always_parts c.args.program.now i y
+      (subst (λ (s : Span). is_among s y ≡ true) c.always_made_by-always.ensures h)).0,
     ) in
     omega (arith, k, c.requires.sizes.generated, c.in_ok-relate_reads.ensures.size)
 
@@ -51,8 +51,8 @@ add_successor-requires-2-clause-facts c y h =
     let k : y < length c.args.problem.now.killed.rows.items = c.requires.named.made c.args.place y (
       i,
       here c.args.body.now c.args.place i c.requires.place c.index-body-place.is,
-      subst
-          (λ (s : Span). is_among s y ≡ true) c.made_by-made.ensures h,
+      (always_parts c.args.program.now i y
+      (subst (λ (s : Span). is_among s y ≡ true) c.always_made_by-always.ensures h)).0,
     ) in
     let s : HasSizes c.add_successor.new.problem (length c.args.body.now)
     (length c.args.problem.now.killed.rows.items) = c.in_ok-add_successor.ensures.sizes (length c.args.body.now)
@@ -79,18 +79,18 @@ returns-clause-represents c =
     (subst (λ (r : Reads). Gains a.generated c.relate_reads.new.relation (λ y. is_read r y ≡ true) pc)
     c.read_by.ensures c.in_ok-relate_reads.ensures.gains)
     (subst (λ (s : Span). Gains a.killed c.relate_span.new.relation (λ y. is_among s y ≡ true) pc)
-    c.made_by-made.ensures c.in_ok-relate_span.ensures.gains)
+    c.made_by.ensures c.in_ok-relate_span.ensures.gains)
     (subst (λ (o : Option ℕ). AddsSuccessor
     (record { edges = a.edges; generated = c.relate_reads.new.relation; killed = c.relate_span.new.relation })
-    c.add_successor.new.problem (λ y. is_among (made_by c.args.program.now i) y ≡ true) pc o
+    c.add_successor.new.problem (λ y. is_among (always_made_by c.args.program.now i) y ≡ true) pc o
     (length c.args.body.now)) (c.next_of.ensures ∙ ap (next_of i) c.from-at.ensures)
     (subst (λ (s : Span). AddsSuccessor
     (record { edges = a.edges; generated = c.relate_reads.new.relation; killed = c.relate_span.new.relation })
     c.add_successor.new.problem (λ y. is_among s y ≡ true) pc c.next_of.result (length c.args.body.now))
-    c.made_by-made.ensures c.in_ok-add_successor.ensures.adds))
+    c.always_made_by-always.ensures c.in_ok-add_successor.ensures.adds))
     (subst (λ (o : Option ℕ). AddsSuccessor c.add_successor.new.problem c.add_successor-2.new.problem
-    (λ y. is_among (made_by c.args.program.now i) y ≡ true) pc o (length c.args.body.now))
+    (λ y. is_among (always_made_by c.args.program.now i) y ≡ true) pc o (length c.args.body.now))
     (c.taken_of.ensures ∙ ap (taken_of i) c.from-at.ensures)
     (subst (λ (s : Span). AddsSuccessor c.add_successor.new.problem c.add_successor-2.new.problem
     (λ y. is_among s y ≡ true) pc c.taken_of.result (length c.args.body.now))
-    c.made_by-made.ensures c.in_ok-add_successor-2.ensures.adds))
+    c.always_made_by-always.ensures c.in_ok-add_successor-2.ensures.adds))

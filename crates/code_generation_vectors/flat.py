@@ -202,6 +202,8 @@ def rows():
                 yield "far_" + name, 65536, b"", [("0 0 400 program", BEGIN + [f"try {name}"] + END), SHOW]
     yield from constants()
     yield from copies()
+    yield from unneeded()
+    yield from joined()
     yield from memory()
     yield from outside()
     yield from endings()
@@ -234,6 +236,55 @@ def copies():
         yield name, 65536, b"", [(f"0 0 {names} program", BEGIN + body + ["call 1 1 0"] + END), SHOW]
 
 
+def unneeded():
+    """Values that are not needed, of each kind: made and never read, made anew before they are read, needed on one of
+    two ways alone, and made of values that are needed or of ones that are not; between values that wait."""
+    show = ["move 3 1", "call 1 3 0"]
+    body = ["constant 1 7", "constant 2 9", "charged 2", "move 2 1", "add 2 1 1", "addi 2 1 2048", "addw 2 1 1",
+            "sllwi 2 1 33", "divu 4 1 2", "rem 5 4 1"] + show
+    body += ["constant 6 11", "beqi 1 7 2", "move 3 6", "call 1 3 0", "constant 6 5", "move 3 6", "call 1 3 0"]
+    # those that are done whether or not their values are needed
+    body += [f"constant 4 {OBJECTS}", "sd 4 0 1", "ld 2 4 0", "get 2", "get 2", "move 3 2", "call 1 3 0", "get 2",
+             "call 2 1 2", "get 3", "call 1 3 0"]
+    # in a loop: a value that only itself is made of, one that is needed behind it alone, and one not at the last turn
+    body += ["constant 0 4", "constant 2 0", "constant 5 1", "turn", "addi 2 2 3", "mul 5 5 1", "add 6 5 0",
+             "subi 0 0 1", "beqi 0 0 2", "add 1 1 6", "back 7", "move 3 5", "call 1 3 0"] + show
+    # before a jump, behind a branch that leads to the next instruction, and at the last instruction
+    body += ["constant 2 1", "forward 0", "bnei 1 0 0", "constant 2 3", "forward 1", "constant 2 4", "move 3 1",
+             "call 1 3 0", "constant 0 0", "exit 0", "constant 2 6"]
+    callee = ["constant 1 3", "muli 0 0 5", "addi 1 0 1", "return 0"]
+    for name, names in (("unneeded", 8), ("far_unneeded", 300)):
+        yield name, 65536, bytes(range(40, 48)), [(f"0 0 {names} program", BEGIN + body), SHOW, ("1 1 2 program", callee)]
+    # more values than registers wait while as many are made that are not needed
+    for name, names in (("many_unneeded", 60), ("many_far_unneeded", 400)):
+        half = names // 2
+        body = [f"fill 1 {half}"] + [line for k in range(1, half)
+                                     for line in (f"add {half + k} {k} {k + 1}", f"move {half + k} {k}", f"charged {half + k}")]
+        body += ["constant 0 0", f"mix 1 {half} 0", f"move {names - 1} 0", f"call 1 {names - 1} 0"]
+        yield name, 65536, b"", [(f"0 0 {names} program", BEGIN + body + END), SHOW]
+
+
+def joined():
+    """Values that copies join: in a chain, to two others, round in a loop, where one changes while the other is needed,
+    and as arguments and results of calls; all in registers, and more than there are."""
+    for name, count in (("joined", 4), ("many_joined", 16), ("far_joined", 300)):
+        first = 2 * count + 4
+        body = [f"fill 0 {count}"] + [f"move {count + k} {k}" for k in range(count)]
+        # a chain, whose first changes before its last is read
+        body += [f"move {first} {count}", f"move {first + 1} {first}", f"addi {count} {count} 1",
+                 f"add {count} {count} {first + 1}", f"move {first + 2} {count}", f"call 1 {first + 2} {first}"]
+        # one round after the other, by three copies each
+        body += [f"constant {first} 5", "turn", f"move {first + 1} {count}", f"move {count} {count + 1}",
+                 f"move {count + 1} {first + 1}", f"add {count + 1} {count + 1} {count}", f"subi {first} {first} 1",
+                 f"beqi {first} 0 1", "back 7"]
+        body += [f"move {first + 1} {count + 1}", f"move {first + 2} {count}", f"call 2 {first + 1} {first + 1}",
+                 f"move {count} {first + 1}", f"move {count + 1} {first + 2}"]
+        body += [f"constant {first} 0", f"mix {count} {count} {first}", f"move {first + 1} {first}",
+                 f"call 1 {first + 1} {first}"]
+        callee = ["move 2 1", "move 1 0", "move 0 2", "muli 0 0 3", "return 0"]
+        yield name, 65536, b"", [(f"0 0 {first + 4} program", BEGIN + body + END), SHOW, ("2 2 3 program", callee)]
+
+
 def memory():
     """Words are stored in each size at offsets at the edges, and loaded in each size."""
     for name, names in (("memory", 8), ("far_memory", 300)):
@@ -262,6 +313,11 @@ def endings():
         for line in (1, 4294967295):
             yield f"end_{status}_{line}", 65536, b"", [("0 0 1 program", BEGIN + [f"end {status} {line}"]), SHOW]
     yield "end_7", 65536, b"", [("0 0 1 program", BEGIN + ["end 7"]), SHOW]
+    # the least and the greatest line of each number of digits
+    for status in (123, 124):
+        for digits in range(1, 10):
+            for line in (10 ** (digits - 1), 10 ** digits - 1):
+                yield f"line_{status}_{line}", 65536, b"", [("0 0 1 program", BEGIN + [f"end {status} {line}"]), SHOW]
 
 
 def calls():

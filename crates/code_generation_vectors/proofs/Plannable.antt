@@ -6,29 +6,23 @@ use Rattle.flat_meaning.specs.declared.function.FlatFunction.{FlatFunction}
 use Rattle.flat_meaning.specs.declared.function.FlatProgram.{FlatProgram}
 use Rattle.reg_plan.specs.declared.plan.FunctionPlan.{FunctionPlan}
 use Rattle.reg_plan.specs.Flow.{IsNamed}
-use Rattle.reg_plan.specs.Needs.{IsNeeded, Read, Made, Before}
+use Rattle.reg_plan.specs.Needs.{IsNeeded}
 use Rattle.reg_plan.specs.Accepted.{IsLive, IsAccepted}
-use Rattle.reg_plan.specs.Planned.{IsPlannable, ArePlannable}
+use Rattle.reg_plan.specs.Planned.{IsPlannable, ArePlannable, ArePlanned}
 use Rattle.reg_plan.specs.Tests.{AreAccepted}
-use Rattle.code_generation_vectors.specs.Named.{HasNames, IsSmall, AreNamed}
+use Rattle.code_generation_vectors.specs.Named.{HasNames, IsSmall, AreNamed, HasNeeded}
+use Rattle.reg_plan.proofs.Ranges.{needed_within}
 
 get_below : {A : Type 0} (xs : List A) (k : ℕ) (x : A) → slice_get xs k ≡ Some x → k < length xs
 get_below [] k x e = cc
 get_below (y ∷ ys) zero x e = omega arith
 get_below (y ∷ ys) (suc k) x e = let r = get_below ys k x e in omega arith
 
-get_some : {A : Type 0} (xs : List A) (k : ℕ) → k < length xs → (x : A) × (slice_get xs k ≡ Some x)
-get_some [] k lt = absurd (omega arith)
-get_some (y ∷ ys) zero lt = (y, refl)
-get_some (y ∷ ys) (suc k) lt = get_some ys k (omega arith)
-
-module _ (p : FlatProgram) (f : ℕ) (g : FlatFunction) (plan : FunctionPlan) (ok : IsAccepted p f g plan) where
+module _ (p : FlatProgram) (f : ℕ) (g : FlatFunction) (plan : FunctionPlan) (has : HasNeeded p f g plan)
+    (ok : IsAccepted p f g plan) where
   -- what is needed is live, before an instruction of the function
   live : (pc y : ℕ) → IsNeeded p f g.body pc y → (pc < length g.body) × IsLive plan pc y
-  live pc y (Read _ _ r) = (get_below g.body pc r.0 r.1, ok.closed.read pc y r)
-  live pc y (Made q _ _ leads makes) = (leads.3, ok.closed.made q pc y leads makes)
-  live pc y (Before _ q _ leads needed none) =
-      (get_below g.body pc leads.0 leads.1, ok.closed.rest pc q y leads (live q y needed).1 none)
+  live pc y needed = (needed_within p f g.body pc y needed, has pc y needed)
 
   plannable : length g.body < 2 ^ 32 → IsNamed p f g.body (length g.homes) → IsPlannable p f g
   plannable small named = record {
@@ -41,12 +35,11 @@ module _ (p : FlatProgram) (f : ℕ) (g : FlatFunction) (plan : FunctionPlan) (o
   }
 
 pub are_plannable : (p : FlatProgram) (plans : List FunctionPlan) → IsSmall p → AreNamed p (length p.functions)
-    → AreAccepted p plans → ArePlannable p
-are_plannable p plans small named ok k f there =
+    → ArePlanned p plans (length p.functions) (HasNeeded p) → AreAccepted p plans → ArePlannable p
+are_plannable p plans small named planned ok k f there =
     let in_range : k < length p.functions = get_below p.functions k f there in
-    let long : k < length plans = omega (arith, ok.size) in
-    let plan = get_some plans k long in
-    plannable p k f plan.0 (ok.each k f plan.0 there plan.1) (small.bodies k f there) (named k f in_range there)
+    let plan = planned.each k f in_range there in
+    plannable p k f plan.0 plan.2 (ok.each k f plan.0 there plan.1) (small.bodies k f there) (named k f in_range there)
 
 -- what holds of each instruction holds of all
 pub are_named : (p : FlatProgram) (f : ℕ) (body : List FlatInstruction) (count : ℕ)

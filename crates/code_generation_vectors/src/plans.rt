@@ -4,8 +4,8 @@ ghost use Rattle.std.specs.Prelude.{◌≡◌, ◌<◌, ◌^◌, ℕ, IfOk, leng
 ghost use Rattle.flat_meaning.specs.declared.function.FlatFunction.{FlatFunction};
 ghost use Rattle.reg_plan.specs.Effects.{is_among};
 ghost use Rattle.reg_plan.specs.Flow.{IsNamed};
-ghost use Rattle.reg_plan.specs.Planned.{ArePlannable};
-ghost use Rattle.code_generation_vectors.specs.Named.{HasNames, IsSmall, AreNamed};
+ghost use Rattle.reg_plan.specs.Planned.{ArePlannable, ArePlanned};
+ghost use Rattle.code_generation_vectors.specs.Named.{HasNames, IsSmall, AreNamed, HasNeeded};
 
 use flat_meaning::{FlatFunction, FlatInstruction, FlatProgram};
 use reg_plan::accepts::accepts;
@@ -105,6 +105,7 @@ fn plan_of(
 ) -> Result<FunctionPlan, AllocError>
     requires small { length function.now.body < 2 ^ 32 }
     requires named { IsNamed program.now number function.now.body (length function.now.homes) }
+    ensures { IfOk result (λ plan. HasNeeded program.now number function.now plan) }
 {
     let count = function.homes.as_slice().len();
     let live = live_ranges(alloc, program, number, function.body.as_slice(), count)?;
@@ -116,6 +117,8 @@ fn plan_of(
 fn plan_at_home(alloc: Global, program: &FlatProgram) -> Result<Plan, AllocError>
     requires small { IsSmall program.now }
     requires named { AreNamed program.now (length program.now.functions) }
+    ensures { IfOk result (λ plan. ArePlanned program.now plan.functions.items (length program.now.functions)
+        (HasNeeded program.now)) }
 {
     let mut plans = Vec::new(alloc);
     let functions = program.functions.as_slice();

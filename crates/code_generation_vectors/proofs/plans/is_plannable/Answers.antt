@@ -3,4 +3,4 @@ use Rattle.code_generation_vectors.proofs.plans.is_plannable.Goals as goal
 
 pub returns : goal.returns
 returns c accepted = are_plannable c.args.program.now _ c.requires.small c.requires.named
-    (c.accepts.ensures.yes accepted)
+    c.in_ok-plan.ensures (c.accepts.ensures.yes accepted)

@@ -1,17 +1,18 @@
--- Giving out registers, one after another.
-use Rattle.std.proofs.Common.{◌≡◌, ◌≢◌, ℕ, zero, suc, ◌+◌, ◌<◌, ◌≤◌, ◌⊎◌, ⊎_elim, List, [], ◌∷◌, length, Some, true}
-use Rattle.std.proofs.Common.{false, refl, sym, ap, ◌∙◌, subst, arith, true≢false, get_or}
-use Rattle.std.specs.Prelude.{slice_get, slice_set, nat_le, nat_lt, Vec}
+-- Giving out registers.
+use Rattle.std.proofs.Common.{◌≡◌, ℕ, zero, suc, ◌<◌, ◌≤◌, ◌⊎◌, inl, inr, ⊎_elim, List, [], ◌∷◌, ◌++◌}
+use Rattle.std.proofs.Common.{length, Some, true, false, refl, sym, ap, ◌∙◌, subst, arith, true≢false, get_or}
+use Rattle.std.specs.Prelude.{slice_get, nat_le, nat_lt, Vec}
 use Rattle.std.specs.Global.{Global}
-use Rattle.std.proofs.lemmas.Bool.{cases_eq, cases_lt, or_cases, leb-true, ltb-true, le-leb, lt-ltb}
-use Rattle.std.proofs.lemmas.Option.{slice_get_within, slice_get_read}
-use Rattle.data_flow.specs.declared.node_set.NodeSet.{NodeSet}
-use Rattle.data_flow.specs.NodeSets.{is_in}
+use Rattle.std.proofs.lemmas.Bool.{cases_eq, or_cases, leb-true, ltb-true, le-leb, lt-ltb}
+use Rattle.std.proofs.lemmas.Option.{slice_get_read}
+use Rattle.data_flow.proofs.Lists.{at_front, at_end}
 use Rattle.reg_plan.specs.declared.plan.LiveInterval.{LiveInterval}
 use Rattle.reg_plan.specs.declared.plan.Place.{Place}
 use Rattle.reg_plan.specs.declared.plan.Place.TheVariants.{Home, Register}
+use Rattle.reg_plan.specs.Registers.{registers_given_out}
 use Rattle.reg_plan.specs.Accepted.{holds, covers, intervals_of}
-use Rattle.reg_plan.specs.Colours.{range_of, IsTaken, IsColoured, IsColouring, is_at_home}
+use Rattle.reg_plan.specs.Colours.{range_of, IsTaken, IsColoured}
+use Rattle.reg_plan.specs.Occupied.{AreSpread, AreAllSpread, Occupies, IsColouring}
 use Rattle.reg_plan.proofs.Flows.{and_left, and_right, and_both, or_left, or_right}
 
 -- an interval and a live range at one place
@@ -38,29 +39,6 @@ covers_by (j ∷ js) pc h = ⊎_elim
     (λ q. let o = covers_by js pc q in (suc o.0, o.1, o.2, o.3))
     (or_cases (holds j pc) (covers js pc) h)
 
--- a place that is written, and the others
-set_here : (places : List Place) (n : ℕ) (p : Place) → n < length places → slice_get (slice_set places n p) n ≡ Some p
-set_here [] n p lt = absurd (omega arith)
-set_here (x ∷ xs) zero p lt = refl
-set_here (x ∷ xs) (suc n) p lt = set_here xs n p (omega arith)
-
-set_other : (places : List Place) (n : ℕ) (p : Place) (y : ℕ) → y ≢ n
-    → slice_get (slice_set places n p) y ≡ slice_get places y
-set_other [] n p y ne = refl
-set_other (x ∷ xs) zero p zero ne = absurd (ne refl)
-set_other (x ∷ xs) zero p (suc y) ne = refl
-set_other (x ∷ xs) (suc n) p zero ne = refl
-set_other (x ∷ xs) (suc n) p (suc y) ne = set_other xs n p y (λ e. ne (ap suc e))
-
--- a place that is a home, and one that is none
-pub home_at : (places : List Place) (n : ℕ) (p : Place) → n < length places → p ≡ get_or places n p
-    → is_at_home p ≡ true → slice_get places n ≡ Some Home
-home_at places n p lt is h = slice_get_read places (length places) n p refl lt is ∙ ap Some (by p h)
-  where
-    by : (p : Place) → is_at_home p ≡ true → p ≡ Home
-    by Home h = refl
-    by (Register r) h = absurd (true≢false (sym h))
-
 pub coloured_none : (ranges : List (Vec LiveInterval Global)) (places : List Place)
     → ((y : ℕ) (place : Place) → slice_get places y ≡ Some place → place ≡ Home) → IsColoured ranges places 0
 coloured_none ranges places home = record {
@@ -69,119 +47,143 @@ coloured_none ranges places home = record {
   full = λ y r h lt. absurd (omega arith);
 }
 
-pub colouring_begins : (ranges : List (Vec LiveInterval Global)) (places : List Place) (register : ℕ) (used : NodeSet)
-    → IsColoured ranges places register → ((v : ℕ) → is_in used v ≡ false) → IsColouring ranges places register 0 used
-colouring_begins ranges places register used c empty = record {
-  apart = c.apart;
-  given = λ y r h. let l = c.given y r h in omega arith;
-  full = c.full;
-  asked = λ y h lt. absurd (omega arith);
-  in_use = λ x pc h k. let l = c.given x register h in absurd (omega arith);
-  only = λ pc h. absurd (true≢false (sym h ∙ empty pc));
+-- ---- one place more
+
+at_where : {X : Type 0} (xs : List X) (y : X) (k : ℕ) (x : X) → slice_get (xs ++ y ∷ []) k ≡ Some x
+    → (slice_get xs k ≡ Some x) ⊎ ((k ≡ length xs) × (y ≡ x))
+at_where [] y zero x h = inr (refl, (let e : y ≡ x = cc in e))
+at_where [] y (suc k) x h = inl h
+at_where (z ∷ zs) y zero x h = inl h
+at_where (z ∷ zs) y (suc k) x h = ⊎_elim (λ o. inl o) (λ o. inr (ap suc o.0, o.1)) (at_where zs y k x h)
+
+pub colouring_begins : (ranges : List (Vec LiveInterval Global)) (used : List (Vec LiveInterval Global))
+    → length used ≡ registers_given_out → AreAllSpread used
+    → ((r pc : ℕ) → covers (range_of used r) pc ≡ false) → IsColouring ranges [] used
+colouring_begins ranges used count spread none = record {
+  coloured = record {
+    apart = λ x y r h k s. cc;
+    given = λ y r h. cc;
+    full = λ y r h lt. cc;
+  };
+  count = count;
+  spread = spread;
+  in_use = λ x r pc h k. cc;
+  only = λ r pc h. absurd (true≢false (sym h ∙ none r pc));
 }
 
-pub colouring_ends : (ranges : List (Vec LiveInterval Global)) (places : List Place) (register next : ℕ)
-    (used : NodeSet) → length places ≤ next → IsColouring ranges places register next used
-    → IsColoured ranges places (register + 1)
-colouring_ends ranges places register next used le c = record {
-  apart = c.apart;
-  given = c.given;
-  full = λ y r h lt. ⊎_elim
-      (λ low. c.full y r h low)
-      (λ high. let e : register ≡ r = omega arith in
-      subst (λ q. IsTaken ranges places q y) e (c.asked y h (let l = slice_get_within places y Home h in omega arith)))
-      (cases_lt r register);
-}
+module _ (ranges : List (Vec LiveInterval Global)) (places : List Place) (used : List (Vec LiveInterval Global))
+    (c : IsColouring ranges places used) where
+  grown_taken : (p : Place) (r y : ℕ) → IsTaken ranges places r y → IsTaken ranges (places ++ p ∷ []) r y
+  grown_taken p r y t = (t.0, at_front places p t.0 (Register r) t.1, t.2)
 
--- one that keeps what it has
-pub colouring_leaves : (ranges : List (Vec LiveInterval Global)) (places : List Place) (register next : ℕ)
-    (used : NodeSet) → IsColouring ranges places register next used
-    → (slice_get places next ≡ Some Home → IsTaken ranges places register next)
-    → IsColouring ranges places register (next + 1) used
-colouring_leaves ranges places register next used c here = record {
-  apart = c.apart;
-  given = c.given;
-  full = c.full;
-  asked = λ y h lt. ⊎_elim
-      (λ low. c.asked y h low)
-      (λ high. let e : y ≡ next = omega arith in
-      subst (IsTaken ranges places register) (sym e) (here (ap (slice_get places) (sym e) ∙ h)))
-      (cases_lt y next);
-  in_use = c.in_use;
-  only = c.only;
-}
+  -- the next one stays in its home
+  pub colouring_leaves : (next : ℕ) → length places ≡ next
+      → ((r : ℕ) → r < registers_given_out → (pc : ℕ) × (covers (range_of ranges next) pc ≡ true)
+      × (covers (range_of used r) pc ≡ true))
+      → IsColouring ranges (places ++ Home ∷ []) used
+  colouring_leaves next size taken = record {
+    coloured = record {
+      apart = λ x y r h k s. c.coloured.apart x y r (old x r h) (old y r k) s;
+      given = λ y r h. c.coloured.given y r (old y r h);
+      full = λ y r h lt. ⊎_elim
+          (λ o. grown_taken Home r y (c.coloured.full y r o lt))
+          (λ o.
+          let t = taken r lt in
+          let w = c.only r t.0 t.2 in
+          let e : next ≡ y = sym size ∙ sym o.0 in (
+            w.0,
+            at_front places Home w.0 (Register r) w.1,
+            (t.0, w.2, subst (λ z. covers (range_of ranges z) t.0 ≡ true) e t.1),
+          ))
+          (at_where places Home y Home h);
+    };
+    count = c.count;
+    spread = c.spread;
+    in_use = λ x r pc h k. c.in_use x r pc (old x r h) k;
+    only = λ r pc h. let o = c.only r pc h in (o.0, at_front places Home o.0 (Register r) o.1, o.2);
+  }
+    where
+      old : (x r : ℕ) → slice_get (places ++ Home ∷ []) x ≡ Some (Register r) → slice_get places x ≡ Some (Register r)
+      old x r h = ⊎_elim (λ o. o) (λ o. let e = o.1 in cc) (at_where places Home x (Register r) h)
 
--- one that gets the register
-pub colouring_gives : (ranges : List (Vec LiveInterval Global)) (places : List Place) (register next : ℕ)
-    (used used' : NodeSet) → IsColouring ranges places register next used → slice_get places next ≡ Some Home
-    → ((pc : ℕ) → covers (range_of ranges next) pc ≡ true → is_in used pc ≡ false)
-    → ((pc : ℕ) → covers (range_of ranges next) pc ≡ true → is_in used' pc ≡ true)
-    → ((pc : ℕ) → is_in used pc ≡ true → is_in used' pc ≡ true)
-    → ((pc : ℕ) → is_in used' pc ≡ true → (is_in used pc ≡ true) ⊎ (covers (range_of ranges next) pc ≡ true))
-    → IsColouring ranges (slice_set places next (Register register)) register (next + 1) used'
-colouring_gives ranges places register next used used' c home free has kept only = record {
-  apart = λ x y r h k s. ⊎_elim
-      (λ e. ⊎_elim
-      (λ f. e ∙ sym f)
-      (λ g. absurd (clash y r s.0 (sym (mine r (ap (slice_get places') (sym e) ∙ h))) (sym (other y g) ∙ k)
-      (subst (λ z. covers (range_of ranges z) s.0 ≡ true) e s.1) s.2))
-      (cases_eq y next))
-      (λ g. ⊎_elim
-      (λ f. absurd (clash x r s.0 (sym (mine r (ap (slice_get places') (sym f) ∙ k))) (sym (other x g) ∙ h)
-      (subst (λ z. covers (range_of ranges z) s.0 ≡ true) f s.2) s.1))
-      (λ g'. c.apart x y r (sym (other x g) ∙ h) (sym (other y g') ∙ k) s)
-      (cases_eq y next))
-      (cases_eq x next);
-  given = λ y r h. ⊎_elim
-      (λ e. let q = mine r (ap (slice_get places') (sym e) ∙ h) in omega arith)
-      (λ ne. c.given y r (sym (other y ne) ∙ h))
-      (cases_eq y next);
-  full = λ y r h lt. taken r y (c.full y r (at_home y h).1 lt);
-  asked = λ y h lt. let o = at_home y h in let ne = o.0 in taken register y (c.asked y o.1 (omega arith));
-  in_use = λ x pc h k. ⊎_elim
-      (λ e. has pc (subst (λ z. covers (range_of ranges z) pc ≡ true) e k))
-      (λ ne. kept pc (c.in_use x pc (sym (other x ne) ∙ h) k))
-      (cases_eq x next);
-  only = λ pc h. ⊎_elim
-      (λ q. let o = c.only pc q in (o.0, keeps o.0 register o.1, o.2))
-      (λ q. (next, here, q))
-      (only pc h);
-}
-  where
-    places' : List Place
-    places' = slice_set places next (Register register)
+  -- the next one gets a register
+  pub colouring_gives : (next register : ℕ) (used' : List (Vec LiveInterval Global)) → length places ≡ next
+      → register < registers_given_out
+      → ((pc : ℕ) → covers (range_of ranges next) pc ≡ true → covers (range_of used register) pc ≡ false)
+      → Occupies used used' register (range_of ranges next)
+      → IsColouring ranges (places ++ Register register ∷ []) used'
+  colouring_gives next register used' size few free o = record {
+    coloured = record {
+      apart = λ x y r h k s. ⊎_elim
+          (λ a. ⊎_elim
+          (λ b. c.coloured.apart x y r a b s)
+          (λ b. absurd (clash x y r s.0 a b s.1 s.2))
+          (at_where places (Register register) y (Register r) k))
+          (λ a. ⊎_elim
+          (λ b. absurd (clash y x r s.0 b a s.2 s.1))
+          (λ b. a.0 ∙ sym b.0)
+          (at_where places (Register register) y (Register r) k))
+          (at_where places (Register register) x (Register r) h);
+      given = λ y r h. ⊎_elim (λ a. c.coloured.given y r a) (λ a. let e : register ≡ r = same r a.1 in
+          omega (arith, e, few)) (at_where places (Register register) y (Register r) h);
+      full = λ y r h lt. ⊎_elim (λ a. grown_taken (Register register) r y (c.coloured.full y r a lt))
+          (λ a. let e = a.1 in cc) (at_where places (Register register) y Home h);
+    };
+    count = o.count ∙ c.count;
+    spread = λ r. ⊎_elim (λ e. subst (λ z. AreSpread (range_of used' z)) (sym e) o.spread)
+        (λ ne. subst AreSpread (sym (o.others r ne)) (c.spread r)) (cases_eq r register);
+    in_use = λ x r pc h k. ⊎_elim
+        (λ a. kept r pc (c.in_use x r pc a k))
+        (λ a.
+        let e : register ≡ r = same r a.1 in
+        let n : x ≡ next = a.0 ∙ size in
+        subst (λ z. covers (range_of used' z) pc ≡ true) e
+        (o.here pc ∙ or_right (covers (range_of used register) pc) (covers (range_of ranges next) pc)
+        (subst (λ z. covers (range_of ranges z) pc ≡ true) n k)))
+        (at_where places (Register register) x (Register r) h);
+    only = λ r pc h. ⊎_elim
+        (λ e.
+        let h' : covers (range_of used' register) pc ≡ true =
+        subst (λ z. covers (range_of used' z) pc ≡ true) e h in
+        ⊎_elim
+        (λ a. let w = c.only register pc a in (
+          w.0,
+          subst (λ z. slice_get (places ++ Register register ∷ []) w.0 ≡ Some (Register z)) (sym e)
+              (at_front places (Register register) w.0 (Register register) w.1),
+          w.2,
+        ))
+        (λ a. (
+          next,
+          subst (λ z. slice_get (places ++ Register register ∷ []) next ≡ Some (Register z)) (sym e)
+              (subst (λ z. slice_get (places ++ Register register ∷ []) z ≡ Some (Register register)) size
+              (at_end places (Register register))),
+          a,
+        ))
+        (or_cases (covers (range_of used register) pc) (covers (range_of ranges next) pc) (sym (o.here pc) ∙ h')))
+        (λ ne.
+        let w = c.only r pc (subst (λ l. covers l pc ≡ true) (o.others r ne) h) in
+        (w.0, at_front places (Register register) w.0 (Register r) w.1, w.2))
+        (cases_eq r register);
+  }
+    where
+      same : (r : ℕ) → Register register ≡ Register r → register ≡ r
+      same r e = cc
 
-    here : slice_get (slice_set places next (Register register)) next ≡ Some (Register register)
-    here = set_here places next (Register register) (slice_get_within places next Home home)
+      clash : (x y r pc : ℕ) → slice_get places x ≡ Some (Register r)
+          → (y ≡ length places) × (Register register ≡ Register r) → covers (range_of ranges x) pc ≡ true
+          → covers (range_of ranges y) pc ≡ true → ⊥
+      clash x y r pc a b theirs mine =
+          let e : register ≡ r = same r b.1 in
+          true≢false (sym (subst (λ z. covers (range_of used z) pc ≡ true) (sym e) (c.in_use x r pc a theirs))
+          ∙ free pc (subst (λ z. covers (range_of ranges z) pc ≡ true) (b.0 ∙ size) mine))
 
-    other : (y : ℕ) → y ≢ next → slice_get (slice_set places next (Register register)) y ≡ slice_get places y
-    other y ne = set_other places next (Register register) y ne
-
-    mine : (r : ℕ) → slice_get (slice_set places next (Register register)) next ≡ Some (Register r) → register ≡ r
-    mine r h = let w : Some (Register register) ≡ Some (Register r) = sym here ∙ h in cc
-
-    clash : (x r pc : ℕ) → r ≡ register → slice_get places x ≡ Some (Register r)
-        → covers (range_of ranges next) pc ≡ true → covers (range_of ranges x) pc ≡ true → ⊥
-    clash x r pc e h mine' theirs = true≢false
-        (sym (c.in_use x pc (h ∙ ap (λ q. Some (Register q)) e) theirs) ∙ free pc mine')
-
-    keeps : (x r : ℕ) → slice_get places x ≡ Some (Register r)
-        → slice_get (slice_set places next (Register register)) x ≡ Some (Register r)
-    keeps x r h = ⊎_elim
-        (λ e. let w : Some Home ≡ Some (Register r) = sym home ∙ ap (slice_get places) (sym e) ∙ h in cc)
-        (λ ne. other x ne ∙ h)
-        (cases_eq x next)
-
-    taken : (r y : ℕ) → IsTaken ranges places r y → IsTaken ranges (slice_set places next (Register register)) r y
-    taken r y t = (t.0, keeps t.0 r t.1, t.2)
-
-    at_home : (y : ℕ) → slice_get (slice_set places next (Register register)) y ≡ Some Home
-        → (y ≢ next) × (slice_get places y ≡ Some Home)
-    at_home y h = ⊎_elim
-        (λ e. let w : Some (Register register) ≡ Some Home = sym here
-        ∙ ap (slice_get (slice_set places next (Register register))) (sym e) ∙ h in cc)
-        (λ ne. (ne, sym (other y ne) ∙ h))
-        (cases_eq y next)
+      kept : (r pc : ℕ) → covers (range_of used r) pc ≡ true → covers (range_of used' r) pc ≡ true
+      kept r pc h = ⊎_elim
+          (λ e. subst (λ z. covers (range_of used' z) pc ≡ true) (sym e)
+          (o.here pc ∙ or_left (covers (range_of used register) pc) (covers (range_of ranges next) pc)
+          (subst (λ z. covers (range_of used z) pc ≡ true) e h)))
+          (λ ne. subst (λ l. covers l pc ≡ true) (sym (o.others r ne)) h)
+          (cases_eq r register)
 
 -- the live range that stands at a place of the list
 pub range_is : (ranges : List (Vec LiveInterval Global)) (n : ℕ) (v : Vec LiveInterval Global)

@@ -1,8 +1,9 @@
-pub mod Flows
-pub mod Represents
-pub mod Ranges
-pub mod GivingOut
-pub mod Plans
 pub mod Exact
-pub mod Saves
+pub mod Flows
+pub mod GivingOut
 pub mod Order
+pub mod Plans
+pub mod Ranges
+pub mod Represents
+pub mod Saves
+mod Spreading

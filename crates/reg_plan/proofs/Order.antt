@@ -11,14 +11,10 @@ use Rattle.reg_plan.specs.declared.plan.LiveInterval.{LiveInterval}
 use Rattle.reg_plan.specs.Accepted.{covers, intervals_of}
 use Rattle.reg_plan.specs.Colours.{range_of}
 use Rattle.reg_plan.specs.Order.{IsInOrder, AreInOrder}
+use Rattle.reg_plan.specs.Occupied.{AreParted}
 use Rattle.reg_plan.proofs.GivingOut.{covers_at, covers_by, holds_low, holds_high, holds_between}
 
--- the intervals of a live range up to one end before an instruction or at it, and no other does
-record AreParted (range : List LiveInterval) (pc k : ℕ) : Type 0 where
-  before : (j : ℕ) (i : LiveInterval) → slice_get range j ≡ Some i → j < k → i.end ≤ pc
-  behind : (j : ℕ) (i : LiveInterval) → slice_get range j ≡ Some i → k ≤ j → pc < i.end
-
-parted : (range : List LiveInterval) (pc k : ℕ) → AllWithin (λ i. nat_le i.end pc ≡ true) range 0 k
+pub parted : (range : List LiveInterval) (pc k : ℕ) → AllWithin (λ i. nat_le i.end pc ≡ true) range 0 k
     → AllWithin (λ i. nat_le i.end pc ≡ false) range k (length range) → AreParted range pc k
 parted range pc k low high = record {
   before = λ j i h lt. leb-true i.end pc
@@ -29,7 +25,7 @@ parted range pc k low high = record {
       (high j i le (slice_get_within range j i h)));
 }
 
-uncovered : (range : List LiveInterval) (pc : ℕ)
+pub uncovered : (range : List LiveInterval) (pc : ℕ)
     → ((j : ℕ) (i : LiveInterval) → slice_get range j ≡ Some i → i.start ≤ pc → pc < i.end → ⊥)
     → covers range pc ≡ false
 uncovered range pc none = ⊎_elim

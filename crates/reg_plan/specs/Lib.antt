@@ -1,10 +1,11 @@
-pub mod Effects
-pub mod Needs
-pub mod Registers
-pub mod Flow
 pub mod Accepted
 pub mod Colours
+pub mod Effects
+pub mod Flow
+pub mod Needs
+pub mod Occupied
 pub mod Order
 pub mod Planned
-pub mod Tests
+pub mod Registers
 pub mod Saves
+pub mod Tests

@@ -7,7 +7,9 @@ ghost use Rattle.reg_plan.specs.Effects.{is_among, is_read, read_by, made_by, ma
 ghost use Rattle.reg_plan.specs.Accepted.{holds, covers, is_live, IsLive};
 ghost use Rattle.reg_plan.specs.Tests.{Flows, IsWanted, IsClosedAt};
 
-use crate::effects::{Reads, Span, always_made_by, made_by, makes_only, next_of, read_by, taken_of};
+use crate::effects::{
+    Reads, Span, always_made_by, made_by, makes_only, next_of, read_by, taken_of,
+};
 use crate::plan::{FunctionPlan, LiveInterval};
 use flat_meaning::{FlatInstruction, FlatProgram};
 
@@ -159,8 +161,22 @@ fn is_closed_at(
     let made = made_by(program, instruction);
     let always = always_made_by(program, instruction);
     reads_where_wanted(program, number, plan, place, instruction)
-        && flows(plan, made, always, place, next_of(instruction, place), count)
-        && flows(plan, made, always, place, taken_of(instruction, place), count)
+        && flows(
+            plan,
+            made,
+            always,
+            place,
+            next_of(instruction, place),
+            count,
+        )
+        && flows(
+            plan,
+            made,
+            always,
+            place,
+            taken_of(instruction, place),
+            count,
+        )
 }
 
 /// Whether the live ranges are closed at all instructions of a function.

@@ -1,144 +1,144 @@
-//! Registers by greedy colouring: each register goes, in turn, to the virtual registers that share no instruction with
-//! one that has it.
+//! Registers by greedy colouring: each virtual register gets, in turn, a register in which none is kept that shares an
+//! instruction with it; of these the one in which most are kept that copies join to it.
 
-ghost use Rattle.std.specs.Prelude.{◌≡◌, ◌<◌, ◌≤◌, ◌+◌, ◌⊎◌, ℕ, IfOk, OnOk, length, Some, true};
-ghost use Rattle.std.specs.Prelude.{false, slice_get};
-ghost use Rattle.data_flow.specs.NodeSets.{is_in, node_count};
-ghost use Rattle.reg_plan.specs.Accepted.{holds, covers, intervals_of};
+ghost use Rattle.std.specs.Prelude.{◌≡◌, ◌<◌, ◌≤◌, ◌+◌, ◌⊎◌, ℕ, IfOk, OnOk, length, None, Some, true, false, slice_get};
+ghost use Rattle.reg_plan.specs.Accepted.{covers};
 ghost use Rattle.reg_plan.specs.declared.plan.Place.{Place};
 ghost use Rattle.reg_plan.specs.declared.plan.Place.TheVariants.{Home};
-ghost use Rattle.reg_plan.specs.Colours.{IsColoured, IsColouring, AreWithin, is_at_home};
+ghost use Rattle.reg_plan.specs.Colours.{IsColoured, range_of};
+ghost use Rattle.reg_plan.specs.Occupied.{AreSpread, AreAllSpread, Occupies, IsColouring};
 ghost use Rattle.reg_plan.specs.Registers.{registers_given_out};
 
+use crate::copies::{Votes, copies_of};
+use crate::occupied::{is_free, occupy};
 use crate::plan::{LiveInterval, Place, REGISTERS};
-use data_flow::NodeSet;
+use flat_meaning::FlatInstruction;
 use std::alloc::{AllocError, Global};
 
-// Whether no instruction of an interval is in the set.
-fn is_interval_free(set: &NodeSet, interval: LiveInterval) -> bool
-    requires { (pc : ℕ) → holds interval pc ≡ true → pc < node_count set.now }
-    ensures free { result ≡ true → (pc : ℕ) → holds interval pc ≡ true → is_in set.now pc ≡ false }
-    ensures taken { result ≡ false → (pc : ℕ) × (holds interval pc ≡ true) × (is_in set.now pc ≡ true) }
+// Whether a register is in use at no instruction of a live range.
+fn is_register_free(used: &[Vec<LiveInterval>], register: u32, range: &[LiveInterval]) -> bool
+    requires inside { register < length used.now }
+    requires spread { AreAllSpread used.now }
+    ensures free { result ≡ true → (pc : ℕ) → covers range.now pc ≡ true
+        → covers (range_of used.now register) pc ≡ false }
+    ensures taken { result ≡ false → (pc : ℕ) × (covers range.now pc ≡ true)
+        × (covers (range_of used.now register) pc ≡ true) }
 {
-    for place in interval.start..interval.end {
-        if set.contains(place as usize) {
-            return false;
+    is_free(used[register as usize].as_slice(), range)
+}
+
+// A register that is in use at no instruction of a live range; if there are several, one with the most votes.
+fn free_register(used: &[Vec<LiveInterval>], range: &[LiveInterval], votes: &Votes) -> Option<u32>
+    requires count { length used.now ≡ registers_given_out }
+    requires spread { AreAllSpread used.now }
+    ensures given { (r : ℕ) → result ≡ Some r → r < registers_given_out }
+    ensures free { (r : ℕ) → result ≡ Some r → (pc : ℕ) → covers range.now pc ≡ true
+        → covers (range_of used.now r) pc ≡ false }
+    ensures taken { result ≡ None → (r : ℕ) → r < registers_given_out → (pc : ℕ) × (covers range.now pc ≡ true)
+        × (covers (range_of used.now r) pc ≡ true) }
+{
+    let mut best = None;
+    for register in 0..REGISTERS {
+        best = better(used, range, votes, best, register);
+    }
+    best
+}
+
+// The same of one that was found, if one was, and one register more.
+fn better(
+    used: &[Vec<LiveInterval>],
+    range: &[LiveInterval],
+    votes: &Votes,
+    best: Option<u32>,
+    register: u32,
+) -> Option<u32>
+    requires inside { register < length used.now }
+    requires spread { AreAllSpread used.now }
+    ensures one { (r : ℕ) → result ≡ Some r → (best ≡ Some r) ⊎ ((r ≡ register)
+        × ((pc : ℕ) → covers range.now pc ≡ true → covers (range_of used.now register) pc ≡ false)) }
+    ensures none { result ≡ None → (best ≡ None) × ((pc : ℕ) × (covers range.now pc ≡ true)
+        × (covers (range_of used.now register) pc ≡ true)) }
+{
+    if let Some(found) = best {
+        if votes.of(register) <= votes.of(found) {
+            return best;
         }
     }
-    true
-}
-
-// Whether no instruction of a live range is in the set.
-fn is_free(set: &NodeSet, range: &[LiveInterval]) -> bool
-    requires { (pc : ℕ) → covers range.now pc ≡ true → pc < node_count set.now }
-    ensures free { result ≡ true → (pc : ℕ) → covers range.now pc ≡ true → is_in set.now pc ≡ false }
-    ensures taken { result ≡ false → (pc : ℕ) × (covers range.now pc ≡ true) × (is_in set.now pc ≡ true) }
-{
-    for interval in range {
-        if !is_interval_free(set, *interval) {
-            return false;
-        }
+    if is_register_free(used, register, range) {
+        return Some(register);
     }
-    true
+    best
 }
 
-// Puts the instructions of an interval into the set.
-fn occupy_interval(set: &mut NodeSet, interval: LiveInterval)
-    requires { (pc : ℕ) → holds interval pc ≡ true → pc < node_count set.old }
-    ensures has { (pc : ℕ) → holds interval pc ≡ true → is_in set.new pc ≡ true }
-    ensures kept { (pc : ℕ) → is_in set.old pc ≡ true → is_in set.new pc ≡ true }
-    ensures only { (pc : ℕ) → is_in set.new pc ≡ true → (is_in set.old pc ≡ true) ⊎ (holds interval pc ≡ true) }
-    ensures size { node_count set.new ≡ node_count set.old }
+// Puts a live range among the instructions at which a register is in use.
+fn use_register(
+    used: &mut Vec<Vec<LiveInterval>>,
+    register: u32,
+    range: &[LiveInterval],
+) -> Result<(), AllocError>
+    requires inside { register < length used.old.items }
+    requires spread { AreSpread (range_of used.old.items register) }
+    ensures { OnOk result (Occupies used.old.items used.new.items register range.now) }
 {
-    for place in interval.start..interval.end {
-        set.insert(place as usize);
-    }
+    let row = &mut used[register as usize];
+    occupy(row, range)
 }
 
-// Puts the instructions of a live range into the set.
-fn occupy(set: &mut NodeSet, range: &[LiveInterval])
-    requires { (pc : ℕ) → covers range.now pc ≡ true → pc < node_count set.old }
-    ensures has { (pc : ℕ) → covers range.now pc ≡ true → is_in set.new pc ≡ true }
-    ensures kept { (pc : ℕ) → is_in set.old pc ≡ true → is_in set.new pc ≡ true }
-    ensures only { (pc : ℕ) → is_in set.new pc ≡ true → (is_in set.old pc ≡ true) ⊎ (covers range.now pc ≡ true) }
-    ensures size { node_count set.new ≡ node_count set.old }
-{
-    for interval in range {
-        occupy_interval(set, *interval);
-    }
-}
-
-// Whether a place is a home.
-fn is_home(place: Place) -> bool
-    ensures { result ≡ is_at_home place }
-{
-    match place {
-        Place::Home => true,
-        Place::Register(_) => false,
-    }
-}
-
-// Gives a register to one virtual register more, if it has none and shares no instruction with one that has it.
+// A place for one virtual register more, of a live range.
 fn give(
     places: &mut Vec<Place>,
-    used: &mut NodeSet,
+    used: &mut Vec<Vec<LiveInterval>>,
     ranges: &[Vec<LiveInterval>],
-    register: u32,
     next: usize,
-)
-    requires next { next < length places.old.items }
-    requires size { length places.old.items ≡ length ranges.now }
-    requires within { AreWithin ranges.now (node_count used.old) }
-    requires colouring { IsColouring ranges.now places.old.items register next used.old }
-    ensures colouring { IsColouring ranges.now places.new.items register (next + 1) used.new }
-    ensures size { length places.new.items ≡ length places.old.items }
-    ensures nodes { node_count used.new ≡ node_count used.old }
+    votes: &Votes,
+) -> Result<(), AllocError>
+    requires next { length places.old.items ≡ next }
+    requires inside { next < length ranges.now }
+    requires colouring { IsColouring ranges.now places.old.items used.old.items }
+    ensures colouring { OnOk result (IsColouring ranges.now places.new.items used.new.items) }
+    ensures size { OnOk result (length places.new.items ≡ next + 1) }
 {
-    if !is_home(places[next]) {
-        return;
-    }
     let range = ranges[next].as_slice();
-    if !is_free(used, range) {
-        return;
+    match free_register(used.as_slice(), range, votes) {
+        Some(register) => {
+            use_register(used, register, range)?;
+            places.push(Place::Register(register))?;
+        }
+        None => places.push(Place::Home)?,
     }
-    places[next] = Place::Register(register);
-    occupy(used, range);
+    Ok(())
 }
 
-// Gives out one register more.
-fn give_out(
-    places: &mut Vec<Place>,
-    used: &mut NodeSet,
-    ranges: &[Vec<LiveInterval>],
-    register: u32,
-)
-    requires size { length places.old.items ≡ length ranges.now }
-    requires within { AreWithin ranges.now (node_count used.old) }
-    requires coloured { IsColoured ranges.now places.old.items register }
-    ensures coloured { IsColoured ranges.now places.new.items (register + 1) }
-    ensures size { length places.new.items ≡ length places.old.items }
-    ensures nodes { node_count used.new ≡ node_count used.old }
+// For each register the instructions at which it is in use: none.
+fn none_used(alloc: Global) -> Result<Vec<Vec<LiveInterval>>, AllocError>
+    ensures count { IfOk result (λ used. length used.items ≡ registers_given_out) }
+    ensures none { IfOk result (λ used. (r pc : ℕ) → covers (range_of used.items r) pc ≡ false) }
+    ensures spread { IfOk result (λ used. AreAllSpread used.items) }
 {
-    used.clear();
-    for next in 0..ranges.len() {
-        give(places, used, ranges, register, next);
+    let mut used = Vec::new(alloc);
+    for _ in 0..REGISTERS {
+        used.push(Vec::new(alloc))?;
     }
+    Ok(used)
 }
 
-/// A place for each virtual register of a function with so many instructions, from the live ranges.
+/// A place for each virtual register of a function, from the live ranges. It takes time for their intervals, with the
+/// logarithm of how many lie in a register, and for the copies.
 pub fn coloured(
     alloc: Global,
+    body: &[FlatInstruction],
     ranges: &[Vec<LiveInterval>],
-    instructions: usize,
 ) -> Result<Vec<Place>, AllocError>
-    requires { AreWithin ranges.now instructions }
     ensures coloured { IfOk result (λ places. IsColoured ranges.now places.items registers_given_out) }
     ensures size { IfOk result (λ places. length places.items ≡ length ranges.now) }
 {
-    let mut used = NodeSet::new(alloc, instructions)?;
-    let mut places = all_at_home(alloc, ranges.len())?;
-    for register in 0..REGISTERS {
-        give_out(&mut places, &mut used, ranges, register);
+    let copies = copies_of(alloc, body, ranges.len())?;
+    let mut votes = Votes::new(alloc)?;
+    let mut used = none_used(alloc)?;
+    let mut places = Vec::new(alloc);
+    for next in 0..ranges.len() {
+        votes.count(places.as_slice(), copies.images(next));
+        give(&mut places, &mut used, ranges, next, &votes)?;
     }
     Ok(places)
 }

@@ -13,11 +13,13 @@ pub mod apart;
 pub mod call_saves;
 pub mod closed;
 pub mod colouring;
+mod copies;
 pub mod effects;
 pub mod flow;
 pub mod intervals;
 pub mod live;
 pub mod lookup;
+mod occupied;
 pub mod plan;
 pub mod planned;
 

@@ -39,7 +39,7 @@ fn registers_of(
     let registers = function.homes.as_slice().len();
     let body = function.body.as_slice();
     let live = live_ranges(alloc, program, number, body, registers)?;
-    let places = coloured(alloc, &live, body.len())?;
+    let places = coloured(alloc, body, &live)?;
     Ok(FunctionPlan { places, live })
 }
 

@@ -41,7 +41,7 @@ add_successor-requires-clause-facts c y h =
       i,
       here c.args.body.now c.args.place i c.requires.place c.index-body-place.is,
       (always_parts c.args.program.now i y
-      (subst (λ (s : Span). is_among s y ≡ true) c.always_made_by-always.ensures h)).0,
+          (subst (λ (s : Span). is_among s y ≡ true) c.always_made_by-always.ensures h)).0,
     ) in
     omega (arith, k, c.requires.sizes.generated, c.in_ok-relate_reads.ensures.size)
 
@@ -52,7 +52,7 @@ add_successor-requires-2-clause-facts c y h =
       i,
       here c.args.body.now c.args.place i c.requires.place c.index-body-place.is,
       (always_parts c.args.program.now i y
-      (subst (λ (s : Span). is_among s y ≡ true) c.always_made_by-always.ensures h)).0,
+          (subst (λ (s : Span). is_among s y ≡ true) c.always_made_by-always.ensures h)).0,
     ) in
     let s : HasSizes c.add_successor.new.problem (length c.args.body.now)
     (length c.args.problem.now.killed.rows.items) = c.in_ok-add_successor.ensures.sizes (length c.args.body.now)

@@ -4,14 +4,8 @@ use Rattle.std.proofs.lemmas.Bool.{cases_lt}
 use Rattle.std.proofs.lemmas.Option.{slice_get-get_or, slice_get_within}
 use Rattle.reg_plan.specs.declared.plan.LiveInterval.{LiveInterval}
 use Rattle.reg_plan.specs.Accepted.{holds}
-use Rattle.reg_plan.proofs.GivingOut.{covers_at, covers_by}
-use Rattle.reg_plan.proofs.colouring.is_free.Goals as goal
-
-pub is_interval_free-requires : goal.is_interval_free-requires
-is_interval_free-requires c pc h =
-    let i = c.loop-interval.interval-index in
-    c.requires pc (covers_at c.args.range.now i pc _
-    (slice_get-get_or c.args.range.now i (record { start = 0; end = 0 }) c.loop-interval-test.true) h)
+use Rattle.reg_plan.proofs.GivingOut.{covers_by}
+use Rattle.reg_plan.proofs.occupied.is_free.Goals as goal
 
 pub loop-interval-preserved : goal.loop-interval-preserved
 loop-interval-preserved c k pc i lt h e =

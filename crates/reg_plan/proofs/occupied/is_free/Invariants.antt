@@ -1,10 +1,9 @@
 use Rattle.std.proofs.Common.{◌≡◌, ◌<◌, ℕ, false, true, Some}
 use Rattle.std.specs.Prelude.{slice_get}
-use Rattle.data_flow.specs.NodeSets.{is_in}
 use Rattle.reg_plan.specs.declared.plan.LiveInterval.{LiveInterval}
-use Rattle.reg_plan.specs.Accepted.{holds}
-use Rattle.reg_plan.proofs.colouring.is_free.Given as goal
+use Rattle.reg_plan.specs.Accepted.{holds, covers}
+use Rattle.reg_plan.proofs.occupied.is_free.Given as goal
 
 abbrev pub invariant-loop-interval : goal.invariant-loop-interval
 invariant-loop-interval l = (k pc : ℕ) (i : LiveInterval) → k < l.interval-index → slice_get l.range k ≡ Some i
-    → holds i pc ≡ true → is_in l.set pc ≡ false
+    → holds i pc ≡ true → covers l.used pc ≡ false

@@ -8,6 +8,7 @@ pub mod Distinct
 pub mod Lifted
 pub mod ExitStubs
 pub mod InputOutput
+pub mod Shape
 pub mod Regions
 pub mod Words
 pub mod Branches

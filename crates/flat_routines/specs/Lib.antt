@@ -6,6 +6,7 @@ pub mod Renaming
 pub mod Lifted
 pub mod Laws
 pub mod InputOutput
+pub mod Shape
 pub mod ExitStubs
 pub mod Metadata
 pub mod Objects

@@ -9,3 +9,4 @@ pub mod Removing
 pub mod Counting
 pub mod Local
 pub mod Objects
+pub mod Shapes

@@ -4,6 +4,8 @@
 ghost use Rattle.std.specs.Prelude.{◌≡◌, ℕ, ◌+◌, ◌≤◌, ◌^◌, IfOk, [], ◌∷◌};
 ghost use Rattle.addr_map.specs.Places.{AreMapped};
 ghost use Rattle.flat_routines.specs.Registers.{AreDistinct, AreBelow, AreNoneOf};
+ghost use Rattle.flat_routines.specs.InputOutput.{IsWithoutInputOutput};
+ghost use Rattle.flat_routines.specs.Shape.{HasShape};
 ghost use Rattle.heap_space.specs.Routines.{IsFindRoutine, IsPlaceRoutine, IsReleaseRoutine};
 ghost use Rattle.heap_space.specs.Routines.{find_code, place_code, release_code};
 
@@ -29,7 +31,9 @@ pub fn find(
     requires below { AreBelow scratch (start ∷ key ∷ []) }
     requires results { AreBelow scratch (size ∷ found ∷ []) }
     requires room { scratch ≤ 2 ^ 31 }
-    ensures { IfOk result (λ r. IsFindRoutine map.now start key size found scratch r.items) }
+    ensures does { IfOk result (λ r. IsFindRoutine map.now start key size found scratch r.items) }
+    ensures computes { IfOk result (λ r. IsWithoutInputOutput r.items) }
+    ensures shape { IfOk result (λ r. HasShape r.items 16 (scratch + 3)) }
 {
     find_instructions(alloc, map, start, key, size, found, scratch)
 }
@@ -155,7 +159,9 @@ pub fn place(
     requires below { AreBelow scratch (size ∷ key ∷ []) }
     requires results { AreBelow scratch (into ∷ []) }
     requires room { scratch ≤ 2 ^ 31 }
-    ensures { IfOk result (λ r. IsPlaceRoutine map.now size key into scratch r.items) }
+    ensures does { IfOk result (λ r. IsPlaceRoutine map.now size key into scratch r.items) }
+    ensures computes { IfOk result (λ r. IsWithoutInputOutput r.items) }
+    ensures shape { IfOk result (λ r. HasShape r.items 64 (scratch + 8)) }
 {
     place_instructions(alloc, map, size, key, into, scratch)
 }
@@ -461,7 +467,9 @@ pub fn release(
     requires map { AreMapped map.now }
     requires below { AreBelow scratch (start ∷ []) }
     requires room { scratch ≤ 2 ^ 31 }
-    ensures { IfOk result (λ r. IsReleaseRoutine map.now start scratch r.items) }
+    ensures does { IfOk result (λ r. IsReleaseRoutine map.now start scratch r.items) }
+    ensures computes { IfOk result (λ r. IsWithoutInputOutput r.items) }
+    ensures shape { IfOk result (λ r. HasShape r.items 32 (scratch + 3)) }
 {
     release_instructions(alloc, map, start, scratch)
 }

@@ -3,3 +3,4 @@ pub mod Lists
 pub mod Local
 pub mod NewKeys
 pub mod FreedLocks
+pub mod Shapes

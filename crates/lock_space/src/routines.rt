@@ -5,6 +5,7 @@ ghost use Rattle.std.specs.Prelude.{◌≡◌, ℕ, ◌+◌, ◌≤◌, ◌^◌,
 ghost use Rattle.addr_map.specs.Places.{AreMapped};
 ghost use Rattle.flat_routines.specs.Registers.{AreDistinct, AreBelow};
 ghost use Rattle.flat_routines.specs.InputOutput.{IsWithoutInputOutput};
+ghost use Rattle.flat_routines.specs.Shape.{HasShape};
 ghost use Rattle.lock_space.specs.Routines.{IsNextRoutine, IsFreshRoutine, IsReleaseRoutine};
 ghost use Rattle.lock_space.specs.Routines.{next_code, fresh_code, release_code};
 
@@ -31,7 +32,9 @@ pub fn next(
     requires map { AreMapped map.now }
     requires below { AreBelow scratch (key ∷ []) }
     requires room { scratch ≤ 2 ^ 31 }
-    ensures { IfOk result (λ r. IsNextRoutine map.now key scratch r.items) }
+    ensures does { IfOk result (λ r. IsNextRoutine map.now key scratch r.items) }
+    ensures computes { IfOk result (λ r. IsWithoutInputOutput r.items) }
+    ensures shape { IfOk result (λ r. HasShape r.items 3 (scratch + 1)) }
 {
     next_instructions(alloc, map, key, scratch)
 }
@@ -49,7 +52,9 @@ pub fn fresh(
     requires distinct { AreDistinct (key ∷ lock ∷ []) }
     requires below { AreBelow scratch (key ∷ lock ∷ []) }
     requires room { scratch ≤ 2 ^ 31 }
-    ensures { IfOk result (λ r. IsFreshRoutine map.now key lock scratch r.items) }
+    ensures does { IfOk result (λ r. IsFreshRoutine map.now key lock scratch r.items) }
+    ensures computes { IfOk result (λ r. IsWithoutInputOutput r.items) }
+    ensures shape { IfOk result (λ r. HasShape r.items 14 (scratch + 2)) }
 {
     fresh_instructions(alloc, map, key, lock, scratch)
 }
@@ -67,6 +72,7 @@ pub fn release(
     requires room { scratch ≤ 2 ^ 31 }
     ensures does { IfOk result (λ r. IsReleaseRoutine map.now lock scratch r.items) }
     ensures computes { IfOk result (λ r. IsWithoutInputOutput r.items) }
+    ensures shape { IfOk result (λ r. HasShape r.items 11 (scratch + 3)) }
 {
     release_instructions(alloc, map, lock, scratch)
 }

@@ -3,3 +3,4 @@ pub mod Clearing
 pub mod Starting
 pub mod DirectStart
 pub mod TwoLevel
+pub mod Shapes

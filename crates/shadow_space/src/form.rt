@@ -1,11 +1,12 @@
 //! What a form of the shadow space gives.
 
-ghost use Rattle.std.specs.Prelude.{◌≡◌, ℕ, ◌≤◌, ◌^◌, IfOk, [], ◌∷◌, length};
+ghost use Rattle.std.specs.Prelude.{◌≡◌, ℕ, ◌+◌, ◌≤◌, ◌^◌, IfOk, [], ◌∷◌, length};
 ghost use Rattle.addr_map.specs.Places.{MapSizes, AreMapped};
 ghost use Rattle.flat_meaning.specs.Memory.{Bytes};
 ghost use Rattle.flat_routines.specs.Registers.{AreDistinct, AreBelow};
 ghost use Rattle.flat_routines.specs.Metadata.{View, IsObjectWord, KeepsShadow, entry_registers};
 ghost use Rattle.flat_routines.specs.InputOutput.{IsWithoutInputOutput};
+ghost use Rattle.flat_routines.specs.Shape.{HasShape};
 ghost use Rattle.shadow_space.specs.Form.{IsReadRoutine, IsWriteRoutine, IsClearRoutine};
 ghost use Rattle.shadow_space.specs.Start.{AreStartEntries, StartsShadow};
 
@@ -17,7 +18,8 @@ use std::alloc::{AllocError, Global};
 
 /// A form of the shadow space. The addresses handed to routines are multiples of 8, and the words there lie in object
 /// space. A routine may write the registers from `scratch` on, and those that it gives a result in; it touches the
-/// shadow space alone, shows nothing and does not end the run. The only refusal is that memory fails.
+/// shadow space alone, takes no input, shows nothing and does not end the run. It names no register from the sixth
+/// behind `scratch` on, and is at most 32 instructions. The only refusal is that memory fails.
 pub trait ShadowForm {
     /// The entry of each word, by the memory.
     ghost entry: { View };
@@ -39,6 +41,7 @@ pub trait ShadowForm {
         requires room { scratch ≤ 2 ^ 31 }
         ensures does { IfOk result (λ r. IsReadRoutine map.now entry (IsGood map.now) at into scratch r.items) }
         ensures computes { IfOk result (λ r. IsWithoutInputOutput r.items) }
+        ensures shape { IfOk result (λ r. HasShape r.items 32 (scratch + 6)) }
         ensures short { IfOk result (λ r. length r.items ≤ 32) };
 
     /// Writes the values of the registers of `from` as the entry of the word at the address in `at`, without input and
@@ -55,10 +58,11 @@ pub trait ShadowForm {
         requires room { scratch ≤ 2 ^ 31 }
         ensures does { IfOk result (λ r. IsWriteRoutine map.now entry (IsGood map.now) at from scratch r.items) }
         ensures computes { IfOk result (λ r. IsWithoutInputOutput r.items) }
+        ensures shape { IfOk result (λ r. HasShape r.items 32 (scratch + 6)) }
         ensures short { IfOk result (λ r. length r.items ≤ 32) };
 
     /// Makes the entries of the words from the address in `first` on, as many bytes as `bytes` holds, those of words
-    /// without a pointer.
+    /// without a pointer, without input and output.
     fn clear(
         alloc: Global,
         map: &AddrMap,
@@ -70,6 +74,8 @@ pub trait ShadowForm {
         requires below { AreBelow scratch (first ∷ bytes ∷ []) }
         requires room { scratch ≤ 2 ^ 31 }
         ensures does { IfOk result (λ r. IsClearRoutine map.now entry (IsGood map.now) first bytes scratch r.items) }
+        ensures computes { IfOk result (λ r. IsWithoutInputOutput r.items) }
+        ensures shape { IfOk result (λ r. HasShape r.items 32 (scratch + 6)) }
         ensures short { IfOk result (λ r. length r.items ≤ 32) };
 
     /// Entries depend on the bytes of the shadow space alone, and so does what holds of the memory.

@@ -5,6 +5,8 @@ use Rattle.flat_routines.proofs.InputOutput.{computes}
 use Rattle.lock_space.specs.Routines.{release_code}
 use Rattle.lock_space.specs.Routines.{IsReleaseRoutine}
 use Rattle.lock_space.proofs.FreedLocks.{release_does}
+use Rattle.flat_routines.specs.Shape.{HasShape}
+use Rattle.lock_space.proofs.Shapes.{release_shape}
 use Rattle.lock_space.proofs.routines.release.Goals as goal
 
 pub returns-clause-does : goal.returns-clause-does
@@ -17,3 +19,7 @@ pub returns-clause-computes : goal.returns-clause-computes
 returns-clause-computes c = IfOk-weaker _ _ _
     (λ r e. subst IsWithoutInputOutput (sym e)
     (computes (release_code c.args.map.now c.args.lock c.args.scratch (c.args.scratch + 1) (c.args.scratch + 2)) refl)) c.release_instructions.ensures
+
+pub returns-clause-shape : goal.returns-clause-shape
+returns-clause-shape c = IfOk-weaker _ _ _
+    (λ r e. subst (λ l. HasShape l 11 (c.args.scratch + 3)) (sym e) (release_shape c.args.map.now c.requires.map c.args.lock c.args.scratch c.requires.below)) c.release_instructions.ensures

@@ -6,6 +6,8 @@ use Rattle.shadow_space.specs.TwoLevel.Code.{two_level_read}
 use Rattle.shadow_space.specs.Form.{IsReadRoutine}
 use Rattle.shadow_space.specs.TwoLevel.Tables.{two_level_entry, AreTablesGood}
 use Rattle.shadow_space.proofs.TwoLevel.Reading.{two_level_reads}
+use Rattle.flat_routines.specs.Shape.{HasShape}
+use Rattle.shadow_space.proofs.Shapes.{two_level_read_shape}
 use Rattle.shadow_space.proofs.two_levels.two_level.TwoLevelShadowForm.read_entry.Goals as goal
 
 pub returns-clause-does : goal.returns-clause-does
@@ -19,3 +21,7 @@ pub returns-clause-computes : goal.returns-clause-computes
 returns-clause-computes c = IfOk-weaker _ _ _
     (λ r e. subst IsWithoutInputOutput (sym e)
     (computes (two_level_read c.args.at c.args.into c.args.scratch (c.args.scratch + 1) (c.args.scratch + 2)) refl)) c.read_code.ensures
+
+pub returns-clause-shape : goal.returns-clause-shape
+returns-clause-shape c = IfOk-weaker _ _ _
+    (λ r e. subst (λ l. HasShape l 32 (c.args.scratch + 6)) (sym e) (two_level_read_shape c.args.at c.args.into c.args.scratch c.requires.below)) c.read_code.ensures

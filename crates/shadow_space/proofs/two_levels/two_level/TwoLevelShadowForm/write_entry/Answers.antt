@@ -6,6 +6,8 @@ use Rattle.shadow_space.specs.TwoLevel.Code.{two_level_write}
 use Rattle.shadow_space.specs.Form.{IsWriteRoutine}
 use Rattle.shadow_space.specs.TwoLevel.Tables.{two_level_entry, AreTablesGood}
 use Rattle.shadow_space.proofs.TwoLevel.Writing.{two_level_writes}
+use Rattle.flat_routines.specs.Shape.{HasShape}
+use Rattle.shadow_space.proofs.Shapes.{two_level_write_shape}
 use Rattle.shadow_space.proofs.two_levels.two_level.TwoLevelShadowForm.write_entry.Goals as goal
 
 pub returns-clause-does : goal.returns-clause-does
@@ -20,3 +22,7 @@ returns-clause-computes c = IfOk-weaker _ _ _
     (λ r e. subst IsWithoutInputOutput (sym e)
     (computes (two_level_write c.args.map.now c.args.at c.args.from c.args.scratch (c.args.scratch + 1) (c.args.scratch + 2)
     (c.args.scratch + 3) (c.args.scratch + 4)) refl)) c.write_code.ensures
+
+pub returns-clause-shape : goal.returns-clause-shape
+returns-clause-shape c = IfOk-weaker _ _ _
+    (λ r e. subst (λ l. HasShape l 32 (c.args.scratch + 6)) (sym e) (two_level_write_shape c.args.map.now c.requires.map c.args.at c.args.from c.args.scratch c.requires.below)) c.write_code.ensures

@@ -119,8 +119,8 @@ module _ (c : Context) (ok : IsLaidOut c.sizes) (lie : AreLevelsLaidOut c.sizes)
   clears_there : (k : ℕ) (v s : State) → ShowsNothing start s → (h : I (suc k) v.values v.memory)
       → Looked v.memory (first + 8 * h.done) s.values s.memory → s.values 2 ≡ first + 8 * h.done
       → s.values 3 ≡ v.values 3 → s.values 4 ≡ 0 → table_of v.memory (page_of (first + 8 * h.done)) ≢ 0
-      → HasAt alone 12 (store_it ++ onward)
-      → ReachesQuietly c alone 6 12 start s 18 (λ values m'. (i : ℕ) × (i ≤ k) × I i values m')
+      → HasAt alone 11 (store_it ++ onward)
+      → ReachesQuietly c alone 6 11 start s 17 (λ values m'. (i : ℕ) × (i ≤ k) × I i values m')
   unfolding put reg_result
   clears_there k v s shown h looked cursor end zero_is there has =
       let count = h.count in
@@ -143,7 +143,7 @@ module _ (c : Context) (ok : IsLaidOut c.sizes) (lie : AreLevelsLaidOut c.sizes)
       (record { base = omega arith; bound = omega arith; key = omega arith; lock = omega arith }) in
       let last = range.ends in let heap = lie.heap in
       let next : (s.values 2 + 8) % 2 ^ 64 ≡ first + 8 * (h.done + 1) = omega arith in
-      quiet_end c ok alone start (store_it ++ onward) 12 s (λ values m'. (i : ℕ) × (i ≤ k) × I i values m') shown (
+      quiet_end c ok alone start (store_it ++ onward) 11 s (λ values m'. (i : ℕ) × (i ≤ k) × I i values m') shown (
         tt,
         (
           in_spaces c _ (p + 0) 8 (sum 0 (omega arith)) (omega arith) (omega arith),
@@ -167,14 +167,14 @@ module _ (c : Context) (ok : IsLaidOut c.sizes) (lie : AreLevelsLaidOut c.sizes)
   -- where it has none
   passes : (k : ℕ) (v s : State) → ShowsNothing start s → (h : I (suc k) v.values v.memory)
       → s.memory ≡ v.memory → s.values 2 ≡ first + 8 * h.done → s.values 3 ≡ v.values 3 → s.values 4 ≡ 0
-      → table_of v.memory (page_of (first + 8 * h.done)) ≡ 0 → HasAt alone 17 onward
-      → ReachesQuietly c alone 1 17 start s 18 (λ values m'. (i : ℕ) × (i ≤ k) × I i values m')
+      → table_of v.memory (page_of (first + 8 * h.done)) ≡ 0 → HasAt alone 16 onward
+      → ReachesQuietly c alone 1 16 start s 17 (λ values m'. (i : ℕ) × (i ≤ k) × I i values m')
   unfolding put reg_result
   passes k v s shown h same cursor end zero_is none has =
       let count = h.count in let last = range.ends in let heap = lie.heap in let few = lie.few in
       let a = first + 8 * h.done in
       let next : (s.values 2 + 8) % 2 ^ 64 ≡ first + 8 * (h.done + 1) = omega arith in
-      quiet_end c ok alone start onward 17 s (λ values m'. (i : ℕ) × (i ≤ k) × I i values m') shown (tt, tt) has (
+      quiet_end c ok alone start onward 16 s (λ values m'. (i : ℕ) × (i ≤ k) × I i values m') shown (tt, tt) has (
         k,
         omega arith,
         one_more k v.values v.memory (effects c onward s).memory h
@@ -184,7 +184,7 @@ module _ (c : Context) (ok : IsLaidOut c.sizes) (lie : AreLevelsLaidOut c.sizes)
       )
 
   turn : (k : ℕ) (v : State) → ShowsNothing start v → I (suc k) v.values v.memory → HasAt alone 4 body
-      → ReachesQuietly c alone 14 4 start v 18 (λ values m'. (i : ℕ) × (i ≤ k) × I i values m')
+      → ReachesQuietly c alone 13 4 start v 17 (λ values m'. (i : ℕ) × (i ≤ k) × I i values m')
   unfolding put branch_taken
   turn k v shown h has =
       let J = λ (values : Values) (m' : Bytes). (i : ℕ) × (i ≤ k) × I i values m' in
@@ -193,23 +193,23 @@ module _ (c : Context) (ok : IsLaidOut c.sizes) (lie : AreLevelsLaidOut c.sizes)
       let w = subst (IsObjectWord c.sizes) (sym h.cursor) (word_of h.done (omega arith)) in
       let s = effects c (look_up 2 5 6 7) v in
       let tests = unless_code Beq 5 (Number 0) store_it in
-      let looked = subst (λ x. Looked v.memory x s.values s.memory) h.cursor (looked_up c lie 2 v w) in
+      let looked = subst (λ x. Looked v.memory x s.values s.memory) h.cursor (looked_up c lie 2 (omega arith) v w) in
       let has_front_part = has_front alone 4 (look_up 2 5 6 7 ++ tests) onward has in
       let has_tests = has_back alone 4 (look_up 2 5 6 7) (tests ++ onward) has in
-      quiet_weaken c ok alone start (7 + suc 6) 14 4 v 18 J J (omega arith) (λ x y z. z)
-      (quiet_line c ok alone start (look_up 2 5 6 7) (suc 6) 4 v 18 J shown (look_up_quiet c lie 2 v w)
+      quiet_weaken c ok alone start (6 + suc 6) 13 4 v 17 J J (omega arith) (λ x y z. z)
+      (quiet_line c ok alone start (look_up 2 5 6 7) (suc 6) 4 v 17 J shown (look_up_quiet c lie 2 (omega arith) v w)
       (has_front alone 4 (look_up 2 5 6 7) (tests ++ onward) has)
-      (λ s1. quiet_branch c ok alone start 6 11 s Beq 5 (Number 0) 5 18 J has_tests.0 s1
-      (λ t s2. quiet_weaken c ok alone start 1 6 17 (worked c s) 18 J J (omega arith) (λ x y z. z)
+      (λ s1. quiet_branch c ok alone start 6 10 s Beq 5 (Number 0) 5 17 J has_tests.0 s1
+      (λ t s2. quiet_weaken c ok alone start 1 6 16 (worked c s) 17 J J (omega arith) (λ x y z. z)
       (passes k v (worked c s) s2 h looked.same h.cursor refl h.zero_is
       (sym looked.table ∙ eqb-true (s.values 5) 0 t)
-      (has_back alone 12 store_it onward has_tests.1)))
+      (has_back alone 11 store_it onward has_tests.1)))
       (λ t s2. clears_there k v (worked c s) s2 h
       (record { table = looked.table; cell = looked.cell; offset = looked.offset; same = looked.same }) h.cursor refl
       h.zero_is (λ z. eqb-false (s.values 5) 0 t (looked.table ∙ z)) has_tests.1)))
 
   each : (k : ℕ) (v : State) → ShowsNothing start v → I k v.values v.memory → HasAt alone 4 body
-      → (has : HasAt alone 3 loop) → QuietTurn c ok alone start 3 Bgeu 2 (Register 3) body 14 I D has k v
+      → (has : HasAt alone 3 loop) → QuietTurn c ok alone start 3 Bgeu 2 (Register 3) body 13 I D has k v
   unfolding branch_taken
   each zero v shown h has whole =
       let count = h.count in let cursor = h.cursor in let end = h.end in
@@ -246,19 +246,19 @@ module _ (c : Context) (ok : IsLaidOut c.sizes) (lie : AreLevelsLaidOut c.sizes)
         others = λ b wb out. refl;
       }
 
-  clears_alone : ReachesQuietly c alone (8 + 16 * n) 0 v v 19
+  clears_alone : ReachesQuietly c alone (8 + 16 * n) 0 v v 18
       (λ values m'. Cleared c.sizes v.memory (v.values 0) n m')
   clears_alone =
       let has = has_back alone 0 head loop (has_self alone) in
-      quiet_weaken c ok alone v (3 + (n * (14 + 2) + 1)) (8 + 16 * n) 0 v 19 _ _ (omega arith) (λ x y z. z)
-      (quiet_next c ok alone v 3 (n * (14 + 2) + 1) 0 3 19 v (Clearing c.sizes v.memory (v.values 0) n n)
+      quiet_weaken c ok alone v (3 + (n * (13 + 2) + 1)) (8 + 16 * n) 0 v 18 _ _ (omega arith) (λ x y z. z)
+      (quiet_next c ok alone v 3 (n * (13 + 2) + 1) 0 3 18 v (Clearing c.sizes v.memory (v.values 0) n n)
       (λ values m'. Cleared c.sizes v.memory (v.values 0) n m') w
       (quiet_end c ok alone v head 0 v (Clearing c.sizes v.memory (v.values 0) n n) (shows_itself v)
       (tt, (tt, (tt, tt))) (has_front alone 0 head loop (has_self alone)) begins)
-      (λ s ws shown h. quiet_loop c ok alone v 3 Bgeu 2 (Register 3) body 14
+      (λ s ws shown h. quiet_loop c ok alone v 3 Bgeu 2 (Register 3) body 13
       (Clearing c.sizes v.memory (v.values 0) n) (λ values m'. Cleared c.sizes v.memory (v.values 0) n m') has
       (λ k s' ws' sh i. each c ok lie v v.memory (v.values 0) (v.values 1) n range k s' sh i
-      (has_front alone 4 body (JumpBack 15 ∷ []) has.1) has)
+      (has_front alone 4 body (JumpBack 14 ∷ []) has.1) has)
       n s ws shown h))
 
 abbrev clear_registers : (first bytes scratch : ℕ) → ℕ → ℕ

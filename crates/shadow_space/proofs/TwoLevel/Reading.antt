@@ -10,6 +10,7 @@ use Rattle.flat_meaning.specs.declared.instruction.RightOperand.TheVariants.{Reg
 use Rattle.flat_meaning.specs.declared.instruction.FlatInstruction.{FlatInstruction}
 use Rattle.flat_meaning.specs.declared.instruction.FlatInstruction.TheVariants.{Constant, Operate}
 use Rattle.flat_meaning.specs.Memory.{Bytes, put, load}
+use Rattle.flat_meaning.proofs.Stored.{put_other}
 use Rattle.flat_meaning.specs.State.{Values, State}
 use Rattle.flat_meaning.specs.Meaning.{Context}
 use Rattle.flat_routines.specs.declared.registers.Entry.{Entry}
@@ -51,13 +52,13 @@ pub record Looked (m : Bytes) (a : ℕ) (values : Values) (m' : Bytes) : Type 0 
   pub offset : values 7 ≡ entry_offset a
   pub same : m' ≡ m
 
-module _ (c : Context) (lie : AreLevelsLaidOut c.sizes) (at : ℕ) (v : State)
+module _ (c : Context) (lie : AreLevelsLaidOut c.sizes) (at : ℕ) (apart : at ≢ 6) (v : State)
     (w : IsObjectWord c.sizes (v.values at)) where
-  cell_is : (((((v.values at + (2 ^ 64 - 268435456)) % 2 ^ 64) / 4096 * 8) % 2 ^ 64 + 1073741832) % 2 ^ 64)
+  cell_is : ((v.values at / 4096 * 8) % 2 ^ 64 + 1073217544) % 2 ^ 64
       ≡ page_cell (page_of (v.values at))
   cell_is = let f = w.first in let l = w.last in let h = lie.heap in let n = lie.few in omega arith
 
-  offset_is : ((((v.values at + (2 ^ 64 - 268435456)) % 2 ^ 64) * 4503599627370496) % 2 ^ 64) / 1125899906842624
+  offset_is : ((v.values at * 4503599627370496) % 2 ^ 64) / 1125899906842624
       ≡ entry_offset (v.values at)
   offset_is = let f = w.first in let l = w.last in let h = lie.heap in let n = lie.few in omega arith
 
@@ -66,23 +67,13 @@ module _ (c : Context) (lie : AreLevelsLaidOut c.sizes) (at : ℕ) (v : State)
   look_up_quiet =
       let e = cell_is in let p = page_below c.sizes (v.values at) lie w in let r = lie.room in let i = lie.inside in
       let n = lie.few in
-      let place : ((((((v.values at + (2 ^ 64 - 268435456)) % 2 ^ 64) / 4096 * 8) % 2 ^ 64 + 1073741832) % 2 ^ 64) + 0)
-      % 2 ^ 64 ≡ page_cell (page_of (v.values at)) = omega arith in (
+      let place : (((v.values at / 4096 * 8) % 2 ^ 64 + 1073217544) % 2 ^ 64 + 0) % 2 ^ 64 ≡ page_cell (page_of (v.values at)) = omega arith in (
         tt,
         (
           tt,
           (
             tt,
-            (
-              tt,
-              (
-                tt,
-                (
-                  tt,
-                  (in_spaces c _ (page_cell (page_of (v.values at))) 8 place (omega arith) (omega arith), tt),
-                ),
-              ),
-            ),
+            (tt, (tt, (in_spaces c _ (page_cell (page_of (v.values at))) 8 place (omega arith) (omega arith), tt))),
           ),
         ),
       )
@@ -92,9 +83,12 @@ module _ (c : Context) (lie : AreLevelsLaidOut c.sizes) (at : ℕ) (v : State)
   unfolding put reg_result extended
   looked_up =
       let e = cell_is in let p = page_below c.sizes (v.values at) lie w in let n = lie.few in
-      let place : ((((((v.values at + (2 ^ 64 - 268435456)) % 2 ^ 64) / 4096 * 8) % 2 ^ 64 + 1073741832) % 2 ^ 64) + 0)
-      % 2 ^ 64 ≡ page_cell (page_of (v.values at)) = omega arith in
-      record { table = ap (load 8 v.memory) place; cell = e; offset = offset_is; same = refl }
+      let place : (((v.values at / 4096 * 8) % 2 ^ 64 + 1073217544) % 2 ^ 64 + 0) % 2 ^ 64 ≡ page_cell (page_of (v.values at)) = omega arith in
+      let offset_there : (((put v.values 6 (v.values at / 4096) at) * 4503599627370496) % 2 ^ 64) / 1125899906842624
+      ≡ entry_offset (v.values at) =
+      ap (λ z. ((z * 4503599627370496) % 2 ^ 64) / 1125899906842624)
+      (put_other v.values 6 (v.values at / 4096) at apart) ∙ offset_is in
+      record { table = ap (load 8 v.memory) place; cell = e; offset = offset_there; same = refl }
 
 -- ---- the routine alone
 
@@ -120,7 +114,7 @@ module _ (c : Context) (ok : IsLaidOut c.sizes) (lie : AreLevelsLaidOut c.sizes)
 
   -- the entry is loaded from the table
   loads : (s : State) → ShowsNothing v s → Looked v.memory (v.values 0) s.values s.memory → table ≢ 0
-      → HasAt alone 12 load_it → ReachesQuietly c alone 5 12 v s 17 J
+      → HasAt alone 11 load_it → ReachesQuietly c alone 5 11 v s 16 J
   unfolding put reg_result extended
   loads s shown h ne has =
       let spot = spot_within c.sizes lie v.memory g (v.values 0) w ne no_metadata in
@@ -131,7 +125,7 @@ module _ (c : Context) (ok : IsLaidOut c.sizes) (lie : AreLevelsLaidOut c.sizes)
       let sum : (offset : ℕ) → offset ≤ 24 → ((s.values 5 + s.values 7) % 2 ^ 64 + offset) % 2 ^ 64 ≡ p + offset =
       λ offset l. omega arith in
       let s0 : ((s.values 5 + s.values 7) % 2 ^ 64 + 0) % 2 ^ 64 ≡ p = omega arith in
-      quiet_end c ok alone v load_it 12 s J shown (
+      quiet_end c ok alone v load_it 11 s J shown (
         tt,
         (
           in_spaces c _ (p + 0) 8 (sum 0 (omega arith)) (omega arith) (omega arith),
@@ -152,30 +146,30 @@ module _ (c : Context) (ok : IsLaidOut c.sizes) (lie : AreLevelsLaidOut c.sizes)
 
   front_quiet : AreQuiet c front v
   front_quiet =
-      let q = look_up_quiet c lie 0 v w in
-      (tt, (tt, (tt, (tt, (tt, (tt, (q.1.1.1.1.1.1.0, (tt, (tt, (tt, (tt, tt)))))))))))
+      let q = look_up_quiet c lie 0 (omega arith) v w in
+      (tt, (tt, (tt, (tt, (tt, (q.1.1.1.1.1.0, (tt, (tt, (tt, (tt, tt))))))))))
 
   front_looked : Looked v.memory (v.values 0) (effects c front v).values (effects c front v).memory
   unfolding put
   front_looked =
-      let h = looked_up c lie 0 v w in record { table = h.table; cell = h.cell; offset = h.offset; same = h.same }
+      let h = looked_up c lie 0 (omega arith) v w in record { table = h.table; cell = h.cell; offset = h.offset; same = h.same }
 
   front_none : metadata_in (effects c front v).values own ≡ no_metadata
   unfolding put
   front_none = refl
 
-  reads_alone : ReachesQuietly c alone 18 0 v v 17 J
+  reads_alone : ReachesQuietly c alone 18 0 v v 16 J
   unfolding branch_taken
   reads_alone =
       let has = has_self alone in
       let rest = has_back alone 0 front (unless_code Beq 5 (Number 0) load_it) has in
       let s = effects c front v in
       let h = front_looked in
-      quiet_weaken c ok alone v (11 + suc 5) 18 0 v 17 J J (omega arith) (λ x y z. z)
-      (quiet_line c ok alone v front (suc 5) 0 v 17 J (shows_itself v) front_quiet
+      quiet_weaken c ok alone v (10 + suc 5) 18 0 v 16 J J (omega arith) (λ x y z. z)
+      (quiet_line c ok alone v front (suc 5) 0 v 16 J (shows_itself v) front_quiet
       (has_front alone 0 front (unless_code Beq 5 (Number 0) load_it) has)
-      (λ s1. quiet_branch c ok alone v 5 11 s Beq 5 (Number 0) 5 17 J rest.0 s1
-      (λ e s2. quiet_arrived c ok alone v 5 17 17 (worked c s) J refl (
+      (λ s1. quiet_branch c ok alone v 5 10 s Beq 5 (Number 0) 5 16 J rest.0 s1
+      (λ e s2. quiet_arrived c ok alone v 5 16 16 (worked c s) J refl (
         s2,
         (
           front_none ∙ sym (no_table v.memory table (entry_offset (v.values 0))

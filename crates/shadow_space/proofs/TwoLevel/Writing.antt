@@ -119,14 +119,14 @@ tests map =
     ∷ Branch Beq 4 (Number 0) 11
     ∷ (taking map ++ store_it)
 
-has_7 : (map : MapSizes) → HasAt (alone map) 7 (tests map)
-has_7 map = has_back (alone map) 0 (look_up 0 5 6 7) (tests map) (has_self (alone map))
+has_6 : (map : MapSizes) → HasAt (alone map) 6 (tests map)
+has_6 map = has_back (alone map) 0 (look_up 0 5 6 7) (tests map) (has_self (alone map))
 
-has_12 : (map : MapSizes) → HasAt (alone map) 12 (taking map)
-has_12 map = has_front (alone map) 12 (taking map) store_it (has_7 map).1.1.1.1.1
+has_11 : (map : MapSizes) → HasAt (alone map) 11 (taking map)
+has_11 map = has_front (alone map) 11 (taking map) store_it (has_6 map).1.1.1.1.1
 
-has_18 : (map : MapSizes) → HasAt (alone map) 18 store_it
-has_18 map = has_back (alone map) 12 (taking map) store_it (has_7 map).1.1.1.1.1
+has_17 : (map : MapSizes) → HasAt (alone map) 17 store_it
+has_17 map = has_back (alone map) 11 (taking map) store_it (has_6 map).1.1.1.1.1
 
 module _ (c : Context) (ok : IsLaidOut c.sizes) (lie : AreLevelsLaidOut c.sizes) (v : State) (word : IsOfWords v)
     (w : IsObjectWord c.sizes (v.values 0)) (g : AreTablesGood c.sizes v.memory) where
@@ -155,7 +155,7 @@ module _ (c : Context) (ok : IsLaidOut c.sizes) (lie : AreLevelsLaidOut c.sizes)
   stores : (s : State) (t : ℕ) → ShowsNothing v s → s.values 5 ≡ t → s.values 7 ≡ entry_offset a
       → metadata_in s.values own ≡ e → first_table c.sizes ≤ t → t + 16384 ≤ first_table c.sizes + 16384 * pages c.sizes
       → IsWritten c.sizes m a e (store_four s.memory (t + entry_offset a) e)
-      → ReachesQuietly c (alone c.sizes) 5 18 v s 23 J
+      → ReachesQuietly c (alone c.sizes) 5 17 v s 22 J
   unfolding put reg_result
   stores s t shown is_table is_offset is_entry lo hi h =
       let r = lie.room in let i = lie.inside in let few = lie.few in let o = offset_below c.sizes a w in
@@ -167,7 +167,7 @@ module _ (c : Context) (ok : IsLaidOut c.sizes) (lie : AreLevelsLaidOut c.sizes)
       stored_at s.memory p _ _ _ _ (metadata_in s.values own) s0 (sum 8 (omega arith)) (sum 16 (omega arith))
       (sum 24 (omega arith))
       ∙ ap (store_four s.memory p) is_entry in
-      quiet_end c ok (alone c.sizes) v store_it 18 s J shown (
+      quiet_end c ok (alone c.sizes) v store_it 17 s J shown (
         tt,
         (
           in_spaces c _ (p + 0) 8 (sum 0 (omega arith)) (omega arith) (omega arith),
@@ -180,11 +180,11 @@ module _ (c : Context) (ok : IsLaidOut c.sizes) (lie : AreLevelsLaidOut c.sizes)
           ),
         ),
       )
-      (has_18 c.sizes) (subst (IsWritten c.sizes m a e) (sym same) h)
+      (has_17 c.sizes) (subst (IsWritten c.sizes m a e) (sym same) h)
 
   -- a table is taken, and then the entry stored
   takes : (s : State) → ShowsNothing v s → Ready s.values s.memory → table ≡ 0
-      → ReachesQuietly c (alone c.sizes) 11 12 v s 23 J
+      → ReachesQuietly c (alone c.sizes) 11 11 v s 22 J
   unfolding put reg_result extended
   takes s shown h none =
       let page = page_below c.sizes a lie w in
@@ -203,7 +203,7 @@ module _ (c : Context) (ok : IsLaidOut c.sizes) (lie : AreLevelsLaidOut c.sizes)
       let same : (effects c (taking c.sizes) s).memory ≡ m1 =
       same_two s.memory m _ _ _ _ taken_cell (16384 * (g.taken + 1)) (page_cell (page_of a))
       (first_table c.sizes + 16384 * g.taken) h.0.same at more place new in
-      quiet_line c ok (alone c.sizes) v (taking c.sizes) 5 12 s 23 J shown (
+      quiet_line c ok (alone c.sizes) v (taking c.sizes) 5 11 s 22 J shown (
         tt,
         (
           in_spaces c _ taken_cell 8 at (omega arith) (omega arith),
@@ -216,7 +216,7 @@ module _ (c : Context) (ok : IsLaidOut c.sizes) (lie : AreLevelsLaidOut c.sizes)
           ),
         ),
       )
-      (has_12 c.sizes)
+      (has_11 c.sizes)
       (λ s1. stores (effects c (taking c.sizes) s) (first_table c.sizes + 16384 * g.taken) s1 new h.0.offset h.1
       (omega arith) (omega arith)
       (subst (λ x. IsWritten c.sizes m a e (store_four x (first_table c.sizes + 16384 * g.taken + entry_offset a) e))
@@ -228,23 +228,23 @@ module _ (c : Context) (ok : IsLaidOut c.sizes) (lie : AreLevelsLaidOut c.sizes)
 
   -- a page without a table: whether the entry is none
   chooses : (s : State) → ShowsNothing v s → Ready s.values s.memory → table ≡ 0
-      → ReachesQuietly c (alone c.sizes) 15 8 v s 23 J
+      → ReachesQuietly c (alone c.sizes) 15 7 v s 22 J
   unfolding branch_taken
   chooses s shown h none =
-      let has = (has_7 c.sizes).1 in
+      let has = (has_6 c.sizes).1 in
       let code = alone c.sizes in
-      quiet_branch c ok code v 14 8 s Bne 1 (Number 0) 3 23 J has.0 shown
-      (λ t s1. quiet_weaken c ok code v 11 14 12 (worked c s) 23 J J (omega arith) (λ x y z. z)
+      quiet_branch c ok code v 14 7 s Bne 1 (Number 0) 3 22 J has.0 shown
+      (λ t s1. quiet_weaken c ok code v 11 14 11 (worked c s) 22 J J (omega arith) (λ x y z. z)
       (takes (worked c s) s1 (again s h) none))
-      (λ t1 s1. quiet_branch c ok code v 13 9 (worked c s) Bne 2 (Number 0) 2 23 J has.1.0 s1
-      (λ t s2. quiet_weaken c ok code v 11 13 12 (worked c (worked c s)) 23 J J (omega arith) (λ x y z. z)
+      (λ t1 s1. quiet_branch c ok code v 13 8 (worked c s) Bne 2 (Number 0) 2 22 J has.1.0 s1
+      (λ t s2. quiet_weaken c ok code v 11 13 11 (worked c (worked c s)) 22 J J (omega arith) (λ x y z. z)
       (takes (worked c (worked c s)) s2 (again s h) none))
-      (λ t2 s2. quiet_branch c ok code v 12 10 (worked c (worked c s)) Bne 3 (Number 0) 1 23 J has.1.1.0 s2
-      (λ t s3. quiet_weaken c ok code v 11 12 12 (worked c (worked c (worked c s))) 23 J J (omega arith) (λ x y z. z)
+      (λ t2 s2. quiet_branch c ok code v 12 9 (worked c (worked c s)) Bne 3 (Number 0) 1 22 J has.1.1.0 s2
+      (λ t s3. quiet_weaken c ok code v 11 12 11 (worked c (worked c (worked c s))) 22 J J (omega arith) (λ x y z. z)
       (takes (worked c (worked c (worked c s))) s3 (again s h) none))
-      (λ t3 s3. quiet_branch c ok code v 11 11 (worked c (worked c (worked c s))) Beq 4
-      (Number 0) 11 23 J has.1.1.1.0 s3
-      (λ t4 s4. quiet_arrived c ok code v 11 23 23 (worked c (worked c (worked c (worked c s)))) J refl (
+      (λ t3 s3. quiet_branch c ok code v 11 10 (worked c (worked c (worked c s))) Beq 4
+      (Number 0) 11 22 J has.1.1.1.0 s3
+      (λ t4 s4. quiet_arrived c ok code v 11 22 22 (worked c (worked c (worked c (worked c s)))) J refl (
         s4,
         subst (IsWritten c.sizes m a e) (sym h.0.same) (none_written c.sizes lie m g a w e none
             (sym h.1 ∙ same_metadata (metadata_in s.values own) no_metadata (if_zero (s.values 1) t1)
@@ -256,22 +256,22 @@ module _ (c : Context) (ok : IsLaidOut c.sizes) (lie : AreLevelsLaidOut c.sizes)
       again : (s : State) → Ready s.values s.memory → Ready s.values s.memory
       again s h = (record { table = h.0.table; cell = h.0.cell; offset = h.0.offset; same = h.0.same }, h.1)
 
-  writes_alone : ReachesQuietly c (alone c.sizes) 24 0 v v 23 J
+  writes_alone : ReachesQuietly c (alone c.sizes) 24 0 v v 22 J
   unfolding put branch_taken
   writes_alone =
       let has = has_self (alone c.sizes) in
       let s = effects c (look_up 0 5 6 7) v in
-      let h = looked_up c lie 0 v w in
+      let h = looked_up c lie 0 (omega arith) v w in
       let code = alone c.sizes in
-      quiet_weaken c ok code v (7 + suc 15) 24 0 v 23 J J (omega arith) (λ x y z. z)
-      (quiet_line c ok code v (look_up 0 5 6 7) (suc 15) 0 v 23 J (shows_itself v) (look_up_quiet c lie 0 v w)
+      quiet_weaken c ok code v (6 + suc 15) 24 0 v 22 J J (omega arith) (λ x y z. z)
+      (quiet_line c ok code v (look_up 0 5 6 7) (suc 15) 0 v 22 J (shows_itself v) (look_up_quiet c lie 0 (omega arith) v w)
       (has_front code 0 (look_up 0 5 6 7) (tests c.sizes) has)
-      (λ s1. quiet_branch c ok code v 15 7 s Bne 5 (Number 0) 10 23 J (has_7 c.sizes).0 s1
+      (λ s1. quiet_branch c ok code v 15 6 s Bne 5 (Number 0) 10 22 J (has_6 c.sizes).0 s1
       (λ t s2.
       let there : table ≢ 0 = λ z. not_zero (s.values 5) t (h.table ∙ z) in
       let spot = g.table (page_of a) (page_below c.sizes a lie w) there in
       let below = spot.1 in let at = spot.2 in let n = g.within in
-      quiet_weaken c ok code v 5 15 18 (worked c s) 23 J J (omega arith) (λ x y z. z)
+      quiet_weaken c ok code v 5 15 17 (worked c s) 22 J J (omega arith) (λ x y z. z)
       (stores (worked c s) table s2 h.table h.offset refl (omega arith) (omega arith)
       (subst (λ x. IsWritten c.sizes m a e (store_four x (table + entry_offset a) e)) (sym h.same)
       (written_there c.sizes lie m g a w e there words))))

@@ -1,7 +1,7 @@
 -- The instructions of the form in two levels.
-use Rattle.std.specs.Prelude.{ℕ, ◌+◌, List, [], ◌∷◌, ◌++◌}
+use Rattle.std.specs.Prelude.{ℕ, ◌+◌, ◌-◌, ◌/◌, List, [], ◌∷◌, ◌++◌}
 use Rattle.rv_isa.specs.declared.instruction.BranchOp.TheVariants.{Beq, Bne, Bgeu}
-use Rattle.rv_isa.specs.declared.instruction.RegOp.TheVariants.{Add, Sub, Sll, Srl}
+use Rattle.rv_isa.specs.declared.instruction.RegOp.TheVariants.{Add, Sll, Srl}
 use Rattle.rv_isa.specs.declared.instruction.LoadOp.TheVariants.{Ld}
 use Rattle.rv_isa.specs.declared.instruction.StoreOp.TheVariants.{Sd}
 use Rattle.addr_map.specs.Places.{MapSizes, objects_begin, spaces_begin}
@@ -14,15 +14,15 @@ use Rattle.flat_routines.specs.Routine.{unless_code, until_code}
 use Rattle.shadow_space.specs.Direct.{load_entry, store_entry, same_register}
 use Rattle.shadow_space.specs.TwoLevel.Tables.{first_table}
 
--- the cell of a word's page, the offset of its entry, and the table
+-- The offset of a word's entry, the cell of its page, and the table. Objects begin at a whole page, so the address
+-- itself has the offset within the page.
 abbrev pub look_up : (at table cell offset : ℕ) → List FlatInstruction
 look_up a t f u =
-    Operate Sub f a (Number objects_begin)
-    ∷ Operate Sll u f (Number 52)
+    Operate Srl f a (Number 12)
+    ∷ Operate Sll u a (Number 52)
     ∷ Operate Srl u u (Number 50)
-    ∷ Operate Srl f f (Number 12)
     ∷ Operate Sll f f (Number 3)
-    ∷ Operate Add f f (Number (spaces_begin + 8))
+    ∷ Operate Add f f (Number (spaces_begin + 8 - objects_begin / 512))
     ∷ Load Ld t f 0
     ∷ []
 

@@ -20,6 +20,9 @@ use std::alloc::{AllocError, Global};
 // The address of the first level, behind the cell of the reserve.
 const FIRST_LEVEL: u64 = 0x4000_0008;
 
+// Where the cell of an address stands, less 8 for each page below it.
+const PAGE_CELLS: u64 = FIRST_LEVEL - OBJECTS / 512;
+
 /// The form with a word for each page of 4096 bytes of object space, and tables of 512 entries from a reserve that has
 /// one for each page.
 pub struct TwoLevel;
@@ -95,15 +98,15 @@ fn look_up(
 {
     let code = [
         FlatInstruction::Operate {
-            op: RegOp::Sub,
+            op: RegOp::Srl,
             into: cell,
             left: at,
-            right: RightOperand::Number(OBJECTS),
+            right: RightOperand::Number(12),
         },
         FlatInstruction::Operate {
             op: RegOp::Sll,
             into: offset,
-            left: cell,
+            left: at,
             right: RightOperand::Number(52),
         },
         FlatInstruction::Operate {
@@ -111,12 +114,6 @@ fn look_up(
             into: offset,
             left: offset,
             right: RightOperand::Number(50),
-        },
-        FlatInstruction::Operate {
-            op: RegOp::Srl,
-            into: cell,
-            left: cell,
-            right: RightOperand::Number(12),
         },
         FlatInstruction::Operate {
             op: RegOp::Sll,
@@ -128,7 +125,7 @@ fn look_up(
             op: RegOp::Add,
             into: cell,
             left: cell,
-            right: RightOperand::Number(FIRST_LEVEL),
+            right: RightOperand::Number(PAGE_CELLS),
         },
         FlatInstruction::Load {
             op: LoadOp::Ld,
@@ -323,7 +320,7 @@ fn clear_code(
             op: BranchOp::Bgeu,
             left: cursor,
             right: RightOperand::Register(end),
-            past: 15,
+            past: 14,
         },
     ];
     let mut code = Vec::from_slice(alloc, &begin)?;
@@ -353,7 +350,7 @@ fn clear_code(
             left: cursor,
             right: RightOperand::Number(8),
         },
-        FlatInstruction::JumpBack { back: 15 },
+        FlatInstruction::JumpBack { back: 14 },
     ];
     code.extend_from_slice(&turn)?;
     Ok(code)

@@ -1,6 +1,7 @@
 //! The routine that judges an access.
 
-ghost use Rattle.std.specs.Prelude.{◌≡◌, ◌≤◌, ◌^◌, IfOk, ◌∷◌};
+ghost use Rattle.std.specs.Prelude.{◌≡◌, ◌≤◌, ◌^◌, IfOk, ◌∷◌, ◌+◌};
+ghost use Rattle.flat_routines.specs.Shape.{HasShape};
 ghost use Rattle.flat_routines.specs.Registers.{AreBelow};
 ghost use Rattle.flat_routines.specs.Metadata.{held_registers};
 ghost use Rattle.flat_actions.specs.Judgement.Judging.{IsJudgeRoutine};
@@ -25,7 +26,8 @@ pub fn judge(
 ) -> Result<Vec<FlatInstruction>, AllocError>
     requires below { AreBelow scratch (size ∷ held_registers pointer) }
     requires room { scratch ≤ 2 ^ 31 }
-    ensures { IfOk result (λ r. IsJudgeRoutine pointer size line scratch r.items) }
+    ensures does { IfOk result (λ r. IsJudgeRoutine pointer size line scratch r.items) }
+    ensures shape { IfOk result (λ r. HasShape r.items 10 (scratch + 1)) }
 {
     judge_instructions(alloc, pointer, size, line, scratch)
 }

@@ -107,6 +107,13 @@ pub piece : (m : ℕ) (xs : List ℕ) (is : List FlatInstruction) (most : ℕ) �
 piece m xs is most below few each =
     shaped_registers m xs is most below (shaped is most (length xs) (leb-true (length is) most few) each)
 
+-- the same, with registers that others gave in front of its own
+pub piece_behind : (t m : ℕ) (args own : List ℕ) (is : List FlatInstruction) (most : ℕ) → t ≤ m → AreBelow t args
+    → AreBelow m own → nat_le (length is) most ≡ true → are_shaped (length (args ++ own)) is ≡ true
+    → HasShape (map (rename (λ k. get_or (args ++ own) k 0)) is) most m
+piece_behind t m args own is most le below o few each =
+    piece m (args ++ own) is most (below_both m args own (below_more t m args le below) o) few each
+
 -- and one that reads some registers, gives results in others and has its own behind both
 pub shaped_routine : (ins res own : List ℕ) (t m : ℕ) (is : List FlatInstruction) (most : ℕ) → t ≤ m
     → AreBelow t ins → AreBelow t res → AreBelow m own → HasShape is most (length (ins ++ (res ++ own)))
@@ -156,6 +163,14 @@ more is a b m n le lm h = record {
         same : (ls : List FlatInstruction) → map (rename (λ x. x)) ls ≡ ls
         same [] = refl
         same (l ∷ ls) = ap (λ k. k ∷ map (rename (λ x. x)) ls) (kept l) ∙ ap (λ k. l ∷ k) (same ls)
+
+-- of more registers
+pub up_to : {is : List FlatInstruction} {a : ℕ} (m n : ℕ) → m ≤ n → HasShape is a m → HasShape is a n
+up_to {is} {a} m n le h = more is a a m n (omega arith) le h
+
+-- and of more instructions
+pub at_most : {is : List FlatInstruction} {m : ℕ} (a b : ℕ) → a ≤ b → HasShape is a m → HasShape is b m
+at_most {is} {m} a b le h = more is a b m m le (omega arith) h
 
 appended : (m : ℕ) (xs ys : List FlatInstruction) → are_shaped m xs ≡ true → are_shaped m ys ≡ true
     → are_shaped m (xs ++ ys) ≡ true

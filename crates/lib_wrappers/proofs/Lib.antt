@@ -2,3 +2,4 @@ pub mod MovingRoutines
 pub mod StringRoutines
 pub mod PrintingRoutines
 pub mod ComparingRoutines
+pub mod Shapes

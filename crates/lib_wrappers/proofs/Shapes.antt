@@ -67,11 +67,11 @@ tagged_shape to from n t body below e f g h k =
     (shaped_joined e f g (up_to (t + 5) (t + 14) (omega arith) h) (words_shape to from n t body below k))
 
 -- two judgements, and then the act
-pub memmove_shape : {r whole first second act : List FlatInstruction} (n t : ℕ) (to into : Held) → n < t
+pub memmove_shape : {r first second act : List FlatInstruction} (n t : ℕ) (to into : Held) → n < t
     → AreBelow t (held_registers to) → AreBelow t (held_registers into)
     → r ≡ guarded_code n to into (first ++ (second ++ act))
     → HasShape first 10 (t + 1) → HasShape second 10 (t + 1) → HasShape act 128 (t + 14) → HasShape r 160 (t + 14)
-memmove_shape {r} {whole} {first} {second} {act} n t to into l below res e f s h =
+memmove_shape {r} {first} {second} {act} n t to into l below res e f s h =
     let m = t + 14 in
     let le : t + 1 ≤ m = omega arith in
     at_most (10 + (10 + 128) + 1 + 5) 160 (omega arith)
@@ -223,6 +223,26 @@ strchr_shape h byte into line t below res =
 
 -- ---- numbers
 
-module _ (value count t : ℕ) (v : value < t) (c : count < t) where
-  number_with : (d : Directive) → HasShape (number_code d value count t) 48 (t + 4)
-  number_with directive.Int = of (number_code directive.Int 0 1 2) refl refl
+pub number_shape : (value count t : ℕ) → value < t → count < t → (d : Directive)
+    → HasShape (number_code d value count t) 48 (t + 4)
+number_shape value count t v c directive.Int =
+    piece_behind t (t + 4) (value ∷ count ∷ []) (t ∷ (t + 1) ∷ (t + 1 + 1) ∷ (t + 1 + 2) ∷ []) (number_code directive.Int 0 1 2)
+    48 (omega arith) (v, (c, tt)) (omega arith, (omega arith, (omega arith, (omega arith, tt)))) refl refl
+number_shape value count t v c directive.UnsignedInt =
+    piece_behind t (t + 4) (value ∷ count ∷ []) (t ∷ (t + 1) ∷ (t + 1 + 1) ∷ (t + 1 + 2) ∷ []) (number_code directive.UnsignedInt 0 1 2)
+    48 (omega arith) (v, (c, tt)) (omega arith, (omega arith, (omega arith, (omega arith, tt)))) refl refl
+number_shape value count t v c directive.Hexadecimal =
+    piece_behind t (t + 4) (value ∷ count ∷ []) (t ∷ (t + 1) ∷ (t + 1 + 1) ∷ (t + 1 + 2) ∷ []) (number_code directive.Hexadecimal 0 1 2)
+    48 (omega arith) (v, (c, tt)) (omega arith, (omega arith, (omega arith, (omega arith, tt)))) refl refl
+number_shape value count t v c directive.Character =
+    piece_behind t (t + 4) (value ∷ count ∷ []) (t ∷ []) (number_code directive.Character 0 1 2)
+    48 (omega arith) (v, (c, tt)) (omega arith, tt) refl refl
+number_shape value count t v c directive.Long =
+    piece_behind t (t + 4) (value ∷ count ∷ []) (t ∷ (t + 1) ∷ (t + 1 + 1) ∷ (t + 1 + 2) ∷ []) (number_code directive.Long 0 1 2)
+    48 (omega arith) (v, (c, tt)) (omega arith, (omega arith, (omega arith, (omega arith, tt)))) refl refl
+number_shape value count t v c directive.UnsignedLong =
+    piece_behind t (t + 4) (value ∷ count ∷ []) (t ∷ (t + 1) ∷ (t + 2) ∷ []) (number_code directive.UnsignedLong 0 1 2)
+    48 (omega arith) (v, (c, tt)) (omega arith, (omega arith, (omega arith, tt))) refl refl
+number_shape value count t v c directive.String =
+    piece_behind t (t + 4) (value ∷ count ∷ []) (t ∷ []) (number_code directive.String 0 1 2)
+    48 (omega arith) (v, (c, tt)) (omega arith, tt) refl refl

@@ -2,6 +2,7 @@
 
 ghost use Rattle.std.specs.Prelude.{◌≡◌, ◌+◌, ◌≤◌, ◌^◌, IfOk, [], ◌∷◌};
 ghost use Rattle.addr_map.specs.Places.{AreMapped};
+ghost use Rattle.flat_routines.specs.Shape.{HasShape};
 ghost use Rattle.flat_routines.specs.Registers.{AreNoneOf, AreBelow};
 ghost use Rattle.flat_routines.specs.Metadata.{held_registers};
 ghost use Rattle.lib_wrappers.specs.ComparingRoutines.Comparing.{IsStrcmp, IsMemcmp, strcmp_code, memcmp_code};
@@ -37,8 +38,9 @@ pub fn strcmp<S: ShadowForm>(
     requires right { AreBelow scratch (held_registers right) }
     requires results { AreBelow scratch (into ∷ []) }
     requires room { scratch ≤ 2 ^ 31 }
-    ensures { IfOk result (λ r. IsStrcmp (runtime_basis map.now S.entry (S.IsGood map.now)) left right into line
+    ensures does { IfOk result (λ r. IsStrcmp (runtime_basis map.now S.entry (S.IsGood map.now)) left right into line
         scratch r.items) }
+    ensures shape { IfOk result (λ r. HasShape r.items 64 (scratch + 4)) }
 {
     strcmp_instructions(alloc, left, right, into, line, scratch)
 }
@@ -73,8 +75,9 @@ pub fn memcmp<S: ShadowForm>(
     requires right { AreBelow scratch (ranges.size ∷ held_registers ranges.right) }
     requires results { AreBelow scratch (ranges.into ∷ []) }
     requires room { scratch ≤ 2 ^ 31 }
-    ensures { IfOk result (λ r. IsMemcmp (runtime_basis map.now S.entry (S.IsGood map.now)) ranges.left ranges.right
+    ensures does { IfOk result (λ r. IsMemcmp (runtime_basis map.now S.entry (S.IsGood map.now)) ranges.left ranges.right
         ranges.size ranges.into line scratch r.items) }
+    ensures shape { IfOk result (λ r. HasShape r.items 64 (scratch + 5)) }
 {
     memcmp_instructions(alloc, ranges, line, scratch)
 }

@@ -2,6 +2,7 @@
 
 ghost use Rattle.std.specs.Prelude.{◌≡◌, ◌+◌, ◌≤◌, ◌^◌, IfOk, ◌∷◌};
 ghost use Rattle.addr_map.specs.Places.{AreMapped};
+ghost use Rattle.flat_routines.specs.Shape.{HasShape};
 ghost use Rattle.flat_routines.specs.Registers.{AreNoneOf, AreDistinct, AreBelow};
 ghost use Rattle.flat_routines.specs.Metadata.{held_registers};
 ghost use Rattle.lib_wrappers.specs.ComparingRoutines.Seeking.{IsStrchr, strchr_code, seek_start, seek_loop, null_code};
@@ -36,8 +37,9 @@ pub fn strchr<S: ShadowForm>(
     requires below { AreBelow scratch (byte ∷ held_registers string) }
     requires results { AreBelow scratch (held_registers into) }
     requires room { scratch ≤ 2 ^ 31 }
-    ensures { IfOk result (λ r. IsStrchr (runtime_basis map.now S.entry (S.IsGood map.now)) string byte into line
+    ensures does { IfOk result (λ r. IsStrchr (runtime_basis map.now S.entry (S.IsGood map.now)) string byte into line
         scratch r.items) }
+    ensures shape { IfOk result (λ r. HasShape r.items 48 (scratch + 2)) }
 {
     strchr_instructions(alloc, string, byte, into, line, scratch)
 }

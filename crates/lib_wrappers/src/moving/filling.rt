@@ -2,6 +2,7 @@
 
 ghost use Rattle.std.specs.Prelude.{◌≡◌, ◌+◌, ◌≤◌, ◌^◌, IfOk, [], ◌∷◌};
 ghost use Rattle.addr_map.specs.Places.{AreMapped};
+ghost use Rattle.flat_routines.specs.Shape.{HasShape};
 ghost use Rattle.flat_routines.specs.Registers.{AreBelow};
 ghost use Rattle.flat_actions.specs.Ranges.{IsFillRoutine};
 ghost use Rattle.lib_wrappers.specs.MovingRoutines.Filling.{fill_code};
@@ -24,7 +25,8 @@ pub fn fill(
     requires map { AreMapped map.now }
     requires below { AreBelow scratch (to ∷ byte ∷ bytes ∷ []) }
     requires room { scratch + 8 ≤ 2 ^ 31 }
-    ensures { IfOk result (λ r. IsFillRoutine map.now to byte bytes scratch r.items) }
+    ensures does { IfOk result (λ r. IsFillRoutine map.now to byte bytes scratch r.items) }
+    ensures shape { IfOk result (λ r. HasShape r.items 8 (scratch + 2)) }
 {
     fill_instructions(alloc, to, byte, bytes, scratch)
 }

@@ -2,6 +2,7 @@
 
 ghost use Rattle.std.specs.Prelude.{◌+◌, ◌≤◌, ◌<◌, ◌^◌, IfOk};
 ghost use Rattle.addr_map.specs.Places.{AreMapped};
+ghost use Rattle.flat_routines.specs.Shape.{HasShape};
 ghost use Rattle.flat_routines.specs.Registers.{AreBelow, AreNoneOf, AreDistinct};
 ghost use Rattle.flat_routines.specs.Metadata.{held_registers};
 ghost use Rattle.lib_wrappers.specs.MovingRoutines.Library.{MovesObjects, CopiesObjects, SetsObjects};
@@ -65,6 +66,7 @@ pub fn memmove<S: ShadowForm>(
         copy.from copy.size copy.into line scratch r.items) }
     ensures memcpy { IfOk result (λ r. CopiesObjects (runtime_basis map.now S.entry (S.IsGood map.now)) copy.to
         copy.from copy.size copy.into line scratch r.items) }
+    ensures shape { IfOk result (λ r. HasShape r.items 160 (scratch + 14)) }
 {
     let first = judge(alloc, copy.to, copy.size, line, scratch)?;
     let second = judge(alloc, copy.from, copy.size, line, scratch)?;
@@ -100,8 +102,9 @@ pub fn memset<S: ShadowForm>(
     requires distinct { AreDistinct (held_registers range.into) }
     requires others { AreNoneOf (held_registers range.to) (held_registers range.into) }
     requires room { scratch + 8 ≤ 2 ^ 31 }
-    ensures { IfOk result (λ r. SetsObjects (runtime_basis map.now S.entry (S.IsGood map.now)) range.to range.byte
+    ensures does { IfOk result (λ r. SetsObjects (runtime_basis map.now S.entry (S.IsGood map.now)) range.to range.byte
         range.size range.into line scratch r.items) }
+    ensures shape { IfOk result (λ r. HasShape r.items 32 (scratch + 2)) }
 {
     S::entries_are_local();
     let first = judge(alloc, range.to, range.size, line, scratch)?;

@@ -2,6 +2,7 @@
 
 ghost use Rattle.std.specs.Prelude.{◌≡◌, ◌+◌, ◌≤◌, ◌<◌, ◌^◌, ◌++◌, IfOk, [], ◌∷◌, length};
 ghost use Rattle.addr_map.specs.Places.{AreMapped};
+ghost use Rattle.flat_routines.specs.Shape.{HasShape};
 ghost use Rattle.flat_routines.specs.Registers.{AreBelow};
 ghost use Rattle.flat_actions.specs.Ranges.{IsByteMoveRoutine, IsTaggedMoveRoutine};
 ghost use Rattle.lib_wrappers.specs.MovingRoutines.Copying.{choose_order, copy_loop};
@@ -30,7 +31,8 @@ pub fn move_bytes(
     requires map { AreMapped map.now }
     requires below { AreBelow scratch (to ∷ from ∷ bytes ∷ []) }
     requires room { scratch + 8 ≤ 2 ^ 31 }
-    ensures { IfOk result (λ r. IsByteMoveRoutine map.now to from bytes scratch r.items) }
+    ensures does { IfOk result (λ r. IsByteMoveRoutine map.now to from bytes scratch r.items) }
+    ensures shape { IfOk result (λ r. HasShape r.items 24 (scratch + 5)) }
 {
     move_bytes_instructions(alloc, to, from, bytes, scratch)
 }
@@ -226,6 +228,7 @@ pub fn move_tagged<S: ShadowForm>(
     requires room { scratch + 8 ≤ 2 ^ 31 }
     ensures does { IfOk result (λ r. IsTaggedMoveRoutine map.now S.entry (S.IsGood map.now) to from bytes scratch
         r.items) }
+    ensures shape { IfOk result (λ r. HasShape r.items 128 (scratch + 14)) }
 {
     S::entries_are_local();
     let body = entry_body::<S>(alloc, map, scratch)?;
@@ -245,6 +248,7 @@ fn entry_body<S: ShadowForm>(
     requires room { scratch + 8 ≤ 2 ^ 31 }
     ensures does { IfOk result (λ r. CopiesEntry map.now S.entry (S.IsGood map.now) scratch r.items) }
     ensures short { IfOk result (λ r. length r.items ≤ 128) }
+    ensures shape { IfOk result (λ r. HasShape r.items 64 (scratch + 14)) }
 {
     let entry = Entry {
         base: scratch + 4,

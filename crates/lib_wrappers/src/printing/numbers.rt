@@ -3,6 +3,7 @@
 ghost use Rattle.std.specs.Prelude.{◌≡◌, ◌≢◌, ◌+◌, ◌≤◌, ◌<◌, ◌^◌, ◌++◌, IfOk};
 ghost use Rattle.rv_isa.specs.declared.instruction.RegOp.TheVariants.{Add};
 ghost use Rattle.c_tree.specs.declared.format.Directive.TheVariants as directive;
+ghost use Rattle.flat_routines.specs.Shape.{HasShape};
 ghost use Rattle.flat_meaning.specs.declared.instruction.RightOperand.TheVariants.{Number};
 ghost use Rattle.flat_meaning.specs.declared.instruction.FlatInstruction.TheVariants.{Operate};
 ghost use Rattle.lib_wrappers.specs.PrintingRoutines.Numbers.{IsNumberRoutine, number_code, sign_code, low_code};
@@ -32,7 +33,8 @@ pub fn number(
     requires count { count < scratch }
     requires apart { value ≢ count }
     requires room { scratch ≤ 2 ^ 29 }
-    ensures { IfOk result (λ r. IsNumberRoutine map.now directive value count scratch r.items) }
+    ensures does { IfOk result (λ r. IsNumberRoutine map.now directive value count scratch r.items) }
+    ensures shape { IfOk result (λ r. HasShape r.items 48 (scratch + 4)) }
 {
     number_instructions(alloc, directive, value, count, scratch)
 }

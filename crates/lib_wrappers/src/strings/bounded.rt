@@ -4,6 +4,7 @@ ghost use Rattle.std.specs.Prelude.{◌+◌, ◌<◌, ◌≤◌, ◌^◌, IfOk, 
 ghost use Rattle.addr_map.specs.Places.{AreMapped};
 ghost use Rattle.source_meaning.specs.Strings.{strncpy as strncpy_of};
 ghost use Rattle.source_meaning.specs.Library.{argument};
+ghost use Rattle.flat_routines.specs.Shape.{HasShape};
 ghost use Rattle.flat_routines.specs.Registers.{AreBelow, AreDistinct, AreNoneOf};
 ghost use Rattle.flat_routines.specs.Metadata.{held_registers};
 ghost use Rattle.flat_actions.specs.Actions.{IsAction, Pointer, Word, runtime_basis};
@@ -38,9 +39,10 @@ pub fn strncpy<S: ShadowForm>(
     requires distinct { AreDistinct (held_registers copy.into) }
     requires others { AreNoneOf (held_registers copy.to) (held_registers copy.into) }
     requires room { scratch + 16 ≤ 2 ^ 31 }
-    ensures { IfOk result (λ r. IsAction (runtime_basis map.now S.entry (S.IsGood map.now))
+    ensures does { IfOk result (λ r. IsAction (runtime_basis map.now S.entry (S.IsGood map.now))
         (λ vs. strncpy_of (argument 0 vs) (argument 1 vs) (argument 2 vs) line)
         (Pointer copy.to ∷ Pointer copy.from ∷ Word copy.size ∷ []) (Pointer copy.into) scratch 60 8 r.items) }
+    ensures shape { IfOk result (λ r. HasShape r.items 80 (scratch + 9)) }
 {
     S::entries_are_local();
     let scanned = scan_at_most::<S>(alloc, map, copy.from, scratch, line, copy.size, scratch + 1)?;
@@ -70,7 +72,8 @@ fn filled_up(
     requires map { AreMapped map.now }
     requires below { AreBelow scratch (to ∷ from ∷ size ∷ []) }
     requires room { scratch + 16 ≤ 2 ^ 31 }
-    ensures { IfOk result (λ r. IsFilledUp map.now to from size scratch r.items) }
+    ensures does { IfOk result (λ r. IsFilledUp map.now to from size scratch r.items) }
+    ensures shape { IfOk result (λ r. HasShape r.items 40 (scratch + 9)) }
 {
     let count = scratch + 1;
     let address = scratch + 2;

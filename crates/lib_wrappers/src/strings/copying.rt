@@ -4,6 +4,7 @@ ghost use Rattle.std.specs.Prelude.{◌+◌, ◌≤◌, ◌^◌, IfOk, [], ◌�
 ghost use Rattle.addr_map.specs.Places.{AreMapped};
 ghost use Rattle.source_meaning.specs.Strings.{strcpy as strcpy_of, strcat as strcat_of};
 ghost use Rattle.source_meaning.specs.Library.{argument};
+ghost use Rattle.flat_routines.specs.Shape.{HasShape};
 ghost use Rattle.flat_routines.specs.Registers.{AreBelow, AreDistinct, AreNoneOf};
 ghost use Rattle.flat_routines.specs.Metadata.{held_registers};
 ghost use Rattle.flat_actions.specs.Actions.{IsAction, Pointer, runtime_basis};
@@ -40,9 +41,10 @@ pub fn strcpy<S: ShadowForm>(
     requires distinct { AreDistinct (held_registers into) }
     requires others { AreNoneOf (held_registers to) (held_registers into) }
     requires room { scratch + 16 ≤ 2 ^ 31 }
-    ensures { IfOk result (λ r. IsAction (runtime_basis map.now S.entry (S.IsGood map.now))
+    ensures does { IfOk result (λ r. IsAction (runtime_basis map.now S.entry (S.IsGood map.now))
         (λ vs. strcpy_of (argument 0 vs) (argument 1 vs) line) (Pointer to ∷ Pointer from ∷ []) (Pointer into) scratch
         49 8 r.items) }
+    ensures shape { IfOk result (λ r. HasShape r.items 72 (scratch + 7)) }
 {
     S::entries_are_local();
     let copy = copied::<S>(alloc, map, to, from, line, scratch)?;
@@ -68,9 +70,10 @@ pub fn strcat<S: ShadowForm>(
     requires distinct { AreDistinct (held_registers into) }
     requires others { AreNoneOf (held_registers to) (held_registers into) }
     requires room { scratch + 16 ≤ 2 ^ 31 }
-    ensures { IfOk result (λ r. IsAction (runtime_basis map.now S.entry (S.IsGood map.now))
+    ensures does { IfOk result (λ r. IsAction (runtime_basis map.now S.entry (S.IsGood map.now))
         (λ vs. strcat_of (argument 0 vs) (argument 1 vs) line) (Pointer to ∷ Pointer from ∷ []) (Pointer into) scratch
         65 8 r.items) }
+    ensures shape { IfOk result (λ r. HasShape r.items 96 (scratch + 8)) }
 {
     S::entries_are_local();
     let first = scan::<S>(alloc, map, to, scratch, line, scratch + 1)?;
@@ -97,8 +100,9 @@ fn copied<S: ShadowForm>(
     requires to { AreBelow scratch (held_registers to) }
     requires from { AreBelow scratch (held_registers from) }
     requires room { scratch + 12 ≤ 2 ^ 31 }
-    ensures { IfOk result (λ r. IsCopied (runtime_basis map.now S.entry (S.IsGood map.now)) to from line scratch
+    ensures does { IfOk result (λ r. IsCopied (runtime_basis map.now S.entry (S.IsGood map.now)) to from line scratch
         r.items) }
+    ensures shape { IfOk result (λ r. HasShape r.items 64 (scratch + 7)) }
 {
     let scanned = scan::<S>(alloc, map, from, scratch, line, scratch + 1)?;
     let size = scratch + 1;

@@ -4,6 +4,7 @@ ghost use Rattle.std.specs.Prelude.{◌+◌, ◌≤◌, ◌^◌, IfOk, [], ◌�
 ghost use Rattle.addr_map.specs.Places.{AreMapped};
 ghost use Rattle.source_meaning.specs.Strings.{strlen as strlen_of};
 ghost use Rattle.source_meaning.specs.Library.{argument};
+ghost use Rattle.flat_routines.specs.Shape.{HasShape};
 ghost use Rattle.flat_routines.specs.Registers.{AreBelow};
 ghost use Rattle.flat_routines.specs.Metadata.{held_registers};
 ghost use Rattle.flat_actions.specs.Actions.{IsAction, Pointer, Word, runtime_basis};
@@ -31,9 +32,10 @@ pub fn strlen<S: ShadowForm>(
     requires map { AreMapped map.now }
     requires below { AreBelow scratch (into ∷ held_registers string) }
     requires room { scratch + 16 ≤ 2 ^ 31 }
-    ensures { IfOk result (λ r. IsAction (runtime_basis map.now S.entry (S.IsGood map.now))
+    ensures does { IfOk result (λ r. IsAction (runtime_basis map.now S.entry (S.IsGood map.now))
         (λ vs. strlen_of (argument 0 vs) line)
         (Pointer string ∷ []) (Word into) scratch 17 8 r.items) }
+    ensures shape { IfOk result (λ r. HasShape r.items 24 (scratch + 3)) }
 {
     let scanned = scan::<S>(alloc, map, string, scratch, line, scratch + 1)?;
     // the cursor's distance from the start

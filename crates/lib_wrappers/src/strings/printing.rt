@@ -4,6 +4,7 @@ ghost use Rattle.std.specs.Prelude.{◌≡◌, ◌+◌, ◌≤◌, ◌^◌, IfOk
 ghost use Rattle.addr_map.specs.Places.{AreMapped};
 ghost use Rattle.source_meaning.specs.Printing.{puts as puts_of};
 ghost use Rattle.source_meaning.specs.Library.{argument};
+ghost use Rattle.flat_routines.specs.Shape.{HasShape};
 ghost use Rattle.flat_routines.specs.Registers.{AreBelow};
 ghost use Rattle.flat_routines.specs.Metadata.{held_registers};
 ghost use Rattle.flat_actions.specs.Actions.{IsAction, Pointer, Word, runtime_basis};
@@ -30,7 +31,8 @@ pub fn put_bytes(
 ) -> Result<Vec<FlatInstruction>, AllocError>
     requires below { AreBelow scratch (from ∷ to ∷ []) }
     requires room { scratch + 8 ≤ 2 ^ 31 }
-    ensures { IfOk result (λ r. IsPutRoutine map.now from to scratch r.items) }
+    ensures does { IfOk result (λ r. IsPutRoutine map.now from to scratch r.items) }
+    ensures shape { IfOk result (λ r. HasShape r.items 8 (scratch + 2)) }
 {
     put_instructions(alloc, from, to, scratch)
 }
@@ -85,9 +87,10 @@ pub fn puts<S: ShadowForm>(
     requires map { AreMapped map.now }
     requires below { AreBelow scratch (into ∷ held_registers string) }
     requires room { scratch + 16 ≤ 2 ^ 31 }
-    ensures { IfOk result (λ r. IsAction (runtime_basis map.now S.entry (S.IsGood map.now))
+    ensures does { IfOk result (λ r. IsAction (runtime_basis map.now S.entry (S.IsGood map.now))
         (λ vs. puts_of (argument 0 vs) line)
         (Pointer string ∷ []) (Word into) scratch 21 8 r.items) }
+    ensures shape { IfOk result (λ r. HasShape r.items 32 (scratch + 3)) }
 {
     let scanned = scan::<S>(alloc, map, string, scratch, line, scratch + 1)?;
     let put = put_bytes(alloc, map, string.value, scratch, scratch + 1)?;

@@ -1,9 +1,10 @@
 //! Strings scanned.
 
-ghost use Rattle.std.specs.Prelude.{◌≡◌, ℕ, ◌+◌, ◌≤◌, ◌^◌, IfOk, [], ◌∷◌};
+ghost use Rattle.std.specs.Prelude.{◌≡◌, ℕ, ◌+◌, ◌≤◌, ◌^◌, IfOk, [], ◌∷◌, ◌<◌};
 ghost use Rattle.addr_map.specs.Places.{AreMapped};
 ghost use Rattle.source_meaning.specs.State.{done};
 ghost use Rattle.source_meaning.specs.Strings.{scan as scan_of, scan_within};
+ghost use Rattle.flat_routines.specs.Shape.{HasShape};
 ghost use Rattle.flat_routines.specs.Registers.{AreNoneOf, AreBelow};
 ghost use Rattle.flat_routines.specs.Metadata.{held_registers};
 ghost use Rattle.flat_actions.specs.Scanning.{IsScanRoutine};
@@ -34,8 +35,9 @@ pub fn scan<S: ShadowForm>(
     requires apart { AreNoneOf (held_registers string) (cursor ∷ []) }
     requires below { AreBelow scratch (cursor ∷ held_registers string) }
     requires room { scratch + 8 ≤ 2 ^ 31 }
-    ensures { IfOk result (λ r. IsScanRoutine (runtime_basis map.now S.entry (S.IsGood map.now)) (λ v. scan_of v line)
+    ensures does { IfOk result (λ r. IsScanRoutine (runtime_basis map.now S.entry (S.IsGood map.now)) (λ v. scan_of v line)
         string (λ f. Unit {0}) cursor scratch r.items) }
+    ensures shape { IfOk result (λ r. HasShape r.items 20 (scratch + 2)) }
 {
     scan_instructions(alloc, string, cursor, line, scratch)
 }
@@ -55,9 +57,10 @@ pub fn scan_at_most<S: ShadowForm>(
     requires apart { AreNoneOf (limit ∷ held_registers string) (cursor ∷ []) }
     requires below { AreBelow scratch (cursor ∷ limit ∷ held_registers string) }
     requires room { scratch + 8 ≤ 2 ^ 31 }
-    ensures { IfOk result (λ r. (n : ℕ) → 1 ≤ n
+    ensures does { IfOk result (λ r. (n : ℕ) → 1 ≤ n
         → IsScanRoutine (runtime_basis map.now S.entry (S.IsGood map.now)) (λ v. scan_within n (done []) v line) string
         (λ f. f.values limit ≡ n) cursor scratch r.items) }
+    ensures shape { IfOk result (λ r. HasShape r.items 20 (scratch + 2)) }
 {
     scan_at_most_instructions(alloc, string, cursor, line, limit, scratch)
 }
@@ -72,7 +75,8 @@ fn scan_instructions(
 ) -> Result<Vec<FlatInstruction>, AllocError>
     requires below { AreBelow scratch (held_registers string) }
     requires room { scratch + 8 ≤ 2 ^ 31 }
-    ensures { IfOk result (λ r. IsFirstJudged string line scratch (scan_turns string cursor line scratch) r.items) }
+    ensures does { IfOk result (λ r. IsFirstJudged string line scratch (scan_turns string cursor line scratch) r.items) }
+    ensures shape { IfOk result (λ r. (m : ℕ) → cursor < m → scratch + 2 ≤ m → HasShape r.items 18 m) }
 {
     let turns = [
         FlatInstruction::Move {
@@ -119,8 +123,10 @@ fn scan_at_most_instructions(
 ) -> Result<Vec<FlatInstruction>, AllocError>
     requires below { AreBelow scratch (held_registers string) }
     requires room { scratch + 8 ≤ 2 ^ 31 }
-    ensures { IfOk result (λ r. IsFirstJudged string line scratch (scan_at_most_turns string cursor line limit scratch)
+    ensures does { IfOk result (λ r. IsFirstJudged string line scratch (scan_at_most_turns string cursor line limit scratch)
         r.items) }
+    ensures shape { IfOk result (λ r. (m : ℕ) → cursor < m → limit < m → scratch + 2 ≤ m
+        → HasShape r.items 20 m) }
 {
     let end = scratch + 1;
     let turns = [
@@ -181,7 +187,9 @@ fn first_judged(
 ) -> Result<Vec<FlatInstruction>, AllocError>
     requires below { AreBelow scratch (held_registers string) }
     requires room { scratch + 8 ≤ 2 ^ 31 }
-    ensures { IfOk result (λ r. IsFirstJudged string line scratch turns.now r.items) }
+    ensures does { IfOk result (λ r. IsFirstJudged string line scratch turns.now r.items) }
+    ensures shape { IfOk result (λ r. (k m : ℕ) → scratch + 2 ≤ m → HasShape turns.now k m
+        → HasShape r.items (11 + k) m) }
 {
     let size = [FlatInstruction::Constant {
         into: scratch,

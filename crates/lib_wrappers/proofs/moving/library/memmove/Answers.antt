@@ -3,6 +3,7 @@ use Rattle.flat_actions.specs.Lists.{guarded_code}
 use Rattle.lib_wrappers.specs.MovingRoutines.Library.{MovesObjects}
 use Rattle.flat_actions.proofs.ByParts.{joined_are, by_body}
 use Rattle.lib_wrappers.proofs.MovingRoutines.Acts.{moves_as}
+use Rattle.lib_wrappers.proofs.Shapes.{memmove_shape}
 use Rattle.lib_wrappers.proofs.moving.library.memmove.Goals as goal
 use Rattle.flat_actions.specs.Actions.{runtime_basis}
 
@@ -21,6 +22,11 @@ returns g c =
     (sym items)
     (moves_as a.map.now c.requires.map entry IsGood h.to h.from h.size h.into a.line a.scratch c.requires.to
     c.requires.from c.requires.size c.requires.into c.requires.distinct c.requires.others c.in_ok-first.first.items
-    c.in_ok-second.second.items c.in_ok-act.act.items c.in_ok-first.ensures c.in_ok-second.ensures
+    c.in_ok-second.second.items c.in_ok-act.act.items c.in_ok-first.ensures.does c.in_ok-second.ensures.does
     c.in_ok-act.ensures.does) in
-    record { memmove = moves; memcpy = moves }
+    record {
+      memmove = moves;
+      memcpy = moves;
+      shape = memmove_shape h.size a.scratch h.to h.into c.requires.size c.requires.to c.requires.into items
+          c.in_ok-first.ensures.shape c.in_ok-second.ensures.shape c.in_ok-act.ensures.shape;
+    }

@@ -1,4 +1,5 @@
 use Rattle.std.proofs.Common.{sym, subst}
+use Rattle.lib_wrappers.proofs.Shapes.{entry_shape}
 use Rattle.lib_wrappers.specs.MovingRoutines.Tagged.{CopiesEntry}
 use Rattle.flat_actions.proofs.ByParts.{joined_are}
 use Rattle.lib_wrappers.proofs.MovingRoutines.Words.{entry_copies}
@@ -13,3 +14,8 @@ returns-clause-does g c =
     subst (CopiesEntry a.map.now entry IsGood a.scratch) (sym items)
     (entry_copies a.map.now entry IsGood a.scratch c.in_ok-read.read.items c.in_ok-write.write.items
     c.in_ok-read.ensures.does c.in_ok-write.ensures.does)
+
+pub returns-clause-shape : goal.returns-clause-shape
+returns-clause-shape g c =
+    entry_shape c.args.scratch c.in_ok-code.ensures c.as_slice.ensures.value c.as_slice-2.ensures.value
+    c.in_ok-read.ensures.shape c.in_ok-write.ensures.shape

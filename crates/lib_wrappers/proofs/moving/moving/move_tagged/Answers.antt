@@ -3,6 +3,7 @@ use Rattle.flat_actions.specs.Ranges.{IsTaggedMoveRoutine}
 use Rattle.lib_wrappers.specs.MovingRoutines.Tagged.{move_words}
 use Rattle.flat_actions.proofs.ByParts.{joined_are, by_body}
 use Rattle.lib_wrappers.proofs.MovingRoutines.Tagged.{moves_tagged}
+use Rattle.lib_wrappers.proofs.Shapes.{tagged_shape}
 use Rattle.lib_wrappers.proofs.moving.moving.move_tagged.Goals as goal
 
 pub returns : goal.returns
@@ -19,6 +20,9 @@ returns g c =
           (sym items)
           (moves_tagged a.map.now c.requires.map g.S.ShadowForm.entry (g.S.ShadowForm.IsGood a.map.now)
           (λ m m' keep good. c.entries_are_local.ensures a.map.now m m' c.requires.map keep good) a.to a.from a.bytes
-          a.scratch c.requires.below c.in_ok-first.first.items c.in_ok-body.body.items c.in_ok-first.ensures
+          a.scratch c.requires.below c.in_ok-first.first.items c.in_ok-body.body.items c.in_ok-first.ensures.does
           c.in_ok-body.ensures.does);
+      shape = tagged_shape a.to a.from a.bytes a.scratch c.in_ok-body.body.items c.requires.below c.in_ok-code.ensures
+          c.as_slice-2.ensures.value (c.as_slice-3.ensures.value ∙ second) c.in_ok-first.ensures.shape
+          c.in_ok-body.ensures.shape;
     }

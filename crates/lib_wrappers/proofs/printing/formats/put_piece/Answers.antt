@@ -13,7 +13,7 @@ returns-in_ok-extend_from_slice-in-Number c =
     subst (λ p. PutsNext a.map.now a.scratch a.own p a.index a.code.now.items new) (sym c.in-Number.is)
     (puts_number a.map.now a.scratch a.own a.index a.code.now.items new c.in-Number.directive c.in-Number.value part
     (joined_parts a.code.now.items _ part new c.in_ok-extend_from_slice-in-Number.ensures.items c.deref.ensures.value)
-    c.in_ok-part-in-Number.ensures)
+    c.in_ok-part-in-Number.ensures.does)
 
 pub returns-in_ok-extend_from_slice-in-String : goal.returns-in_ok-extend_from_slice-in-String
 returns-in_ok-extend_from_slice-in-String c =
@@ -28,4 +28,4 @@ returns-in_ok-extend_from_slice-in-String c =
     (joined_parts a.code.now.items _ (put ++ count) new c.in_ok-extend_from_slice-in-String.ensures.items
     (c.deref-in-String-3.ensures.value
     ∙ joined_are _ _ _ put count c.in_ok-part-in-String.ensures c.deref-in-String.ensures.value counted))
-    c.in_ok-put-in-String.ensures)
+    c.in_ok-put-in-String.ensures.does)

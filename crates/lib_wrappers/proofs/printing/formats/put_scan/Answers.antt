@@ -16,4 +16,4 @@ returns-in_ok-extend_from_slice g c =
     (scans_string basis a.line a.registers.count a.registers.own c.in-String.string a.index a.code.now.items first
     c.extend_from_slice.new.self.items
     (c.in_ok-extend_from_slice.ensures.items ∙ ap (λ z. a.code.now.items ++ z) c.deref.ensures.value)
-    c.in_ok-scanned.ensures)
+    c.in_ok-scanned.ensures.does)

@@ -1,4 +1,5 @@
 use Rattle.std.proofs.Common.{[], ◌∷◌, ◌+◌, ◌++◌, refl, sym, ap, ◌∙◌, subst}
+use Rattle.lib_wrappers.proofs.Shapes.{strncpy_shape}
 use Rattle.std.proofs.lemmas.Result.{IfOk-weaker}
 use Rattle.source_meaning.specs.Strings.{strncpy as strncpy_of}
 use Rattle.source_meaning.specs.Library.{argument}
@@ -9,13 +10,13 @@ use Rattle.lib_wrappers.proofs.StringRoutines.BoundedActs.{strncpy_acts}
 use Rattle.flat_actions.proofs.ByParts.{joined_are}
 use Rattle.lib_wrappers.proofs.strings.bounded.strncpy.Goals as goal
 
-pub returns : goal.returns
-returns g c =
+pub returns-clause-does : goal.returns-clause-does
+returns-clause-does g c =
     let a = c.args in
     let h = a.copy in
     let t = a.scratch in
     let basis = runtime_basis a.map.now g.S.ShadowForm.entry (g.S.ShadowForm.IsGood a.map.now) in
-    let q = c.in_ok-writing.ensures in
+    let q = c.in_ok-writing.ensures.does in
     let scanned = c.in_ok-scanned.scanned.items in
     let judging = c.in_ok-judging.judging.items in
     let writing = count_code (t + 1) h.from.value t
@@ -31,6 +32,17 @@ returns g c =
     (strncpy_acts basis refl c.requires.map (λ m m' keep good. c.entries_are_local.ensures a.map.now m m'
     c.requires.map
     keep good) h.to h.from h.size h.into a.line t c.requires.to c.requires.from c.requires.size c.requires.into
-    c.requires.distinct c.requires.others scanned judging q.moving q.filling c.in_ok-scanned.ensures
-    c.in_ok-judging.ensures q.moves q.fills))
+    c.requires.distinct c.requires.others scanned judging q.moving q.filling c.in_ok-scanned.ensures.does
+    c.in_ok-judging.ensures.does q.moves q.fills))
     c.guarded.ensures
+
+pub returns-clause-shape : goal.returns-clause-shape
+returns-clause-shape g c =
+    let a = c.args in
+    let h = a.copy in
+    IfOk-weaker _ _ _
+    (λ r e. strncpy_shape h.size a.scratch h.to h.into c.requires.size c.requires.to c.requires.into
+    (e ∙ ap (guarded_code h.size h.to h.into) (c.deref-5.ensures.value
+    ∙ joined_are _ _ _ _ _ c.in_ok-act.ensures c.deref-3.ensures.value
+    (c.deref-4.ensures.value ∙ joined_are _ _ _ _ _ c.in_ok-rest.ensures c.deref.ensures.value c.deref-2.ensures.value)))
+    c.in_ok-scanned.ensures.shape c.in_ok-judging.ensures.shape c.in_ok-writing.ensures.shape) c.guarded.ensures

@@ -1,4 +1,5 @@
 use Rattle.std.proofs.Common.{◌≡◌, [], ◌∷◌, ◌+◌, ◌++◌, refl, sym, ◌∙◌, subst}
+use Rattle.lib_wrappers.proofs.Shapes.{strcpy_shape}
 use Rattle.std.proofs.lemmas.Result.{IfOk-weaker}
 use Rattle.source_meaning.specs.Strings.{strcpy as strcpy_of}
 use Rattle.source_meaning.specs.Library.{argument}
@@ -9,11 +10,11 @@ use Rattle.flat_actions.proofs.ByParts.{joined_are}
 use Rattle.lib_wrappers.proofs.StringRoutines.CopyActs.{strcpy_acts}
 use Rattle.lib_wrappers.proofs.strings.copying.strcpy.Goals as goal
 
-pub returns : goal.returns
-returns g c =
+pub returns-clause-does : goal.returns-clause-does
+returns-clause-does g c =
     let a = c.args in
     let basis = runtime_basis a.map.now g.S.ShadowForm.entry (g.S.ShadowForm.IsGood a.map.now) in
-    let q = c.in_ok-copy.ensures in
+    let q = c.in_ok-copy.ensures.does in
     let copy = q.scanning ++ (size_code (a.scratch + 1) a.from.value a.scratch ++ (q.judging ++ q.moving)) in
     let give = give_code a.to a.into in
     let copy_is : c.deref.result.now ≡ copy = c.deref.ensures.value ∙ q.items_are in
@@ -26,3 +27,11 @@ returns g c =
     keep good) a.to a.from a.into a.line a.scratch c.requires.to c.requires.from c.requires.into c.requires.distinct
     c.requires.others q.scanning q.judging q.moving q.scans q.judges q.moves))
     c.joined.ensures
+
+pub returns-clause-shape : goal.returns-clause-shape
+returns-clause-shape g c =
+    let a = c.args in
+    IfOk-weaker _ _ _
+    (λ r e. strcpy_shape a.to a.into a.scratch c.requires.to c.requires.into
+    (joined_are _ _ _ _ _ e c.deref.ensures.value (c.deref-2.ensures.value ∙ c.in_ok-give.ensures))
+    c.in_ok-copy.ensures.shape) c.joined.ensures

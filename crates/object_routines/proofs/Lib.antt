@@ -1,2 +1,3 @@
 pub mod AccessRoutines
 pub mod AllocatingRoutines
+pub mod Shapes

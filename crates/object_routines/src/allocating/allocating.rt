@@ -2,6 +2,7 @@
 
 ghost use Rattle.std.specs.Prelude.{◌≡◌, ◌+◌, ◌≤◌, ◌<◌, ◌^◌, IfOk, [], ◌∷◌};
 ghost use Rattle.addr_map.specs.Places.{AreMapped};
+ghost use Rattle.flat_routines.specs.Shape.{HasShape};
 ghost use Rattle.flat_routines.specs.Registers.{AreBelow, AreDistinct, AreNoneOf};
 ghost use Rattle.flat_routines.specs.Metadata.{held_registers};
 ghost use Rattle.object_routines.specs.AllocatingRoutines.Allocating.{IsAllocateRoutine, IsMallocRoutine};
@@ -45,7 +46,8 @@ pub fn malloc<S: ShadowForm>(
     requires apart { AreNoneOf (size ∷ []) (held_registers into) }
     requires distinct { AreDistinct (held_registers into) }
     requires room { scratch + 16 ≤ 2 ^ 31 }
-    ensures { IfOk result (λ r. IsMallocRoutine map.now S.entry (S.IsGood map.now) size into line scratch r.items) }
+    ensures does { IfOk result (λ r. IsMallocRoutine map.now S.entry (S.IsGood map.now) size into line scratch r.items) }
+    ensures shape { IfOk result (λ r. HasShape r.items 160 (scratch + 12)) }
 {
     allocate::<S>(alloc, map, size, into, line, scratch)
 }
@@ -65,8 +67,9 @@ pub fn calloc<S: ShadowForm>(
     requires below { AreBelow scratch (count ∷ size ∷ held_registers into) }
     requires distinct { AreDistinct (held_registers into) }
     requires room { scratch + 32 ≤ 2 ^ 31 }
-    ensures { IfOk result
+    ensures does { IfOk result
         (λ r. IsCallocRoutine map.now S.entry (S.IsGood map.now) count size into line scratch r.items) }
+    ensures shape { IfOk result (λ r. HasShape r.items 176 (scratch + 14)) }
 {
     let block = allocate::<S>(alloc, map, scratch + 1, into, line, scratch + 2)?;
     let r = calloc_list(alloc, block.as_slice(), count, size, into, scratch)?;
@@ -87,7 +90,8 @@ pub(crate) fn allocate<S: ShadowForm>(
     requires apart { AreNoneOf (size ∷ []) (held_registers into) }
     requires distinct { AreDistinct (held_registers into) }
     requires room { scratch + 16 ≤ 2 ^ 31 }
-    ensures { IfOk result (λ r. IsAllocateRoutine map.now S.entry (S.IsGood map.now) size into line scratch r.items) }
+    ensures does { IfOk result (λ r. IsAllocateRoutine map.now S.entry (S.IsGood map.now) size into line scratch r.items) }
+    ensures shape { IfOk result (λ r. HasShape r.items 160 (scratch + 12)) }
 {
     S::entries_are_local();
     let key = scratch + 1;

@@ -3,6 +3,7 @@
 
 ghost use Rattle.std.specs.Prelude.{◌≡◌, ◌+◌, ◌≤◌, ◌<◌, ◌^◌, ◌++◌, IfOk, [], ◌∷◌};
 ghost use Rattle.addr_map.specs.Places.{AreMapped};
+ghost use Rattle.flat_routines.specs.Shape.{HasShape};
 ghost use Rattle.flat_routines.specs.InputOutput.{IsWithoutInputOutput};
 ghost use Rattle.flat_routines.specs.Registers.{AreBelow, AreDistinct, AreNoneOf};
 ghost use Rattle.object_routines.specs.AllocatingRoutines.Allocating.{key_test};
@@ -47,7 +48,7 @@ struct Entrance {
 /// Enters a block that has objects. `top` holds where the object stack ends, and `bytes` how many bytes the objects of
 /// the block take, each at a multiple of 16. The run ends at `line` where the objects are not within the object stack,
 /// and then where no key is left; else they are born, with zero bytes, one key and one lock word. It may write the
-/// registers from `scratch` on. The only refusal is that memory fails.
+/// registers from `scratch` on, takes no input and puts no output. The only refusal is that memory fails.
 pub fn enter<S: ShadowForm>(
     alloc: Global,
     map: &AddrMap,
@@ -63,7 +64,9 @@ pub fn enter<S: ShadowForm>(
     requires apart { AreNoneOf (top ∷ bytes ∷ []) (registers_in to) }
     requires distinct { AreDistinct (registers_in to) }
     requires room { scratch + 16 ≤ 2 ^ 31 }
-    ensures { IfOk result (λ r. IsEnterRoutine map.now S.entry (S.IsGood map.now) top bytes to line scratch r.items) }
+    ensures does { IfOk result (λ r. IsEnterRoutine map.now S.entry (S.IsGood map.now) top bytes to line scratch r.items) }
+    ensures computes { IfOk result (λ r. IsWithoutInputOutput r.items) }
+    ensures shape { IfOk result (λ r. HasShape r.items 96 (scratch + 11)) }
 {
     S::entries_are_local();
     let own = scratch + 4;
@@ -98,6 +101,7 @@ pub fn leave<S: ShadowForm>(
     requires room { scratch ≤ 2 ^ 31 }
     ensures does { IfOk result (λ r. IsLeaveRoutine map.now S.entry (S.IsGood map.now) lock scratch r.items) }
     ensures computes { IfOk result (λ r. IsWithoutInputOutput r.items) }
+    ensures shape { IfOk result (λ r. HasShape r.items 11 (scratch + 3)) }
 {
     S::entries_are_local();
     lock_space::release(alloc, map, lock, scratch)

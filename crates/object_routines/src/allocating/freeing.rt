@@ -2,6 +2,7 @@
 
 ghost use Rattle.std.specs.Prelude.{◌≡◌, ◌+◌, ◌≤◌, ◌<◌, ◌^◌, IfOk};
 ghost use Rattle.addr_map.specs.Places.{AreMapped};
+ghost use Rattle.flat_routines.specs.Shape.{HasShape};
 ghost use Rattle.flat_routines.specs.Registers.{AreBelow};
 ghost use Rattle.flat_routines.specs.Metadata.{held_registers};
 ghost use Rattle.object_routines.specs.AllocatingRoutines.Freeing.{IsFreeRoutine, life_test, found_test, free_code};
@@ -29,7 +30,8 @@ pub fn free<S: ShadowForm>(
     requires map { AreMapped map.now }
     requires below { AreBelow scratch (held_registers pointer) }
     requires room { scratch + 16 ≤ 2 ^ 31 }
-    ensures { IfOk result (λ r. IsFreeRoutine map.now S.entry (S.IsGood map.now) pointer line scratch r.items) }
+    ensures does { IfOk result (λ r. IsFreeRoutine map.now S.entry (S.IsGood map.now) pointer line scratch r.items) }
+    ensures shape { IfOk result (λ r. HasShape r.items 72 (scratch + 7)) }
 {
     S::entries_are_local();
     let size = scratch + 1;

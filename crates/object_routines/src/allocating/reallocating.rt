@@ -2,6 +2,7 @@
 
 ghost use Rattle.std.specs.Prelude.{◌≡◌, ◌+◌, ◌≤◌, ◌<◌, ◌^◌, IfOk, ◌∷◌};
 ghost use Rattle.addr_map.specs.Places.{AreMapped};
+ghost use Rattle.flat_routines.specs.Shape.{HasShape};
 ghost use Rattle.flat_routines.specs.Registers.{AreBelow, AreDistinct, AreNoneOf};
 ghost use Rattle.flat_routines.specs.Metadata.{held_registers};
 ghost use Rattle.object_routines.specs.AllocatingRoutines.Reallocating.{IsReallocRoutine, tests_code, lesser_code};
@@ -47,8 +48,9 @@ pub fn realloc<S: ShadowForm>(
     requires apart { AreNoneOf (size ∷ held_registers old) (held_registers into) }
     requires distinct { AreDistinct (held_registers into) }
     requires room { scratch + 32 ≤ 2 ^ 31 }
-    ensures { IfOk result
+    ensures does { IfOk result
         (λ r. IsReallocRoutine map.now S.entry (S.IsGood map.now) old size into line scratch r.items) }
+    ensures shape { IfOk result (λ r. HasShape r.items 384 (scratch + 18)) }
 {
     S::entries_are_local();
     let lesser = scratch + 1;

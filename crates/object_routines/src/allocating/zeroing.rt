@@ -2,6 +2,8 @@
 
 ghost use Rattle.std.specs.Prelude.{◌≡◌, ◌+◌, ◌≤◌, ◌^◌, IfOk, [], ◌∷◌};
 ghost use Rattle.addr_map.specs.Places.{AreMapped};
+ghost use Rattle.flat_routines.specs.InputOutput.{IsWithoutInputOutput};
+ghost use Rattle.flat_routines.specs.Shape.{HasShape};
 ghost use Rattle.flat_routines.specs.Registers.{AreBelow};
 ghost use Rattle.object_routines.specs.AllocatingRoutines.Zeroing.{IsZeroRoutine, word_bytes, zero_bytes, zero_code};
 
@@ -27,7 +29,9 @@ pub fn zero<S: ShadowForm>(
     requires map { AreMapped map.now }
     requires below { AreBelow scratch (first ∷ bytes ∷ []) }
     requires room { scratch + 8 ≤ 2 ^ 31 }
-    ensures { IfOk result (λ r. IsZeroRoutine map.now S.entry (S.IsGood map.now) first bytes scratch r.items) }
+    ensures does { IfOk result (λ r. IsZeroRoutine map.now S.entry (S.IsGood map.now) first bytes scratch r.items) }
+    ensures computes { IfOk result (λ r. IsWithoutInputOutput r.items) }
+    ensures shape { IfOk result (λ r. HasShape r.items 48 (scratch + 7)) }
 {
     S::entries_are_local();
     let clear = S::clear(alloc, map, first, scratch, scratch + 1)?;

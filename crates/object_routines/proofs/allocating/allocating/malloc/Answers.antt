@@ -2,10 +2,10 @@ use Rattle.std.proofs.lemmas.Result.{IfOk-weaker}
 use Rattle.object_routines.proofs.AllocatingRoutines.Mallocs.{malloc_does}
 use Rattle.object_routines.proofs.allocating.allocating.malloc.Goals as goal
 
-pub returns : goal.returns
-returns g c =
+pub returns-clause-does : goal.returns-clause-does
+returns-clause-does g c =
     let a = c.args in
     IfOk-weaker _ _ _
     (λ r h. malloc_does a.map.now g.S.ShadowForm.entry (g.S.ShadowForm.IsGood a.map.now) a.size a.into a.line
     a.scratch _
-    h) c.allocate.ensures
+    h) c.allocate.ensures.does

@@ -6,3 +6,4 @@ pub mod Entering
 pub mod CopyCalls
 pub mod ZeroCalls
 mod Listed
+pub mod Sizes

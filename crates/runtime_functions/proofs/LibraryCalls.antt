@@ -15,6 +15,9 @@ use Rattle.flat_meaning.specs.Meaning.{Context}
 use Rattle.flat_routines.specs.Routine.{Does, Outcome}
 use Rattle.flat_routines.specs.Metadata.{View}
 use Rattle.flat_routines.specs.InputOutput.{has_input_output}
+use Rattle.flat_routines.specs.Shape.{HasShape}
+use Rattle.flat_routines.proofs.Shape.{more}
+use Rattle.runtime_functions.specs.Sizes.{most_registers}
 use Rattle.flat_routines.specs.Objects.StandsFor.{Keys}
 use Rattle.flat_actions.specs.Actions.{IsAction, runtime_basis, registers_of, views_of}
 use Rattle.object_routines.specs.AllocatingRoutines.Premises.{AreStanding}
@@ -25,7 +28,7 @@ use Rattle.runtime_functions.specs.Library.{IsLibraryCode, library_interface, ro
 use Rattle.runtime_functions.specs.Library.{OneWord, WithEntry, register_count, total_count, holder_from, holders_from}
 use Rattle.runtime_functions.specs.Library.{parameters_of, results_of}
 use Rattle.runtime_functions.specs.Functions.{IsRuntimeFunction}
-use Rattle.runtime_functions.specs.Runtime.{IsOfRuntime, IsRuntimeCode, argument_count, result_count}
+use Rattle.runtime_functions.specs.Runtime.{IsOfRuntime, IsRuntimeCode, most_instructions, argument_count, result_count}
 use Rattle.runtime_functions.specs.Calls.{CallSite, CallsFunction}
 use Rattle.runtime_functions.specs.Actions.{AreParameters, AreResults, AreTaken, IsLaidOut, price_of, IsActionFunction}
 use Rattle.runtime_functions.specs.Actions.{IsReady, ServesCall}
@@ -60,16 +63,24 @@ pub runtime_code_of_same : (map : MapSizes) (entry : View) (IsGood : Bytes → T
 runtime_code_of_same map entry IsGood line f same items e h =
     subst (λ f. IsRuntimeCode map entry IsGood f line items) (sym e) h
 
+-- a shape of fewer instructions and registers, by which function it is
+pub within : (f same : RuntimeFunction) (items : List FlatInstruction) (n m : ℕ) → f ≡ same → n ≤ most_instructions same
+    → m ≤ most_registers → HasShape items n m → HasShape items (most_instructions f) most_registers
+within f same items n m e a b h = subst (λ g. HasShape items (most_instructions g) most_registers) (sym e)
+    (more items n (most_instructions same) m most_registers a b h)
+
 -- a function of the list by its code
 pub function_of_list : (map : MapSizes) (entry : View) (IsGood : Bytes → Type 0) (f : RuntimeFunction)
     (function : FlatFunction) (items routine : List FlatInstruction) (a n line : ℕ) → routine ≡ items
     → a ≡ argument_count f → n ≡ result_count f → line ≡ 1 → IsRuntimeCode map entry IsGood f line items
-    → IsRuntimeFunction routine a n function → IsOfRuntime map entry IsGood f function
-function_of_list map entry IsGood f function items routine a n line same e g l code is = record {
+    → HasShape items (most_instructions f) most_registers → IsRuntimeFunction routine a n function
+    → IsOfRuntime map entry IsGood f function
+function_of_list map entry IsGood f function items routine a n line same e g l code shape is = record {
   routine = items;
   is = subst (λ k. IsRuntimeFunction items (argument_count f) k function) g
       (subst (λ k. IsRuntimeFunction items k n function) e (subst (λ r. IsRuntimeFunction r a n function) same is));
   code = subst (λ k. IsRuntimeCode map entry IsGood f k items) l code;
+  shape = shape;
 }
 
 -- ---- calls

@@ -7,3 +7,4 @@ pub mod Runtime
 pub mod Entering
 pub mod Copying
 pub mod Zeroing
+pub mod Sizes

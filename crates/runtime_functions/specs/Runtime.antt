@@ -7,6 +7,7 @@ use Rattle.flat_meaning.specs.declared.instruction.FlatInstruction.{FlatInstruct
 use Rattle.flat_meaning.specs.declared.function.FlatFunction.{FlatFunction}
 use Rattle.flat_meaning.specs.Memory.{Bytes}
 use Rattle.flat_routines.specs.Metadata.{View}
+use Rattle.flat_routines.specs.Shape.{HasShape}
 use Rattle.flat_actions.specs.Actions.{runtime_basis}
 use Rattle.flat_actions.specs.Scanning.{IsScanRoutine}
 use Rattle.flat_actions.specs.Ranges.{IsTaggedMoveRoutine}
@@ -23,6 +24,7 @@ use Rattle.runtime_functions.specs.declared.runtime.RuntimeFunction.TheVariants.
 use Rattle.runtime_functions.specs.declared.runtime.RuntimeFunction.TheVariants.{Zero, CopyTagged, Enter}
 use Rattle.runtime_functions.specs.declared.runtime.RuntimeFunction.TheVariants.{ZeroArea, TakeArea, PutArea, MoveArea}
 use Rattle.runtime_functions.specs.Functions.{IsRuntimeFunction}
+use Rattle.runtime_functions.specs.Sizes.{most_registers}
 use Rattle.runtime_functions.specs.Library.{IsLibraryCode, held_from, parameters_of, results_of}
 
 -- the fixed list: the number of a function is its place in it, behind the functions of the text
@@ -87,6 +89,11 @@ result_count TakeArea = 0
 result_count PutArea = 0
 result_count MoveArea = 0
 
+-- how many instructions its routine has at most
+abbrev pub most_instructions : RuntimeFunction → ℕ
+most_instructions (Library library.Realloc) = 384
+most_instructions f = 192
+
 -- what a block is entered with: where its first object begins, where the last ends, its key and its lock word
 abbrev pub entered_registers : EntryRegisters
 entered_registers = record { first = 3; end = 4; key = 5; lock = 6 }
@@ -112,12 +119,13 @@ IsRuntimeCode map entry IsGood TakeArea line r = IsTakeRoutine map entry IsGood 
 IsRuntimeCode map entry IsGood PutArea line r = IsPutRoutine map entry IsGood 0 (held_from 2) 1 8 r
 IsRuntimeCode map entry IsGood MoveArea line r = IsTakePartRoutine map entry IsGood 0 (held_from 2) 1 8 r
 
--- a function of the list, whose code is built for line 1
+-- a function of the list, whose code is built for line 1, and no longer than a function of the runtime may be
 pub record IsOfRuntime (map : MapSizes) (entry : View) (IsGood : Bytes → Type 0) (f : RuntimeFunction)
     (function : FlatFunction) : Type 0 where
   pub routine : List FlatInstruction
   pub is : IsRuntimeFunction routine (argument_count f) (result_count f) function
   pub code : IsRuntimeCode map entry IsGood f 1 routine
+  pub shape : HasShape routine (most_instructions f) most_registers
 
 -- the functions of a list, in its order
 abbrev pub AreOfRuntime : MapSizes → View → (Bytes → Type 0) → List RuntimeFunction → List FlatFunction → Type 0

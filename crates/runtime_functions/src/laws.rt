@@ -1,8 +1,8 @@
 //! The law of calls, as the contract of a function that does nothing. What it says of a routine with any condition and
 //! any result is a public lemma of `proofs/Calls`.
 
-ghost use Rattle.std.specs.Prelude.{◌≡◌, ◌+◌, ℕ, List, length};
-ghost use Rattle.addr_map.specs.Places.{MapSizes, AreMapped};
+ghost use Rattle.std.specs.Prelude.{◌≡◌, ◌+◌, ◌*◌, ◌^◌, ◌≤◌, ℕ, List, length, true};
+ghost use Rattle.addr_map.specs.Places.{MapSizes, AreMapped, functions_begin, code_begin};
 ghost use Rattle.flat_meaning.specs.declared.instruction.FlatInstruction.{FlatInstruction};
 ghost use Rattle.flat_meaning.specs.declared.function.FlatFunction.{FlatFunction};
 ghost use Rattle.flat_meaning.specs.declared.function.FlatProgram.{FlatProgram};
@@ -17,6 +17,7 @@ ghost use Rattle.flat_routines.specs.Objects.StandsFor.{Keys};
 ghost use Rattle.flat_actions.specs.Actions.{views_of};
 ghost use Rattle.object_routines.specs.AllocatingRoutines.Premises.{AreStanding};
 ghost use Rattle.runtime_functions.specs.declared.library.LibraryFunction.{LibraryFunction};
+ghost use Rattle.runtime_functions.specs.declared.runtime.RuntimeFunction.{RuntimeFunction};
 ghost use Rattle.runtime_functions.specs.declared.runtime.RuntimeFunction.TheVariants.{Library, Enter};
 ghost use Rattle.runtime_functions.specs.declared.runtime.RuntimeFunction.TheVariants.{Zero, CopyTagged};
 ghost use Rattle.runtime_functions.specs.Zeroing.{zeroing, IsToZeroObject, zeroing_interface};
@@ -25,7 +26,8 @@ ghost use Rattle.runtime_functions.specs.Calls.{CallSite, CallsFunction, CallsRu
 ghost use Rattle.runtime_functions.specs.Calls.{waits_at};
 ghost use Rattle.runtime_functions.specs.Actions.{IsReady, ServesCall};
 ghost use Rattle.runtime_functions.specs.Library.{library_interface, parameters_of, results_of, routine_of};
-ghost use Rattle.runtime_functions.specs.Runtime.{IsOfRuntime};
+ghost use Rattle.runtime_functions.specs.Runtime.{runtime_list, IsOfRuntime, AreOfRuntime};
+ghost use Rattle.runtime_functions.specs.Sizes.{are_encodable, all_words};
 ghost use Rattle.runtime_functions.specs.Entering.{IsToEnter, ServesBlock};
 
 use shadow_space::ShadowForm;
@@ -86,4 +88,19 @@ pub fn calls_of_zero_set_objects_to_zero<S: ShadowForm>()
         → IsReady (views_of m functions types S.entry) k (S.IsGood m) zeroing_interface s x vs → IsToZeroObject n x vs
         → ServesCall m p (views_of m functions types S.entry) k (S.IsGood m) zeroing_interface s 2 0 line x
         (zeroing n line vs) }
+{}
+
+/// Of the functions of the runtime each instruction names registers below 254, and has numbers that machine instructions
+/// hold.
+pub fn functions_of_the_runtime_are_encodable<S: ShadowForm>()
+    ensures { (m : MapSizes) (f : RuntimeFunction) (fn : FlatFunction) → IsOfRuntime m S.entry (S.IsGood m) f fn
+        → are_encodable fn.body ≡ true }
+{}
+
+/// Their code fits the first segment with a jump table of up to 4096 functions of the program and their own, and leaves
+/// 32 KiB for what begins and ends the run.
+pub fn the_runtime_fits_the_first_segment<S: ShadowForm>()
+    ensures { (m : MapSizes) (fs : List FlatFunction) → AreOfRuntime m S.entry (S.IsGood m) runtime_list fs
+        → (functions : ℕ) → functions ≤ 4096
+        → functions_begin + 16 * (functions + length fs) + 4 * all_words fs + 2 ^ 15 ≤ code_begin }
 {}

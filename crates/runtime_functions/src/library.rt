@@ -2,6 +2,10 @@
 
 ghost use Rattle.std.specs.Prelude.{◌≡◌, IfOk};
 ghost use Rattle.addr_map.specs.Places.{AreMapped};
+ghost use Rattle.flat_routines.specs.Shape.{HasShape};
+ghost use Rattle.runtime_functions.specs.Sizes.{most_registers};
+ghost use Rattle.runtime_functions.specs.Runtime.{most_instructions};
+ghost use Rattle.runtime_functions.specs.declared.runtime.RuntimeFunction.TheVariants.{Library};
 ghost use Rattle.runtime_functions.specs.Library.{IsLibraryCode, parameters_of, results_of};
 
 use addr_map::AddrMap;
@@ -161,7 +165,8 @@ pub fn library_code<S: ShadowForm>(
     line: Line,
 ) -> Result<Vec<FlatInstruction>, AllocError>
     requires map { AreMapped map.now }
-    ensures { IfOk result (λ r. IsLibraryCode map.now S.entry (S.IsGood map.now) function line r.items) }
+    ensures code { IfOk result (λ r. IsLibraryCode map.now S.entry (S.IsGood map.now) function line r.items) }
+    ensures shape { IfOk result (λ r. HasShape r.items (most_instructions (Library function)) most_registers) }
 {
     match function {
         LibraryFunction::Malloc => malloc::<S>(alloc, map, 0, AT_2, line, 7),

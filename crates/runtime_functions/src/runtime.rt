@@ -1,8 +1,10 @@
 //! The functions of the runtime, a fixed list that stands behind the functions of the text.
 
-ghost use Rattle.std.specs.Prelude.{◌≡◌, ◌+◌, ◌≤◌, IfOk};
+ghost use Rattle.std.specs.Prelude.{◌≡◌, ◌<◌, ◌^◌, IfOk, length};
 ghost use Rattle.addr_map.specs.Places.{AreMapped};
-ghost use Rattle.runtime_functions.specs.Functions.{IsRuntimeFunction};
+ghost use Rattle.flat_routines.specs.Shape.{HasShape};
+ghost use Rattle.runtime_functions.specs.Sizes.{most_registers};
+ghost use Rattle.runtime_functions.specs.Runtime.{most_instructions};
 ghost use Rattle.runtime_functions.specs.Runtime.{runtime_list, argument_count, result_count, IsRuntimeCode};
 ghost use Rattle.runtime_functions.specs.Runtime.{IsOfRuntime, AreOfRuntime};
 
@@ -167,7 +169,9 @@ fn runtime_code<S: ShadowForm>(
     line: Line,
 ) -> Result<Vec<FlatInstruction>, AllocError>
     requires map { AreMapped map.now }
-    ensures { IfOk result (λ r. IsRuntimeCode map.now S.entry (S.IsGood map.now) function line r.items) }
+    ensures code { IfOk result (λ r. IsRuntimeCode map.now S.entry (S.IsGood map.now) function line r.items) }
+    ensures shape { IfOk result (λ r. HasShape r.items (most_instructions function) most_registers) }
+    ensures few { IfOk result (λ r. length r.items < 2 ^ 31) }
 {
     match function {
         RuntimeFunction::Library(function) => library_code::<S>(alloc, map, function, line),
@@ -182,22 +186,6 @@ fn runtime_code<S: ShadowForm>(
         RuntimeFunction::PutArea => put_structure::<S>(alloc, map, 0, PART, 1, 8),
         RuntimeFunction::MoveArea => take_part::<S>(alloc, map, 0, PART, 1, 8),
     }
-}
-
-// The function of a routine; no routine has 2^31 instructions.
-fn function_of(
-    alloc: Global,
-    routine: &[FlatInstruction],
-    frame: RuntimeFrame,
-) -> Result<FlatFunction, AllocError>
-    requires registers { frame.registers ≤ 254 }
-    requires results { frame.parameters + 1 + frame.results ≤ frame.registers }
-    ensures { IfOk result (λ f. IsRuntimeFunction routine.now frame.parameters frame.results f) }
-{
-    if routine.len() >= 1 << 31 {
-        return Err(AllocError);
-    }
-    runtime_function(alloc, routine, frame)
 }
 
 /// A function of the runtime, built once for calls at every line. The only refusal is that memory fails.
@@ -215,7 +203,7 @@ pub fn runtime_function_of<S: ShadowForm>(
         results: function.results(),
         registers: REGISTERS,
     };
-    function_of(alloc, &routine, frame)
+    runtime_function(alloc, &routine, frame)
 }
 
 // The functions of a list, in its order.

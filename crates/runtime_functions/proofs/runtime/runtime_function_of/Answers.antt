@@ -8,4 +8,4 @@ returns g c =
     IfOk-weaker _ _ _
     (λ f h. function_of_list a.map.now g.S.ShadowForm.entry (g.S.ShadowForm.IsGood a.map.now) a.function f
     c.in_ok-routine.routine.items _ _ _ _ c.deref.ensures.value c.parameters.ensures c.results.ensures c.first.ensures
-    c.in_ok-routine.ensures h) c.function_of.ensures
+    c.in_ok-routine.ensures.code c.in_ok-routine.ensures.shape h) c.runtime_function.ensures.function

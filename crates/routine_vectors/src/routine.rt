@@ -88,7 +88,9 @@ pub enum Routine {
     Allocating(Allocating),
 }
 
-const ROUTINES: [(&str, Routine); 38] = [
+const ROUTINES: [(&str, Routine); 39] = [
+    // one routine is both
+    ("memcpy", Routine::Moving(Moving::Memmove)),
     ("memmove", Routine::Moving(Moving::Memmove)),
     ("memset", Routine::Moving(Moving::Memset)),
     ("copy_structure", Routine::Moving(Moving::CopyStructure)),
@@ -250,8 +252,7 @@ impl RoutineCall {
             Routine::Accessing(_)
             | Routine::Testing(_)
             | Routine::Pointing(_)
-            | Routine::Putting(Putting::Printf)
-            | Routine::Allocating(Allocating::Leave) => false,
+            | Routine::Putting(Putting::Printf) => false,
             _ => true,
         }
     }

@@ -13,8 +13,8 @@ use Rattle.flat_meaning.specs.declared.function.FlatProgram.{FlatProgram}
 use Rattle.flat_meaning.specs.Calls.{function_in}
 use Rattle.flat_meaning.specs.Meaning.{results_of}
 use Rattle.reg_plan.specs.declared.effects.Span.{Span}
-use Rattle.reg_plan.specs.Effects.{read_by, is_read, made_by, is_among, one, none, many, next_of, taken_of, Leads}
-use Rattle.reg_plan.specs.Needs.{ReadsAt, MakesAt, LeadsAt, IsNeeded, Read, Made, Before}
+use Rattle.reg_plan.specs.Effects.{read_by, is_read, made_by, makes_only, is_among, one, none, many, next_of, taken_of, Leads}
+use Rattle.reg_plan.specs.Needs.{ReadsAt, MakesAt, AlwaysMakesAt, LeadsAt, IsNeeded, Read, Made, Before}
 use Rattle.reg_plan.specs.Flow.{IsNamed}
 use Rattle.reg_plan.specs.Accepted.{HasHome}
 use Rattle.reg_plan.specs.Planned.{IsPlannable, ArePlannable}
@@ -52,6 +52,29 @@ next_same k (flat.Put x) pc = refl
 next_same k (flat.Exit x) pc = refl
 next_same k (flat.End e) pc = refl
 next_same k (flat.Charged x) pc = refl
+
+-- whether a value is all that an instruction makes
+only_same : (k : Facts) (i : FlatInstruction) → makes_only (rewritten k i) ≡ makes_only i
+unfolding rewritten
+only_same k (flat.Constant x n) = refl
+only_same k (flat.Move x y) = moved_is (λ i. makes_only i ≡ Some x) x y (λ z. refl) (λ n e. refl) (k y)
+only_same k (flat.Operate op x y z) = refl
+only_same k (flat.Operate32 op x y z) = refl
+only_same k (flat.Load op x y offset) = refl
+only_same k (flat.Store op y offset x) = refl
+only_same k (flat.Branch op y z past) =
+    branch_is (λ i. makes_only i ≡ None) past (λ o a b. refl) op (k y) y (right_source k z)
+only_same k (flat.JumpForward past) = refl
+only_same k (flat.JumpBack back) = refl
+only_same k flat.Turn = refl
+only_same k (flat.Call g first x) = refl
+only_same k (flat.CallAddress y first n x r) = refl
+only_same k (flat.Return y) = refl
+only_same k (flat.Get x) = refl
+only_same k (flat.Put x) = refl
+only_same k (flat.Exit x) = refl
+only_same k (flat.End e) = refl
+only_same k (flat.Charged x) = refl
 
 taken_same : (k : Facts) (i : FlatInstruction) (pc : ℕ) → taken_of (rewritten k i) pc ≡ taken_of i pc
 unfolding rewritten
@@ -179,6 +202,17 @@ module _ (m : MapSizes) (p : FlatProgram) (f : ℕ) (body : List FlatInstruction
             (subst (λ i. is_among (made_by q i) y ≡ true) (sym o.2) h.2),
       )
 
+  always_makes_at : (pc y : ℕ) → AlwaysMakesAt q body' pc y → AlwaysMakesAt p body pc y
+  always_makes_at pc y h =
+      let o = original pc h.0 h.1 in
+      (
+        o.0,
+        o.1,
+        subst (λ (s : Span). is_among s y ≡ true) (made_same (known_at body pc) o.0)
+            (subst (λ i. is_among (made_by q i) y ≡ true) (sym o.2) h.2),
+        sym (only_same (known_at body pc) o.0) ∙ ap makes_only o.2 ∙ h.3,
+      )
+
   at_makes : (pc y : ℕ) → MakesAt p body pc y → MakesAt q body' pc y
   at_makes pc y h =
       let k = known_at body pc in
@@ -227,7 +261,7 @@ module _ (m : MapSizes) (p : FlatProgram) (f : ℕ) (body : List FlatInstruction
       let o = original pc h.0 h.1 in
       rewritten_reads m p f (Was pc) (known_at body pc) (spoken_of pc) o.0 (was_read pc o.0 o.1) y
       (subst (λ i. is_read (read_by q f i) y ≡ true) (sym o.2) h.2)
-  needed_was _ _ (Made pc n y l h) = inl (Made pc n y (leads_at pc n l) (makes_at pc y h))
+  needed_was _ _ (Made pc n y l h) = inl (Made pc n y (leads_at pc n l) (always_makes_at pc y h))
   needed_was _ _ (Before pc n y l h not_made) =
       let on = leads_at pc n l in
       ⊎_elim (λ was. inl (Before pc n y on was (λ made. not_made (at_makes pc y made))))

@@ -1,5 +1,10 @@
 -- The outcomes of `list` and `asm`, case by case.
-use Rattle.std.proofs.Common.{◌≡◌, ℕ, List, Option, ◌∙◌}
+use Rattle.std.proofs.Common.{◌≡◌, ℕ, List, [], Option, Some, None, Result, Ok, Err, refl, subst}
+use Rattle.sb_outside.specs.declared.source.Failed.{Failed}
+use Rattle.sb_outside.specs.Content.{gained, GainsPart, Writes}
+use Rattle.sb_outside.specs.Faults.{next_count}
+use Rattle.elf_image.specs.declared.fault.ImageFault.{ImageFault}
+use Rattle.elf_image.specs.Tests.{image_fault}
 use Rattle.sbcets_core.specs.declared.outcome.ReadFault.TheVariants.{TooLong}
 use Rattle.sbcets_core.specs.declared.outcome.ReadFault.TheVariants as reads
 use Rattle.sbcets_core.specs.declared.outcome.Outcome.{Outcome}
@@ -10,7 +15,7 @@ use Rattle.sbcets_core.specs.declared.outcome.Outcome.TheVariants as outcomes
 use Rattle.sbcets_core.specs.Outcomes.{max_image_file, max_listing}
 use Rattle.sbcets_core.specs.Counting.{Counts, CommandCounts}
 use Rattle.sbcets_core.specs.Commands.{Outside, IsRead, IsUnread, OnlyReads}
-use Rattle.sbcets_core.specs.Listings.{Lists, Assembles, SpellsNone}
+use Rattle.sbcets_core.specs.Listings.{Lists, Assembles, Spells, SpellsNone, ReadsImage, AssembledInto, listing_of}
 use Rattle.sbcets_core.proofs.Cases.{unread_counts}
 
 -- a command that got nothing does nothing
@@ -90,7 +95,93 @@ refused_counts text (Limit n) before after same e = absurd e
 refused_counts text (Running n) before after same e = absurd e
 refused_counts text (Trap kind pc) before after same e = absurd e
 
--- the cases of `list`, and of `asm`
-pub ruleset listing = (unread_lists, unread_counts)
+-- ---- what was done
 
-pub ruleset assembling = (unread_assembles, refused_assembles, unread_counts, refused_counts)
+reads_image : (name bytes : List ℕ) (before after : Outside) → IsRead before.files name max_image_file bytes
+    → image_fault bytes ≡ None → after.files ≡ before.files → after.reads ≡ next_count before.reads
+    → after.writes ≡ before.writes → after.streams.input ≡ before.streams.input
+    → after.streams.errors ≡ before.streams.errors → ReadsImage name [] before after
+reads_image name bytes before after read readable files asked unwritten input errors = record {
+  bytes = bytes;
+  read = read;
+  readable = readable;
+  files = files;
+  asked = asked;
+  unwritten = unwritten;
+  input = input;
+  errors = errors;
+  none = refl;
+}
+
+pub listed_lists : (name bytes text : List ℕ) (before after : Outside) → IsRead before.files name max_image_file bytes
+    → image_fault bytes ≡ None → text ≡ listing_of bytes → after.files ≡ before.files
+    → after.reads ≡ next_count before.reads → after.writes ≡ before.writes
+    → after.streams.input ≡ before.streams.input → after.streams.errors ≡ before.streams.errors
+    → after.streams.output ≡ gained before.streams.output text → Lists name Done [] before after
+unfolding reads_image
+listed_lists name bytes text before after read readable is files asked unwritten input errors output = record {
+  of = reads_image name bytes before after read readable files asked unwritten input errors;
+  output = subst (λ t. after.streams.output ≡ gained before.streams.output t) is output;
+}
+
+pub part_lists : (name bytes text : List ℕ) (before after : Outside) → IsRead before.files name max_image_file bytes
+    → image_fault bytes ≡ None → text ≡ listing_of bytes → after.files ≡ before.files
+    → after.reads ≡ next_count before.reads → after.writes ≡ before.writes
+    → after.streams.input ≡ before.streams.input → after.streams.errors ≡ before.streams.errors
+    → GainsPart before.streams.output after.streams.output text → Lists name WriteFault [] before after
+unfolding reads_image
+part_lists name bytes text before after read readable is files asked unwritten input errors output = record {
+  of = reads_image name bytes before after read readable files asked unwritten input errors;
+  output = subst (λ t. GainsPart before.streams.output after.streams.output t) is output;
+}
+
+pub refused_lists : (name bytes : List ℕ) (fault : ImageFault) (before after : Outside) → OnlyReads [] before after
+    → IsRead before.files name max_image_file bytes → image_fault bytes ≡ Some fault
+    → Lists name (ImageRefused fault) [] before after
+refused_lists name bytes fault before after d read refused =
+    (record { bytes = bytes; read = read; refused = refused }, d)
+
+assembled_into : (name target text bytes : List ℕ) (written : Result (Unit {0}) Failed) (before after : Outside)
+    → IsRead before.files name max_listing text → Spells text bytes
+    → Writes before.files after.files target bytes written → after.reads ≡ next_count before.reads
+    → after.writes ≡ next_count before.writes → after.streams ≡ before.streams
+    → AssembledInto name target written [] before after
+assembled_into name target text bytes written before after read spells writes asked once streams = record {
+  text = text;
+  read = read;
+  bytes = bytes;
+  spells = spells;
+  writes = writes;
+  asked = asked;
+  once = once;
+  streams = streams;
+  none = refl;
+}
+
+pub written_assembles : (name target text bytes : List ℕ) (before after : Outside)
+    → IsRead before.files name max_listing text → Spells text bytes
+    → Writes {T = Unit {0}} before.files after.files target bytes (Ok tt) → after.reads ≡ next_count before.reads
+    → after.writes ≡ next_count before.writes → after.streams ≡ before.streams
+    → Assembles name target Done [] before after
+written_assembles name target text bytes before after =
+    assembled_into name target text bytes (Ok tt) before after
+
+pub unwritten_assembles : (name target text bytes : List ℕ) (before after : Outside)
+    → IsRead before.files name max_listing text → Spells text bytes
+    → Writes {T = Unit {0}} before.files after.files target bytes (Err record {}) → after.reads ≡ next_count before.reads
+    → after.writes ≡ next_count before.writes → after.streams ≡ before.streams
+    → Assembles name target WriteFault [] before after
+unwritten_assembles name target text bytes before after =
+    assembled_into name target text bytes (Err record {}) before after
+
+-- the cases of `list`, and of `asm`
+pub ruleset listing = (unread_lists, listed_lists, part_lists, refused_lists, unread_counts)
+
+pub ruleset assembling = (
+  unread_assembles,
+  refused_assembles,
+  written_assembles,
+  unwritten_assembles,
+  unread_counts,
+  refused_counts,
+)

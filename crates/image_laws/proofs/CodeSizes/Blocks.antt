@@ -397,12 +397,12 @@ module _ (p : FlatProgram) (plans : List FunctionPlan) (ok : IsSound p plans) (f
 
   needed_most : (m : MapSizes) (b : Bool) (i : FlatInstruction)
       → length (if b then [] else local_block (keeping p plans f).place (keeping p plans f).base (charged_from m p f) i)
-      ≤ instruction_words p (keeping p plans f).room (results_of (function_in p f)) i
+      ≤ instruction_words p g i
   needed_most m b i =
       let k = keeping p plans f in
       let a = local_most m i in
       choice b [] (local_block k.place k.base (charged_from m p f) i)
-      (instruction_words p k.room (results_of (function_in p f)) i) (omega arith) a
+      (instruction_words p g i) (omega arith) a
 
   -- all instructions, but for the jump or the branch behind a block
   pub block_length : (m : MapSizes) (pc : ℕ) (i : FlatInstruction)

@@ -8,7 +8,7 @@ use Rattle.c_tree.specs.Tree.{constant, function, plain, read, decay, address, p
 use Rattle.c_tree.specs.Tree.{address_function, cast, convert, unary, binary, offset_by, difference, logical_and}
 use Rattle.c_tree.specs.Tree.{logical_or, comma, conditional, assign, assign_plain, compound, change_plain, step}
 use Rattle.c_tree.specs.Tree.{step_plain, call, call_through, library, printf, LvalueNode, automatic, static, deref}
-use Rattle.c_tree.specs.Tree.{index, member, arrow, member_of_value, parenthesized_lvalue}
+use Rattle.c_tree.specs.Tree.{index, member, arrow, member_of_value, parenthesized_lvalue, kind_of}
 use Rattle.c_tree.specs.Walk.{visited, visited_lvalue, walk_operands, walk_lvalue_operands, walk_each, sum_of}
 use Rattle.c_tree.specs.Room.{in_turn}
 use Rattle.tac_ir.specs.declared.instruction.Instruction.{Instruction}

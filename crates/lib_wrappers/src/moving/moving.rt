@@ -51,7 +51,8 @@ pub fn move_usable(
     requires map { AreMapped map.now }
     requires below { AreBelow scratch (to ∷ from ∷ bytes ∷ []) }
     requires room { scratch + 8 ≤ 2 ^ 31 }
-    ensures { IfOk result (λ r. IsUsableMoveRoutine map.now to from bytes scratch r.items) }
+    ensures does { IfOk result (λ r. IsUsableMoveRoutine map.now to from bytes scratch r.items) }
+    ensures shape { IfOk result (λ r. HasShape r.items 24 (scratch + 5)) }
 {
     move_bytes_instructions(alloc, to, from, bytes, scratch)
 }

@@ -7,6 +7,7 @@ pub mod Parts
 pub mod PutRanges
 pub mod PutValues
 pub mod ReadParts
+pub mod Shapes
 pub mod Spaces
 pub mod TakeRanges
 pub mod Values

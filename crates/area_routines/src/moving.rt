@@ -2,6 +2,7 @@
 
 ghost use Rattle.std.specs.Prelude.{◌≡◌, ◌+◌, ◌≤◌, ◌^◌, IfOk, [], ◌∷◌, ◌++◌, length};
 ghost use Rattle.addr_map.specs.Places.{AreMapped};
+ghost use Rattle.flat_routines.specs.Shape.{HasShape};
 ghost use Rattle.flat_routines.specs.Registers.{AreBelow};
 ghost use Rattle.flat_routines.specs.Metadata.{held_registers};
 ghost use Rattle.area_routines.specs.Loops.{word_loop, zero_body};
@@ -34,7 +35,8 @@ pub fn move_area(
     requires map { AreMapped map.now }
     requires below { AreBelow scratch (to ∷ bytes ∷ held_registers part) }
     requires room { scratch + 16 ≤ 2 ^ 31 }
-    ensures { IfOk result (λ r. IsMoveAreaRoutine map.now to part bytes scratch r.items) }
+    ensures does { IfOk result (λ r. IsMoveAreaRoutine map.now to part bytes scratch r.items) }
+    ensures shape { IfOk result (λ r. HasShape r.items 80 (scratch + 9)) }
 {
     let moves = move_usable(alloc, map, to, part.value, bytes, scratch)?;
     let entries = entry_instructions(alloc, to, part, bytes, scratch)?;
@@ -58,7 +60,8 @@ pub fn take_part<S: ShadowForm>(
     requires map { AreMapped map.now }
     requires below { AreBelow scratch (to ∷ bytes ∷ held_registers part) }
     requires room { scratch + 16 ≤ 2 ^ 31 }
-    ensures { IfOk result (λ r. IsTakePartRoutine map.now S.entry (S.IsGood map.now) to part bytes scratch r.items) }
+    ensures does { IfOk result (λ r. IsTakePartRoutine map.now S.entry (S.IsGood map.now) to part bytes scratch r.items) }
+    ensures shape { IfOk result (λ r. HasShape r.items 80 (scratch + 9)) }
 {
     S::entries_are_local();
     move_area(alloc, map, to, part, bytes, scratch)

@@ -2,6 +2,7 @@
 
 ghost use Rattle.std.specs.Prelude.{◌≡◌, ◌+◌, ◌≤◌, ◌^◌, IfOk, [], ◌∷◌, ◌++◌, length};
 ghost use Rattle.addr_map.specs.Places.{AreMapped};
+ghost use Rattle.flat_routines.specs.Shape.{HasShape};
 ghost use Rattle.flat_routines.specs.Registers.{AreBelow};
 ghost use Rattle.flat_routines.specs.Metadata.{held_registers};
 ghost use Rattle.lib_wrappers.specs.MovingRoutines.Tagged.{count_words};
@@ -32,7 +33,8 @@ pub fn put_range<S: ShadowForm>(
     requires map { AreMapped map.now }
     requires below { AreBelow scratch (to ∷ bytes ∷ held_registers part) }
     requires room { scratch + 8 ≤ 2 ^ 31 }
-    ensures { IfOk result (λ r. IsPutRangeRoutine map.now S.entry (S.IsGood map.now) to part bytes scratch r.items) }
+    ensures does { IfOk result (λ r. IsPutRangeRoutine map.now S.entry (S.IsGood map.now) to part bytes scratch r.items) }
+    ensures shape { IfOk result (λ r. HasShape r.items 96 (scratch + 13)) }
 {
     S::entries_are_local();
     let entry = Entry {
@@ -62,7 +64,8 @@ pub fn put_structure<S: ShadowForm>(
     requires map { AreMapped map.now }
     requires below { AreBelow scratch (to ∷ bytes ∷ held_registers part) }
     requires room { scratch + 8 ≤ 2 ^ 31 }
-    ensures { IfOk result (λ r. IsPutRoutine map.now S.entry (S.IsGood map.now) to part bytes scratch r.items) }
+    ensures does { IfOk result (λ r. IsPutRoutine map.now S.entry (S.IsGood map.now) to part bytes scratch r.items) }
+    ensures shape { IfOk result (λ r. HasShape r.items 96 (scratch + 13)) }
 {
     put_range::<S>(alloc, map, to, part, bytes, scratch)
 }

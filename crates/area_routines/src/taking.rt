@@ -2,6 +2,7 @@
 
 ghost use Rattle.std.specs.Prelude.{◌≡◌, ◌+◌, ◌≤◌, ◌^◌, IfOk, [], ◌∷◌, length};
 ghost use Rattle.addr_map.specs.Places.{AreMapped};
+ghost use Rattle.flat_routines.specs.Shape.{HasShape};
 ghost use Rattle.flat_routines.specs.Registers.{AreBelow};
 ghost use Rattle.area_routines.specs.Taking.{IsTakeRangeRoutine, count_entries, take_entries};
 ghost use Rattle.area_routines.specs.Values.{IsTakeRoutine};
@@ -32,7 +33,8 @@ pub fn take_range<S: ShadowForm>(
     requires map { AreMapped map.now }
     requires below { AreBelow scratch (to ∷ from ∷ bytes ∷ []) }
     requires room { scratch + 8 ≤ 2 ^ 31 }
-    ensures { IfOk result (λ r. IsTakeRangeRoutine map.now S.entry (S.IsGood map.now) to from bytes scratch r.items) }
+    ensures does { IfOk result (λ r. IsTakeRangeRoutine map.now S.entry (S.IsGood map.now) to from bytes scratch r.items) }
+    ensures shape { IfOk result (λ r. HasShape r.items 96 (scratch + 13)) }
 {
     S::entries_are_local();
     let entry = Entry {
@@ -64,7 +66,8 @@ pub fn take_structure<S: ShadowForm>(
     requires map { AreMapped map.now }
     requires below { AreBelow scratch (to ∷ from ∷ bytes ∷ []) }
     requires room { scratch + 8 ≤ 2 ^ 31 }
-    ensures { IfOk result (λ r. IsTakeRoutine map.now S.entry (S.IsGood map.now) to from bytes scratch r.items) }
+    ensures does { IfOk result (λ r. IsTakeRoutine map.now S.entry (S.IsGood map.now) to from bytes scratch r.items) }
+    ensures shape { IfOk result (λ r. HasShape r.items 96 (scratch + 13)) }
 {
     S::entries_are_local();
     take_range::<S>(alloc, map, to, from, bytes, scratch)

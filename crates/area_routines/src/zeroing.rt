@@ -2,6 +2,7 @@
 
 ghost use Rattle.std.specs.Prelude.{◌≡◌, ◌+◌, ◌≤◌, ◌^◌, IfOk, [], ◌∷◌};
 ghost use Rattle.addr_map.specs.Places.{AreMapped};
+ghost use Rattle.flat_routines.specs.Shape.{HasShape};
 ghost use Rattle.flat_routines.specs.Registers.{AreBelow};
 ghost use Rattle.area_routines.specs.Values.{IsMakeZeroRoutine};
 ghost use Rattle.area_routines.specs.Zeroing.{IsZeroAreaRoutine, area_words, zero_area_code};
@@ -27,7 +28,8 @@ pub fn zero_area(
     requires map { AreMapped map.now }
     requires below { AreBelow scratch (at ∷ bytes ∷ []) }
     requires room { scratch + 8 ≤ 2 ^ 31 }
-    ensures { IfOk result (λ r. IsZeroAreaRoutine map.now at bytes scratch r.items) }
+    ensures does { IfOk result (λ r. IsZeroAreaRoutine map.now at bytes scratch r.items) }
+    ensures shape { IfOk result (λ r. HasShape r.items 16 (scratch + 4)) }
 {
     zero_area_instructions(alloc, at, bytes, scratch)
 }
@@ -45,7 +47,8 @@ pub fn make_zero<S: ShadowForm>(
     requires map { AreMapped map.now }
     requires below { AreBelow scratch (at ∷ bytes ∷ []) }
     requires room { scratch + 8 ≤ 2 ^ 31 }
-    ensures { IfOk result (λ r. IsMakeZeroRoutine map.now S.entry (S.IsGood map.now) at bytes scratch r.items) }
+    ensures does { IfOk result (λ r. IsMakeZeroRoutine map.now S.entry (S.IsGood map.now) at bytes scratch r.items) }
+    ensures shape { IfOk result (λ r. HasShape r.items 16 (scratch + 4)) }
 {
     S::entries_are_local();
     zero_area(alloc, map, at, bytes, scratch)

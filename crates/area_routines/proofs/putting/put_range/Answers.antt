@@ -2,10 +2,11 @@ use Rattle.std.proofs.Common.{sym, subst, ◌∙◌}
 use Rattle.flat_actions.proofs.ByParts.{joined_are, by_body}
 use Rattle.area_routines.specs.Putting.{IsPutRangeRoutine, put_entries}
 use Rattle.area_routines.proofs.PutRanges.{puts_ranges}
+use Rattle.area_routines.proofs.Shapes.{put_shape}
 use Rattle.area_routines.proofs.putting.put_range.Goals as goal
 
-pub returns : goal.returns
-returns g c =
+pub returns-clause-does : goal.returns-clause-does
+returns-clause-does g c =
     let a = c.args in
     let entry = g.S.ShadowForm.entry in
     let IsGood = g.S.ShadowForm.IsGood a.map.now in
@@ -17,4 +18,13 @@ returns g c =
     (puts_ranges a.map.now c.requires.map entry IsGood
     (λ m m' keep good. c.entries_are_local.ensures a.map.now m m' c.requires.map keep good) a.to a.part a.bytes
     a.scratch c.requires.below c.in_ok-write.write.items c.in_ok-write.ensures.does c.in_ok-moves.moves.items
-    c.in_ok-moves.ensures)
+    c.in_ok-moves.ensures.does)
+
+pub returns-clause-shape : goal.returns-clause-shape
+returns-clause-shape g c =
+    let a = c.args in
+    let entries = by_body (λ write. put_entries write a.to a.part a.bytes a.scratch) _ _ c.in_ok-write.write.items
+    c.in_ok-entries.ensures c.as_slice.ensures.value in
+    put_shape c.in_ok-write.write.items a.to a.part a.bytes a.scratch c.requires.below c.in_ok-code.ensures
+    c.as_slice-2.ensures.value (c.as_slice-3.ensures.value ∙ entries) c.in_ok-moves.ensures.shape
+    c.in_ok-write.ensures.shape

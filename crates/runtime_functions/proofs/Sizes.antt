@@ -20,6 +20,7 @@ use Rattle.runtime_functions.specs.declared.library.LibraryFunction.TheVariants 
 use Rattle.runtime_functions.specs.declared.runtime.RuntimeFunction.{RuntimeFunction}
 use Rattle.runtime_functions.specs.declared.runtime.RuntimeFunction.TheVariants.{Library, Scan, PutBytes, PutNumber}
 use Rattle.runtime_functions.specs.declared.runtime.RuntimeFunction.TheVariants.{Zero, CopyTagged, Enter}
+use Rattle.runtime_functions.specs.declared.runtime.RuntimeFunction.TheVariants.{ZeroArea, TakeArea, PutArea, MoveArea}
 use Rattle.runtime_functions.specs.declared.status.ReturnStatus.{ReturnStatus}
 use Rattle.runtime_functions.specs.Status.{return_status}
 use Rattle.runtime_functions.specs.Functions.{with_status, with_stub, with_stubs, stubs, function_body}
@@ -147,6 +148,10 @@ few_arguments (PutNumber d) = omega arith
 few_arguments Zero = omega arith
 few_arguments CopyTagged = omega arith
 few_arguments Enter = omega arith
+few_arguments ZeroArea = omega arith
+few_arguments TakeArea = omega arith
+few_arguments PutArea = omega arith
+few_arguments MoveArea = omega arith
 
 pub few_instructions : (f : RuntimeFunction) → most_instructions f ≤ 384
 few_instructions (Library library.Malloc) = omega arith
@@ -170,6 +175,10 @@ few_instructions (PutNumber d) = omega arith
 few_instructions Zero = omega arith
 few_instructions CopyTagged = omega arith
 few_instructions Enter = omega arith
+few_instructions ZeroArea = omega arith
+few_instructions TakeArea = omega arith
+few_instructions PutArea = omega arith
+few_instructions MoveArea = omega arith
 
 -- no list of the runtime is as long as a jump
 pub short_list : {m : ℕ} (is : List FlatInstruction) (n : ℕ) → n ≤ 384 → HasShape is n m → length is < 2 ^ 31
@@ -215,5 +224,5 @@ module _ (map : MapSizes) (entry : View) (IsGood : Bytes → Type 0) where
       let all = functions_fit runtime_list gs h in
       let words = all.0 in let count = all.1 in
       let most : all_at_most runtime_list ≤ 110000 = leb-true (all_at_most runtime_list) 110000 refl in
-      let n : length runtime_list ≡ 26 = refl in
+      let n : length runtime_list ≡ 30 = refl in
       omega arith

@@ -57,33 +57,33 @@ returns-in-Enter-clause-code g c =
     (λ r h. runtime_code_of_same a.map.now g.S.ShadowForm.entry (g.S.ShadowForm.IsGood a.map.now) a.line _ _ _
     c.in-Enter.is h) c.enter.ensures.does
 
-pub returns-in-ZeroArea : goal.returns-in-ZeroArea
-returns-in-ZeroArea g c =
+pub returns-in-ZeroArea-clause-code : goal.returns-in-ZeroArea-clause-code
+returns-in-ZeroArea-clause-code g c =
     let a = c.args in
     IfOk-weaker _ _ _
     (λ r h. runtime_code_of_same a.map.now g.S.ShadowForm.entry (g.S.ShadowForm.IsGood a.map.now) a.line _ _ _
-    c.in-ZeroArea.is h) c.make_zero.ensures
+    c.in-ZeroArea.is h) c.make_zero.ensures.does
 
-pub returns-in-TakeArea : goal.returns-in-TakeArea
-returns-in-TakeArea g c =
+pub returns-in-TakeArea-clause-code : goal.returns-in-TakeArea-clause-code
+returns-in-TakeArea-clause-code g c =
     let a = c.args in
     IfOk-weaker _ _ _
     (λ r h. runtime_code_of_same a.map.now g.S.ShadowForm.entry (g.S.ShadowForm.IsGood a.map.now) a.line _ _ _
-    c.in-TakeArea.is h) c.take_structure.ensures
+    c.in-TakeArea.is h) c.take_structure.ensures.does
 
-pub returns-in-PutArea : goal.returns-in-PutArea
-returns-in-PutArea g c =
+pub returns-in-PutArea-clause-code : goal.returns-in-PutArea-clause-code
+returns-in-PutArea-clause-code g c =
     let a = c.args in
     IfOk-weaker _ _ _
     (λ r h. runtime_code_of_same a.map.now g.S.ShadowForm.entry (g.S.ShadowForm.IsGood a.map.now) a.line _ _ _
-    c.in-PutArea.is h) c.put_structure.ensures
+    c.in-PutArea.is h) c.put_structure.ensures.does
 
-pub returns-in-MoveArea : goal.returns-in-MoveArea
-returns-in-MoveArea g c =
+pub returns-in-MoveArea-clause-code : goal.returns-in-MoveArea-clause-code
+returns-in-MoveArea-clause-code g c =
     let a = c.args in
     IfOk-weaker _ _ _
     (λ r h. runtime_code_of_same a.map.now g.S.ShadowForm.entry (g.S.ShadowForm.IsGood a.map.now) a.line _ _ _
-    c.in-MoveArea.is h) c.take_part.ensures
+    c.in-MoveArea.is h) c.take_part.ensures.does
 
 pub returns-in-Scan-clause-shape : goal.returns-in-Scan-clause-shape
 returns-in-Scan-clause-shape g c = IfOk-weaker _ _ _
@@ -109,6 +109,22 @@ pub returns-in-Enter-clause-shape : goal.returns-in-Enter-clause-shape
 returns-in-Enter-clause-shape g c = IfOk-weaker _ _ _
     (λ r h. within _ _ _ 96 (7 + 11) c.in-Enter.is (omega arith) (omega arith) h) c.enter.ensures.shape
 
+pub returns-in-ZeroArea-clause-shape : goal.returns-in-ZeroArea-clause-shape
+returns-in-ZeroArea-clause-shape g c = IfOk-weaker _ _ _
+    (λ r h. within _ _ _ 16 (3 + 4) c.in-ZeroArea.is (omega arith) (omega arith) h) c.make_zero.ensures.shape
+
+pub returns-in-TakeArea-clause-shape : goal.returns-in-TakeArea-clause-shape
+returns-in-TakeArea-clause-shape g c = IfOk-weaker _ _ _
+    (λ r h. within _ _ _ 96 (4 + 13) c.in-TakeArea.is (omega arith) (omega arith) h) c.take_structure.ensures.shape
+
+pub returns-in-PutArea-clause-shape : goal.returns-in-PutArea-clause-shape
+returns-in-PutArea-clause-shape g c = IfOk-weaker _ _ _
+    (λ r h. within _ _ _ 96 (8 + 13) c.in-PutArea.is (omega arith) (omega arith) h) c.put_structure.ensures.shape
+
+pub returns-in-MoveArea-clause-shape : goal.returns-in-MoveArea-clause-shape
+returns-in-MoveArea-clause-shape g c = IfOk-weaker _ _ _
+    (λ r h. within _ _ _ 80 (8 + 9) c.in-MoveArea.is (omega arith) (omega arith) h) c.take_part.ensures.shape
+
 pub returns-in-Library-clause-shape : goal.returns-in-Library-clause-shape
 returns-in-Library-clause-shape g c = IfOk-weaker _ _ _
     (λ r h. within _ (Library c.in-Library.function) _ (most_instructions (Library c.in-Library.function)) most_registers
@@ -132,6 +148,18 @@ returns-in-CopyTagged-clause-few g c = IfOk-weaker _ _ _ (λ r h. short_list _ 1
 
 pub returns-in-Enter-clause-few : goal.returns-in-Enter-clause-few
 returns-in-Enter-clause-few g c = IfOk-weaker _ _ _ (λ r h. short_list _ 96 (omega arith) h) c.enter.ensures.shape
+
+pub returns-in-ZeroArea-clause-few : goal.returns-in-ZeroArea-clause-few
+returns-in-ZeroArea-clause-few g c = IfOk-weaker _ _ _ (λ r h. short_list _ 16 (omega arith) h) c.make_zero.ensures.shape
+
+pub returns-in-TakeArea-clause-few : goal.returns-in-TakeArea-clause-few
+returns-in-TakeArea-clause-few g c = IfOk-weaker _ _ _ (λ r h. short_list _ 96 (omega arith) h) c.take_structure.ensures.shape
+
+pub returns-in-PutArea-clause-few : goal.returns-in-PutArea-clause-few
+returns-in-PutArea-clause-few g c = IfOk-weaker _ _ _ (λ r h. short_list _ 96 (omega arith) h) c.put_structure.ensures.shape
+
+pub returns-in-MoveArea-clause-few : goal.returns-in-MoveArea-clause-few
+returns-in-MoveArea-clause-few g c = IfOk-weaker _ _ _ (λ r h. short_list _ 80 (omega arith) h) c.take_part.ensures.shape
 
 pub returns-in-Library-clause-few : goal.returns-in-Library-clause-few
 returns-in-Library-clause-few g c = IfOk-weaker _ _ _

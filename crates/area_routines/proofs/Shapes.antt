@@ -122,9 +122,31 @@ parts_shape to part bytes t below =
     (omega arith, (omega arith, (omega arith, (omega arith, (omega arith, tt))))) refl refl in
     let u = t + 1 in
     let own = t ∷ u ∷ (u + 1) ∷ (u + 2) ∷ (u + 3) ∷ (u + 4) ∷ (u + 5) ∷ (u + 6) ∷ (u + 7) ∷ [] in
-    let all : AreBelow m own =
-    (omega arith, (omega arith, (omega arith, (omega arith, (omega arith, (omega arith, (omega arith, (omega arith,
-    (omega arith, tt))))))))) in
+    let all : AreBelow m own = (
+      omega arith,
+      (
+        omega arith,
+        (
+          omega arith,
+          (
+            omega arith,
+            (
+              omega arith,
+              (
+                omega arith,
+                (
+                  omega arith,
+                  (
+                    omega arith,
+                    (omega arith, tt),
+                  ),
+                ),
+              ),
+            ),
+          ),
+        ),
+      ),
+    ) in
     let body = piece m own (move_body 0 1) 10 all refl refl in
     at_most (12 + (10 + 3 + 2)) 27 (omega arith)
     (shaped_append (count_parts to part bytes t (t + 1) (t + 2) (t + 3) (t + 4)) (word_loop u (move_body t u)) 12

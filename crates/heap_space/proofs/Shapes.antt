@@ -24,9 +24,31 @@ module _ (map : MapSizes) (mapped : AreMapped map) where
       let first = start_short map mapped Blocks in
       shaped_routine (a ∷ k ∷ []) (o ∷ [])
       (t ∷ (t + 1) ∷ (t + 2) ∷ (t + 3) ∷ (t + 4) ∷ (t + 5) ∷ (t + 6) ∷ (t + 7) ∷ []) t (t + 8)
-      (place_code map 0 1 2 3 4 5 6 7 8 9 10) 64 (omega arith) ins res
-      (omega arith, (omega arith, (omega arith, (omega arith, (omega arith, (omega arith, (omega arith, (omega arith,
-      tt))))))))
+      (place_code map 0 1 2 3 4 5 6 7 8 9 10) 64 (omega arith) ins res (
+        omega arith,
+        (
+          omega arith,
+          (
+            omega arith,
+            (
+              omega arith,
+              (
+                omega arith,
+                (
+                  omega arith,
+                  (
+                    omega arith,
+                    (
+                      omega arith,
+                      tt,
+                    ),
+                  ),
+                ),
+              ),
+            ),
+          ),
+        ),
+      )
       (shaped (place_code map 0 1 2 3 4 5 6 7 8 9 10) 64 11 (omega arith)
       (both _ _ (last_short map mapped Heap) (both _ _ first (both _ _ blocks_short
       (both _ _ (start_short map mapped Heap) (both _ _ first refl))))))

@@ -104,6 +104,7 @@ leads_by i pc q (inl e) = by i e
   where
     on : Some (pc + 1) ≡ Some q → q ≡ pc + 1
     on e = sym (same_Some (pc + 1) q e)
+
     by : (i : FlatInstruction) → next_of i pc ≡ Some q → (q ≡ pc + 1) ⊎ (jumps_to i pc q ≡ true)
     by (flat.Constant x n) e = inl (on e)
     by (flat.Move x y) e = inl (on e)
@@ -184,8 +185,7 @@ module _ (m : MapSizes) (p : FlatProgram) (f : ℕ) (body : List FlatInstruction
   leads_at pc n l =
       let o = original pc l.0 l.1 in
       let k = known_at body pc in
-      let back : Leads (rewritten k o.0) pc n = subst (λ i. Leads i pc n) (sym o.2) l.2 in
-      (
+      let back : Leads (rewritten k o.0) pc n = subst (λ i. Leads i pc n) (sym o.2) l.2 in (
         o.0,
         o.1,
         ⊎_elim (λ e. inl (sym (next_same k o.0 pc) ∙ e)) (λ e. inr (sym (taken_same k o.0 pc) ∙ e)) back,
@@ -194,8 +194,7 @@ module _ (m : MapSizes) (p : FlatProgram) (f : ℕ) (body : List FlatInstruction
 
   makes_at : (pc y : ℕ) → MakesAt q body' pc y → MakesAt p body pc y
   makes_at pc y h =
-      let o = original pc h.0 h.1 in
-      (
+      let o = original pc h.0 h.1 in (
         o.0,
         o.1,
         subst (λ (s : Span). is_among s y ≡ true) (made_same (known_at body pc) o.0)
@@ -204,8 +203,7 @@ module _ (m : MapSizes) (p : FlatProgram) (f : ℕ) (body : List FlatInstruction
 
   always_makes_at : (pc y : ℕ) → AlwaysMakesAt q body' pc y → AlwaysMakesAt p body pc y
   always_makes_at pc y h =
-      let o = original pc h.0 h.1 in
-      (
+      let o = original pc h.0 h.1 in (
         o.0,
         o.1,
         subst (λ (s : Span). is_among s y ≡ true) (made_same (known_at body pc) o.0)
@@ -216,8 +214,7 @@ module _ (m : MapSizes) (p : FlatProgram) (f : ℕ) (body : List FlatInstruction
   at_makes : (pc y : ℕ) → MakesAt p body pc y → MakesAt q body' pc y
   at_makes pc y h =
       let k = known_at body pc in
-      let z : 0 + pc ≡ pc = omega arith in
-      (
+      let z : 0 + pc ≡ pc = omega arith in (
         rewritten k h.0,
         get_rewritten body body 0 pc
             ∙ ap (λ n. option_map (rewritten (known_at body n)) (slice_get body pc)) z

@@ -311,12 +311,14 @@ module _ (m : MapSizes) (p : FlatProgram) (f : ℕ) (R : Registers) where
         unless (Word n) h = (r, tt)
         unless (Difference a b) h = h
         unless (Condition op a b) h = h
+
         ifs : (fact : Fact) → OfFact fact → Values q (if_zero fact y past)
         ifs Unknown h = (r, tt)
         ifs (Same z) h = (h, tt)
         ifs (Word n) h = (r, tt)
         ifs (Difference a b) h = h
         ifs (Condition op a b) h = h
+
         zeros : (op : BranchOp) → Values q (compared_zero op fact y past)
         zeros Bne = unless fact h
         zeros Beq = ifs fact h

@@ -132,7 +132,12 @@ pub fn build<F: Files, O: Sink>(
 }
 
 // All the bytes of a file of at most `max`, or the outcome without them.
-pub(crate) fn read_of<F: Files>(alloc: Global, name: &str, max: u64, files: &mut F) -> Result<Vec<u8>, Outcome>
+pub(crate) fn read_of<F: Files>(
+    alloc: Global,
+    name: &str,
+    max: u64,
+    files: &mut F,
+) -> Result<Vec<u8>, Outcome>
     ensures read { IfOk result (λ bytes. IsRead (F.held files.old) name.now max bytes.items) }
     ensures unread { IfErr result (λ outcome. IsUnread name.now max outcome (F.held files.old)) }
     ensures files { F.held files.new ≡ F.held files.old }

@@ -18,12 +18,7 @@ const MAX_LISTING: u64 = 1_073_741_824;
 
 /// `list`: reads an image, and puts its listing to the output.
 #[tactic(auto, using(crate::proofs::Listings::listing))]
-pub fn list<F: Files, O: Sink>(
-    alloc: Global,
-    name: &str,
-    files: &mut F,
-    output: &mut O,
-) -> Outcome
+pub fn list<F: Files, O: Sink>(alloc: Global, name: &str, files: &mut F, output: &mut O) -> Outcome
     ensures lists { (input : Rest) (errors : Option (List ℕ)) → Lists name.now result []
         (outside_of (F.held files.old) (F.reads files.old) (F.writes files.old) input (O.taken output.old) errors)
         (outside_of (F.held files.new) (F.reads files.new) (F.writes files.new) input (O.taken output.new) errors) }

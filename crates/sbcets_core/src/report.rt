@@ -40,7 +40,12 @@ pub fn report<S: Sink>(sink: &mut S, outcome: &Outcome) -> Result<(), Failed>
         Outcome::ImageRefused(fault) => {
             put_numbered(sink, b"image fault ", u128::from(fault.number()), b"")
         }
-        Outcome::Running(n) => put_numbered(sink, b"still running after ", u128::from(*n), b" turns"),
+        Outcome::Running(n) => put_numbered(
+            sink,
+            b"still running after ",
+            u128::from(*n),
+            b" turns",
+        ),
         Outcome::ListRefused { kind, line } => report_listing(sink, *kind, *line),
         Outcome::Trap { kind, pc } => report_trap(sink, *kind, *pc),
     }

@@ -131,7 +131,10 @@ fn put_call(rt: &HostRuntime, case: &Case, words: &str, files: &mut MemFiles) ->
     let (outcome, image) = sbcets(alloc, &words, files, &mut input, &mut output, &mut errors);
     print!(rt; "{}", outcome.status())?;
     let shown = if is_listing(&words) {
-        files.write(LISTING, output.bytes()).ok().context("room for a listing")?;
+        files
+            .write(LISTING, output.bytes())
+            .ok()
+            .context("room for a listing")?;
         lines_of(output.bytes(), case.lines)
     } else {
         shortened(output.bytes(), case.shown)
@@ -156,7 +159,10 @@ fn lines_of(text: &[u8], (first, behind): (usize, usize)) -> &[u8] {
 fn line_start(text: &[u8], number: usize) -> usize {
     let ends = text.iter().enumerate().filter(|(_, byte)| **byte == b'\n');
     match number.checked_sub(1) {
-        Some(before) => ends.map(|(place, _)| place + 1).nth(before).unwrap_or(text.len()),
+        Some(before) => ends
+            .map(|(place, _)| place + 1)
+            .nth(before)
+            .unwrap_or(text.len()),
         None => 0,
     }
 }

@@ -11,15 +11,24 @@ const ROOM: u64 = 4_194_304;
 pub fn is_listed(alloc: Global, image: &[u8]) -> Result<bool> {
     let mut files = files_of(alloc, image)?;
     let listing = output_of(alloc, "list it.img", &mut files)?;
-    files.write("it.lst", &listing).ok().context("room for a listing")?;
+    files
+        .write("it.lst", &listing)
+        .ok()
+        .context("room for a listing")?;
     output_of(alloc, "asm it.lst made.img", &mut files)?;
-    let made = files.read(alloc, "made.img", ROOM).ok().context("an image")?;
+    let made = files
+        .read(alloc, "made.img", ROOM)
+        .ok()
+        .context("an image")?;
     Ok(made.as_slice() == image)
 }
 
 fn files_of(alloc: Global, image: &[u8]) -> Result<MemFiles> {
     let mut pairs = Vec::new(alloc);
-    pairs.push((String::from_str(alloc, "it.img")?, Vec::from_slice(alloc, image)?))?;
+    pairs.push((
+        String::from_str(alloc, "it.img")?,
+        Vec::from_slice(alloc, image)?,
+    ))?;
     pairs.push((String::from_str(alloc, "it.lst")?, Vec::new(alloc)))?;
     pairs.push((String::from_str(alloc, "made.img")?, Vec::new(alloc)))?;
     Ok(MemFiles::new(alloc, &pairs, ROOM, &[], &[])?)

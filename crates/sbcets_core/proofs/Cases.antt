@@ -29,7 +29,7 @@ pub unbuilt_goes : (name : List ℕ) (budgets : BudgetSizes) (limit : ℕ) (outc
     → Goes name budgets limit outcome image before after
 unbuilt_goes name budgets limit (outcomes.ReadFault reads.Failed) image before after d u = d
 unbuilt_goes name budgets limit (outcomes.ReadFault (TooLong n most)) image before after d u = (u, d)
-unbuilt_goes name budgets limit Memory image before after d u = d
+unbuilt_goes name budgets limit Memory image before after d u = inr d
 unbuilt_goes name budgets limit (Refused refusal) image before after d u = (u, d)
 unbuilt_goes name budgets limit (Exited code) image before after d u = absurd u
 unbuilt_goes name budgets limit Built image before after d u = absurd u
@@ -49,7 +49,7 @@ pub unbuilt_builds : (name target : List ℕ) (budgets : BudgetSizes) (outcome :
     → Builds name target budgets outcome image before after
 unbuilt_builds name target budgets (outcomes.ReadFault reads.Failed) image before after d u = d
 unbuilt_builds name target budgets (outcomes.ReadFault (TooLong n most)) image before after d u = (u, d)
-unbuilt_builds name target budgets Memory image before after d u = d
+unbuilt_builds name target budgets Memory image before after d u = inr d
 unbuilt_builds name target budgets (Refused refusal) image before after d u = (u, d)
 unbuilt_builds name target budgets (Exited code) image before after d u = absurd u
 unbuilt_builds name target budgets Built image before after d u = absurd u
@@ -125,7 +125,7 @@ pub unread_runs : (name : List ℕ) (limit : ℕ) (outcome : Outcome) (image : L
     → Runs name limit outcome image before after
 unread_runs name limit (outcomes.ReadFault reads.Failed) image before after d u = d
 unread_runs name limit (outcomes.ReadFault (TooLong n most)) image before after d u = (u, d)
-unread_runs name limit Memory image before after d u = d
+unread_runs name limit Memory image before after d u = inr d
 unread_runs name limit (Refused refusal) image before after d u = absurd u
 unread_runs name limit (Exited code) image before after d u = absurd u
 unread_runs name limit Built image before after d u = absurd u

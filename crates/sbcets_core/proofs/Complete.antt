@@ -134,8 +134,8 @@ spells_some text image (ListRefused kind line) s r = absurd (cc (s.read, r))
 spells_some text image (ImageRefused fault) s r =
     let read = s.read in
     let readable = s.readable in
-    let other = r.1.0 in
-    let refused = r.1.1 in
+    let other = r.1 in
+    let refused = r.2 in
     absurd (cc (read, readable, other, refused))
 spells_some text image Memory s r = tt
 spells_some text image (outcomes.ReadFault fault) s r = absurd r

@@ -1,5 +1,5 @@
 -- `run` of the file that `build` left.
-use Rattle.std.proofs.Common.{◌≡◌, ℕ, List, [], Option, Some, None, Ok, refl, sym, ap, ◌∙◌, subst}
+use Rattle.std.proofs.Common.{◌≡◌, ℕ, List, [], Option, Some, None, Ok, inr, ⊎_elim, refl, sym, ap, ◌∙◌, subst}
 use Rattle.std.specs.Prelude.{IfSome}
 use Rattle.elf_image.specs.Tests.{image_fault}
 use Rattle.sb_outside.specs.Content.{Writes}
@@ -17,7 +17,7 @@ use Rattle.sb_base.specs.Budgets.{BudgetSizes}
 use Rattle.image_compiler.specs.declared.compiler.Built.{Built as BuiltImage}
 use Rattle.sbcets_core.specs.Outcomes.{max_source, max_image_file}
 use Rattle.sbcets_core.specs.Accepted.{IsBuiltFrom}
-use Rattle.sbcets_core.specs.Commands.{Outside, Streams, OnlyReads, IsRead, RunsImage, RanFile, Builds, Goes, Runs}
+use Rattle.sbcets_core.specs.Commands.{Outside, Streams, DoesNothing, OnlyReads, IsRead, RunsImage, RanFile, Builds, Goes, Runs}
 use Rattle.sbcets_core.specs.Commands.{outcome_of}
 use Rattle.sbcets_core.proofs.Cases.{went_goes}
 use Rattle.sbcets_core.proofs.Complete.{read_is, not_too_long}
@@ -65,6 +65,10 @@ idle : (before start after : Outside) → OnlyReads [] start after
     → OnlyReads [] (beside before start.streams) (beside_read before after.streams)
 idle before start after d = record { none = refl; same = ap (λ (o : Outside). beside_read before o.streams) d.same }
 
+unread : (before start after : Outside) → DoesNothing [] start after
+    → OnlyReads [] (beside before start.streams) (beside_read before after.streams)
+unread before start after d = record { none = refl; same = ap (λ (o : Outside). beside_read before o.streams) d.same }
+
 readable_is : (name target : List ℕ) (budgets : BudgetSizes) (before start : Outside) (bytes : List ℕ)
     → WasBuilt name target budgets before start
     → IsRead start.files target max_image_file bytes → image_fault bytes ≡ None
@@ -92,7 +96,8 @@ by_outcome name target budgets limit InputFault before start after b r = ran nam
     after b r
 by_outcome name target budgets limit (Trap kind pc) before start after b r = absurd
     (ran name target budgets limit (stops.Trap kind pc) before start after b r).1
-by_outcome name target budgets limit Memory before start after b r = ([], idle before start after r)
+by_outcome name target budgets limit Memory before start after b r =
+    ([], inr (⊎_elim (unread before start after) (idle before start after) r))
 by_outcome name target budgets limit (outcomes.ReadFault reads.Failed) before start after b r =
     ([], idle before start after r)
 by_outcome name target budgets limit (outcomes.ReadFault (TooLong n most)) before start after b r =

@@ -3,7 +3,7 @@ pub mod Cases
 pub mod Complete
 pub mod Composition
 pub mod Judging
-pub mod Listings
+pub mod ListingCases
 pub mod Meant
 pub mod Pieces
 pub mod Running

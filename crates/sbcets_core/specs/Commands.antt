@@ -68,6 +68,10 @@ pub record OnlyReads (image : List ℕ) (before after : Outside) : Type 0 where
   pub none : image ≡ []
   pub same : after ≡ record before { reads = next_count before.reads }
 
+-- the same, where memory may have been wanting before that read
+abbrev pub ReadsAtMostOnce : (image : List ℕ) (before after : Outside) → Type 0
+ReadsAtMostOnce image before after = DoesNothing image before after ⊎ OnlyReads image before after
+
 -- The run of the image at the limit ended so, and left the streams so. That holds of each list of input that begins
 -- with the
 -- bytes that were taken: of an input that tells its content, of just that; of one that does not, of each that ends
@@ -119,7 +123,7 @@ Goes name budgets limit (Refused refusal) image before after =
 Goes name budgets limit (outcomes.ReadFault reads.Failed) image before after = OnlyReads image before after
 Goes name budgets limit (outcomes.ReadFault (TooLong n most)) image before after =
     IsTooLong name max_source n most before.files × OnlyReads image before after
-Goes name budgets limit Memory image before after = OnlyReads image before after
+Goes name budgets limit Memory image before after = ReadsAtMostOnce image before after
 Goes name budgets limit Usage image before after = ⊥
 Goes name budgets limit Done image before after = ⊥
 Goes name budgets limit (Running n) image before after = ⊥
@@ -154,7 +158,7 @@ Runs name limit (ImageRefused fault) image before after = RefusesImage name faul
 Runs name limit (outcomes.ReadFault reads.Failed) image before after = OnlyReads image before after
 Runs name limit (outcomes.ReadFault (TooLong n most)) image before after = IsTooLong name max_image_file n most
     before.files × OnlyReads image before after
-Runs name limit Memory image before after = OnlyReads image before after
+Runs name limit Memory image before after = ReadsAtMostOnce image before after
 Runs name limit Usage image before after = ⊥
 Runs name limit Done image before after = ⊥
 Runs name limit (Running n) image before after = ⊥
@@ -209,7 +213,7 @@ Builds name target budgets (Refused refusal) image before after =
 Builds name target budgets (outcomes.ReadFault reads.Failed) image before after = OnlyReads image before after
 Builds name target budgets (outcomes.ReadFault (TooLong n most)) image before after =
     IsTooLong name max_source n most before.files × OnlyReads image before after
-Builds name target budgets Memory image before after = OnlyReads image before after
+Builds name target budgets Memory image before after = ReadsAtMostOnce image before after
 Builds name target budgets Usage image before after = ⊥
 Builds name target budgets Done image before after = ⊥
 Builds name target budgets (Running n) image before after = ⊥

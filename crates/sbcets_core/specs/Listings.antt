@@ -1,5 +1,5 @@
 -- What `list` and `asm` come to, and what they leave outside, the tool line apart.
-use Rattle.std.specs.Prelude.{◌≡◌, ℕ, List, Option, Some, None, Result, Ok, Err}
+use Rattle.std.specs.Prelude.{◌≡◌, ℕ, List, [], Option, Some, None, Result, Ok, Err}
 use Rattle.sb_outside.specs.declared.source.Failed.{Failed}
 use Rattle.sb_outside.specs.Content.{gained, GainsPart, Writes}
 use Rattle.sb_outside.specs.Faults.{next_count}
@@ -14,7 +14,7 @@ use Rattle.sbcets_core.specs.declared.outcome.Outcome.{Outcome}
 use Rattle.sbcets_core.specs.declared.outcome.Outcome.TheVariants.{WriteFault, Memory, ImageRefused, Done, ListRefused}
 use Rattle.sbcets_core.specs.declared.outcome.Outcome.TheVariants as outcomes
 use Rattle.sbcets_core.specs.Outcomes.{max_image_file, max_listing}
-use Rattle.sbcets_core.specs.Commands.{Held, Outside, IsRead, IsTooLong, OnlyReads, RefusesImage}
+use Rattle.sbcets_core.specs.Commands.{Held, Outside, IsRead, IsTooLong, OnlyReads, ReadsAtMostOnce, RefusesImage}
 
 -- LIST. The listing of the bytes of an image
 abbrev pub listing_of : List ℕ → List ℕ
@@ -49,7 +49,7 @@ Lists name (ImageRefused fault) image before after = RefusesImage name fault bef
 Lists name (outcomes.ReadFault reads.Failed) image before after = OnlyReads image before after
 Lists name (outcomes.ReadFault (TooLong n most)) image before after =
     IsTooLong name max_image_file n most before.files × OnlyReads image before after
-Lists name Memory image before after = OnlyReads image before after
+Lists name Memory image before after = ReadsAtMostOnce image before after
 Lists name outcome image before after = ⊥
 
 -- ASM. A listing spells a readable image
@@ -94,5 +94,5 @@ Assembles name target (ImageRefused fault) image before after =
 Assembles name target (outcomes.ReadFault reads.Failed) image before after = OnlyReads image before after
 Assembles name target (outcomes.ReadFault (TooLong n most)) image before after =
     IsTooLong name max_listing n most before.files × OnlyReads image before after
-Assembles name target Memory image before after = OnlyReads image before after
+Assembles name target Memory image before after = ReadsAtMostOnce image before after
 Assembles name target outcome image before after = ⊥

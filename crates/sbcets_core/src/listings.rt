@@ -17,7 +17,7 @@ use std::alloc::Global;
 const MAX_LISTING: u64 = 1_073_741_824;
 
 /// `list`: reads an image, and puts its listing to the output.
-#[tactic(auto, using(crate::proofs::Listings::listing))]
+#[tactic(auto, using(crate::proofs::ListingCases::listing))]
 pub fn list<F: Files, O: Sink>(alloc: Global, name: &str, files: &mut F, output: &mut O) -> Outcome
     ensures lists { (input : Rest) (errors : Option (List ℕ)) → Lists name.now result []
         (outside_of (F.held files.old) (F.reads files.old) (F.writes files.old) input (O.taken output.old) errors)
@@ -42,7 +42,7 @@ pub fn list<F: Files, O: Sink>(alloc: Global, name: &str, files: &mut F, output:
 }
 
 /// `asm`: reads a listing, and writes the image that it spells into a file.
-#[tactic(auto, using(crate::proofs::Listings::assembling))]
+#[tactic(auto, using(crate::proofs::ListingCases::assembling))]
 pub fn assemble<F: Files>(alloc: Global, name: &str, target: &str, files: &mut F) -> Outcome
     ensures assembles { (input : Rest) (output errors : Option (List ℕ)) → Assembles name.now target.now result []
         (outside_of (F.held files.old) (F.reads files.old) (F.writes files.old) input output errors)

@@ -72,6 +72,7 @@ pub fn finish<E: Sink>(errors: &mut E, outcome: Outcome) -> Outcome
 }
 
 // Does what the words say, and leaves the tool's own line.
+#[tactic(auto, using(crate::proofs::ListingCases::memory_does))]
 fn do_command<F: Files, I: Source, O: Sink, E: Sink>(
     alloc: Global,
     words: &[String],

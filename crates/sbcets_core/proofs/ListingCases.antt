@@ -1,5 +1,5 @@
 -- The outcomes of `list` and `asm`, case by case.
-use Rattle.std.proofs.Common.{◌≡◌, ℕ, List, [], Option, Some, None, Result, Ok, Err, refl, subst}
+use Rattle.std.proofs.Common.{◌≡◌, ℕ, List, [], Option, Some, None, Result, Ok, Err, inl, inr, refl, subst}
 use Rattle.sb_outside.specs.declared.source.Failed.{Failed}
 use Rattle.sb_outside.specs.Content.{gained, GainsPart, Writes}
 use Rattle.sb_outside.specs.Faults.{next_count}
@@ -14,7 +14,9 @@ use Rattle.sbcets_core.specs.declared.outcome.Outcome.TheVariants.{Done, Running
 use Rattle.sbcets_core.specs.declared.outcome.Outcome.TheVariants as outcomes
 use Rattle.sbcets_core.specs.Outcomes.{max_image_file, max_listing}
 use Rattle.sbcets_core.specs.Counting.{Counts, CommandCounts}
-use Rattle.sbcets_core.specs.Commands.{Outside, IsRead, IsUnread, OnlyReads}
+use Rattle.sbcets_core.specs.Commands.{Outside, IsRead, IsUnread, DoesNothing, OnlyReads}
+use Rattle.command_line.specs.Asked.{Asked, go, run, build, list, assemble}
+use Rattle.sbcets_core.specs.Top.{Does}
 use Rattle.sbcets_core.specs.Listings.{Lists, Assembles, Spells, SpellsNone, ReadsImage, AssembledInto, listing_of}
 use Rattle.sbcets_core.proofs.Cases.{unread_counts}
 
@@ -24,7 +26,7 @@ pub unread_lists : (name : List ℕ) (outcome : Outcome) (image : List ℕ) (bef
     → Lists name outcome image before after
 unread_lists name (outcomes.ReadFault reads.Failed) image before after d u = d
 unread_lists name (outcomes.ReadFault (TooLong n most)) image before after d u = (u, d)
-unread_lists name Memory image before after d u = d
+unread_lists name Memory image before after d u = inr d
 unread_lists name (Refused refusal) image before after d u = absurd u
 unread_lists name (Exited code) image before after d u = absurd u
 unread_lists name Built image before after d u = absurd u
@@ -43,7 +45,7 @@ pub unread_assembles : (name target : List ℕ) (outcome : Outcome) (image : Lis
     → Assembles name target outcome image before after
 unread_assembles name target (outcomes.ReadFault reads.Failed) image before after d u = d
 unread_assembles name target (outcomes.ReadFault (TooLong n most)) image before after d u = (u, d)
-unread_assembles name target Memory image before after d u = d
+unread_assembles name target Memory image before after d u = inr d
 unread_assembles name target (Refused refusal) image before after d u = absurd u
 unread_assembles name target (Exited code) image before after d u = absurd u
 unread_assembles name target Built image before after d u = absurd u
@@ -65,7 +67,7 @@ refused_assembles name target text (ListRefused kind line) image before after d 
     (record { text = text; read = r; refused = e }, d)
 refused_assembles name target text (ImageRefused fault) image before after d r e =
     (record { text = text; read = r; refused = e }, d)
-refused_assembles name target text Memory image before after d r e = d
+refused_assembles name target text Memory image before after d r e = inr d
 refused_assembles name target text (outcomes.ReadFault fault) image before after d r e = absurd e
 refused_assembles name target text (Refused refusal) image before after d r e = absurd e
 refused_assembles name target text (Exited code) image before after d r e = absurd e
@@ -173,6 +175,16 @@ pub unwritten_assembles : (name target text bytes : List ℕ) (before after : Ou
     → Assembles name target WriteFault [] before after
 unwritten_assembles name target text bytes before after =
     assembled_into name target text bytes (Err record {}) before after
+
+-- words for which there is no memory, whatever they ask for
+pub memory_does : (command : Option Asked) (image : List ℕ) (before after : Outside) → DoesNothing image before after
+    → Does command Memory image before after
+memory_does None image before after d = (inr refl, d)
+memory_does (Some (go name budgets limit)) image before after d = inl d
+memory_does (Some (run name limit)) image before after d = inl d
+memory_does (Some (build name target budgets)) image before after d = inl d
+memory_does (Some (list name)) image before after d = inl d
+memory_does (Some (assemble name target)) image before after d = inl d
 
 -- the cases of `list`, and of `asm`
 pub ruleset listing = (unread_lists, listed_lists, part_lists, refused_lists, unread_counts)

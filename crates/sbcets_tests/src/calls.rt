@@ -145,7 +145,7 @@ fn put_call(rt: &HostRuntime, case: &Case, words: &str, files: &mut MemFiles) ->
 }
 
 fn is_listing(words: &[String]) -> bool {
-    words.first().is_some_and(|word| word == "list")
+    words.first().is_some_and(|word| word.as_str() == "list")
 }
 
 // The lines with these numbers, from 0 on.

@@ -12,7 +12,7 @@ from row import NOTHING, UNUSED, Given, Number, Part, Scene, pointer, word
 LINE = 7
 # steps that docs/PROMISES.md allows: a constant, and a factor for each unit of the source's work
 PROMISES = {
-    "memmove": (66, 16), "memcpy": (66, 16), "memset": (24, 5), "copy_structure": (41, 16), "strlen": (17, 8), "puts": (21, 8),
+    "memmove": (66, 16), "memset": (24, 5), "copy_structure": (41, 16), "strlen": (17, 8), "puts": (21, 8),
     "strcpy": (49, 8), "strcat": (65, 8), "strncpy": (60, 8), "strchr": (20, 6), "strcmp": (24, 5),
     "memcmp": (26, 4), "malloc": (60, 20), "calloc": (70, 20), "free": (20, 26), "realloc": (100, 30),
     "enter": (100, 40), "leave": (11, 0), "scan": (16, 8), "scan_at_most": (16, 8), "spatial_check": (5, 0),
@@ -37,12 +37,6 @@ def string(seed, length):
 
 def memmove(scene, d, source, size, line=LINE):
     scene.perform("memmove", line, promised("memmove"), [d, source, Number(size)],
-                  lambda s: pointer(model.memmove(s, d, source, size, line)))
-
-
-def memcpy(scene, d, source, size, line=LINE):
-    """Of ranges that do not overlap it does what `memmove` does."""
-    scene.perform("memcpy", line, promised("memcpy"), [d, source, Number(size)],
                   lambda s: pointer(model.memmove(s, d, source, size, line)))
 
 
@@ -362,7 +356,6 @@ def moving(scene):
             memmove(scene, scene.to(RIGHT, 10 + k), scene.to(LEFT, (k + 3 * size) % 10), size, LINE + size)
         memmove(scene, scene.to(RIGHT, size % 10 + 8), scene.to(LEFT, size % 10), size)
         memmove(scene, scene.to(PAGES, size % 8), scene.to(HEAP, size % 8 + 8), size)
-        memcpy(scene, scene.to(RIGHT, size % 8 + 8), scene.to(PAGES, size % 8), size, LINE + size)
 
 
 def overlapping(scene):
@@ -380,8 +373,6 @@ def refused_moves(scene):
         for size in (0, 9):
             memmove(scene, bad, good, size)
             memmove(scene, good, bad, size)
-            memcpy(scene, bad, good, size)
-            memcpy(scene, good, bad, size)
             memset(scene, bad, 0x141, size)
             memcmp(scene, bad, good, size)
             memcmp(scene, good, bad, size)

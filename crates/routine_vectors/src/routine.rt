@@ -88,9 +88,7 @@ pub enum Routine {
     Allocating(Allocating),
 }
 
-const ROUTINES: [(&str, Routine); 39] = [
-    // one routine is both
-    ("memcpy", Routine::Moving(Moving::Memmove)),
+const ROUTINES: [(&str, Routine); 38] = [
     ("memmove", Routine::Moving(Moving::Memmove)),
     ("memset", Routine::Moving(Moving::Memset)),
     ("copy_structure", Routine::Moving(Moving::CopyStructure)),
@@ -252,7 +250,8 @@ impl RoutineCall {
             Routine::Accessing(_)
             | Routine::Testing(_)
             | Routine::Pointing(_)
-            | Routine::Putting(Putting::Printf) => false,
+            | Routine::Putting(Putting::Printf)
+            | Routine::Allocating(Allocating::Leave) => false,
             _ => true,
         }
     }

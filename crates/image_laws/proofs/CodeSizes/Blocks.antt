@@ -41,7 +41,7 @@ use Rattle.machine_laws.specs.Calls.Calls.{Keeping, give, take, save, restore, a
 use Rattle.machine_laws.specs.Calls.Calls.{return_block}
 use Rattle.machine_laws.specs.Calls.Calls.{entry_block}
 use Rattle.machine_laws.specs.Calls.Effects.{AreOwn}
-use Rattle.machine_laws.proofs.Calls.Lengths.{save_length, restore_length}
+use Rattle.machine_laws.proofs.Calls.Lengths.{save_length, restore_length, advance_most, retreat_most}
 use Rattle.machine_laws.specs.Following.Code.{keeping, keeping_of, CallShape, wanted, call_part, back_part}
 use Rattle.machine_laws.specs.Following.Code.{charged_from, block}
 use Rattle.machine_laws.proofs.Following.Sound.{IsSound}
@@ -284,16 +284,6 @@ module _ (g : FlatFunction) (place : ℕ → Location) (at : ReachesHomes g plac
 
 -- ---- calls and returns
 
-advance_most : (k : Keeping) → length (advance k) ≤ constant_words k.room + 1
-advance_most k =
-    let c = constant_most 6 k.room in
-    let a = length-append (constant 6 k.room) (Op Add k.base k.base 6 ∷ []) in omega arith
-
-retreat_most : (k : Keeping) → length (retreat k) ≤ constant_words k.room + 1
-retreat_most k =
-    let c = constant_most 6 k.room in
-    let a = length-append (constant 6 k.room) (Op Sub k.base k.base 6 ∷ []) in omega arith
-
 module _ (g : FlatFunction) (k : Keeping) (at : ReachesHomes g k.place) where
   give_most : (first n : ℕ) → length (give k first n) ≤ passed_words g first n
   unfolding give passed_words
@@ -359,7 +349,7 @@ module _ (p : FlatProgram) (plans : List FunctionPlan) (ok : IsSound p plans) (f
       let want = wanted k pc c.into c.results in
       let a = save_length k.room k want k.count (own_wanted pc c.into c.results) in
       let b = give_most g k at_homes c.first c.count in
-      let d = advance_most k in
+      let d = advance_most k (constant_words k.room) (constant_most 6 k.room) in
       let l1 = length-append (save k want k.count) (give k c.first c.count ++ (c.aim ++ advance k)) in
       let l2 = length-append (give k c.first c.count) (c.aim ++ advance k) in
       let l3 = length-append c.aim (advance k) in
@@ -373,7 +363,7 @@ module _ (p : FlatProgram) (plans : List FunctionPlan) (ok : IsSound p plans) (f
       let want = wanted k pc c.into c.results in
       let a = restore_length k.room k want k.count (own_wanted pc c.into c.results) in
       let b = take_most g k at_homes (pc + 1) c.into c.results in
-      let d = retreat_most k in
+      let d = retreat_most k (constant_words k.room) (constant_most 6 k.room) in
       let l1 = length-append (retreat k) (restore k want k.count ++ take k (pc + 1) c.into c.results) in
       let l2 = length-append (restore k want k.count) (take k (pc + 1) c.into c.results) in
       omega arith

@@ -43,7 +43,7 @@ use Rattle.machine_laws.proofs.Blocks.Lengths.{choice}
 use Rattle.machine_laws.proofs.Blocks.Reports.{choice_few}
 use Rattle.machine_laws.specs.Calls.Calls.{Keeping, save, restore, save_one, restore_one, give, take, advance, retreat}
 use Rattle.machine_laws.specs.Calls.Calls.{call_block, back_block, entry_block}
-use Rattle.machine_laws.proofs.Calls.Lengths.{give_length, take_length}
+use Rattle.machine_laws.proofs.Calls.Lengths.{give_length, take_length, advance_most, retreat_most}
 use Rattle.machine_laws.specs.Following.Code.{keeping_of, keeping, block, wanted, charged_from}
 use Rattle.machine_laws.proofs.Following.Bounds.{turn_bound}
 use Rattle.machine_laws.specs.Calls.Table.{tails_address, row_address}
@@ -192,8 +192,8 @@ module _ (m : MapSizes) (p : FlatProgram) (plans : List FunctionPlan) (f n : ℕ
       let takes = take_length k (pc + 1) x r in
       let aims = constant_length callee_scratch (row_address p g) in
       let rooms = constant_length right_scratch k.room in
-      let up = length-append (constant right_scratch k.room) (Op Add k.base k.base right_scratch ∷ []) in
-      let down = length-append (constant right_scratch k.room) (Op Sub k.base k.base right_scratch ∷ []) in
+      let up = advance_most k 11 rooms in
+      let down = retreat_most k 11 rooms in
       let a = length-append (save k w k.count) (give k first n ++ (aim ++ advance k)) in
       let b = length-append (give k first n) (aim ++ advance k) in
       let c = length-append aim (advance k) in

@@ -2,7 +2,7 @@
 use Rattle.std.proofs.Common.{◌≡◌, ℕ, zero, suc, ◌+◌, ◌-◌, ◌*◌, ◌^◌, ◌<◌, ◌≤◌, List, [], ◌∷◌, ◌++◌, length}
 use Rattle.std.proofs.Common.{inl, Bool, true, false, refl, sym, ap, ◌∙◌, subst, arith, ⊎_elim, length-append}
 use Rattle.std.proofs.Common.{true≢false}
-use Rattle.std.specs.Prelude.{nat_eq, ◌&&◌, if◌then◌else◌}
+use Rattle.std.specs.Prelude.{nat_lt, nat_eq, ◌&&◌, if◌then◌else◌}
 use Rattle.std.proofs.lemmas.Bool.{cases_eq, eq-eqb, eqb-true, and_parts, cases_Bool}
 use Rattle.rv_isa.specs.declared.instruction.RegOp.TheVariants.{Add, Sub}
 use Rattle.rv_isa.specs.declared.instruction.Instr.{Instr}
@@ -229,15 +229,33 @@ pub restore_length : (room : ℕ) (k : Keeping) (wanted : ℕ → Bool) (n : ℕ
 restore_length room k wanted n own =
     let a = restore_by k wanted n in let b = few_taken room k.place wanted n own in omega arith
 
+-- one instruction, or a constant and one that takes it
+moved_length : (b : Bool) (i j : Instr) (room n : ℕ) → length (constant 6 room) ≤ n
+    → length (if b then i ∷ [] else constant 6 room ++ j ∷ []) ≤ n + 1
+moved_length true i j room n h = omega arith
+moved_length false i j room n h = let a = length-append (constant 6 room) (j ∷ []) in omega arith
+
+pub advance_most : (k : Keeping) (n : ℕ) → length (constant 6 k.room) ≤ n → length (advance k) ≤ n + 1
+unfolding advance
+advance_most k n h = moved_length (nat_lt k.room (2 ^ 11)) _ (Op Add k.base k.base 6) k.room n h
+
+pub retreat_most : (k : Keeping) (n : ℕ) → length (constant 6 k.room) ≤ n → length (retreat k) ≤ n + 1
+unfolding retreat
+retreat_most k n h = moved_length (nat_lt k.room (2 ^ 11)) _ (Op Sub k.base k.base 6) k.room n h
+
+moved_some : (b : Bool) (i j : Instr) (room : ℕ) → 0 < length (if b then i ∷ [] else constant 6 room ++ j ∷ [])
+moved_some true i j room = omega arith
+moved_some false i j room = let a = length-append (constant 6 room) (j ∷ []) in omega arith
+
+pub retreat_some : (k : Keeping) → 0 < length (retreat k)
+unfolding retreat
+retreat_some k = moved_some (nat_lt k.room (2 ^ 11)) _ (Op Sub k.base k.base 6) k.room
+
 pub advance_length : (k : Keeping) → k.room < 2 ^ 31 - 2 ^ 11 → length (advance k) ≤ 3
-advance_length k small =
-    let c = short_constant_length 6 k.room (inl small) in
-    let a = length-append (constant 6 k.room) (Op Add k.base k.base 6 ∷ []) in omega arith
+advance_length k small = advance_most k 2 (short_constant_length 6 k.room (inl small))
 
 pub retreat_length : (k : Keeping) → k.room < 2 ^ 31 - 2 ^ 11 → length (retreat k) ≤ 3
-retreat_length k small =
-    let c = short_constant_length 6 k.room (inl small) in
-    let a = length-append (constant 6 k.room) (Op Sub k.base k.base 6 ∷ []) in omega arith
+retreat_length k small = retreat_most k 2 (short_constant_length 6 k.room (inl small))
 
 pub return_length : (k : Keeping) (from n : ℕ) → length (return_block k from n) ≤ 6 * n + 3
 return_length k from n =

@@ -417,12 +417,16 @@ restore_fits k want (suc n) h =
     (choice (want n) here [] (restore_one_fits (k.place n) k.base (k.home n) h.base (h.places n)) tt)
 
 advance_fits : (k : Keeping) → HasFields k → AllOfTable (advance k)
+unfolding advance
 advance_fits k h = let b = h.base in
-    both (constant 6 k.room) _ (constant_fits 6 k.room (omega arith)) ((omega arith, omega arith, omega arith), tt)
+    choice (nat_lt k.room (2 ^ 11)) _ _ ((omega arith, omega arith, omega arith), tt)
+    (both (constant 6 k.room) _ (constant_fits 6 k.room (omega arith)) ((omega arith, omega arith, omega arith), tt))
 
 retreat_fits : (k : Keeping) → HasFields k → AllOfTable (retreat k)
+unfolding retreat
 retreat_fits k h = let b = h.base in
-    both (constant 6 k.room) _ (constant_fits 6 k.room (omega arith)) ((omega arith, omega arith, omega arith), tt)
+    choice (nat_lt k.room (2 ^ 11)) _ _ ((omega arith, omega arith, omega arith), tt)
+    (both (constant 6 k.room) _ (constant_fits 6 k.room (omega arith)) ((omega arith, omega arith, omega arith), tt))
 
 shaped_fits : (k : Keeping) (pc : ℕ) (c : CallShape) → HasFields k → AllOfTable c.aim → c.target < 32
     → AllOfTable (call_part k pc c ++ back_part k pc c)

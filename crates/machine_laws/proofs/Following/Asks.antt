@@ -1,28 +1,21 @@
 -- What the environment is asked for: bytes of the input and the output, the bytes of a report, and the end.
-use Rattle.std.proofs.Common.{◌≡◌, ◌≢◌, ℕ, ◌+◌, ◌-◌, ◌*◌, ◌%◌, ◌^◌, ◌<◌, ◌≤◌, inl, inr, ⊎_elim, refl, sym}
-use Rattle.std.proofs.Common.{ap, ◌∙◌, subst, arith, List, [], ◌∷◌, ◌++◌, length, None, length-append}
-use Rattle.std.specs.List.{All}
-use Rattle.std.proofs.lemmas.List.{append-nil}
+use Rattle.std.proofs.Common.{◌≡◌, ◌≢◌, ℕ, ◌+◌, ◌-◌, ◌*◌, ◌%◌, ◌^◌, ◌<◌, ◌≤◌, refl}
+use Rattle.std.proofs.Common.{ap, ◌∙◌, arith, List, [], ◌∷◌}
 use Rattle.addr_map.specs.Places.{spaces_begin}
 use Rattle.behaviours.specs.Shown.{Read}
-use Rattle.rv_sim.proofs.Runs.{runs-zero}
 use Rattle.rv_isa.specs.declared.instruction.LoadOp.TheVariants.{Lbu}
 use Rattle.rv_isa.specs.declared.instruction.ImmOp.TheVariants.{Addi}
 use Rattle.rv_isa.specs.declared.instruction.RegOp.TheVariants.{Add, Mul}
 use Rattle.rv_isa.specs.declared.instruction.Instr.{Instr}
-use Rattle.rv_isa.specs.declared.instruction.Instr.TheVariants.{Load, OpImm, Op, Ecall}
+use Rattle.rv_isa.specs.declared.instruction.Instr.TheVariants.{Load, OpImm, Op}
 use Rattle.rv_isa.specs.Word.{sext}
 use Rattle.rv_isa.specs.Results.{wrap, imm_result, reg_result, extended}
 use Rattle.flat_meaning.specs.Memory.{Bytes, load, store}
 use Rattle.flat_meaning.proofs.Stored.{put_same}
-use Rattle.rv_sim.specs.Run.{Configuration, runs}
-use Rattle.machine_laws.specs.View.Segments.{IsOfData}
-use Rattle.machine_laws.specs.View.Views.{View, Layout, Fits, AllStand, Shows, bytes_from, with_value}
+use Rattle.machine_laws.specs.View.Views.{View}
 use Rattle.machine_laws.specs.View.Views.{perform, performs, address_in}
-use Rattle.machine_laws.proofs.View.Straight.{runs_then}
-use Rattle.machine_laws.proofs.View.Leaving.{no_access, writes_errors}
+use Rattle.machine_laws.proofs.View.Leaving.{no_access}
 use Rattle.machine_laws.proofs.Blocks.Pieces.{with_same, with_other, small_sext, silent}
-use Rattle.machine_laws.proofs.Following.Runs.{straight_comes, all_append}
 
 -- ---- what is asked stands ready
 

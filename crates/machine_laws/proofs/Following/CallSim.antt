@@ -350,11 +350,11 @@ module _ (m : MapSizes) (p : FlatProgram) (plans : List FunctionPlan) (table cod
       let first : address to 0 ≡ entry to + 4 * length eb = laid.first to callee k.callee_is
       ∙ ap (λ q. entry to + 4 * length (entry_block kt q)) (sym k.count) in
       record {
-        steps = length eb + (4 + length cb);
+        steps = length eb + (3 + length cb);
         few = omega arith;
         after = three.after;
-        is = runs_then (length eb) (4 + length cb) c two.comes.after
-            (runs_then 4 (length cb) c one.after one.is ∙ two.comes.is) ∙ three.is;
+        is = runs_then (length eb) (3 + length cb) c two.comes.after
+            (runs_then 3 (length cb) c one.after one.is ∙ two.comes.is) ∙ three.is;
         meets = record {
           view = performs eb w;
           shows = three.shows;

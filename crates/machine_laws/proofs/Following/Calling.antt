@@ -1,12 +1,16 @@
 -- A call, up to the jump: what is needed behind it waits in homes, the arguments stand in their words, and the frame
 -- has moved on.
-use Rattle.std.proofs.Common.{◌≡◌, ◌≢◌, ℕ, ◌+◌, ◌-◌, ◌*◌, ◌%◌, ◌^◌, ◌<◌, ◌≤◌, inr, ap, ◌∙◌}
-use Rattle.std.proofs.Common.{arith, Bool, true, List, [], ◌∷◌, ◌++◌, length}
+use Rattle.std.proofs.Common.{◌≡◌, ◌≢◌, ℕ, ◌+◌, ◌-◌, ◌*◌, ◌%◌, ◌^◌, ◌<◌, ◌≤◌, inr, refl, ap, ◌∙◌}
+use Rattle.std.specs.Prelude.{nat_lt, nat_le, if◌then◌else◌}
+use Rattle.std.proofs.Common.{arith, Bool, true, false, List, [], ◌∷◌, ◌++◌, length}
 use Rattle.std.proofs.Common.{length-append}
+use Rattle.std.proofs.lemmas.Bool.{ltb-true, leb-true, leb-false}
 use Rattle.rv_isa.specs.declared.instruction.RegOp.TheVariants.{Add, Sub}
 use Rattle.rv_isa.specs.declared.instruction.Instr.{Instr}
-use Rattle.rv_isa.specs.declared.instruction.Instr.TheVariants.{Op}
-use Rattle.rv_isa.specs.Results.{wrap, reg_result}
+use Rattle.rv_isa.specs.declared.instruction.ImmOp.TheVariants.{Addi}
+use Rattle.rv_isa.specs.declared.instruction.Instr.TheVariants.{Op, OpImm}
+use Rattle.rv_isa.specs.Word.{sext}
+use Rattle.rv_isa.specs.Results.{wrap, reg_result, imm_result}
 use Rattle.flat_meaning.specs.Memory.{load, Beside}
 use Rattle.flat_meaning.proofs.Stored as stored
 use Rattle.machine_laws.specs.View.Views.{View, performs, AllGoOn}
@@ -14,7 +18,7 @@ use Rattle.machine_laws.proofs.View.Leaving.{no_access}
 use Rattle.machine_laws.specs.Blocks.Blocks.{constant}
 use Rattle.machine_laws.specs.Blocks.Effects.{kept, HasFrame}
 use Rattle.machine_laws.proofs.Blocks.Pieces.{performs_append, go_append, constant_gives, with_same, with_other}
-use Rattle.machine_laws.proofs.Blocks.Pieces.{low_apart}
+use Rattle.machine_laws.proofs.Blocks.Pieces.{low_apart, small_sext}
 use Rattle.machine_laws.specs.Calls.Calls.{Keeping, save, give, advance, retreat, call_block}
 use Rattle.machine_laws.specs.Calls.Effects.{AreKept, HasArguments}
 use Rattle.machine_laws.proofs.Calls.Words.{moved_frame, kept_above, saves, gives_all}
@@ -38,10 +42,26 @@ module _ (o s fp : ℕ) (k : Keeping) where
     pub memory : (performs is v).memory ≡ v.memory
     pub accesses : (performs is v).accesses ≡ v.accesses
 
-  pub advances : (v : View) → v.registers 0 ≡ 0 → v.registers k.base ≡ fp → 0 < k.base → k.base < 5
-      → fp + k.room < 2 ^ 63 → Moves (advance k) v (fp + k.room)
+  -- one instruction moves it by a number that it has in itself
+  near_moves : (v : View) (i to : ℕ) → 0 < k.base → wrap (v.registers k.base + sext 12 i) ≡ to
+      → Moves (OpImm Addi k.base k.base i ∷ []) v to
+  unfolding imm_result
+  near_moves v i to some is =
+      let n = wrap (v.registers k.base + sext 12 i) in
+      record {
+        go = (tt, tt);
+        pc = refl;
+        base = with_same v.registers k.base n (omega arith) ∙ is;
+        others = λ r b c. with_other v.registers k.base n r b;
+        memory = refl;
+        accesses = no_access v.accesses v.pc;
+      }
+
+  far_advances : (v : View) → v.registers 0 ≡ 0 → v.registers k.base ≡ fp → 0 < k.base → k.base < 5
+      → fp + k.room < 2 ^ 63
+      → Moves (constant 6 k.room ++ Op Add k.base k.base 6 ∷ []) v (fp + k.room)
   unfolding reg_result
-  advances v nought at some low small =
+  far_advances v nought at some low small =
       let g = constant_gives o s 6 k.room v (omega arith) nought (omega arith) in
       let is = constant 6 k.room in
       let w = performs is v in
@@ -59,10 +79,10 @@ module _ (o s fp : ℕ) (k : Keeping) where
         accesses = ap (λ u. u.accesses) a ∙ no_access w.accesses w.pc ∙ g.accesses;
       }
 
-  pub retreats : (v : View) → v.registers 0 ≡ 0 → v.registers k.base ≡ fp + k.room → 0 < k.base → k.base < 5
-      → fp + k.room < 2 ^ 63 → Moves (retreat k) v fp
+  far_retreats : (v : View) → v.registers 0 ≡ 0 → v.registers k.base ≡ fp + k.room → 0 < k.base → k.base < 5
+      → fp + k.room < 2 ^ 63 → Moves (constant 6 k.room ++ Op Sub k.base k.base 6 ∷ []) v fp
   unfolding reg_result
-  retreats v nought at some low small =
+  far_retreats v nought at some low small =
       let g = constant_gives o s 6 k.room v (omega arith) nought (omega arith) in
       let is = constant 6 k.room in
       let w = performs is v in
@@ -79,6 +99,40 @@ module _ (o s fp : ℕ) (k : Keeping) where
         memory = ap (λ u. u.memory) a ∙ g.memory;
         accesses = ap (λ u. u.accesses) a ∙ no_access w.accesses w.pc ∙ g.accesses;
       }
+
+  pub advances : (v : View) → v.registers 0 ≡ 0 → v.registers k.base ≡ fp → 0 < k.base → k.base < 5
+      → fp + k.room < 2 ^ 63 → Moves (advance k) v (fp + k.room)
+  unfolding advance
+  advances v nought at some low small = by (nat_lt k.room (2 ^ 11)) refl
+    where
+      by : (b : Bool) → nat_lt k.room (2 ^ 11) ≡ b
+          → Moves (if b then OpImm Addi k.base k.base (k.room % 2 ^ 12) ∷ []
+          else constant 6 k.room ++ Op Add k.base k.base 6 ∷ []) v (fp + k.room)
+      by true e =
+          let l = ltb-true k.room (2 ^ 11) e in
+          near_moves v (k.room % 2 ^ 12) (fp + k.room) some
+          (ap (λ q. wrap (q + sext 12 (k.room % 2 ^ 12))) at
+          ∙ ap (λ q. wrap (fp + q)) (small_sext (k.room % 2 ^ 12) (omega arith)) ∙ omega arith)
+      by false e = far_advances v nought at some low small
+
+  pub retreats : (v : View) → v.registers 0 ≡ 0 → v.registers k.base ≡ fp + k.room → 0 < k.base → k.base < 5
+      → fp + k.room < 2 ^ 63 → Moves (retreat k) v fp
+  unfolding retreat
+  retreats v nought at some low small = by (nat_lt k.room (2 ^ 11)) refl
+    where
+      back : (c : Bool) → k.room < 2 ^ 11 → nat_le (2 ^ 11) ((2 ^ 12 - k.room) % 2 ^ 12) ≡ c
+          → wrap (fp + k.room + sext 12 ((2 ^ 12 - k.room) % 2 ^ 12)) ≡ fp
+      back true l q = let h = leb-true (2 ^ 11) ((2 ^ 12 - k.room) % 2 ^ 12) q in rw q (omega arith)
+      back false l q = let h = leb-false (2 ^ 11) ((2 ^ 12 - k.room) % 2 ^ 12) q in rw q (omega arith)
+
+      by : (b : Bool) → nat_lt k.room (2 ^ 11) ≡ b
+          → Moves (if b then OpImm Addi k.base k.base ((2 ^ 12 - k.room) % 2 ^ 12) ∷ []
+          else constant 6 k.room ++ Op Sub k.base k.base 6 ∷ []) v fp
+      by true e =
+          near_moves v ((2 ^ 12 - k.room) % 2 ^ 12) fp some
+          (ap (λ q. wrap (q + sext 12 ((2 ^ 12 - k.room) % 2 ^ 12))) at
+          ∙ back (nat_le (2 ^ 11) ((2 ^ 12 - k.room) % 2 ^ 12)) (ltb-true k.room (2 ^ 11) e) refl)
+      by false e = far_retreats v nought at some low small
 
   -- all is ready for the jump
   pub record Prepared (wanted : ℕ → Bool) (area first n target a : ℕ) (aim : List Instr) (v : View) : Type 0 where

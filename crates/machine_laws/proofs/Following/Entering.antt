@@ -2,17 +2,17 @@
 use Rattle.std.proofs.Common.{◌≡◌, ◌≢◌, ℕ, ◌+◌, ◌-◌, ◌*◌, ◌%◌, ◌^◌, ◌<◌, ◌≤◌, ◌⊎◌, inl, inr, refl, sym}
 use Rattle.std.proofs.Common.{ap, ◌∙◌, subst, arith, ⊎_elim, true, [], ◌∷◌, length}
 use Rattle.std.proofs.Common.{length-append}
-use Rattle.rv_isa.specs.declared.instruction.Instr.TheVariants.{Jalr, Ebreak}
+use Rattle.rv_isa.specs.declared.instruction.Instr.TheVariants.{Lui, Jalr, Ebreak}
 use Rattle.rv_isa.specs.Word.{sext}
 use Rattle.rv_isa.specs.Results.{wrap}
 use Rattle.flat_meaning.specs.Memory.{load, store}
 use Rattle.flat_meaning.proofs.Stored as stored
 use Rattle.rv_sim.specs.Run.{Configuration}
 use Rattle.machine_laws.specs.View.Views.{View, Layout, Fits, StandsAt, AllStand, AllGoOn, Shows, with_value, performs}
-use Rattle.machine_laws.proofs.View.Leaving.{jalr}
-use Rattle.machine_laws.specs.Blocks.Blocks.{wide, store_at}
+use Rattle.machine_laws.proofs.View.Leaving.{jalr, no_access}
+use Rattle.machine_laws.specs.Blocks.Blocks.{upper, lower, store_at}
 use Rattle.machine_laws.specs.Blocks.Effects.{kept, HasFrame}
-use Rattle.machine_laws.proofs.Blocks.Pieces.{performs_append, go_append, wide_gives, store_stores, with_same}
+use Rattle.machine_laws.proofs.Blocks.Pieces.{performs_append, go_append, wide_parts, store_stores, with_same}
 use Rattle.machine_laws.proofs.Blocks.Pieces.{with_other}
 use Rattle.machine_laws.proofs.Blocks.Pieces.{of_frame}
 use Rattle.machine_laws.specs.Calls.Calls.{Keeping, take, entry_block, row}
@@ -24,7 +24,7 @@ module _ (l : Layout) (fit : Fits l) where
   -- the jump by a register, and the callee's entry of the jump table
   pub record Arrives (c : Configuration) (v : View) (to : ℕ) : Type 0 where
     pub view : View
-    pub comes : Comes l 4 c view
+    pub comes : Comes l 3 c view
     pub pc : view.pc ≡ to
     pub link : view.registers 1 ≡ v.pc + 4
     pub others : (r : ℕ) → r ≢ 1 → r ≢ 31 → view.registers r ≡ v.registers r
@@ -39,25 +39,24 @@ module _ (l : Layout) (fit : Fits l) where
       let j = jalr l 1 target 0 a c v fit stand (ap (λ q. wrap (q + sext 12 0)) at ∙ a_is) four h in
       let w : View = record v { pc = a; registers = with_value v.registers 1 (v.pc + 4) } in
       let first : Comes l 1 c w = record { after = j.0; is = j.1; shows = j.2; stays = j.3 } in
-      let g = wide_gives l.object_bytes l.space_bytes 31 to w (omega arith) low in
-      let parts = all_append l (wide 31 to) (Jalr 0 31 0 ∷ Ebreak ∷ []) a stands in
-      let second = straight_comes l fit (wide 31 to) first.after w parts.0 g.go first.shows in
-      let w2 = performs (wide 31 to) w in
-      let pc2 : w2.pc ≡ a + 4 * 2 = g.pc in
-      let to_is : wrap (to + sext 12 0) ≡ to = omega arith in
-      let k = jalr l 0 31 0 to second.after w2 fit
-      (subst (λ q. AllStand l q (Jalr 0 31 0 ∷ Ebreak ∷ [])) (sym pc2) parts.1).0
-      (ap (λ q. wrap (q + sext 12 0)) g.value ∙ to_is) whole second.shows in
+      let is = Lui 31 (upper to) ∷ [] in
+      let up = sext 32 (upper to * 2 ^ 12) in
+      let parts = all_append l is (Jalr 0 31 (lower to) ∷ Ebreak ∷ Ebreak ∷ []) a stands in
+      let second = straight_comes l fit is first.after w parts.0 (tt, tt) first.shows in
+      let w2 = performs is w in
+      let k = jalr l 0 31 (lower to) to second.after w2 fit parts.1.0
+      (ap (λ q. wrap (q + sext 12 (lower to))) (with_same w.registers 31 up (omega arith)) ∙ wide_parts to low) whole
+      second.shows in
       let w3 : View = record w2 { pc = to; registers = with_value w2.registers 0 (w2.pc + 4) } in
       let third : Comes l 1 second.after w3 = record { after = k.0; is = k.1; shows = k.2; stays = k.3 } in
       record {
         view = w3;
-        comes = then_comes l 1 3 c w w3 first (then_comes l 2 1 first.after w2 w3 second third);
+        comes = then_comes l 1 2 c w w3 first (then_comes l 1 1 first.after w2 w3 second third);
         pc = refl;
-        link = g.others 1 (omega arith) ∙ with_same v.registers 1 (v.pc + 4) (omega arith);
-        others = λ r n1 n31. g.others r n31 ∙ with_other v.registers 1 (v.pc + 4) r n1;
-        memory = g.memory;
-        accesses = g.accesses;
+        link = with_other w.registers 31 up 1 (omega arith) ∙ with_same v.registers 1 (v.pc + 4) (omega arith);
+        others = λ r n1 n31. with_other w.registers 31 up r n31 ∙ with_other v.registers 1 (v.pc + 4) r n1;
+        memory = refl;
+        accesses = no_access w.accesses w.pc;
       }
 
 module _ (o s fp : ℕ) (k : Keeping) where

@@ -1,5 +1,5 @@
 -- The machine follows flat code.
-use Rattle.std.proofs.Common.{◌≡◌, ◌≢◌, ℕ, zero, suc, ◌+◌, ◌-◌, ◌*◌, ◌%◌, ◌^◌, ◌<◌, ◌≤◌, inl, refl, sym}
+use Rattle.std.proofs.Common.{◌≡◌, ◌≢◌, ℕ, zero, suc, ◌+◌, ◌-◌, ◌*◌, ◌^◌, ◌<◌, ◌≤◌, inl, refl, sym}
 use Rattle.std.proofs.Common.{ap, ◌∙◌, subst, arith, Bool, true, false, List, [], ◌∷◌, ◌++◌, length, Option, Some}
 use Rattle.std.proofs.Common.{None}
 use Rattle.std.specs.Prelude.{if◌then◌else◌, replicate, slice_index, ◌==◌}
@@ -332,8 +332,8 @@ module _ (m : MapSizes) (p : FlatProgram) (plans : List FunctionPlan) (table cod
         let three = straight_comes l fit eb two.comes.after w (subst (λ q. AllStand l q eb) (sym two.pc)
         (laid.entries p.entry g can_start.there)) en.go two.comes.shows in
         let short = entry_length k g.parameters in
-        let run_is : runs (length eb + (4 + 8)) c0 ≡ (three.after, None) =
-        runs_then (length eb) (4 + 8) c0 two.comes.after (runs_then 4 8 c0 one.after one.is ∙ two.comes.is) ∙
+        let run_is : runs (length eb + (3 + 8)) c0 ≡ (three.after, None) =
+        runs_then (length eb) (3 + 8) c0 two.comes.after (runs_then 3 8 c0 one.after one.is ∙ two.comes.is) ∙
         three.is in
         let z = performs eb w in
         let none_false = no_rooms false in
@@ -373,7 +373,7 @@ module _ (m : MapSizes) (p : FlatProgram) (plans : List FunctionPlan) (table cod
           };
         } in
         record {
-          steps = length eb + (4 + 8);
+          steps = length eb + (3 + 8);
           matches = subst (Matches m p plans table code address entry regions ok fit laid can (started p memory input))
               (sym run_is) (refl, met);
           work = omega arith;

@@ -7,7 +7,7 @@ use Rattle.std.proofs.lemmas.Bool.{and_parts, and_from, not-true, cases_Bool, le
 use Rattle.addr_map.specs.Places.{MapSizes, region_start, region_size, spaces_begin}
 use Rattle.addr_map.specs.declared.region.Region.TheVariants.{Arguments, Calls, RuntimeCalls}
 use Rattle.rv_isa.specs.declared.instruction.Instr.{Instr}
-use Rattle.rv_isa.specs.declared.instruction.Instr.TheVariants.{Jalr, Op}
+use Rattle.rv_isa.specs.declared.instruction.Instr.TheVariants.{Jalr}
 use Rattle.rv_isa.specs.Word.{sext}
 use Rattle.rv_isa.specs.Results.{wrap}
 use Rattle.flat_meaning.specs.declared.instruction.FlatInstruction.TheVariants as flat
@@ -27,8 +27,7 @@ use Rattle.machine_laws.proofs.View.Straight.{runs_then}
 use Rattle.machine_laws.proofs.View.Leaving.{jalr}
 use Rattle.machine_laws.specs.Blocks.Effects.{kept}
 use Rattle.machine_laws.specs.Calls.Calls.{Keeping, return_block, back_block, retreat, restore, take}
-use Rattle.machine_laws.specs.Blocks.Blocks.{constant}
-use Rattle.rv_isa.specs.declared.instruction.RegOp.TheVariants.{Sub}
+use Rattle.machine_laws.proofs.Calls.Lengths.{retreat_some}
 use Rattle.machine_laws.specs.Following.Code.{keeping, block, IsLaid, IsEncodable, CallShape, wanted, call_part}
 use Rattle.machine_laws.specs.Following.Code.{back_part}
 use Rattle.machine_laws.specs.Following.Matching.{object_bytes, space_bytes, record_of, Waits, Wait, IsAt}
@@ -348,5 +347,5 @@ module _ (m : MapSizes) (p : FlatProgram) (plans : List FunctionPlan) (table cod
           let rest = restore k (wanted k place shape.into shape.results) k.count ++ take k (place + 1) shape.into
           shape.results in
           let a = length-append (retreat k) rest in
-          let b = length-append (constant 6 k.room) (Op Sub k.base k.base 6 ∷ []) in
+          let b = retreat_some k in
           omega arith

@@ -60,7 +60,7 @@ use Rattle.machine_laws.proofs.Following.Calling.{Aims}
 use Rattle.machine_laws.proofs.Following.CallSim.{IsCall, call_steps}
 use Rattle.machine_laws.proofs.Following.ReturnSim.{call_of}
 use Rattle.machine_laws.proofs.Following.ReturnStep.{return_steps}
-use Rattle.machine_laws.proofs.Following.Whole.{StageSteps, more_steps, from_steps, from_ends, inside_of, plain, same}
+use Rattle.machine_laws.proofs.Following.Whole.{StageSteps, more_steps, from_steps, from_ends, plain, same}
 use Rattle.machine_laws.proofs.Following.Whole.{load_stage, store_stage, get_stage}
 
 -- the function of a program that an address names has its entry there

@@ -1,6 +1,6 @@
 -- The records that wait, and what the machine's registers and memory keep.
 use Rattle.std.proofs.Common.{◌≡◌, ◌≢◌, ℕ, ◌+◌, ◌-◌, ◌<◌, ◌≤◌, inl, inr, refl, sym, ap, ◌∙◌}
-use Rattle.std.proofs.Common.{arith, ⊎_elim, Bool, true, false, true≢false, List, [], ◌∷◌, length, Option, Some, None}
+use Rattle.std.proofs.Common.{arith, ⊎_elim, Bool, true, false, true≢false, List, [], ◌∷◌, Option, Some, None}
 use Rattle.std.specs.Prelude.{slice_get, if◌then◌else◌, nat_le, nat_lt}
 use Rattle.std.proofs.lemmas.Bool.{cases_eq, and_parts, leb-true, ltb-true, le-leb, lt-ltb, cases_Bool}
 use Rattle.addr_map.specs.Places.{MapSizes, region_start}

@@ -1,9 +1,9 @@
 -- The tail of an ending: the report of its kind and line goes to the error output, and the machine ends.
 use Rattle.std.proofs.Common.{◌≡◌, ◌≢◌, ℕ, zero, suc, ◌+◌, ◌-◌, ◌*◌, ◌/◌, ◌%◌, ◌^◌, ◌<◌, ◌≤◌, ◌==◌, inl, inr}
 use Rattle.std.proofs.Common.{⊎_elim}
-use Rattle.std.proofs.Common.{Bool, true, false, not, List, [], ◌∷◌, ◌++◌, length, codes, decimal, Some, None, refl, sym}
+use Rattle.std.proofs.Common.{Bool, true, false, not, List, [], ◌∷◌, ◌++◌, length, decimal, Some, refl, sym}
 use Rattle.std.proofs.Common.{ap, ◌∙◌, subst, arith, length-append, append_assoc, true≢false}
-use Rattle.std.specs.Prelude.{nat_le, nat_lt, if◌then◌else◌}
+use Rattle.std.specs.Prelude.{nat_le, if◌then◌else◌}
 use Rattle.std.specs.List.{All}
 use Rattle.std.specs.Fmt.{digits, digits_onto, digit_glyph}
 use Rattle.std.proofs.lemmas.Bool.{lt-ltb, lt-leb, le-leb, eq-eqb}
@@ -23,15 +23,14 @@ use Rattle.flat_meaning.specs.Memory.{Bytes, store}
 use Rattle.flat_meaning.proofs.Stored.{store_beside}
 use Rattle.rv_sim.specs.declared.stop.Stop.TheVariants.{Exited}
 use Rattle.rv_sim.specs.Run.{Configuration, Turn, runs}
-use Rattle.rv_sim.proofs.Runs.{runs-zero}
 use Rattle.machine_laws.specs.View.Segments.{IsOfData}
 use Rattle.machine_laws.specs.View.Views.{View, Layout, Fits, AllStand, AllGoOn, Shows, bytes_from, with_value, perform}
 use Rattle.machine_laws.specs.View.Views.{performs, address_in}
 use Rattle.machine_laws.proofs.View.Straight.{runs_then}
 use Rattle.machine_laws.proofs.View.Leaving.{no_access, branch, exits, writes_errors}
-use Rattle.machine_laws.specs.Blocks.Tails.{text_before, text_bytes, newline, line_digits, line_text, written, ended}
+use Rattle.machine_laws.specs.Blocks.Tails.{text_before, newline, line_digits, line_text, written, ended}
 use Rattle.machine_laws.specs.Blocks.Tails.{tail_block}
-use Rattle.machine_laws.proofs.Blocks.Pieces.{with_same, with_other, small_sext, silent, performs_append}
+use Rattle.machine_laws.proofs.Blocks.Pieces.{with_same, with_other, silent}
 use Rattle.machine_laws.proofs.Blocks.Reports.{stored_byte, stores_bytes, line_text_length, choice_few}
 use Rattle.machine_laws.proofs.Following.Asks.{immediate, immediate_other, small_immediate}
 use Rattle.machine_laws.proofs.Following.Runs.{Comes, straight_comes, then_comes, all_append}

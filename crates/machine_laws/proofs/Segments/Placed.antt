@@ -65,7 +65,7 @@ words_stand l a (i ∷ is) h t =
 row_fits : (a : ℕ) → AllOfTable (row a)
 row_fits a = (
   (omega arith, omega arith),
-  ((omega arith, omega arith, omega arith), ((omega arith, omega arith, omega arith), (tt, tt))),
+  ((omega arith, omega arith, omega arith), (tt, (tt, tt))),
 )
 
 start_fits : (m : MapSizes) (p : FlatProgram) → AllOfTable (start_block m p)

@@ -1,6 +1,6 @@
 -- The machine's instructions for the instructions of flat code.
 use Rattle.std.specs.Prelude.{ℕ, zero, suc, ◌+◌, ◌-◌, ◌/◌, ◌%◌, ◌^◌, ◌<◌, ◌≤◌, ◌⊎◌, nat_lt, nat_le, if◌then◌else◌, List}
-use Rattle.std.specs.Prelude.{[], ◌∷◌, ◌++◌, ◌==◌, length, Option, Some, None, Bool, false}
+use Rattle.std.specs.Prelude.{[], ◌∷◌, ◌++◌, ◌==◌, Option, Some, None, Bool, false}
 use Rattle.words.specs.TwosComplement.{low_bits}
 use Rattle.rv_isa.specs.declared.instruction.LoadOp.TheVariants.{Ld, Lbu}
 use Rattle.rv_isa.specs.declared.instruction.StoreOp.TheVariants.{Sb, Sd}

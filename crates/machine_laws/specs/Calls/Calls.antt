@@ -1,14 +1,15 @@
 -- The machine's instructions for calls and returns of flat code. Arguments and results go through the words of
 -- arguments;
 -- what a function needs behind a call and keeps in a register waits in its home.
-use Rattle.std.specs.Prelude.{ℕ, zero, suc, ◌+◌, ◌*◌, Bool, if◌then◌else◌, List, [], ◌∷◌, ◌++◌}
+use Rattle.std.specs.Prelude.{ℕ, zero, suc, ◌+◌, ◌-◌, ◌*◌, ◌%◌, ◌^◌, nat_lt, Bool, if◌then◌else◌, List, [], ◌∷◌, ◌++◌}
 use Rattle.rv_isa.specs.declared.instruction.RegOp.TheVariants.{Add, Sub}
 use Rattle.rv_isa.specs.declared.instruction.Instr.{Instr}
-use Rattle.rv_isa.specs.declared.instruction.Instr.TheVariants.{Jalr, Op, Ebreak}
+use Rattle.rv_isa.specs.declared.instruction.ImmOp.TheVariants.{Addi}
+use Rattle.rv_isa.specs.declared.instruction.Instr.TheVariants.{Lui, Jalr, Op, OpImm, Ebreak}
 use Rattle.machine_laws.specs.declared.location.Location.{Location}
 use Rattle.machine_laws.specs.declared.location.Location.TheVariants.{Register, Frame}
 use Rattle.machine_laws.specs.Blocks.Places.{argument_words, left_scratch, right_scratch}
-use Rattle.machine_laws.specs.Blocks.Blocks.{constant, wide, load_at, store_at, used, fetch, keep}
+use Rattle.machine_laws.specs.Blocks.Blocks.{constant, upper, lower, load_at, store_at, used, fetch, keep}
 
 -- where a function keeps its values, and which of them are live before each instruction
 pub record Keeping : Type 0 where
@@ -55,12 +56,18 @@ restore k wanted zero = []
 restore k wanted (suc n) =
     restore k wanted n ++ (if wanted n then restore_one (k.place n) k.base (k.home n) else [])
 
--- the next activation record begins behind this one
-abbrev pub advance : Keeping → List Instr
-advance k = constant right_scratch k.room ++ Op Add k.base k.base right_scratch ∷ []
+-- the next activation record begins behind this one: where the room is below 2048, by one instruction
+unfoldable pub advance : Keeping → List Instr
+advance k =
+    if nat_lt k.room (2 ^ 11)
+    then OpImm Addi k.base k.base (k.room % 2 ^ 12) ∷ []
+    else constant right_scratch k.room ++ Op Add k.base k.base right_scratch ∷ []
 
-abbrev pub retreat : Keeping → List Instr
-retreat k = constant right_scratch k.room ++ Op Sub k.base k.base right_scratch ∷ []
+unfoldable pub retreat : Keeping → List Instr
+retreat k =
+    if nat_lt k.room (2 ^ 11)
+    then OpImm Addi k.base k.base ((2 ^ 12 - k.room) % 2 ^ 12) ∷ []
+    else constant right_scratch k.room ++ Op Sub k.base k.base right_scratch ∷ []
 
 -- up to the jump to the callee, whose address comes to stand in a register
 abbrev pub call_block : Keeping → (wanted : ℕ → Bool) → (first count : ℕ) → (aim : List Instr) → List Instr
@@ -78,6 +85,6 @@ entry_block k n = store_at 1 k.base 0 ++ take k 0 0 n
 abbrev pub return_block : Keeping → (from results : ℕ) → List Instr
 return_block k from n = give k from n ++ load_at 1 k.base 0
 
--- the entry of the jump table of a function: four words, which lead to its first
+-- the entry of the jump table of a function: four words, of which the first two lead to its first
 abbrev pub row : (address : ℕ) → List Instr
-row a = wide 31 a ++ (Jalr 0 31 0 ∷ Ebreak ∷ [])
+row a = Lui 31 (upper a) ∷ Jalr 0 31 (lower a) ∷ Ebreak ∷ Ebreak ∷ []

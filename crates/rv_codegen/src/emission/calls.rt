@@ -1,23 +1,24 @@
 //! Calls and returns: arguments and results go through their words, and what is wanted behind a call waits in its
 //! home.
 
-ghost use Rattle.std.specs.Prelude.{◌≡◌, ◌+◌, ◌*◌, ◌<◌, ◌≤◌, ◌^◌, ◌++◌, ◌∷◌, []};
+ghost use Rattle.std.specs.Prelude.{◌≡◌, ◌+◌, ◌*◌, ◌%◌, ◌<◌, ◌≤◌, ◌^◌, ◌++◌, ◌∷◌, []};
 ghost use Rattle.std.specs.Prelude.{if◌then◌else◌, OnOk, length};
 ghost use Rattle.reg_plan.specs.Effects.{is_among, many};
 ghost use Rattle.reg_plan.specs.Order.{IsLookup};
 ghost use Rattle.reg_plan.specs.Saves.Saves.{saved_below};
-ghost use Rattle.rv_isa.specs.declared.instruction.RegOp.TheVariants.{Add};
-ghost use Rattle.rv_isa.specs.declared.instruction.Instr.TheVariants.{Jalr, Op};
+ghost use Rattle.rv_isa.specs.declared.instruction.ImmOp.TheVariants.{Addi};
+ghost use Rattle.rv_isa.specs.declared.instruction.Instr.TheVariants.{Jalr, Op, OpImm};
 ghost use Rattle.machine_laws.specs.Blocks.Blocks.{constant, used, keep, load_at, store_at, fetch};
 ghost use Rattle.machine_laws.specs.Blocks.Places.{location, frame_register, argument_words, left_scratch};
 ghost use Rattle.machine_laws.specs.Blocks.Places.{right_scratch};
 ghost use Rattle.machine_laws.specs.Blocks.Places.{callee_scratch};
 ghost use Rattle.machine_laws.specs.Calls.Calls.{give, take, save, restore, back_block, entry_block, return_block};
+ghost use Rattle.machine_laws.specs.Calls.Calls.{advance, retreat};
 ghost use Rattle.machine_laws.specs.Following.Code.{wanted};
 ghost use Rattle.rv_codegen.specs.EmittedCode.Kept.{kept_by, call_of};
 ghost use Rattle.rv_codegen.specs.EmittedCode.Saving.{save_unless, restore_unless};
 
-use crate::emission::constants::{put_constant, put_load_at, put_store_at};
+use crate::emission::constants::{addi, put_constant, put_load_at, put_store_at};
 use crate::emission::values::{
     frame_register, left_scratch, put_fetch, put_keep, put_restore, put_save, right_scratch, used,
 };
@@ -273,8 +274,24 @@ fn put_restores(
     Ok(())
 }
 
-// Puts what moves the register of the activation record behind that of the function, or back.
-fn put_moves(code: &mut Vec<Instr>, function: &FlatFunction, op: RegOp) -> Result<(), AllocError>
+// Puts what adds the low twelve bits of a number, with their sign, to the register of the activation record.
+fn put_near_move(
+    code: &mut Vec<Instr>,
+    function: &FlatFunction,
+    number: u64,
+) -> Result<(), AllocError>
+    ensures { OnOk result
+        (code.new.items ≡ code.old.items
+        ++ OpImm Addi (frame_register function.now) (frame_register function.now) (number % 2 ^ 12) ∷ []) }
+{
+    let base = frame_register(function);
+    code.push(addi(base, base, number % 0x1000))?;
+    Ok(())
+}
+
+// Puts what adds the room of a function to the register of its activation record, or subtracts it, by two instructions
+// or more.
+fn put_far_move(code: &mut Vec<Instr>, function: &FlatFunction, op: RegOp) -> Result<(), AllocError>
     ensures { OnOk result
         (code.new.items ≡ code.old.items
         ++ (constant right_scratch function.now.room
@@ -289,6 +306,28 @@ fn put_moves(code: &mut Vec<Instr>, function: &FlatFunction, op: RegOp) -> Resul
         rs2: right_scratch(),
     })?;
     Ok(())
+}
+
+// Puts what moves the register of the activation record behind that of the function.
+#[tactic(auto, unfolding(machine_laws::specs::Calls::Calls::advance))]
+fn put_advance(code: &mut Vec<Instr>, function: &FlatFunction, plan: &FunctionPlan) -> Result<(), AllocError>
+    ensures { OnOk result (code.new.items ≡ code.old.items ++ advance (kept_by function.now plan.now)) }
+{
+    if function.room < 0x800 {
+        return put_near_move(code, function, function.room);
+    }
+    put_far_move(code, function, RegOp::Add)
+}
+
+// Puts what moves it back.
+#[tactic(auto, unfolding(machine_laws::specs::Calls::Calls::retreat))]
+fn put_retreat(code: &mut Vec<Instr>, function: &FlatFunction, plan: &FunctionPlan) -> Result<(), AllocError>
+    ensures { OnOk result (code.new.items ≡ code.old.items ++ retreat (kept_by function.now plan.now)) }
+{
+    if function.room < 0x800 {
+        return put_near_move(code, function, 0x1000 - function.room);
+    }
+    put_far_move(code, function, RegOp::Sub)
 }
 
 // JALR without an offset.
@@ -330,14 +369,16 @@ fn put_hand_over(
 }
 
 // Puts what stands behind that: the next activation record begins, and the callee is jumped to.
-fn put_jump(code: &mut Vec<Instr>, function: &FlatFunction, target: Reg) -> Result<(), AllocError>
+fn put_jump(
+    code: &mut Vec<Instr>,
+    function: &FlatFunction,
+    plan: &FunctionPlan,
+    target: Reg,
+) -> Result<(), AllocError>
     ensures { OnOk result
-        (code.new.items ≡ code.old.items
-        ++ (constant right_scratch function.now.room
-        ++ (Op Add (frame_register function.now) (frame_register function.now) right_scratch
-        ∷ Jalr 1 target 0 ∷ []))) }
+        (code.new.items ≡ code.old.items ++ (advance (kept_by function.now plan.now) ++ Jalr 1 target 0 ∷ [])) }
 {
-    put_moves(code, function, RegOp::Add)?;
+    put_advance(code, function, plan)?;
     code.push(jump_to(Reg::RA, target))?;
     Ok(())
 }
@@ -359,7 +400,7 @@ fn put_back(
         (wanted (kept_by function.now plan.now) site.now.place site.now.results.into site.now.results.count)
         (site.now.place + 1) site.now.results.into site.now.results.count) }
 {
-    put_moves(code, function, RegOp::Sub)?;
+    put_retreat(code, function, plan)?;
     put_restores(code, function, plan, site.place, site.results, site.saved)?;
     put_take(
         code,
@@ -392,7 +433,7 @@ pub(crate) fn put_call(
 {
     put_hand_over(code, function, plan, site)?;
     put_constant(code, callee_scratch(), callee)?;
-    put_jump(code, function, callee_scratch())?;
+    put_jump(code, function, plan, callee_scratch())?;
     put_back(code, function, plan, site)
 }
 
@@ -420,6 +461,7 @@ pub(crate) fn put_call_address(
     put_jump(
         code,
         function,
+        plan,
         used(function, plan, u64::from(address), callee_scratch()),
     )?;
     put_back(code, function, plan, site)

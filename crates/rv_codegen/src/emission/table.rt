@@ -7,10 +7,10 @@ ghost use Rattle.machine_laws.specs.Calls.Table.{source_count, row_address};
 ghost use Rattle.machine_laws.specs.Following.Start.{start_block};
 
 use crate::emission::calls::{argument_words, callee_scratch, jump_to};
-use crate::emission::constants::put_wide;
+use crate::emission::constants::{put_wide, upper};
 use addr_map::{AddrMap, Region};
 use flat_meaning::FlatProgram;
-use rv_isa::{Instr, Reg};
+use rv_isa::{Imm12, Instr, Reg};
 use std::alloc::AllocError;
 
 /// Puts the entry of the jump table of a function whose first instruction stands at an address.
@@ -19,8 +19,16 @@ pub fn put_row(code: &mut Vec<Instr>, address: u128) -> Result<(), AllocError>
     ensures { OnOk result (code.new.items ≡ code.old.items ++ row address) }
 {
     let link = Reg::new(31);
-    put_wide(code, link, address)?;
-    code.push(jump_to(Reg::ZERO, link))?;
+    code.push(Instr::Lui {
+        rd: link,
+        imm: upper(address),
+    })?;
+    code.push(Instr::Jalr {
+        rd: Reg::ZERO,
+        rs1: link,
+        imm: Imm12::new((address % 0x1000) as u16),
+    })?;
+    code.push(Instr::Ebreak)?;
     code.push(Instr::Ebreak)?;
     Ok(())
 }

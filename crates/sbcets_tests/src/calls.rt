@@ -11,6 +11,9 @@ use std::alloc::Global;
 // How many bytes each file can take.
 const FILE_ROOM: u64 = 262_144;
 
+// The file that holds what the last call of `list` put out.
+const LISTING: &str = "hi.lst";
+
 // How many bytes the error output can take.
 const ERROR_ROOM: u64 = 4096;
 
@@ -113,6 +116,7 @@ fn files_of(alloc: Global, case: &Case) -> Result<MemFiles> {
     pairs.push((String::from_str(alloc, "hi.c")?, source))?;
     let image = Vec::from_slice(alloc, &case.image)?;
     pairs.push((String::from_str(alloc, "hi.img")?, image))?;
+    pairs.push((String::from_str(alloc, LISTING)?, Vec::new(alloc)))?;
     let faults = &case.faults;
     Ok(MemFiles::new(alloc, &pairs, FILE_ROOM, &faults.reads, &faults.writes)?)
 }
@@ -126,9 +130,41 @@ fn put_call(rt: &HostRuntime, case: &Case, words: &str, files: &mut MemFiles) ->
     let mut errors = MemSink::new(alloc, ERROR_ROOM, &case.faults.errors)?;
     let (outcome, image) = sbcets(alloc, &words, files, &mut input, &mut output, &mut errors);
     print!(rt; "{}", outcome.status())?;
-    put_bytes(rt, "output", shortened(output.bytes(), case.shown))?;
+    let shown = if is_listing(&words) {
+        files
+            .write(LISTING, output.bytes())
+            .ok()
+            .context("room for a listing")?;
+        lines_of(output.bytes(), case.lines)
+    } else {
+        shortened(output.bytes(), case.shown)
+    };
+    put_bytes(rt, "output", shown)?;
     put_bytes(rt, "errors", errors.bytes())?;
     Ok(image)
+}
+
+fn is_listing(words: &[String]) -> bool {
+    words.first().is_some_and(|word| word.as_str() == "list")
+}
+
+// The lines with these numbers, from 0 on.
+fn lines_of(text: &[u8], (first, behind): (usize, usize)) -> &[u8] {
+    let start = line_start(text, first);
+    let end = line_start(text, behind);
+    text.get(start..end).unwrap_or_default()
+}
+
+// Where the line of this number stands, from 0 on.
+fn line_start(text: &[u8], number: usize) -> usize {
+    let ends = text.iter().enumerate().filter(|(_, byte)| **byte == b'\n');
+    match number.checked_sub(1) {
+        Some(before) => ends
+            .map(|(place, _)| place + 1)
+            .nth(before)
+            .unwrap_or(text.len()),
+        None => 0,
+    }
 }
 
 // The words of a line; `""` is a word with no characters.

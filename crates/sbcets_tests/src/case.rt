@@ -28,6 +28,7 @@ pub struct Case<'a> {
     pub faults: Faults,
     pub output_room: u64,
     pub shown: usize,
+    pub lines: (usize, usize),
     pub holds_image: bool,
     pub is_compiled: bool,
 }
@@ -84,6 +85,7 @@ impl<'a> Case<'a> {
             faults: Faults::none(alloc),
             output_room: ROOM,
             shown: usize::MAX,
+            lines: (0, 0),
             holds_image: false,
             is_compiled: false,
         }
@@ -105,6 +107,7 @@ impl<'a> Case<'a> {
             "%fails" => self.faults.add(rest)?,
             "%room" => self.output_room = rest.parse()?,
             "%shown" => self.shown = rest.parse()?,
+            "%lines" => self.lines = pair_of(rest)?,
             "%holds" => self.holds_image = true,
             "%compile" => self.is_compiled = true,
             _ => bail!("no line begins with {word}"),
@@ -132,6 +135,11 @@ impl<'a> Case<'a> {
         }
         Ok(())
     }
+}
+
+fn pair_of(words: &str) -> Result<(usize, usize)> {
+    let (first, second) = words.split_once(' ').context("two numbers")?;
+    Ok((first.parse()?, second.parse()?))
 }
 
 fn number(words: &mut SplitWhitespace) -> Result<u64> {

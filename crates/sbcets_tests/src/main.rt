@@ -2,7 +2,8 @@
 // parts, with a line `%%%` between them, and in each a line `%%` between each two texts.
 //
 // The first has programs, each with its input behind a line `%<` where it reads one. For each is printed what the run
-// wrote, and then on a line of its own its status, or what else the run came to.
+// wrote, and then on a line of its own its status, or what else the run came to. Its image is listed, and put together
+// from the listing: where that is another one, a line says so.
 //
 // The second has cases. A line of a case that begins with one of these words says what is given, the others are lines
 // of the file `hi.c`:
@@ -14,7 +15,8 @@
 // - `%fails KIND NUMBER [COUNT]`: the call of this kind (`read`, `take`, `write`, `output`, `error`) with this number
 //   from 0 on fails; one that writes keeps so many bytes.
 // - `%room COUNT`: what the output can take. `%shown COUNT`: so many bytes of the output are shown, where those behind
-//   are as the last of them.
+//   are as the last of them. `%lines FIRST BEHIND`: of the listing that `list` puts out the lines from one number on up
+//   to another, from 0 on, are shown; the whole is the file `hi.lst` for the calls behind.
 // - `%holds image`: how much of the image of `hi.c` the file `hi.img` holds after each call, and the call gave.
 // - `%compile hi.c`: what `compile` says of `hi.c`, on a line of its own.
 //
@@ -26,10 +28,12 @@
 mod calls;
 mod case;
 mod image;
+mod listed;
 mod text;
 
 use crate::calls::put_calls;
 use crate::case::Case;
+use crate::listed::is_listed;
 use anyhow::{Context, Result};
 use sb_outside::{MemFiles, MemSink, MemSource};
 use sbcets_core::sbcets;
@@ -87,7 +91,7 @@ fn put_run(rt: &HostRuntime, source: &str, given: &str) -> Result<()> {
     let mut input = MemSource::new(alloc, given.as_bytes(), &[])?;
     let mut output = MemSink::new(alloc, LARGE_ROOM, &[])?;
     let mut errors = MemSink::new(alloc, LARGE_ROOM, &[])?;
-    let (outcome, _image) = sbcets(
+    let (outcome, image) = sbcets(
         alloc,
         &words,
         &mut files,
@@ -97,5 +101,8 @@ fn put_run(rt: &HostRuntime, source: &str, given: &str) -> Result<()> {
     );
     print!(rt; "{}", str::from_utf8(output.bytes())?)?;
     println!(rt; "\n%% {}", outcome.status())?;
+    if !is_listed(alloc, &image)? {
+        println!(rt; "another image behind its listing")?;
+    }
     Ok(())
 }

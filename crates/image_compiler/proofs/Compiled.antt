@@ -23,7 +23,7 @@ use Rattle.reg_plan.specs.Planned.{ArePlannable}
 use Rattle.reg_plan.specs.Tests.{AreAccepted}
 use Rattle.machine_laws.specs.Following.Code.{IsEncodable}
 use Rattle.rv_codegen.specs.MachineImages.Image.{IsImage}
-use Rattle.image_laws.specs.Images.Images.{sizes_of, IsChecked, IsFlat, DoesWhatIsMeant}
+use Rattle.image_laws.specs.Images.Images.{sizes_of, IsChecked, flat_code, IsFlat, DoesWhatIsMeant}
 use Rattle.image_laws.proofs.Images.Images.{no_bytes}
 use Rattle.rv_codegen.specs.declared.code.GenerateError.TheVariants as generate
 use Rattle.rv_codegen.specs.Generated.{IsCause}
@@ -32,7 +32,7 @@ use Rattle.image_compiler.specs.declared.error.CompileError.{CompileError}
 use Rattle.image_compiler.specs.declared.error.CompileError.TheVariants.{NumbersTooLarge, TooLarge, FunctionTooLong}
 use Rattle.image_compiler.specs.declared.error.CompileError.TheVariants.{Memory}
 use Rattle.image_compiler.specs.declared.compiler.Built.{Built}
-use Rattle.image_compiler.specs.Built.{flat_code, HasChecks, IsExpandable, IsBuilt, IsRefused, NeedsNodes, Refuses}
+use Rattle.image_compiler.specs.Built.{HasChecks, IsExpandable, IsBuilt, IsRefused, NeedsNodes, Refuses}
 use Rattle.image_compiler.specs.Built.{UnlessMemory}
 use Rattle.image_compiler.proofs.Images.{accepted}
 
@@ -106,7 +106,7 @@ flat_of p m b h = record {
   checked = h.checked;
   is_checked = h.is;
   small = h.image.small;
-  expanded = refl;
+  is_flat = refl;
 }
 
 -- what is asked of code with its checks put in
@@ -123,7 +123,7 @@ expandable p budgets t m same low weighed bodies plannable encodable r h = recor
         checked = r;
         is_checked = checked_of p t r low weighed bodies h;
         small = subst (λ k. AreAllSmall k r) same small;
-        expanded = refl;
+        is_flat = refl;
       }));
 }
 

@@ -18,7 +18,8 @@ use Rattle.rv_codegen.specs.declared.code.GenerateError.TheVariants as generate
 use Rattle.machine_laws.specs.Segments.Segments.{table_bytes}
 use Rattle.rv_codegen.specs.Generated.{IsReady}
 use Rattle.image_compiler.specs.declared.error.CompileError.{CompileError}
-use Rattle.image_compiler.specs.Built.{flat_code, ArePlans, IsPlannedImage, HasCause, IsNotGenerated, IsImageOf}
+use Rattle.image_laws.specs.Images.Images.{flat_code}
+use Rattle.image_compiler.specs.Built.{ArePlans, IsPlannedImage, HasCause, IsNotGenerated, IsImageOf}
 use Rattle.image_compiler.specs.Built.{HasNoCode, Refuses, IsErrorOf, IsCompiled}
 
 -- plans are what code is generated from

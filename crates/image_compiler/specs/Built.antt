@@ -5,9 +5,6 @@ use Rattle.c_tree.specs.Programs.{Program}
 use Rattle.tac_ir.specs.declared.function.Tac.{Tac}
 use Rattle.tac_ir.specs.Bodies.{HaveClosedBodies, KeepVariables}
 use Rattle.check_insert.specs.Inserted.{Inserted}
-use Rattle.metadata_plan.specs.Laid.{program_of}
-use Rattle.metadata_plan.specs.OperatorLists.Operators.{operators}
-use Rattle.metadata_expansion.specs.Homes.{homes}
 use Rattle.metadata_expansion.specs.Numbers.{AreAllSmall}
 use Rattle.flat_meaning.specs.declared.function.FlatProgram.{FlatProgram}
 use Rattle.reg_plan.specs.declared.plan.FunctionPlan.{FunctionPlan}
@@ -17,15 +14,12 @@ use Rattle.rv_codegen.specs.declared.code.GenerateError.{GenerateError}
 use Rattle.rv_codegen.specs.declared.code.GenerateError.TheVariants as generate
 use Rattle.rv_codegen.specs.Generated.{IsCause}
 use Rattle.rv_codegen.specs.MachineImages.Image.{IsImage}
+use Rattle.image_laws.specs.Images.Images.{flat_code}
 use Rattle.image_laws.specs.Sizes.Nodes.{program_nodes}
 use Rattle.image_compiler.specs.declared.error.CompileError.{CompileError}
 use Rattle.image_compiler.specs.declared.error.CompileError.TheVariants.{NumbersTooLarge, TooLarge, FunctionTooLong}
 use Rattle.image_compiler.specs.declared.error.CompileError.TheVariants.{Memory}
 use Rattle.image_compiler.specs.declared.compiler.Built.{Built}
-
--- the flat code that checked code expands to
-abbrev pub flat_code : MapSizes → Tac → FlatProgram
-flat_code m r = program_of operators m r homes
 
 -- what is asked of checked code: its flat code can be planned, and is of instructions that the machine has
 pub record IsExpandable (map : MapSizes) (code : Tac) : Type 0 where

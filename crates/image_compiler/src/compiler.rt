@@ -19,8 +19,8 @@ use addr_map::AddrMap;
 use addr_map::laws::sizes_are_in_range;
 use c_tree::Program;
 use check_insert::{checks, insert};
-use image_laws::laws::images::{expansions_are_encodable, images_do_what_is_meant};
-use image_laws::laws::plans::expansions_are_plannable;
+use image_laws::laws::images::{flat_code_is_encodable, images_do_what_is_meant};
+use image_laws::laws::plans::flat_code_is_plannable;
 use image_laws::laws::sizes::code_of_few_nodes_is_not_too_large;
 use program_lowering::programs::lower;
 use sb_base::Budgets;
@@ -96,8 +96,8 @@ pub fn compile(alloc: Global, budgets: &Budgets, program: &Program) -> Result<Bu
     ensures nodes { IfErr result (λ e. NeedsNodes e (program_of program.now)) }
 {
     code_of_few_nodes_is_not_too_large();
-    expansions_are_plannable();
-    expansions_are_encodable();
+    flat_code_is_plannable();
+    flat_code_is_encodable();
     images_do_what_is_meant();
     let map = map_of(budgets);
     sizes_are_in_range(&map);

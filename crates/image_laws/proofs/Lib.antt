@@ -1,4 +1,5 @@
 pub mod Lowering
+pub mod Propagation
 pub mod Plans
 pub mod Images
 pub mod Sizes

@@ -3,6 +3,7 @@ pub mod Expressions
 pub mod Statements
 pub mod Checked
 pub mod Numbers
+pub mod Propagated
 pub mod Operators
 pub mod Blocks
 pub mod Functions

@@ -1,3 +1,4 @@
 pub mod Images
+pub mod Propagation
 pub mod Sizes
 pub mod CodeSizes

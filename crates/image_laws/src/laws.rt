@@ -4,4 +4,5 @@ pub mod code_sizes;
 pub mod images;
 pub mod lowering;
 pub mod plans;
+pub mod propagation;
 pub mod sizes;

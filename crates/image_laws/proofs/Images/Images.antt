@@ -32,15 +32,18 @@ use Rattle.rv_sim.specs.Behaviour.{behaviour}
 use Rattle.rv_sim.specs.Start.{start_of}
 use Rattle.machine_laws.specs.View.Segments.{Hold}
 use Rattle.machine_laws.specs.Following.Matching.{object_bytes, space_bytes}
+use Rattle.flat_propagation.specs.Propagated.{propagated}
 use Rattle.elf_image.specs.Layout.{content_of}
 use Rattle.elf_image.proofs.Pages.{length-image_bytes}
 use Rattle.machine_laws.specs.Segments.Segments.{table_words, code_words}
 use Rattle.machine_laws.proofs.CodeLayout.Bytes.{bytes_length}
 use Rattle.rv_codegen.specs.MachineImages.Image.{written, IsImage, ImageFollows, filled, data_memory}
-use Rattle.image_laws.specs.Images.Images.{HaveFewParameters, sizes_of, IsChecked, DoesWhatIsMeant}
+use Rattle.image_laws.specs.Images.Images.{HaveFewParameters, sizes_of, IsChecked, flat_code, DoesWhatIsMeant}
 use Rattle.image_laws.proofs.Images.Instructions.{IsFit}
 use Rattle.image_laws.proofs.Images.Programs.{instruction_fit, encodable, startable}
 use Rattle.image_laws.proofs.Images.Following.{sizes_same, from_any, runs_from_any}
+use Rattle.image_laws.proofs.Images.Memories.{follows_same}
+use Rattle.image_laws.proofs.Propagation.Encodable.{propagated_encodable, propagated_startable}
 
 -- ---- a program of integers has a map
 
@@ -96,7 +99,11 @@ module _ (p : Program) (budgets : BudgetSizes) (mapped : AreMapped (sizes_of p b
     (part : IsIntegerCode r)
     (source : (input : List ℕ) → IsSource (meaning p budgets input))
     (lowered : (input : List ℕ) → Follows 8 (meaning p budgets input) (tac_meaning r budgets input))
-    (steps : (m : MapSizes) (q : FlatProgram) → IsStepping (step m q) seen (λ (x : Stage). x ≡ Stuck)) where
+    (steps : (m : MapSizes) (q : FlatProgram) → IsStepping (step m q) seen (λ (x : Stage). x ≡ Stuck))
+    (same_run : (m : MapSizes) (q : FlatProgram) (memory : Bytes) (input : List ℕ) → AreBytes memory → (n : ℕ)
+    → run (step m (propagated q)) n (started (propagated q) memory input) ≡ run (step m q) n (started q memory input))
+    (same_meaning : (m : MapSizes) (q : FlatProgram) (memory : Bytes) (input : List ℕ) → AreBytes memory → (n : ℕ)
+    → flat_meaning m (propagated q) memory input n ≡ flat_meaning m q memory input n) where
   abbrev m : MapSizes
   m = sizes_of p budgets
 
@@ -129,8 +136,19 @@ module _ (p : Program) (budgets : BudgetSizes) (mapped : AreMapped (sizes_of p b
       (runs_from_any r budgets mapped_code ops part (meaning p budgets input) (source input) 8 input (lowered input)
       steps fit b)
 
-  module _ (plans : List FunctionPlan) (file : List ℕ) (accepted : AreAccepted code plans)
-      (image : IsImage m code plans [] [] file) (follows : ImageFollows m code plans [] [] file)
+  -- and so do both where values are carried to where they are used
+  flat_follows : (b : Bytes) → AreBytes b → (input : List ℕ)
+      → Follows 168 (meaning p budgets input) (flat_meaning m (flat_code m r) b input)
+  flat_follows b bytes input =
+      follows_same 168 (meaning p budgets input) (flat_meaning m code b input) (flat_meaning m (flat_code m r) b input)
+      (code_follows b input) (same_meaning m code b input bytes)
+
+  flat_runs : (b : Bytes) → AreBytes b → (input : List ℕ) (k : ℕ)
+      → run (step m (flat_code m r)) k (started (flat_code m r) b input) ≡ Stuck → ⊥
+  flat_runs b bytes input k e = code_runs b input k (sym (same_run m code b input bytes k) ∙ e)
+
+  module _ (plans : List FunctionPlan) (file : List ℕ) (accepted : AreAccepted (flat_code m r) plans)
+      (image : IsImage m (flat_code m r) plans [] [] file) (follows : ImageFollows m (flat_code m r) plans [] [] file)
       (held : Hold (object_bytes m) (space_bytes m)
       (data_memory (filled (object_bytes m) []) (filled (space_bytes m) []))
       (filled (object_bytes m) []) (filled (space_bytes m) []))
@@ -141,16 +159,17 @@ module _ (p : Program) (budgets : BudgetSizes) (mapped : AreMapped (sizes_of p b
     pub image_follows : (input : List ℕ)
         → Follows 1008 (meaning p budgets input) (behaviour (start_of (content_of file)) input)
     image_follows input =
-        follows_trans 168 6 (meaning p budgets input) (flat_meaning m code memory input)
-        (behaviour (start_of (content_of file)) input) (code_follows memory input)
-        (follows.follows memory input accepted (encodable p m r mapped valid ints few checked small) (startable m r)
-        held bytes (code_runs memory input))
+        follows_trans 168 6 (meaning p budgets input) (flat_meaning m (flat_code m r) memory input)
+        (behaviour (start_of (content_of file)) input) (flat_follows memory bytes input)
+        (follows.follows memory input accepted
+        (propagated_encodable m code (encodable p m r mapped valid ints few checked small))
+        (propagated_startable m code (startable m r)) held bytes (flat_runs memory bytes input))
 
     pub does_what_is_meant : ((s : MachineState) (input : List ℕ) → IsMachine (behaviour s input))
         → ((c : ℕ) (x y : Behaviour) → Follows c x y → IsSource x → IsMachine y → Faithful c x y)
         → DoesWhatIsMeant p budgets file
     does_what_is_meant machine faithful = record {
-      size = file_small m code plans file image;
+      size = file_small m (flat_code m r) plans file image;
       readable = image.passes;
       follows = image_follows;
       faithful = λ input.

@@ -3,7 +3,8 @@ use Rattle.std.proofs.Common.{◌≡◌, ℕ, zero, suc, ◌+◌, ◌-◌, ◌*�
 use Rattle.std.proofs.Common.{◌&&◌, nat_lt, List, [], ◌∷◌, ◌++◌, map, length, length-append, Option, Some, None, refl}
 use Rattle.std.proofs.Common.{sym, ap, ◌∙◌, subst, arith}
 use Rattle.std.specs.Prelude.{if◌then◌else◌, slice_get}
-use Rattle.std.proofs.lemmas.Bool.{and_parts}
+use Rattle.std.specs.Option.{option_map}
+use Rattle.std.proofs.lemmas.Bool.{and_parts, eqb-true}
 use Rattle.std.proofs.lemmas.List.{length-map}
 use Rattle.sb_base.specs.declared.ending.Ending.TheVariants.{Stack}
 use Rattle.sb_base.specs.declared.ending.Ending.{Ending}
@@ -56,8 +57,15 @@ use Rattle.machine_laws.proofs.Segments.Standing.{first_length}
 use Rattle.metadata_plan.specs.Blocks.{entry_code, room_in}
 use Rattle.metadata_plan.specs.Laid.{functions_of, entry_of, program_of}
 use Rattle.metadata_plan.specs.OperatorLists.Operators.{operators}
+use Rattle.flat_propagation.specs.Facts.{with_fact}
+use Rattle.flat_propagation.specs.Known.{after, some_jumps_to, known_at}
+use Rattle.flat_propagation.specs.Propagated.{rewritten, rewritten_from, propagated_function}
+use Rattle.flat_propagation.proofs.Holding.{either}
+use Rattle.flat_propagation.proofs.Meaning.{function_same, results_same}
 use Rattle.metadata_expansion.specs.Homes.{homes}
+use Rattle.image_laws.specs.Images.Images.{flat_code}
 use Rattle.image_laws.proofs.Images.Programs.{last_at}
+use Rattle.image_laws.proofs.Propagation.Programs.{count_same, side_same}
 
 -- ---- words of a list
 
@@ -235,6 +243,49 @@ module _ (m : MapSizes) (t : Tac) where
       length-append (functions_of operators m t homes t.functions) (entry_of m t ∷ [])
       ∙ ap (λ n. n + 1) (count_of t.functions)
 
+-- the functions of a text, and behind them that with which a run begins
+record BeginsLast (m : MapSizes) (t : Tac) (code : FlatProgram) : Type 0 where
+  count : length code.functions ≡ length t.functions + 1
+  begins : flat_function code (length t.functions) ≡ Some (entry_of m t)
+  text : (k : ℕ) → k < length t.functions → is_of true (flat_function code k) ≡ false
+  gives : (k : ℕ) → k < length t.functions → results_of (flat_function code k) ≡ 1
+
+-- ---- propagation leaves the function with which a run begins
+
+branch_same : (n : ℕ)
+    → (if n == 0 then flat.Branch Bltu 0 (right.Number 0) 1 else flat.Branch Bltu 0 (right.Number n) 1)
+    ≡ flat.Branch Bltu 0 (right.Number n) 1
+branch_same n =
+    either (λ i. i ≡ flat.Branch Bltu 0 (right.Number n) 1) (n == 0) (flat.Branch Bltu 0 (right.Number 0) 1)
+    (flat.Branch Bltu 0 (right.Number n) 1) (λ e. ap (λ k. flat.Branch Bltu 0 (right.Number k) 1) (sym (eqb-true n 0 e)))
+    (λ e. refl)
+
+module _ (m : MapSizes) (t : Tac) where
+  entry_same : propagated_function (entry_of m t) ≡ entry_of m t
+  unfolding rewritten_from known_at some_jumps_to after rewritten with_fact
+  entry_same =
+      let line = line_in (function_in t t.main) in
+      ap (λ i. record (entry_of m t) {
+        body = flat.Turn ∷ flat.Turn ∷ flat.Turn ∷ flat.Charged 0 ∷ i ∷ flat.End (Stack line) ∷ flat.Call t.main 0 0
+            ∷ flat.Exit 0 ∷ [];
+      }) (branch_same (m.budgets.calls + 1 - room_in (function_in t t.main)))
+
+  pub flat_count : length (flat_code m t).functions ≡ length t.functions + 1
+  flat_count = count_same m (program_of operators m t homes) ∙ code_count m t
+
+  begins_last : t.main < length t.functions → BeginsLast m t (flat_code m t)
+  begins_last main =
+      let expansion = program_of operators m t homes in
+      record {
+        count = flat_count;
+        begins =
+            function_same m expansion (length t.functions)
+            ∙ (ap (option_map propagated_function) (last_at m t t.functions (entry_of m t)) ∙ ap Some entry_same);
+        text = λ k below.
+            side_same m expansion true k ∙ of_program m t t.functions (entry_of m t) k below;
+        gives = λ k below. results_same m expansion k ∙ one_result m t t.functions (entry_of m t) k below;
+      }
+
 parameters_most : (o : Option FlatFunction) → ((g : FlatFunction) → o ≡ Some g → g.parameters ≤ 1024)
     → parameters_of o ≤ 1024
 parameters_most None h = omega arith
@@ -243,23 +294,19 @@ parameters_most (Some g) h = h g refl
 -- ---- the segment
 
 module _ (m : MapSizes) (t : Tac) (main : t.main < length t.functions) (many_functions : length t.functions ≤ 4096)
-    (plannable : ArePlannable (program_of operators m t homes))
-    (few : (u : ℕ) (g : FlatFunction) → flat_function (program_of operators m t homes) u ≡ Some g → g.parameters ≤ 1024)
+    (code : FlatProgram) (shape : BeginsLast m t code) (plannable : ArePlannable code)
+    (few : (u : ℕ) (g : FlatFunction) → flat_function code u ≡ Some g → g.parameters ≤ 1024)
     (plans : List FunctionPlan)
-    (planned : ArePlanned (program_of operators m t homes) plans (length (program_of operators m t homes).functions)
-    (IsPlanOfRegisters (program_of operators m t homes))) where
-  abbrev code : FlatProgram
-  code = program_of operators m t homes
-
+    (planned : ArePlanned code plans (length code.functions) (IsPlanOfRegisters code)) where
   abbrev last : ℕ
   last = length t.functions
 
   at : flat_function code last ≡ Some (entry_of m t)
-  at = last_at m t t.functions (entry_of m t)
+  at = shape.begins
 
   abbrev plan_of : (plan : FunctionPlan) × (slice_get plans last ≡ Some plan)
       × IsPlanOfRegisters code last (entry_of m t) plan
-  plan_of = planned.each last (entry_of m t) (let n = code_count m t in omega (arith, n)) at
+  plan_of = planned.each last (entry_of m t) (let n = shape.count in omega (arith, n)) at
 
   keeping_is : keeping code plans last ≡ keeping_of (Some (entry_of m t)) (Some plan_of.0)
   unfolding keeping
@@ -277,7 +324,7 @@ module _ (m : MapSizes) (t : Tac) (main : t.main < length t.functions) (many_fun
       omega (arith, named)
 
   one : results_of (flat_function code t.main) ≡ 1
-  one = one_result m t t.functions (entry_of m t) t.main main
+  one = shape.gives t.main main
 
   -- and it is the result of `main`
   none_wanted : (y : ℕ) → wanted (keeping code plans last) 6 0 (results_of (flat_function code t.main)) y ≡ false
@@ -340,7 +387,7 @@ module _ (m : MapSizes) (t : Tac) (main : t.main < length t.functions) (many_fun
       let own = function_words m code plans k in
       length-append (words_below m code plans true k) (words_if m code plans true k)
       ∙ ap (λ n. n + length (words_if m code plans true k)) (none_below k (omega arith))
-      ∙ ap (λ b. 0 + length (if b then own else [])) (of_program m t t.functions (entry_of m t) k (omega arith))
+      ∙ ap (λ b. 0 + length (if b then own else [])) (shape.text k (omega arith))
 
   runtime_words : length (words_below m code plans true (suc last)) ≤ 39000
   unfolding words_below
@@ -352,12 +399,21 @@ module _ (m : MapSizes) (t : Tac) (main : t.main < length t.functions) (many_fun
       let mine = choice_few (is_of true (flat_function code last)) own [] 39000 some (omega arith) in
       omega (arith, all, none, mine)
 
-  pub runtime_has_room : functions_begin + table_bytes m code plans ≤ code_begin
-  runtime_has_room =
-      let count : length code.functions ≡ suc last = code_count m t ∙ omega arith in
+  has_room : functions_begin + table_bytes m code plans ≤ code_begin
+  has_room =
+      let count : length code.functions ≡ suc last = shape.count ∙ omega arith in
       let words = subst (λ n. length (words_below m code plans true n) ≤ 39000) (sym count) runtime_words in
       let front = first_length m code plans in
       let tails_are = tails_length in
       let all = length-append (map word_of (table_instrs m code (rows_below m code plans (length code.functions))))
       (words_below m code plans true (length code.functions)) in
       omega (arith, count, words, front, tails_are, all)
+
+pub runtime_has_room : (m : MapSizes) (t : Tac) → t.main < length t.functions → length t.functions ≤ 4096
+    → ArePlannable (flat_code m t)
+    → ((u : ℕ) (g : FlatFunction) → flat_function (flat_code m t) u ≡ Some g → g.parameters ≤ 1024)
+    → (plans : List FunctionPlan)
+    → ArePlanned (flat_code m t) plans (length (flat_code m t).functions) (IsPlanOfRegisters (flat_code m t))
+    → functions_begin + table_bytes m (flat_code m t) plans ≤ code_begin
+runtime_has_room m t main count plannable few plans planned =
+    has_room m t main count (flat_code m t) (begins_last m t main) plannable few plans planned

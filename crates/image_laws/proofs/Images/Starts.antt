@@ -16,9 +16,10 @@ use Rattle.metadata_plan.specs.Laid.{functions_of, entry_of, program_of}
 use Rattle.metadata_plan.specs.OperatorLists.Operators.{operators}
 use Rattle.metadata_expansion.specs.Homes.{homes}
 use Rattle.machine_laws.specs.Calls.Table.{program_end, source_count}
-use Rattle.image_laws.specs.Images.Images.{IsChecked}
+use Rattle.image_laws.specs.Images.Images.{flat_code, IsChecked}
 use Rattle.image_laws.proofs.Images.Runtime.{code_count}
 use Rattle.image_laws.proofs.Images.Programs.{last_at}
+use Rattle.image_laws.proofs.Propagation.Programs.{source_same}
 
 -- behind a function of the program stand those before it
 end_at : (p : FlatProgram) (n : ℕ) → ((k : ℕ) → k < n → is_of_program (function_in p k) ≡ true) → program_end p n ≡ n
@@ -39,14 +40,15 @@ module _ (m : MapSizes) (t : Tac) where
   of_program (c ∷ cs) last zero lt = refl
   of_program (c ∷ cs) last (suc k) lt = of_program cs last k (omega arith)
 
-  pub start_behind : source_count (program_of operators m t homes) ≡ length t.functions
+  pub start_behind : source_count (flat_code m t) ≡ length t.functions
   start_behind =
       let p = program_of operators m t homes in
       let n = length t.functions in
       let one_more : n + 1 ≡ suc n = omega arith in
       let last : is_of_program (function_in p n) ≡ false = ap is_of_program (last_at m t t.functions (entry_of m t)) in
-      ap (program_end p) (code_count m t ∙ one_more) ∙ end_behind p n last
-      ∙ end_at p n (λ k lt. of_program t.functions (entry_of m t) k lt)
+      source_same m p
+      ∙ (ap (program_end p) (code_count m t ∙ one_more)
+      ∙ (end_behind p n last ∙ end_at p n (λ k lt. of_program t.functions (entry_of m t) k lt)))
 
 -- as many functions as the text has
 pub as_many : (p : Program) (r : Tac) → IsChecked p r → length r.functions ≡ length p.functions

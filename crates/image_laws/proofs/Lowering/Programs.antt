@@ -1,11 +1,11 @@
 -- What is lowered of a program of integers is code of integers, whatever checks are put in.
-use Rattle.std.proofs.Common.{◌≡◌, ◌⊎◌, inl, inr, ⊎_elim, ℕ, zero, suc, ◌+◌, ◌<◌, Bool, true, false, not, ◌&&◌}
+use Rattle.std.proofs.Common.{◌≡◌, ℕ, zero, suc, ◌+◌, Bool, true, false, not, ◌&&◌}
 use Rattle.std.proofs.Common.{if◌then◌else◌}
 use Rattle.std.proofs.Common.{◌==◌, List, [], ◌∷◌, ◌++◌, map, length, drop, get_or, Option, Some, None, refl, sym, ap}
 use Rattle.std.proofs.Common.{◌∙◌, subst, arith, length-append, nat_lt}
 use Rattle.std.specs.Prelude.{slice_get}
 use Rattle.std.specs.List.{list_all}
-use Rattle.std.proofs.lemmas.Bool.{eqb-true, eq-eqb, ltb-true, lt-ltb, and_from, false≢true, not-true, both_ways}
+use Rattle.std.proofs.lemmas.Bool.{eqb-true, eq-eqb, ltb-true, lt-ltb, and_from, not-true, both_ways}
 use Rattle.std.proofs.lemmas.Bool.{cond-false}
 use Rattle.std.proofs.lemmas.List.{length-map}
 use Rattle.std.proofs.lemmas.Option.{same_Some, none-some}
@@ -18,11 +18,11 @@ use Rattle.c_tree.specs.Programs.{Function, FunctionType, StaticObject, Program}
 use Rattle.c_tree.specs.Blocks.{all_of, no_variable, opened, closed, is_among, block_objects, body_variables}
 use Rattle.c_tree.specs.Blocks.{block_variables}
 use Rattle.c_tree.specs.Kinds.{Signature, is_kind, is_value}
-use Rattle.c_tree.specs.Valid.{Scope, no_signature, has_number}
+use Rattle.c_tree.specs.Valid.{no_signature, has_number}
 use Rattle.c_tree.specs.ValidProgram.{is_valid_program, is_function, are_functions, are_parameters, function_scope}
 use Rattle.c_tree.specs.ValidProgram.{is_function_type, are_all_different, is_static_object, is_variable, declares_all}
 use Rattle.c_tree.specs.Room.{room}
-use Rattle.c_tree.specs.ValidProgram.{signature_at, are_statements, Inside, is_main, is_main_signature, scope_in}
+use Rattle.c_tree.specs.ValidProgram.{signature_at, are_statements, is_main, is_main_signature}
 use Rattle.source_meaning.specs.State.{Header, Setting}
 use Rattle.source_meaning.specs.Places.{statics_first}
 use Rattle.source_meaning.specs.Meaning.{initial_objects, placed_statics, objects_after, store_statics, static_env}
@@ -34,10 +34,9 @@ use Rattle.tac_ir.specs.declared.instruction.Instruction.{Instruction}
 use Rattle.tac_ir.specs.declared.instruction.Instruction.TheVariants as tac
 use Rattle.tac_ir.specs.declared.function.CodeFunction.{CodeFunction}
 use Rattle.tac_ir.specs.declared.function.Tac.{Tac}
-use Rattle.tac_ir.specs.Edges.{LeadsTo}
 use Rattle.tac_ir.proofs.SameTables.{function_same}
 use Rattle.tac_ir.specs.declared.function.StaticData.{StaticData}
-use Rattle.tac_ir.specs.Meaning.{function_in, header_of_code, placed_data, setting_of_code}
+use Rattle.tac_ir.specs.Meaning.{function_in, header_of_code, placed_data}
 use Rattle.c_lower.specs.Placed.{Placed, Holds}
 use Rattle.c_lower.specs.Programs.{IsLowered, LowersAt, LowersFunction, literals_of, placed_in, function_exits}
 use Rattle.c_lower.specs.Programs.{result_in, height_in}
@@ -45,12 +44,12 @@ use Rattle.check_insert.specs.SameButChecks.{HasNoChecks, SameButChecksIn, SameB
 use Rattle.compiled_programs.specs.Programs as p
 use Rattle.metadata_plan.specs.Registers.{all_variables}
 use Rattle.metadata_plan.specs.Part.{SafeWithin, is_integer_instruction, are_integers, have_no_objects}
-use Rattle.metadata_plan.specs.Part.{IsIntegerFunction, IsIntegerCode}
+use Rattle.metadata_plan.specs.Part.{IsIntegerCode}
 use Rattle.metadata_plan.specs.Part.{has_no_statics, takes, has_no_pointer, is_integer_kind}
 use Rattle.metadata_plan.proofs.SetUp.{no_objects}
 use Rattle.image_laws.proofs.Lowering.Safe.{stepped, nothing_yet, along}
-use Rattle.image_laws.proofs.Lowering.Values.{IsScope, Ok, same_without_pointer}
-use Rattle.image_laws.proofs.Lowering.Statements.{opened_length, HaveNone, AreSafe, of_statements}
+use Rattle.image_laws.proofs.Lowering.Values.{IsScope, same_without_pointer}
+use Rattle.image_laws.proofs.Lowering.Statements.{opened_length, HaveNone, of_statements}
 
 -- ---- functions by number
 

@@ -1,12 +1,10 @@
 -- The code of statements of integers is safe where what is behind it is.
-use Rattle.std.proofs.Common.{◌≡◌, ◌⊎◌, inl, inr, ⊎_elim, ℕ, zero, suc, Bool, true, false, ◌&&◌, ◌||◌, List, [], ◌∷◌}
+use Rattle.std.proofs.Common.{◌≡◌, ⊎_elim, ℕ, zero, suc, Bool, true, false, ◌||◌, List, [], ◌∷◌}
 use Rattle.std.proofs.Common.{◌++◌}
 use Rattle.std.proofs.Common.{Option, Some, None, length, refl, sym, ap, ◌∙◌, subst, arith}
-use Rattle.std.specs.Prelude.{slice_get}
 use Rattle.std.specs.List.{list_all}
 use Rattle.std.proofs.lemmas.Bool.{cases_Bool, or_cases, and_from, false≢true}
 use Rattle.c_tree.specs.declared.expression.Kind.{Kind}
-use Rattle.c_tree.specs.declared.expression.Kind.TheVariants.{Void, Scalar as OfScalar, Structure, Array}
 use Rattle.c_tree.specs.declared.program.Variable.{Variable}
 use Rattle.c_tree.specs.declared.statement.CaseLabel.{CaseLabel}
 use Rattle.c_tree.specs.declared.statement.CaseLabel.TheVariants.{Case, Default}
@@ -16,30 +14,25 @@ use Rattle.c_tree.specs.Statements.{first_expression, first_declaration, Stateme
 use Rattle.c_tree.specs.Statements.{declaration, block, if_then, if_else, while_do, do_while, for, switch, break}
 use Rattle.c_tree.specs.Statements.{continue, return, Statements, no_statements, statements, SwitchItems, no_items}
 use Rattle.c_tree.specs.Statements.{items}
-use Rattle.c_tree.specs.Blocks.{block_variables, switch_variables, first_variables, opened, block_objects, closed}
+use Rattle.c_tree.specs.Blocks.{block_variables, switch_variables, first_variables, opened}
 use Rattle.c_tree.specs.Kinds.{is_promoted, is_scalar}
 use Rattle.c_tree.specs.Valid.{Scope, within, is_valid, is_condition, is_constant, is_plain}
 use Rattle.c_tree.specs.ValidProgram.{Inside, in_loop as loop_inside, in_switch as switch_inside, is_statement}
 use Rattle.c_tree.specs.ValidProgram.{are_statements, are_items, is_initializer, are_declared, is_first}
 use Rattle.c_tree.specs.ValidProgram.{is_condition_if}
-use Rattle.c_tree.specs.ValidProgram.{is_expression_if, is_label, labels_of, is_return}
-use Rattle.source_meaning.specs.Blocks.{has_objects}
+use Rattle.c_tree.specs.ValidProgram.{is_expression_if, is_label, labels_of}
 use Rattle.source_meaning.proofs.ValidNames.{both, three, four, five, never}
-use Rattle.tac_ir.specs.declared.instruction.Instruction.{Instruction}
 use Rattle.tac_ir.specs.declared.instruction.Instruction.TheVariants as tac
 use Rattle.tac_ir.specs.declared.function.Tac.{Tac}
-use Rattle.tac_ir.specs.Edges.{LeadsTo}
 use Rattle.c_lower.specs.Placed.{Placed, Holds}
-use Rattle.c_lower.specs.Values.{LowersExpression, LowersArgument}
 use Rattle.c_lower.specs.Statements.{Exits, LowersInitializer, LowersDeclared}
 use Rattle.c_lower.specs.Statements.{LowersCondition, LowersPart, LowersFirst, HasNumber, LowersEntry, LowersLeaving}
 use Rattle.c_lower.specs.Statements.{has_objects_of, in_loop, in_switch, LowersLabels, any_default, has_default}
 use Rattle.c_lower.specs.Statements.{LowersStatement, LowersStatements, LowersItems}
 use Rattle.compiled_programs.specs.Programs.{is_integer_expression, is_integer_expression_if, is_integer_initializer}
 use Rattle.compiled_programs.specs.Programs.{are_integer_declared, is_integer_first, is_integer_statement}
-use Rattle.compiled_programs.specs.Programs.{are_integer_statements, are_integer_items, is_integer_variable}
-use Rattle.metadata_plan.specs.Part.{SafeWithin, is_integer_instruction}
-use Rattle.image_laws.proofs.Lowering.Safe.{fewer, nothing_yet, stepped, along, either}
+use Rattle.compiled_programs.specs.Programs.{are_integer_statements, are_integer_items}
+use Rattle.image_laws.proofs.Lowering.Safe.{fewer, nothing_yet, stepped}
 use Rattle.image_laws.proofs.Lowering.Values.{IsScope, Ok, Safe, goes, parts, named, word_below, of_expression}
 use Rattle.image_laws.proofs.Lowering.Values.{of_argument}
 

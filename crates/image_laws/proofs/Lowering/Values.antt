@@ -1,5 +1,5 @@
 -- The code of an expression of integers is safe where what is behind it is.
-use Rattle.std.proofs.Common.{◌≡◌, ◌⊎◌, inl, inr, ⊎_elim, ℕ, zero, suc, ◌+◌, ◌<◌, ◌^◌, Bool, true, false, not, ◌&&◌}
+use Rattle.std.proofs.Common.{◌≡◌, ◌⊎◌, ℕ, zero, suc, ◌+◌, ◌<◌, ◌^◌, Bool, true, false, ◌&&◌}
 use Rattle.std.proofs.Common.{◌==◌, List, [], ◌∷◌, length, Some, refl, sym, ap, ◌∙◌, subst, arith, nat_lt, get_or}
 use Rattle.std.specs.Prelude.{slice_get}
 use Rattle.std.proofs.lemmas.Bool.{and_from, eqb-true, lt-ltb, ltb-true}
@@ -10,8 +10,6 @@ use Rattle.obj_memory.specs.Integers.{fit}
 use Rattle.obj_memory.proofs.Words.{fit_below}
 use Rattle.c_tree.specs.declared.expression.Kind.{Kind}
 use Rattle.c_tree.specs.declared.expression.Kind.TheVariants.{Void, Scalar as OfScalar, Structure, Array}
-use Rattle.c_tree.specs.declared.expression.Fixity.{Fixity}
-use Rattle.c_tree.specs.declared.expression.Fixity.TheVariants.{Prefix}
 use Rattle.c_tree.specs.declared.expression.Update.{Update}
 use Rattle.c_tree.specs.declared.expression.Update.TheVariants.{Arithmetic, Forward, Back}
 use Rattle.c_tree.specs.declared.expression.Routine.{Routine}
@@ -26,15 +24,14 @@ use Rattle.c_tree.specs.Tree.{parenthesized, cast, convert, unary, binary, logic
 use Rattle.c_tree.specs.Tree.{assign_plain, change_plain, step_plain, call, library, kind_of, line_of, kinds_of}
 use Rattle.obj_memory.specs.declared.int_type.IntType.{IntType}
 use Rattle.c_tree.specs.Kinds.{integer, is_integer, is_promoted_type, class_of}
-use Rattle.c_tree.specs.Kinds.{is_kind, are_kinds, is_scalar, is_step_operator, routine_signature, Signature}
+use Rattle.c_tree.specs.Kinds.{is_kind, is_scalar, is_step_operator, routine_signature}
 use Rattle.c_tree.specs.Blocks.{no_variable}
-use Rattle.c_tree.specs.Valid.{Scope, is_constant, is_plain, is_conversion, is_operand, is_update, is_step, is_call}
-use Rattle.c_tree.specs.Valid.{is_right_of, is_valid, is_node, are_valid, has_number, no_signature, variable_at}
+use Rattle.c_tree.specs.Valid.{Scope, is_constant, is_plain, is_update, is_step, is_call}
+use Rattle.c_tree.specs.Valid.{is_right_of, is_valid, is_node, are_valid, has_number, no_signature}
 use Rattle.source_meaning.specs.Actions.{scalar_of}
-use Rattle.source_meaning.proofs.ValidNames.{both, three, five, six, never, same_kind, same_kinds}
+use Rattle.source_meaning.proofs.ValidNames.{both, three, five, six, never, same_kinds}
 use Rattle.tac_ir.specs.declared.instruction.RightOperand.TheVariants.{Temporary, One}
 use Rattle.tac_ir.specs.declared.instruction.Instruction.{Instruction}
-use Rattle.tac_ir.specs.declared.instruction.Instruction.TheVariants as tac
 use Rattle.tac_ir.specs.declared.function.Tac.{Tac}
 use Rattle.tac_ir.specs.Edges.{LeadsTo}
 use Rattle.tac_ir.specs.Meaning.{function_in}

@@ -16,6 +16,7 @@ use Rattle.metadata_plan.specs.Laid.{entry_of}
 use Rattle.reg_plan.specs.Effects.{read_by, is_read, made_by, is_among, one, Leads}
 use Rattle.reg_plan.specs.Needs.{ReadsAt, MakesAt, LeadsAt, IsNeeded, Read, Made, Before}
 use Rattle.reg_plan.specs.Planned.{IsPlannable}
+use Rattle.image_laws.specs.Propagation.Homes.{IsUsed, HasHomes}
 use Rattle.image_laws.proofs.Plans.Blocks.{tests_flow}
 use Rattle.image_laws.proofs.Plans.Flow.{Registers, Flow, none_has, one_has, reads_nothing, maker_onward, flow_names}
 
@@ -128,4 +129,23 @@ module _ (m : MapSizes) (t : Tac) (p : FlatProgram) (f : ℕ) (gives : results_o
         let b = needed_first pc y hy in
         omega (arith, a, b);
     entry = λ y h. absurd (let late = needed_late 0 y h in omega (arith, late));
+  }
+
+  used_first : (y : ℕ) → IsUsed p f (entry_code m t) y → y < 1
+  used_first y h = ⊎_elim (λ r. (named h.0 r.0 y r.1).0 r.2) (λ r. (named h.0 r.0 y r.1).1 r.2) h.1
+
+  pub entry_homes : HasHomes p f (entry_of m t)
+  entry_homes = record {
+    inside = λ y h.
+        let lt = used_first y h in
+        let same : 0 ≡ y = omega (arith, lt) in
+        record {
+          word = 0;
+          is = subst (λ z. slice_get {X = ℕ} (0 ∷ []) z ≡ Some 0) same refl;
+          inside = omega arith;
+        };
+    apart = λ x y w hx hy ex ey.
+        let a = used_first x hx in
+        let b = used_first y hy in
+        omega (arith, a, b);
   }

@@ -25,6 +25,7 @@ use Rattle.reg_plan.specs.Effects.{read_by, is_read, made_by, is_among}
 use Rattle.reg_plan.specs.Needs.{ReadsAt, MakesAt, LeadsAt, IsNeeded, Read, Made, Before}
 use Rattle.reg_plan.specs.Planned.{IsPlannable}
 use Rattle.c_lower.specs.Liveness.Liveness.{IsLive}
+use Rattle.image_laws.specs.Propagation.Homes.{IsUsed, HasHomes}
 use Rattle.image_laws.proofs.Plans.Flow.{one_is, one_has, reads_nothing, maker_onward}
 use Rattle.image_laws.proofs.Plans.Paths.{ReadWithin}
 use Rattle.image_laws.proofs.Plans.Roles.{Role, variable_count}
@@ -188,4 +189,25 @@ module _ (m : MapSizes) (t : Tac) (c : CodeFunction) (p : FlatProgram) (f : ℕ)
         (cases_lt y (length c.parameters)))
         (λ high. absurd (none_behind none y high h))
         (cases_lt y (words_in (all_variables c)));
+  }
+
+  -- ---- its homes
+
+  used_role : (y : ℕ) → IsUsed p f body y → Role c y
+  used_role y h =
+      ⊎_elim (λ r. (named_at m t c p f gives callees part.variables h.0 r.0 y r.1).read r.2)
+      (λ r. (named_at m t c p f gives callees part.variables h.0 r.0 y r.1).made r.2) h.1
+
+  pub has_homes : HasRoom c → HasHomes p f (function_of operators m t c (homes c))
+  has_homes room = record {
+    inside = λ y h.
+        let role = used_role y h in
+        let low = word_low c y role in
+        record { word = word c y role; is = home_at c y role; inside = omega (arith, low, room) };
+    apart = λ x y w hx hy ex ey.
+        let rx = used_role x hx in
+        let ry = used_role y hy in
+        words_differ c x y rx ry
+        (same_Some (word c x rx) w (sym (home_at c x rx) ∙ ex)
+        ∙ sym (same_Some (word c y ry) w (sym (home_at c y ry) ∙ ey)));
   }

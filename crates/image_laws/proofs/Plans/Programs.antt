@@ -32,6 +32,8 @@ use Rattle.metadata_plan.specs.OperatorLists.Operators.{operators}
 use Rattle.metadata_expansion.specs.Homes.{argument_count, most_arguments, homes}
 use Rattle.metadata_expansion.specs.Numbers.{AreAllSmall}
 use Rattle.reg_plan.specs.Planned.{IsPlannable, ArePlannable}
+use Rattle.image_laws.specs.Images.Images.{flat_code}
+use Rattle.image_laws.specs.Propagation.Homes.{HasHomes, HaveHomes}
 use Rattle.image_laws.proofs.Lowering.Programs.{without_checks, valid_function, function_is, lowered, entry_same}
 use Rattle.image_laws.proofs.Lowering.Programs.{lowers}
 use Rattle.image_laws.proofs.Lowering.Programs.{safe_before}
@@ -40,8 +42,9 @@ use Rattle.c_lower.specs.Liveness.Liveness.{reads, writes, LiveWithin, IsLive}
 use Rattle.c_lower.proofs.Liveness.Statements.{none_is_live}
 use Rattle.image_laws.proofs.Plans.Roles.{variable_count}
 use Rattle.image_laws.proofs.Plans.Homes.{HasRoom}
-use Rattle.image_laws.proofs.Plans.Functions.{plannable}
-use Rattle.image_laws.proofs.Plans.Entry.{entry_plannable}
+use Rattle.image_laws.proofs.Plans.Functions.{plannable, has_homes}
+use Rattle.image_laws.proofs.Plans.Entry.{entry_plannable, entry_homes}
+use Rattle.image_laws.proofs.Propagation.Plannable.{plannable as propagated_plannable}
 
 -- ---- liveness where checks are put in
 
@@ -175,6 +178,10 @@ module _ (q : Program) (t r : Tac) (valid : is_valid_program q ≡ true) (ints :
         plannable m r c (program_of operators m r homes) u (gives_one u c at) callees
         (part.functions u c at) (small.functions u c at) none_live has_room
 
+    function_homes : HasHomes (program_of operators m r homes) u (function_of operators m r c (homes c))
+    function_homes =
+        has_homes m r c (program_of operators m r homes) u (gives_one u c at) callees (part.functions u c at) has_room
+
   main_called : (parameters_of (function_in (program_of operators m r homes) r.main) ≡ 0)
       × (results_of (function_in (program_of operators m r homes) r.main) ≡ 1)
   main_called = callees r.main 0 part.main
@@ -182,14 +189,17 @@ module _ (q : Program) (t r : Tac) (valid : is_valid_program q ≡ true) (ints :
   entry_there : function_in (program_of operators m r homes) (length r.functions) ≡ Some (entry_of m r)
   entry_there = entry_at operators m r homes r.functions (entry_of m r)
 
-  pub all_plannable : ArePlannable (program_of operators m r homes)
-  all_plannable k f e =
+  -- what holds of each function of the text, and of that with which a run begins, holds of all
+  of_each : (P : ℕ → FlatFunction → Type 0)
+      → ((u : ℕ) (c : CodeFunction) → slice_get r.functions u ≡ Some c → P u (function_of operators m r c (homes c)))
+      → ((u : ℕ) → results_of (function_in (program_of operators m r homes) u) ≤ 1 → P u (entry_of m r))
+      → (k : ℕ) (f : FlatFunction) → slice_get (program_of operators m r homes).functions k ≡ Some f → P k f
+  of_each P text begins k f e =
       ⊎_elim
       (λ lt.
       let c = function_below r.functions k lt in
-      subst (IsPlannable (program_of operators m r homes) k)
-      (same_Some (function_of operators m r c.0 (homes c.0)) f (sym (there k c.0 c.1) ∙ e))
-      (function_plannable k c.0 c.1))
+      subst (P k) (same_Some (function_of operators m r c.0 (homes c.0)) f (sym (there k c.0 c.1) ∙ e))
+      (text k c.0 c.1))
       (λ le.
       let within = slice_get_within (functions_of operators m r homes r.functions ++ (entry_of m r ∷ [])) k f e in
       let long = functions_length m r r.functions (entry_of m r) in
@@ -197,6 +207,18 @@ module _ (q : Program) (t r : Tac) (valid : is_valid_program q ≡ true) (ints :
       let here = subst (λ n. function_in (program_of operators m r homes) n ≡ Some (entry_of m r)) same entry_there in
       let none : results_of (function_in (program_of operators m r homes) k) ≤ 1 =
       let h = ap results_of here in omega (arith, h) in
-      subst (IsPlannable (program_of operators m r homes) k) (same_Some (entry_of m r) f (sym here ∙ e))
-      (entry_plannable m r (program_of operators m r homes) k none main_called.0 main_called.1))
+      subst (P k) (same_Some (entry_of m r) f (sym here ∙ e)) (begins k none))
       (cases_lt k (length r.functions))
+
+  all_plannable : ArePlannable (program_of operators m r homes)
+  all_plannable =
+      of_each (IsPlannable (program_of operators m r homes)) function_plannable
+      (λ k none. entry_plannable m r (program_of operators m r homes) k none main_called.0 main_called.1)
+
+  all_homes : HaveHomes (program_of operators m r homes)
+  all_homes =
+      of_each (HasHomes (program_of operators m r homes)) function_homes
+      (λ k none. entry_homes m r (program_of operators m r homes) k none main_called.0 main_called.1)
+
+  pub flat_plannable : ArePlannable (flat_code m r)
+  flat_plannable = propagated_plannable m (program_of operators m r homes) all_plannable all_homes

@@ -41,10 +41,11 @@ use Rattle.metadata_plan.specs.Laid.{jump, jump_unless, jumps, place_of, laid_fr
 use Rattle.metadata_plan.specs.OperatorLists.Operators.{operators}
 use Rattle.metadata_expansion.specs.Numbers.{line_in, greatest_line, word_in, greatest_word}
 use Rattle.program_lowering.specs.ExpressionCode.Weights.{weight_of, code_weight}
-use Rattle.image_laws.specs.CodeSizes.Sizes.{constant_words, home_words, passed_words, instruction_words, body_words}
+use Rattle.image_laws.specs.CodeSizes.Sizes.{constant_words, passed_words}
 use Rattle.image_laws.proofs.CodeSizes.Blocks.{home_most, passed_most}
 use Rattle.image_laws.proofs.CodeSizes.Programs.{few_for_constant}
-use Rattle.image_laws.proofs.Sizes.Numbers.{few_constant, branch_few}
+use Rattle.image_laws.proofs.Sizes.Numbers.{few_constant}
+use Rattle.image_laws.proofs.Sizes.Propagated.{instruction_most, body_most, branch_most}
 use Rattle.image_laws.proofs.Sizes.Words.{words}
 use Rattle.machine_laws.specs.Calls.Table.{row_address}
 use Rattle.image_laws.proofs.Sizes.Operators.{words_append, constant_code_words, conversion_words, unary_words}
@@ -57,30 +58,24 @@ pub record Calls (p : FlatProgram) (m : MapSizes) (t : Tac) : Type 0 where
   pub parameters : (f n : ℕ) → takes (code.function_in t f) n ≡ true → parameters_of (function_in p f) ≤ n
   pub gives : (f n : ℕ) → takes (code.function_in t f) n ≡ true → results_of (function_in p f) ≡ 1
 
--- the first registers behind those of the temporaries, each of which one instruction reaches
-pub record AreNear (g : FlatFunction) (s : ℕ) : Type 0 where
-  pub first : home_words g s ≡ 1
-  pub second : home_words g (s + 1) ≡ 1
-  pub third : home_words g (s + 2) ≡ 1
-
 passed_one : (g : FlatFunction) (y : ℕ) → passed_words g y 1 ≤ 4
 unfolding passed_words
 passed_one g y = omega (arith, home_most g (y + 0))
 
 module _ (p : FlatProgram) (g : FlatFunction) where
-  pub jump_words : (a b : ℕ) → instruction_words p g (jump a b) ≤ 2
+  pub jump_words : (a b : ℕ) → instruction_most p g (jump a b) ≤ 2
   jump_words a b = by (nat_lt a b)
     where
-      by : (d : Bool) → instruction_words p g (if d then flat.JumpForward (b - (a + 1)) else flat.JumpBack (a - b)) ≤ 2
+      by : (d : Bool) → instruction_most p g (if d then flat.JumpForward (b - (a + 1)) else flat.JumpBack (a - b)) ≤ 2
       by true = omega arith
       by false = omega arith
 
-  unless_words : (d : Bool) (a b : ℕ) → body_words p g (jump_unless d a b) ≤ 2
+  unless_words : (d : Bool) (a b : ℕ) → body_most p g (jump_unless d a b) ≤ 2
   unless_words true a b = omega arith
   unless_words false a b = let h = jump_words a b in omega (arith, h)
 
   pub jumps_words : (c : CodeFunction) (address : ℕ → ℕ) (n pc : ℕ) (nodes : List ℕ)
-      → body_words p g (jumps c address n pc nodes) ≤ 2 * length nodes
+      → body_most p g (jumps c address n pc nodes) ≤ 2 * length nodes
   jumps_words c address n pc [] = omega arith
   jumps_words c address n pc (x ∷ []) = unless_words (falls c n x) pc (address x)
   jumps_words c address n pc (x ∷ y ∷ ms) =
@@ -88,25 +83,25 @@ module _ (p : FlatProgram) (g : FlatFunction) where
       let b = unless_words (falls c n x) (pc + 1) (address x) in
       omega (arith, a, b)
 
-  moved_words : (x y : ℕ) → instruction_words p g (flat.Move x y) ≤ 7
-  moved_words x y = omega (arith, home_most g x, home_most g y)
+  moved_words : (x y : ℕ) → instruction_most p g (flat.Move x y) ≤ 7
+  moved_words x y = omega arith
 
-  pub zeroed_words : (x : ℕ) → instruction_words p g (flat.Constant x 0) ≤ 5
-  zeroed_words x = let h = few_constant 0 (omega arith) in omega (arith, h, home_most g x)
+  pub zeroed_words : (x : ℕ) → instruction_most p g (flat.Constant x 0) ≤ 5
+  zeroed_words x = let h = few_constant 0 (omega arith) in omega (arith, h)
 
-  converted_words : (kind : Kind) (x y s : ℕ) → body_words p g (conversion operators kind x y s) ≤ 18
+  converted_words : (kind : Kind) (x y s : ℕ) → body_most p g (conversion operators kind x y s) ≤ 18
   converted_words Void x y s = omega (arith, zeroed_words x)
   converted_words (OfScalar (Integer t)) x y s =
-      let h = conversion_words p g t x y in omega (arith, h, home_most g x, home_most g y)
+      conversion_words p g t x y
   converted_words (OfScalar Pointer) x y s = omega (arith, zeroed_words x)
   converted_words (Structure size) x y s = omega (arith, zeroed_words x)
   converted_words (Array size) x y s = omega (arith, zeroed_words x)
 
-  library_words : (r : Routine) (line d s : ℕ) → body_words p g (library_code operators r line d s) ≤ 27
+  library_words : (r : Routine) (line d s : ℕ) → body_most p g (library_code operators r line d s) ≤ 27
   library_words routine.Putchar line d s =
-      let h = conversion_words p g UnsignedChar d d in omega (arith, h, home_most g d)
-  library_words routine.Getchar line d s = omega (arith, home_most g d)
-  library_words routine.Exit line d s = omega (arith, home_most g d)
+      let h = conversion_words p g UnsignedChar d d in omega (arith, h)
+  library_words routine.Getchar line d s = omega arith
+  library_words routine.Exit line d s = omega arith
   library_words routine.Abort line d s = omega arith
   library_words routine.Malloc line d s = omega arith
   library_words routine.Calloc line d s = omega arith
@@ -124,61 +119,54 @@ module _ (p : FlatProgram) (g : FlatFunction) where
   library_words routine.Strchr line d s = omega arith
   library_words routine.Puts line d s = omega arith
 
-  moves_words : (c : CodeFunction) (r d n : ℕ) → body_words p g (argument_moves c r d n) ≤ 7 * n
+  moves_words : (c : CodeFunction) (r d n : ℕ) → body_most p g (argument_moves c r d n) ≤ 7 * n
   moves_words c r d zero = omega arith
   moves_words c r d (suc n) =
       let h = moves_words c (r + 1) (d + 1) n in omega (arith, h, moved_words r (temporary_register c d))
 
   -- a node that is never reached ends the run
-  unreached : body_words p g (flat.End (ending.Abort 1) ∷ []) ≤ 4
+  unreached : body_most p g (flat.End (ending.Abort 1) ∷ []) ≤ 4
   unreached = omega arith
 
   -- ---- updates
 
-  -- the new value, from a register behind those of the temporaries
-  kept_words : (f : Fixity) (t : IntType) (x d s n : ℕ) → home_words g s ≡ 1
-      → body_words p g (kept_by operators f t x d s n) ≤ 23
-  kept_words Prefix t x d s n near =
+  kept_words : (f : Fixity) (t : IntType) (x d s n : ℕ) → body_most p g (kept_by operators f t x d s n) ≤ 25
+  kept_words Prefix t x d s n =
       let h = conversion_words p g t x s in
       let a = words_append p g (operators.convert t x s n) (flat.Move d x ∷ []) in
-      omega (arith, h, a, near, home_most g x, home_most g d)
-  kept_words Postfix t x d s n near =
-      let h = conversion_words p g t x s in omega (arith, h, near, home_most g x, home_most g d)
+      omega (arith, h, a)
+  kept_words Postfix t x d s n = let h = conversion_words p g t x s in omega (arith, h)
 
-  -- the right operand with the two looks that an operator takes at it
-  one_words : (c : CodeFunction) (right : RightOperand) (r : ℕ) → home_words g r ≡ 1
-      → body_words p g (right_code right r) + 2 * home_words g (right_register c right r) ≤ 6
-  one_words c (Temporary b) r near = omega (arith, home_most g (temporary_register c b))
-  one_words c One r near = let h = few_constant 1 (omega arith) in omega (arith, h, near)
+  one_words : (right : RightOperand) (r : ℕ) → body_most p g (right_code right r) ≤ 5
+  one_words (Temporary b) r = omega arith
+  one_words One r = let h = few_constant 1 (omega arith) in omega (arith, h)
 
-  -- an update with three such registers
   updated_words : (c : CodeFunction) (q : BinaryOperator) (t k : IntType) (f : Fixity) (line d v s : ℕ) (right : RightOperand)
-      → home_words g s ≡ 1 → home_words g (s + 1) ≡ 1 → home_words g (s + 2) ≡ 1 → body_words p g
+      → body_most p g
       (operators.convert t s v (s + 2)
       ++ (right_code right (s + 1)
       ++ (operators.binary q t s s (right_register c right (s + 1)) (s + 2) line
-      ++ kept_by operators f k v d s (s + 2)))) ≤ 61
-  updated_words c q t k f line d v s right first second third =
+      ++ kept_by operators f k v d s (s + 2)))) ≤ 90
+  updated_words c q t k f line d v s right =
       let r = right_register c right (s + 1) in
       let before = operators.convert t s v (s + 2) in
       let one = right_code right (s + 1) in
       let operator = operators.binary q t s s r (s + 2) line in
       let after = kept_by operators f k v d s (s + 2) in
       let h1 = conversion_words p g t s v in
-      let h2 = one_words c right (s + 1) second in
+      let h2 = one_words right (s + 1) in
       let h3 = binary_words p g q t line s s r (s + 2) in
-      let h4 = kept_words f k v d s (s + 2) first in
+      let h4 = kept_words f k v d s (s + 2) in
       let a1 = words_append p g before (one ++ (operator ++ after)) in
       let a2 = words_append p g one (operator ++ after) in
       let a3 = words_append p g operator after in
-      omega (arith, h1, h2, h3, h4, a1, a2, a3, first, third, home_most g v)
+      omega (arith, h1, h2, h3, h4, a1, a2, a3)
 
-  module _ (c : CodeFunction) (near : AreNear g (first_free c)) where
+  module _ (c : CodeFunction) where
     update_words : (u : Update) (k : Scalar) (f : Fixity) (line d x : ℕ) (right : RightOperand)
-        → body_words p g (update_code operators c u k f line d x right) ≤ 61
+        → body_most p g (update_code operators c u k f line d x right) ≤ 90
     update_words (Arithmetic q t) (Integer k) f line d x right =
-        updated_words c q t k f line (temporary_register c d) (variable_register c x) (first_free c) right near.first
-        near.second near.third
+        updated_words c q t k f line (temporary_register c d) (variable_register c x) (first_free c) right
     update_words (Arithmetic q t) Pointer f line d x right = omega arith
     update_words (Forward size) k f line d x right = omega arith
     update_words (Back size) k f line d x right = omega arith
@@ -186,14 +174,14 @@ module _ (p : FlatProgram) (g : FlatFunction) where
     -- ---- calls
 
     module _ (m : MapSizes) (t : Tac) (known : Calls p m t) (gives : g.results ≡ 1) where
-      tests_words : (bytes line : ℕ) → body_words p g (call_tests m bytes line (first_free c)) ≤ 24
+      tests_words : (bytes line : ℕ) → body_most p g (call_tests m bytes line (first_free c)) ≤ 29
       tests_words bytes line =
           let few = known.budget in
-          let h = branch_few p g Bltu (first_free c) (m.budgets.calls + 1 - bytes) 1 (omega (arith, few)) in
-          omega (arith, h, near.first)
+          let h = branch_most p g Bltu (first_free c) (m.budgets.calls + 1 - bytes) 1 (omega (arith, few)) in
+          omega (arith, h)
 
       call_words : (f line d n : ℕ) → takes (code.function_in t f) n ≡ true
-          → body_words p g (call_code m t c f line d n) ≤ 121 + 13 * n
+          → body_most p g (call_code m t c f line d n) ≤ 126 + 13 * n
       call_words f line d n e =
           let s = first_free c in
           let tests = call_tests m (room_in (code.function_in t f)) line s in
@@ -212,23 +200,22 @@ module _ (p : FlatProgram) (g : FlatFunction) where
           omega (arith, h1, h2, a1, a2, aim, q1, q2, given, q3, back)
 
       called_words : (f line d n : ℕ)
-          → body_words p g (block operators m t c (tac.Call f line d n 0)) ≤ 121 + 13 * n
+          → body_most p g (block operators m t c (tac.Call f line d n 0)) ≤ 126 + 13 * n
       called_words f line d n = by (takes (code.function_in t f) n) refl
         where
           by : (b : Bool) → takes (code.function_in t f) n ≡ b
-              → body_words p g (if b then call_code m t c f line d n else flat.End (ending.Abort line) ∷ [])
-              ≤ 121 + 13 * n
+              → body_most p g (if b then call_code m t c f line d n else flat.End (ending.Abort line) ∷ [])
+              ≤ 126 + 13 * n
           by true e = call_words f line d n e
           by false e = omega arith
 
       -- ---- all instructions
 
       pub block_words : (ts : List (List ℕ)) (i : Instruction) → word_in i < 2 ^ 64 → line_in i < 2 ^ 32
-          → body_words p g (block operators m t c i) + 2 * length (successors i) ≤ weight_of ts i (words 8)
+          → body_most p g (block operators m t c i) + 2 * length (successors i) ≤ weight_of ts i (words 8)
       block_words ts tac.Reserved w l = omega (arith, unreached)
       block_words ts (tac.Constant d v next) w l =
-          let h = constant_code_words p g (temporary_register c d) v w in
-          omega (arith, h, home_most g (temporary_register c d))
+          let h = constant_code_words p g (temporary_register c d) v w in omega (arith, h)
       block_words ts (tac.GetPlain d x next) w l =
           omega (arith, moved_words (temporary_register c d) (variable_register c x))
       block_words ts (tac.SetPlain x a next) w l =
@@ -241,31 +228,18 @@ module _ (p : FlatProgram) (g : FlatFunction) where
           (arith, h)
       block_words ts (tac.Unary q ty d a next) w l =
           let h = unary_words p g q ty (temporary_register c d) (temporary_register c a) (first_free c) in
-          omega (
-            arith,
-            h,
-            near.first,
-            home_most g (temporary_register c d),
-            home_most g (temporary_register c a),
-          )
+          omega (arith, h)
       block_words ts (tac.Binary q ty line d a b next) w l =
           let h = binary_words p g q ty line (temporary_register c d) (temporary_register c a)
           (temporary_register c b)
           (first_free c) in
-          omega (
-            arith,
-            h,
-            near.first,
-            home_most g (temporary_register c d),
-            home_most g (temporary_register c a),
-            home_most g (temporary_register c b),
-          )
-      block_words ts (tac.Branch a x y) w l = omega (arith, home_most g (temporary_register c a))
+          omega (arith, h)
+      block_words ts (tac.Branch a x y) w l = omega arith
       block_words ts (tac.Case a v x y) w l =
           let h = constant_code_words p g (first_free c) v w in
           let test = flat.Branch Beq (temporary_register c a) (right.Register (first_free c)) 1 in
           let q = words_append p g (operators.constant (first_free c) v (first_free c + 1)) (test ∷ []) in
-          omega (arith, h, q, near.first, home_most g (temporary_register c a))
+          omega (arith, h, q)
       block_words ts (tac.Turn counted next) w l = omega arith
       block_words ts (tac.Library r line d n next) w l =
           omega (arith, library_words r line (temporary_register c d) (first_free c))
@@ -297,7 +271,7 @@ module _ (p : FlatProgram) (g : FlatFunction) where
 
       pub code_words : (ts : List (List ℕ)) (is : List Instruction) (n : ℕ) → greatest_word is < 2 ^ 64
           → greatest_line is < 2 ^ 32
-          → body_words p g (laid_from operators m t c n is) ≤ code_weight ts is (words 8)
+          → body_most p g (laid_from operators m t c n is) ≤ code_weight ts is (words 8)
       code_words ts [] n w l = omega arith
       code_words ts (i ∷ is) n w l =
           let later = laid_from operators m t c (suc n) is in

@@ -2,8 +2,8 @@
 use Rattle.std.proofs.Common.{◌≡◌, ℕ, zero, suc, ◌+◌, ◌-◌, ◌*◌, ◌^◌, ◌<◌, ◌≤◌, ◌==◌, Bool, true, false, List}
 use Rattle.std.proofs.Common.{[], ◌∷◌, ◌++◌, length}
 use Rattle.std.proofs.Common.{Option, Some, None, refl, ap, ◌∙◌, arith, ⊎_elim}
-use Rattle.std.specs.Prelude.{slice_get, if◌then◌else◌}
-use Rattle.std.proofs.lemmas.Bool.{and_parts, eqb-true, lt-ltb, cases_lt}
+use Rattle.std.specs.Prelude.{slice_get, map, if◌then◌else◌}
+use Rattle.std.proofs.lemmas.Bool.{and_parts, eqb-true, cases_lt}
 use Rattle.std.proofs.lemmas.Option.{slice_get_within, same_Some}
 use Rattle.addr_map.specs.Places.{MapSizes}
 use Rattle.c_tree.specs.declared.program.Variable.{Variable}
@@ -15,28 +15,29 @@ use Rattle.flat_meaning.specs.declared.function.FlatProgram.{FlatProgram}
 use Rattle.flat_meaning.specs.declared.instruction.FlatInstruction.{FlatInstruction}
 use Rattle.flat_meaning.specs.Calls.{function_in}
 use Rattle.flat_meaning.specs.Meaning.{parameters_of, results_of}
-use Rattle.metadata_plan.specs.Registers.{words_of, words_in, first_free}
+use Rattle.metadata_plan.specs.Registers.{words_of, words_in}
 use Rattle.metadata_plan.specs.Part.{takes, is_integer_kind, are_integers, IsIntegerCode}
 use Rattle.metadata_plan.specs.Blocks.{zeros, zero_variables, prologue}
-use Rattle.metadata_plan.specs.Laid.{jump, place_of, begin_code, laid_from, function_of, functions_of, entry_of}
-use Rattle.metadata_plan.specs.Laid.{program_of}
+use Rattle.metadata_plan.specs.Laid.{jump, place_of, begin_code, laid_from, body_of, function_of, functions_of}
+use Rattle.metadata_plan.specs.Laid.{entry_of, program_of}
 use Rattle.metadata_plan.proofs.Numbers.{one_word, words_most, most_words_of}
-use Rattle.metadata_expansion.specs.Homes.{free_count, homes}
+use Rattle.metadata_expansion.specs.Homes.{homes}
 use Rattle.metadata_expansion.specs.Numbers.{AreSmall, AreAllSmall}
 use Rattle.metadata_plan.specs.OperatorLists.Operators.{operators}
+use Rattle.flat_propagation.specs.Propagated.{propagated_function, propagated}
+use Rattle.flat_propagation.proofs.Meaning.{parameters_same, results_same}
 use Rattle.program_lowering.specs.ProgramCode.Weights.{codes_weight}
-use Rattle.machine_laws.specs.Blocks.Places.{home_offset, home_of, home}
 use Rattle.machine_laws.specs.Calls.Table.{source_count, row_address}
 use Rattle.machine_laws.proofs.Calls.Table.{first_row, last_row, tails_length}
-use Rattle.image_laws.specs.CodeSizes.Sizes.{constant_words, offset_words, home_words, instruction_words, body_words}
+use Rattle.image_laws.specs.CodeSizes.Sizes.{constant_words}
 use Rattle.image_laws.specs.CodeSizes.Sizes.{most_words, most_if, most_below}
+use Rattle.image_laws.specs.Images.Images.{flat_code}
 use Rattle.image_laws.proofs.CodeSizes.Blocks.{passed_most}
-use Rattle.image_laws.proofs.Plans.Roles.{Scratch}
-use Rattle.image_laws.proofs.Plans.Homes.{home_at, scratch_word}
 use Rattle.image_laws.proofs.Sizes.Words.{words, frame_words}
 use Rattle.image_laws.proofs.Sizes.Numbers.{short_constant}
+use Rattle.image_laws.proofs.Sizes.Propagated.{instruction_most, body_most, rewritten_words}
 use Rattle.image_laws.proofs.Sizes.Operators.{words_append}
-use Rattle.image_laws.proofs.Sizes.Blocks.{Calls, AreNear, jump_words, zeroed_words, code_words}
+use Rattle.image_laws.proofs.Sizes.Blocks.{Calls, jump_words, zeroed_words, code_words}
 
 -- ---- the functions of an expansion by number
 
@@ -59,12 +60,12 @@ words_many (v ∷ vs) ws e =
 -- ---- what stands before the code
 
 module _ (p : FlatProgram) (g : FlatFunction) where
-  zeros_words : (r n : ℕ) → body_words p g (zeros r n) ≤ 5 * n
+  zeros_words : (r n : ℕ) → body_most p g (zeros r n) ≤ 5 * n
   zeros_words r zero = omega arith
   zeros_words r (suc n) =
       let h = zeros_words (r + 1) n in omega (arith, zeroed_words p g r, h)
 
-  zero_words : (r : ℕ) (vs : List Variable) → body_words p g (zero_variables r vs) ≤ 25 * length vs
+  zero_words : (r : ℕ) (vs : List Variable) → body_most p g (zero_variables r vs) ≤ 25 * length vs
   zero_words r [] = omega arith
   zero_words r (v ∷ vs) =
       let own = if v.is_object then [] else zeros r (words_of v.kind) in
@@ -72,12 +73,12 @@ module _ (p : FlatProgram) (g : FlatFunction) where
       let h = zero_words (r + words_of v.kind) vs in
       omega (arith, a, h, by v.is_object)
     where
-      by : (b : Bool) → body_words p g (if b then [] else zeros r (words_of v.kind)) ≤ 25
+      by : (b : Bool) → body_most p g (if b then [] else zeros r (words_of v.kind)) ≤ 25
       by true = omega arith
       by false = let z = zeros_words r (words_of v.kind) in omega (arith, z, most_words_of v.kind)
 
   begin_words : (m : MapSizes) (t : Tac) (c : CodeFunction)
-      → body_words p g (begin_code operators m t c) ≤ 2 + 25 * length c.variables
+      → body_most p g (begin_code operators m t c) ≤ 2 + 25 * length c.variables
   begin_words m t c =
       let to = jump (length (prologue c)) (place_of operators m t c c.entry) in
       let last = if c.entry + 1 == length c.code then [] else to ∷ [] in
@@ -91,8 +92,8 @@ module _ (p : FlatProgram) (g : FlatFunction) where
             (jump_words p g (length (prologue c)) (place_of operators m t c c.entry)),
       )
     where
-      by : (b : Bool) (j : FlatInstruction) → instruction_words p g j ≤ 2
-          → body_words p g (if b then [] else j ∷ []) ≤ 2
+      by : (b : Bool) (j : FlatInstruction) → instruction_most p g j ≤ 2
+          → body_most p g (if b then [] else j ∷ []) ≤ 2
       by true j h = omega arith
       by false j h = omega (arith, h)
 
@@ -107,14 +108,18 @@ row_low p f few =
 
 module _ (m : MapSizes) (t : Tac) (few : m.budgets.calls ≤ 16777216) (count : length t.functions ≤ 4096)
     (integers : IsIntegerCode t) (small : AreAllSmall m t) where
+  abbrev expansion : FlatProgram
+  expansion = program_of operators m t homes
+
   abbrev pub p : FlatProgram
-  p = program_of operators m t homes
+  p = flat_code m t
 
   parameters_at : (f n : ℕ) (x : Option CodeFunction) → code.function_in t f ≡ x → takes x n ≡ true
       → parameters_of (function_in p f) ≤ n
   parameters_at f n None at e = cc
   parameters_at f n (Some c) at e =
-      let there = ap parameters_of (function_at m t t.functions (entry_of m t ∷ []) f c at) in
+      let there = parameters_same m expansion f
+      ∙ ap parameters_of (function_at m t t.functions (entry_of m t ∷ []) f c at) in
       let same = eqb-true (length c.parameters) n e in
       let own = words_many c.parameters c.variables (integers.functions f c at).variables in
       omega (arith, there, same, own)
@@ -122,7 +127,8 @@ module _ (m : MapSizes) (t : Tac) (few : m.budgets.calls ≤ 16777216) (count : 
   results_at : (f n : ℕ) (x : Option CodeFunction) → code.function_in t f ≡ x → takes x n ≡ true
       → results_of (function_in p f) ≡ 1
   results_at f n None at e = cc
-  results_at f n (Some c) at e = ap results_of (function_at m t t.functions (entry_of m t ∷ []) f c at)
+  results_at f n (Some c) at e =
+      results_same m expansion f ∙ ap results_of (function_at m t t.functions (entry_of m t ∷ []) f c at)
 
   address_at : (f n : ℕ) (x : Option CodeFunction) → code.function_in t f ≡ x → takes x n ≡ true
       → constant_words (row_address p f) ≤ 2
@@ -139,32 +145,17 @@ module _ (m : MapSizes) (t : Tac) (few : m.budgets.calls ≤ 16777216) (count : 
     gives = λ f n e. results_at f n (code.function_in t f) refl e;
   }
 
-  -- the home of a register behind those of the temporaries is the word of its number among them
-  near_at : (c : CodeFunction) (y j : ℕ) → j < 4 → y ≡ first_free c + j
-      → home_words (function_of operators m t c (homes c)) y ≡ 1
-  unfolding home_words home
-  near_at c y j lt e =
-      let few : j < free_count c = omega (arith, lt) in
-      let there = home_at c y (Scratch j few e) ∙ ap Some (scratch_word c y j few e) in
-      let low = lt-ltb (home_offset j) (2 ^ 11) (omega (arith, lt)) in
-      ap (λ o. offset_words (home_of o)) there ∙ ap {B = ℕ} (λ b. if b then 1 else 3) low
-
-  are_near : (c : CodeFunction) → AreNear (function_of operators m t c (homes c)) (first_free c)
-  are_near c = record {
-    first = near_at c (first_free c) 0 (omega arith) (omega arith);
-    second = near_at c (first_free c + 1) 1 (omega arith) refl;
-    third = near_at c (first_free c + 2) 2 (omega arith) refl;
-  }
-
   function_words : (ts : List (List ℕ)) (c : CodeFunction) → AreSmall m t c
-      → most_words p (function_of operators m t c (homes c))
+      → most_words p (propagated_function (function_of operators m t c (homes c)))
       ≤ frame_words c.parameters c.variables + codes_weight ts (c ∷ []) (words 8)
   function_words ts c s =
-      let g = function_of operators m t c (homes c) in
+      let body = body_of operators m t c in
+      let g = propagated_function (function_of operators m t c (homes c)) in
       let begin = begin_words p g m t c in
-      let rest = code_words p g c (are_near c) m t calls refl ts c.code 0 s.words s.lines in
+      let rest = code_words p g c m t calls refl ts c.code 0 s.words s.lines in
       let a = words_append p g (begin_code operators m t c) (laid_from operators m t c 0 c.code) in
-      omega (arith, begin, rest, a, words_most c.parameters, passed_most g 0 (words_in c.parameters))
+      let b = rewritten_words p g body body 0 in
+      omega (arith, begin, rest, a, b, words_most c.parameters, passed_most g 0 (words_in c.parameters))
 
   -- ---- all functions
 
@@ -178,7 +169,8 @@ module _ (m : MapSizes) (t : Tac) (few : m.budgets.calls ≤ 16777216) (count : 
 
   total_words : (ts : List (List ℕ)) (cs : List CodeFunction)
       → ((u : ℕ) (c : CodeFunction) → slice_get cs u ≡ Some c → AreSmall m t c)
-      → total (functions_of operators m t homes cs ++ (entry_of m t ∷ [])) ≤ frames cs + codes_weight ts cs (words 8)
+      → total (map propagated_function (functions_of operators m t homes cs ++ (entry_of m t ∷ [])))
+      ≤ frames cs + codes_weight ts cs (words 8)
   unfolding total frames
   total_words ts [] h = omega arith
   total_words ts (c ∷ cs) h =
@@ -208,8 +200,10 @@ module _ (m : MapSizes) (t : Tac) (few : m.budgets.calls ≤ 16777216) (count : 
 
   pub program_words : (ts : List (List ℕ))
       → most_below p (length p.functions) ≤ frames t.functions + codes_weight ts t.functions (words 8)
+  unfolding propagated
   program_words ts =
       let a = below_is (length p.functions) in
       let b = below_all p.functions in
-      let h = total_words ts t.functions small.functions in
+      let h : total p.functions ≤ frames t.functions + codes_weight ts t.functions (words 8) =
+      total_words ts t.functions small.functions in
       omega (arith, a, b, h)

@@ -1,5 +1,5 @@
 -- How many words the code of an operator has at most.
-use Rattle.std.proofs.Common.{◌≡◌, ℕ, ◌+◌, ◌-◌, ◌*◌, ◌/◌, ◌%◌, ◌^◌, ◌<◌, ◌≤◌, ◌==◌, Bool, true, false, List, [], ◌∷◌}
+use Rattle.std.proofs.Common.{◌≡◌, ℕ, ◌+◌, ◌-◌, ◌/◌, ◌%◌, ◌^◌, ◌<◌, ◌≤◌, ◌==◌, Bool, true, false, List, [], ◌∷◌}
 use Rattle.std.proofs.Common.{◌++◌, refl, arith}
 use Rattle.std.specs.Prelude.{◌||◌, nat_lt, nat_le, if◌then◌else◌}
 use Rattle.std.proofs.lemmas.Bool.{ltb-true, leb-true}
@@ -27,34 +27,33 @@ use Rattle.flat_meaning.specs.declared.function.FlatProgram.{FlatProgram}
 use Rattle.flat_operators.specs.Operators.{appended, wide_code, constant_code, two_shifts, conversion_code}
 use Rattle.flat_operators.specs.Operators.{converted, wrapping_code, shift_left_code, shift_right_code, divided_code}
 use Rattle.flat_operators.specs.Operators.{turned, equal_code, unary_code, binary_code}
-use Rattle.image_laws.specs.CodeSizes.Sizes.{home_words, instruction_words, body_words}
-use Rattle.image_laws.proofs.CodeSizes.Blocks.{home_some}
-use Rattle.image_laws.proofs.Sizes.Numbers.{few_constant, low_constant, operate_few, operate32_few}
+use Rattle.image_laws.proofs.Sizes.Numbers.{few_constant, low_constant}
+use Rattle.image_laws.proofs.Sizes.Propagated.{instruction_most, body_most, operate_most, operate32_most}
 
--- an operator and a conversion of its result at most: the words of its operands' homes, five times those of its
--- result's, and seven instructions
-abbrev pub operator_most : FlatFunction → (into left right : ℕ) → ℕ
-operator_most g d a b = home_words g a + home_words g b + 5 * home_words g d + 7
+-- an operator and a conversion of its result at most: three words for the home of each of its operands, fifteen for
+-- those of its result, and seven instructions
+abbrev pub operator_most : ℕ
+operator_most = 28
 
 module _ (p : FlatProgram) (g : FlatFunction) where
-  pub words_append : (xs ys : List FlatInstruction) → body_words p g (xs ++ ys) ≡ body_words p g xs + body_words p g ys
+  pub words_append : (xs ys : List FlatInstruction) → body_most p g (xs ++ ys) ≡ body_most p g xs + body_most p g ys
   words_append [] ys = omega arith
   words_append (x ∷ xs) ys = let r = words_append xs ys in omega (arith, r)
 
-  choice_words : (b : Bool) (xs ys : List FlatInstruction) (n : ℕ) → body_words p g xs ≤ n → body_words p g ys ≤ n
-      → body_words p g (if b then xs else ys) ≤ n
+  choice_words : (b : Bool) (xs ys : List FlatInstruction) (n : ℕ) → body_most p g xs ≤ n → body_most p g ys ≤ n
+      → body_most p g (if b then xs else ys) ≤ n
   choice_words true xs ys n x y = x
   choice_words false xs ys n x y = y
 
   -- ---- constants
 
-  appended_words : (d n : ℕ) → n < 2 ^ 20 → body_words p g (appended d n) ≤ 4 * home_words g d + 6
+  appended_words : (d n : ℕ) → n < 2 ^ 20 → body_most p g (appended d n) ≤ 18
   appended_words d n lt =
-      let a = operate_few p g op.Sll d d 20 (omega arith) in
-      let b = operate_few p g op.Add d d n (omega (arith, lt)) in
+      let a = operate_most p g op.Sll d d 20 (omega arith) in
+      let b = operate_most p g op.Add d d n (omega (arith, lt)) in
       omega (arith, a, b)
 
-  wide_words : (d w : ℕ) → w < 2 ^ 64 → body_words p g (wide_code d w) ≤ 9 * home_words g d + 14
+  wide_words : (d w : ℕ) → w < 2 ^ 64 → body_most p g (wide_code d w) ≤ 41
   wide_words d w lt =
       let first = few_constant (w / 2 ^ 40) (omega (arith, lt)) in
       let a = appended_words d (w / 2 ^ 20 % 2 ^ 20) (omega arith) in
@@ -62,12 +61,12 @@ module _ (p : FlatProgram) (g : FlatFunction) where
       let both = words_append (appended d (w / 2 ^ 20 % 2 ^ 20)) (appended d (w % 2 ^ 20)) in
       omega (arith, first, a, b, both)
 
-  pub constant_code_words : (d w : ℕ) → w < 2 ^ 64 → body_words p g (constant_code d w) ≤ 9 * home_words g d + 14
+  pub constant_code_words : (d w : ℕ) → w < 2 ^ 64 → body_most p g (constant_code d w) ≤ 41
   unfolding constant_code
   constant_code_words d w lt = by (nat_lt w (2 ^ 31 - 2 ^ 11)) (nat_le (2 ^ 64 - 2 ^ 31) w) refl refl
     where
       by : (a b : Bool) → nat_lt w (2 ^ 31 - 2 ^ 11) ≡ a → nat_le (2 ^ 64 - 2 ^ 31) w ≡ b
-          → body_words p g (if a || b then Constant d w ∷ [] else wide_code d w) ≤ 9 * home_words g d + 14
+          → body_most p g (if a || b then Constant d w ∷ [] else wide_code d w) ≤ 41
       by true b e f = let h = few_constant w (ltb-true w (2 ^ 31 - 2 ^ 11) e) in omega (arith, h)
       by false true e f =
           let h = low_constant w (leb-true (2 ^ 64 - 2 ^ 31) w f) lt in omega (arith, h)
@@ -76,40 +75,40 @@ module _ (p : FlatProgram) (g : FlatFunction) where
   -- ---- conversions
 
   shifts_words : (back : RegOp) (n d x : ℕ) → n < 64
-      → body_words p g (two_shifts back n d x) ≤ home_words g x + 3 * home_words g d + 6
+      → body_most p g (two_shifts back n d x) ≤ 18
   shifts_words back n d x lt =
-      let a = operate_few p g op.Sll d x n (omega (arith, lt)) in
-      let b = operate_few p g back d d n (omega (arith, lt)) in
+      let a = operate_most p g op.Sll d x n (omega (arith, lt)) in
+      let b = operate_most p g back d d n (omega (arith, lt)) in
       omega (arith, a, b)
 
   pub conversion_words : (t : IntType) (d x : ℕ)
-      → body_words p g (conversion_code t d x) ≤ home_words g x + 3 * home_words g d + 6
+      → body_most p g (conversion_code t d x) ≤ 18
   unfolding conversion_code
   conversion_words Char d x = shifts_words op.Srl 56 d x (omega arith)
   conversion_words SignedChar d x = shifts_words op.Sra 56 d x (omega arith)
   conversion_words UnsignedChar d x = shifts_words op.Srl 56 d x (omega arith)
   conversion_words Short d x = shifts_words op.Sra 48 d x (omega arith)
   conversion_words UnsignedShort d x = shifts_words op.Srl 48 d x (omega arith)
-  conversion_words Int d x = let h = operate32_few p g Addw d x 0 (omega arith) in omega (arith, h)
+  conversion_words Int d x = let h = operate32_most p g Addw d x 0 (omega arith) in omega (arith, h)
   conversion_words UnsignedInt d x = shifts_words op.Srl 32 d x (omega arith)
   conversion_words Long d x = omega arith
   conversion_words UnsignedLong d x = omega arith
   conversion_words LongLong d x = omega arith
   conversion_words UnsignedLongLong d x = omega arith
 
-  converted_words : (t : IntType) (d : ℕ) → body_words p g (converted t d) ≤ 4 * home_words g d + 6
+  converted_words : (t : IntType) (d : ℕ) → body_most p g (converted t d) ≤ 18
   converted_words t d =
       let h = conversion_words t d d in
-      choice_words (size_of t == 8) [] (conversion_code t d d) (4 * home_words g d + 6) (omega arith) (omega (arith, h))
+      choice_words (size_of t == 8) [] (conversion_code t d d) (18) (omega arith) (omega (arith, h))
 
   -- ---- operators
 
   wrapped_words : (q : RegOp) (t : IntType) (d a b : ℕ)
-      → body_words p g (Operate q d a (Register b) ∷ converted t d) ≤ operator_most g d a b
+      → body_most p g (Operate q d a (Register b) ∷ converted t d) ≤ operator_most
   wrapped_words q t d a b = let h = converted_words t d in omega (arith, h)
 
   wrapping_words : (q : RegOp) (q32 : RegOp32) (t : IntType) (d a b : ℕ)
-      → body_words p g (wrapping_code q q32 t d a b) ≤ operator_most g d a b
+      → body_most p g (wrapping_code q q32 t d a b) ≤ operator_most
   unfolding wrapping_code
   wrapping_words q q32 Char d a b = wrapped_words q Char d a b
   wrapping_words q q32 SignedChar d a b = wrapped_words q SignedChar d a b
@@ -123,33 +122,30 @@ module _ (p : FlatProgram) (g : FlatFunction) where
   wrapping_words q q32 LongLong d a b = wrapped_words q LongLong d a b
   wrapping_words q q32 UnsignedLongLong d a b = wrapped_words q UnsignedLongLong d a b
 
-  left_words : (t : IntType) (d a b : ℕ) → body_words p g (shift_left_code t d a b) ≤ operator_most g d a b
+  left_words : (t : IntType) (d a b : ℕ) → body_most p g (shift_left_code t d a b) ≤ operator_most
   unfolding shift_left_code
   left_words t d a b =
       let h = conversion_words t d d in
-      choice_words (size_of t == 8) _ _ (operator_most g d a b) (omega arith) (omega (arith, h))
+      choice_words (size_of t == 8) _ _ operator_most (omega arith) (omega (arith, h))
 
-  right_words : (t : IntType) (d a b n : ℕ) → body_words p g (shift_right_code t d a b n)
-      ≤ home_words g a + home_words g b + home_words g d + 2 * home_words g n + 4
+  right_words : (t : IntType) (d a b n : ℕ) → body_most p g (shift_right_code t d a b n) ≤ 19
   unfolding shift_right_code
   right_words t d a b n =
-      let h = operate_few p g op.And n b 31 (omega arith) in
-      let most = home_words g a + home_words g b + home_words g d + 2 * home_words g n + 4 in
-      choice_words (size_of t == 8) _ _ most (omega arith) (omega (arith, h))
+      let h = operate_most p g op.And n b 31 (omega arith) in
+      choice_words (size_of t == 8) _ _ 19 (omega arith) (omega (arith, h))
 
-  divided_words : (q : RegOp) (t : IntType) (line d a b : ℕ)
-      → body_words p g (divided_code q t line d a b) ≤ operator_most g d a b + home_words g b + 7
+  divided_words : (q : RegOp) (t : IntType) (line d a b : ℕ) → body_most p g (divided_code q t line d a b) ≤ 41
   divided_words q t line d a b = let h = converted_words t d in omega (arith, h)
 
   equal_words : (d a b : ℕ)
-      → body_words p g (equal_code d a b) ≤ home_words g a + home_words g b + 3 * home_words g d + 4
-  equal_words d a b = let h = operate_few p g op.Sltu d d 1 (omega arith) in omega (arith, h)
+      → body_most p g (equal_code d a b) ≤ 19
+  equal_words d a b = let h = operate_most p g op.Sltu d d 1 (omega arith) in omega (arith, h)
 
-  turned_words : (d : ℕ) → instruction_words p g (turned d) ≤ 2 * home_words g d + 3
-  turned_words d = let h = operate_few p g op.Xor d d 1 (omega arith) in omega (arith, h)
+  turned_words : (d : ℕ) → instruction_most p g (turned d) ≤ 9
+  turned_words d = let h = operate_most p g op.Xor d d 1 (omega arith) in omega (arith, h)
 
   pub unary_words : (u : UnaryOperator) (t : IntType) (d x n : ℕ)
-      → body_words p g (unary_code u t d x n) ≤ 2 * home_words g n + home_words g x + 5 * home_words g d + 9
+      → body_most p g (unary_code u t d x n) ≤ 33
   unfolding unary_code
   unary_words Plus t d x n = let h = conversion_words t d x in omega (arith, h)
   unary_words Negate t d x n =
@@ -157,23 +153,21 @@ module _ (p : FlatProgram) (g : FlatFunction) where
   unary_words Complement t d x n =
       let z = low_constant (2 ^ 64 - 1) (omega arith) (omega arith) in
       let h = converted_words t d in omega (arith, z, h)
-  unary_words Not t d x n = let h = operate_few p g op.Sltu d x 1 (omega arith) in omega (arith, h)
+  unary_words Not t d x n = let h = operate_most p g op.Sltu d x 1 (omega arith) in omega (arith, h)
 
-  -- a division looks at its right operand twice
+  -- a division looks at its right operand twice, and may compare it with the value of which it is a copy
   pub binary_words : (q : BinaryOperator) (t : IntType) (line d a b n : ℕ)
-      → body_words p g (binary_code q t line d a b n) ≤ operator_most g d a b + home_words g b + 2 * home_words g n + 5
+      → body_most p g (binary_code q t line d a b n) ≤ 42
   unfolding binary_code
   binary_words Add t line d a b n = let h = wrapping_words op.Add Addw t d a b in omega (arith, h)
   binary_words Subtract t line d a b n = let h = wrapping_words op.Sub Subw t d a b in omega (arith, h)
   binary_words Multiply t line d a b n = let h = wrapping_words op.Mul Mulw t d a b in omega (arith, h)
   binary_words Divide t line d a b n =
       let h = divided_words (if is_signed t then op.Div else op.Divu) t line d a b in
-      let some = home_some g n in
-      omega (arith, h, some)
+      omega (arith, h)
   binary_words Remainder t line d a b n =
       let h = divided_words (if is_signed t then op.Rem else op.Remu) t line d a b in
-      let some = home_some g n in
-      omega (arith, h, some)
+      omega (arith, h)
   binary_words ShiftLeft t line d a b n = let h = left_words t d a b in omega (arith, h)
   binary_words ShiftRight t line d a b n = let h = right_words t d a b n in omega (arith, h)
   binary_words BitAnd t line d a b n = omega arith

@@ -22,13 +22,11 @@ use Rattle.check_insert.specs.SameButChecks.{SameButChecks}
 use Rattle.compiled_programs.specs.Programs.{is_integer_program, is_integer_function, is_integer_variable}
 use Rattle.compiled_programs.specs.Programs.{are_integer_statements}
 use Rattle.metadata_plan.specs.Part.{IsIntegerCode}
-use Rattle.metadata_plan.specs.Laid.{program_of}
-use Rattle.metadata_expansion.specs.Homes.{homes}
 use Rattle.metadata_expansion.specs.Numbers.{AreAllSmall}
-use Rattle.metadata_plan.specs.OperatorLists.Operators.{operators}
 use Rattle.reg_plan.specs.declared.plan.FunctionPlan.{FunctionPlan}
 use Rattle.machine_laws.specs.Segments.Segments.{code_bytes}
 use Rattle.image_laws.specs.CodeSizes.Sizes.{most_below}
+use Rattle.image_laws.specs.Images.Images.{flat_code}
 use Rattle.image_laws.specs.Sizes.Nodes.{function_nodes, functions_nodes, program_nodes}
 use Rattle.image_laws.proofs.Sizes.Words.{even_words, words, frame_words}
 use Rattle.image_laws.proofs.Sizes.Statements.{no_block, each_light}
@@ -99,9 +97,8 @@ same_frames m t few count integers small (c ∷ cs) (f ∷ fs) e =
 pub bytes_of_nodes : (p : Program) (t r : Tac) (m : MapSizes) → valid.is_valid_program p ≡ true
     → is_integer_program p ≡ true → IsLowered p t → IsWeighed p t → SameButChecks t r → IsIntegerCode r
     → m.budgets.calls ≤ 16777216 → length p.functions ≤ 4096 → AreAllSmall m r → (plans : List FunctionPlan)
-    → code_bytes m (program_of operators m r homes) plans
-    ≤ 4 * most_below (program_of operators m r homes) (length (program_of operators m r homes).functions)
-    → code_bytes m (program_of operators m r homes) plans ≤ 1024 * program_nodes p
+    → code_bytes m (flat_code m r) plans ≤ 4 * most_below (flat_code m r) (length (flat_code m r).functions)
+    → code_bytes m (flat_code m r) plans ≤ 1024 * program_nodes p
 bytes_of_nodes p t r m v i low weighed ins integers few functions small plans bytes =
     let headers = ins.tables.headers ∙ low.headers in
     let as_many = sym (length-map r.functions header_of_code) ∙ ap length headers ∙ length-map p.functions header_of in

@@ -5,8 +5,8 @@ use Rattle.c_tree.specs.declared.program.Variable.{Variable}
 use Rattle.program_lowering.specs.ExpressionCode.Weights.{Weights, IsEven}
 
 -- A node of the text may have 256. A call ends the run where its activation record does not fit, and saves registers;
--- a division ends it at a zero divisor, and so does a node that is reserved for a turn and not filled. A variable or a
--- temporary has a home that three words reach, a register behind those of the temporaries one that one word reaches.
+-- a division ends it at a zero divisor, and so does a node that is reserved for a turn and not filled. Three words reach
+-- the home of a register, since propagation may put any in the place of another.
 abbrev pub words : (other : ℕ) → Weights
 words other = record {
   skip = other;
@@ -14,13 +14,13 @@ words other = record {
   function_pointer = other;
   get_plain = 9;
   set_plain = λ x. 9;
-  update_plain = λ x k. 63;
+  update_plain = λ x k. 92;
   home_pointer = other;
   static_pointer = other;
   zero_of = λ kind. 7;
   convert = λ kind. 20;
-  unary = 31;
-  binary = 40;
+  unary = 35;
+  binary = 44;
   offset = other;
   difference = other;
   narrow = other;
@@ -34,12 +34,12 @@ words other = record {
   zero = other;
   store_part = λ kind. other;
   store_text = λ bytes. other;
-  branch = 10;
-  case = 34;
+  branch = 13;
+  case = 54;
   turn = 4;
   library = λ r. 29;
   print = λ format. other;
-  call = λ f n. 123 + 13 * n;
+  call = λ f n. 128 + 13 * n;
   call_through = λ type n. other;
   enter_block = other;
   leave_block = other;

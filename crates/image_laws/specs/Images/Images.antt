@@ -17,6 +17,7 @@ use Rattle.metadata_plan.specs.OperatorLists.Operators.{operators}
 use Rattle.metadata_expansion.specs.Homes.{homes}
 use Rattle.metadata_expansion.specs.Numbers.{AreAllSmall}
 use Rattle.flat_meaning.specs.declared.function.FlatProgram.{FlatProgram}
+use Rattle.flat_propagation.specs.Propagated.{propagated}
 use Rattle.elf_image.specs.Layout.{content_of}
 use Rattle.elf_image.specs.Tests.{image_fault}
 use Rattle.rv_sim.specs.Behaviour.{behaviour}
@@ -45,12 +46,16 @@ pub record IsChecked (program : Program) (code : Tac) : Type 0 where
   pub closed : HaveClosedBodies code
   pub variables : KeepVariables code
 
--- its flat code, which checked code with numbers that fit expands to
+-- the flat code that checked code expands to, in which values are carried to where they are used
+abbrev pub flat_code : MapSizes → Tac → FlatProgram
+flat_code m r = propagated (program_of operators m r homes)
+
+-- that of a program, where the numbers of its checked code fit
 pub record IsFlat (program : Program) (map : MapSizes) (code : FlatProgram) : Type 0 where
   pub checked : Tac
   pub is_checked : IsChecked program checked
   pub small : AreAllSmall map checked
-  pub expanded : code ≡ program_of operators map checked homes
+  pub is_flat : code ≡ flat_code map checked
 
 -- how many instructions the image takes at most for one unit of the program's work: 8 of three-address code, none more
 -- for checks, 21 times as many of flat code, and 6 for each of these

@@ -8,9 +8,6 @@ ghost use Rattle.c_tree.specs.ValidProgram.{is_valid_program};
 ghost use Rattle.tac_ir.specs.declared.function.Tac.{Tac};
 ghost use Rattle.tac_ir.specs.Meaning.{setting_of_code};
 ghost use Rattle.compiled_programs.specs.Programs.{is_integer_program};
-ghost use Rattle.metadata_plan.specs.Laid.{program_of};
-ghost use Rattle.metadata_plan.specs.OperatorLists.Operators.{operators};
-ghost use Rattle.metadata_expansion.specs.Homes.{homes};
 ghost use Rattle.metadata_expansion.specs.Numbers.{AreAllSmall};
 ghost use Rattle.flat_meaning.specs.declared.function.FlatProgram.{FlatProgram};
 ghost use Rattle.reg_plan.specs.declared.plan.FunctionPlan.{FunctionPlan};
@@ -21,13 +18,15 @@ ghost use Rattle.machine_laws.specs.Following.Code.{IsEncodable};
 ghost use Rattle.machine_laws.specs.Following.Start.{IsStartable};
 ghost use Rattle.machine_laws.specs.Segments.Segments.{table_bytes};
 ghost use Rattle.rv_codegen.specs.MachineImages.Image.{IsImage};
-ghost use Rattle.image_laws.specs.Images.Images.{HaveFewParameters, sizes_of, IsChecked, IsFlat, DoesWhatIsMeant};
+ghost use Rattle.image_laws.specs.Images.Images.{HaveFewParameters, sizes_of, IsChecked, flat_code, IsFlat};
+ghost use Rattle.image_laws.specs.Images.Images.{DoesWhatIsMeant};
 
 use crate::laws::lowering::lowered_integers_are_integer_code;
 use behaviours::following_is_faithful;
 use c_lower::laws::lowered_code_follows_its_program;
 use check_insert::laws::checked_code_is_never_stuck;
 use flat_meaning::laws::steps_begin_at_most_one_turn;
+use flat_propagation::laws::propagated_programs_mean_the_same;
 use metadata_plan::laws::operator_lists::operators_compute;
 use rv_codegen::images::laws::{data_is_held, images_follow};
 use rv_sim::laws::machine_is_machine;
@@ -39,21 +38,20 @@ pub fn code_has_the_sizes_of_its_program()
         → (setting_of_code r budgets).sizes ≡ sizes_of p budgets }
 {}
 
-/// The expansion of checked code has instructions of the machine: its numbers are short, its lines have 32 bits, and it
-/// makes no access of memory.
-pub fn expansions_are_encodable()
+/// The flat code of checked code has instructions of the machine: its numbers are short, and its lines have 32 bits.
+pub fn flat_code_is_encodable()
     ensures { (p : Program) (budgets : BudgetSizes) → is_valid_program p ≡ true → is_integer_program p ≡ true
         → HaveFewParameters p → AreMapped (sizes_of p budgets) → (code : FlatProgram)
         → IsFlat p (sizes_of p budgets) code → IsEncodable code }
 {}
 
 /// And the machine can begin it.
-pub fn expansions_are_startable()
+pub fn flat_code_is_startable()
     ensures { (p : Program) (budgets : BudgetSizes) (code : FlatProgram)
         → IsFlat p (sizes_of p budgets) code → IsStartable (sizes_of p budgets) code }
 {}
 
-/// The start of an expansion stands behind the entries of the functions of the text, 16 bytes each, from 0x10000 on.
+/// The start of flat code stands behind the entries of the functions of the text, 16 bytes each, from 0x10000 on.
 pub fn starts_stand_behind_the_text_functions()
     ensures { (p : Program) (budgets : BudgetSizes) (code : FlatProgram) → IsFlat p (sizes_of p budgets) code
         → start_address code ≡ 65536 + 16 * length p.functions }
@@ -63,11 +61,10 @@ pub fn starts_stand_behind_the_text_functions()
 /// tails of endings, and the function with which a run begins, under plans that give out registers.
 pub fn runtimes_have_room()
     ensures { (map : MapSizes) (r : Tac) → AreAllSmall map r → length r.functions ≤ 4096
-        → ArePlannable (program_of operators map r homes) → IsEncodable (program_of operators map r homes)
-        → (plans : List FunctionPlan)
-        → ArePlanned (program_of operators map r homes) plans (length (program_of operators map r homes).functions)
-        (IsPlanOfRegisters (program_of operators map r homes))
-        → functions_begin + table_bytes map (program_of operators map r homes) plans ≤ code_begin }
+        → ArePlannable (flat_code map r) → IsEncodable (flat_code map r) → (plans : List FunctionPlan)
+        → ArePlanned (flat_code map r) plans (length (flat_code map r).functions)
+        (IsPlanOfRegisters (flat_code map r))
+        → functions_begin + table_bytes map (flat_code map r) plans ≤ code_begin }
 {}
 
 /// An image of a valid program of integers of at most 4096 functions, made of its flat code under accepted plans, with
@@ -85,6 +82,7 @@ pub fn images_do_what_is_meant()
     lowered_integers_are_integer_code();
     operators_compute();
     steps_begin_at_most_one_turn();
+    propagated_programs_mean_the_same();
     images_follow();
     data_is_held();
     machine_is_machine();

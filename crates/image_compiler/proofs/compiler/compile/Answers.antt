@@ -23,9 +23,9 @@ built_of-requires-clause-expandable c =
     let mapped = subst AreMapped same c.sizes_are_in_range.ensures in
     expandable p budgets t m same c.in_ok-lowered.ensures.code
     c.in_ok-lowered.ensures.weighed c.in_ok-lowered.ensures.bodies
-    (λ r inserted small. c.expansions_are_plannable.ensures p t r m c.requires.valid c.requires.integers
+    (λ r inserted small. c.flat_code_is_plannable.ensures p t r m c.requires.valid c.requires.integers
     c.in_ok-lowered.ensures.code (inserted_is_same t r inserted) small)
-    (c.expansions_are_encodable.ensures p budgets c.requires.valid c.requires.integers c.requires.parameters mapped)
+    (c.flat_code_is_encodable.ensures p budgets c.requires.valid c.requires.integers c.requires.parameters mapped)
 
 pub returns-clause-built : goal.returns-clause-built
 returns-clause-built c =

@@ -1,14 +1,14 @@
 use Rattle.std.proofs.Common.{sym, subst, ap, length, arith}
 use Rattle.reg_plan.specs.Planned.{ArePlannable}
 use Rattle.flat_meaning.specs.declared.function.FlatProgram.{FlatProgram}
-use Rattle.image_laws.proofs.Images.Runtime.{code_count}
+use Rattle.image_laws.proofs.Images.Runtime.{flat_count}
 use Rattle.image_compiler.proofs.Images.{compiled_result, never_runtime}
 use Rattle.image_compiler.proofs.image.image_of_checked.Goals as goal
 
 pub image_of_flat-requires-clause-count : goal.image_of_flat-requires-clause-count
 image_of_flat-requires-clause-count c =
     let same = ap (λ (k : FlatProgram). length k.functions) c.in_ok-code.ensures in
-    let count = code_count c.args.map.now c.args.checked.now in
+    let count = flat_count c.args.map.now c.args.checked.now in
     let few = c.requires.count in
     omega (arith, same, count, few)
 

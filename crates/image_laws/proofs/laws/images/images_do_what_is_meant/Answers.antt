@@ -4,13 +4,10 @@ use Rattle.behaviours.specs.Behaviour.{Follows}
 use Rattle.source_meaning.specs.Meaning.{meaning}
 use Rattle.tac_ir.specs.Meaning.{tac_meaning}
 use Rattle.check_insert.proofs.SameButChecks.{inserted_is_same}
-use Rattle.metadata_plan.specs.Laid.{program_of}
-use Rattle.metadata_plan.specs.OperatorLists.Operators.{operators}
-use Rattle.metadata_expansion.specs.Homes.{homes}
 use Rattle.machine_laws.specs.Following.Matching.{object_bytes, space_bytes}
 use Rattle.reg_plan.specs.Tests.{AreAccepted}
 use Rattle.rv_codegen.specs.MachineImages.Image.{IsImage}
-use Rattle.image_laws.specs.Images.Images.{sizes_of}
+use Rattle.image_laws.specs.Images.Images.{sizes_of, flat_code}
 use Rattle.image_laws.proofs.Images.Images.{integers_mapped, no_data, does_what_is_meant}
 use Rattle.image_laws.proofs.laws.images.images_do_what_is_meant.Goals as goal
 
@@ -27,11 +24,12 @@ returns c = λ p budgets valid ints few count range code flat plans accepted fil
     (c.lowered_code_follows_its_program.ensures p t flat.is_checked.is_lowered valid count budgets mapped input) in
     let part = c.lowered_integers_are_integer_code.ensures p t r valid ints flat.is_checked.is_lowered
     (inserted_is_same t r flat.is_checked.inserted) in
-    let accepted' = subst (λ k. AreAccepted k plans) flat.expanded accepted in
-    let image' = subst (λ k. IsImage m k plans [] [] file) flat.expanded image in
+    let accepted' = subst (λ k. AreAccepted k plans) flat.is_flat accepted in
+    let image' = subst (λ k. IsImage m k plans [] [] file) flat.is_flat image in
     does_what_is_meant p budgets mapped valid ints few r flat.is_checked flat.small c.operators_compute.ensures part
-    source lowered c.steps_begin_at_most_one_turn.ensures plans file accepted' image'
-    (c.images_follow.ensures m (program_of operators m r homes) plans [] [] file mapped image')
+    source lowered c.steps_begin_at_most_one_turn.ensures c.propagated_programs_mean_the_same.ensures.runs
+    c.propagated_programs_mean_the_same.ensures.meaning plans file accepted' image'
+    (c.images_follow.ensures m (flat_code m r) plans [] [] file mapped image')
     (c.data_is_held.ensures.held m [] [] mapped (omega arith) (omega arith))
     (c.data_is_held.ensures.bytes [] [] (object_bytes m) (space_bytes m) no_data no_data)
     c.machine_is_machine.ensures c.following_is_faithful.ensures

@@ -6,6 +6,6 @@ use Rattle.image_laws.proofs.laws.images.starts_stand_behind_the_text_functions.
 
 pub returns : goal.returns
 returns c = λ p budgets code flat.
-    ap start_address flat.expanded
+    ap start_address flat.is_flat
     ∙ ap (λ n. 65536 + 16 * n)
     (start_behind (sizes_of p budgets) flat.checked ∙ as_many p flat.checked flat.is_checked)

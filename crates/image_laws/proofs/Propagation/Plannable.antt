@@ -1,33 +1,28 @@
 -- A propagated program can be planned where each register of the program has a home of its own.
-use Rattle.std.proofs.Common.{◌≡◌, ◌⊎◌, inl, inr, ⊎_elim, ℕ, zero, suc, ◌+◌, ◌-◌, ◌^◌, ◌<◌, ◌≤◌, refl, sym, ap, ◌∙◌, subst}
-use Rattle.std.proofs.Common.{arith, Bool, true, false, List, [], ◌∷◌, length, Option, Some, None}
-use Rattle.std.specs.Prelude.{slice_get, map}
+use Rattle.std.proofs.Common.{◌≡◌, ◌⊎◌, inl, inr, ⊎_elim, ℕ, suc, ◌+◌, ◌-◌, ◌<◌, refl, sym, ap, ◌∙◌, subst}
+use Rattle.std.proofs.Common.{arith, true, List, [], ◌∷◌, length, Option, Some, None}
+use Rattle.std.specs.Prelude.{slice_get}
 use Rattle.std.specs.Option.{option_map}
 use Rattle.std.proofs.lemmas.Option.{same_Some, none-some, slice_get-map}
-use Rattle.std.proofs.lemmas.Bool.{eqb-true, eq-eqb}
+use Rattle.std.proofs.lemmas.Bool.{eq-eqb}
 use Rattle.addr_map.specs.Places.{MapSizes}
 use Rattle.flat_meaning.specs.declared.instruction.FlatInstruction.{FlatInstruction}
 use Rattle.flat_meaning.specs.declared.instruction.FlatInstruction.TheVariants as flat
 use Rattle.flat_meaning.specs.declared.function.FlatFunction.{FlatFunction}
 use Rattle.flat_meaning.specs.declared.function.FlatProgram.{FlatProgram}
-use Rattle.flat_meaning.specs.Calls.{function_in}
-use Rattle.flat_meaning.specs.Meaning.{results_of}
 use Rattle.reg_plan.specs.declared.effects.Span.{Span}
 use Rattle.reg_plan.specs.Effects.{read_by, is_read, made_by, makes_only, is_among, one, none, many, next_of, taken_of, Leads}
 use Rattle.reg_plan.specs.Needs.{ReadsAt, MakesAt, AlwaysMakesAt, LeadsAt, IsNeeded, Read, Made, Before}
-use Rattle.reg_plan.specs.Flow.{IsNamed}
-use Rattle.reg_plan.specs.Accepted.{HasHome}
 use Rattle.reg_plan.specs.Planned.{IsPlannable, ArePlannable}
-use Rattle.flat_propagation.specs.declared.fact.Fact.{Fact}
-use Rattle.flat_propagation.specs.Facts.{Facts, nothing}
-use Rattle.flat_propagation.specs.Known.{after, jumps_to, is_target, known_at}
-use Rattle.flat_propagation.specs.Propagated.{moved, branch_on, right_source, rewritten, rewritten_from}
+use Rattle.flat_propagation.specs.Facts.{Facts}
+use Rattle.flat_propagation.specs.Known.{after, jumps_to, known_at}
+use Rattle.flat_propagation.specs.Propagated.{right_source, rewritten, rewritten_from}
 use Rattle.flat_propagation.specs.Propagated.{propagated_function, propagated}
 use Rattle.flat_propagation.proofs.Meaning.{moved_is, branch_is, target_at, target_knows, next_knows, get_rewritten}
 use Rattle.flat_propagation.proofs.Meaning.{results_same}
-use Rattle.propagation_laws.specs.Homes.{IsUsed, HasHomes, HaveHomes}
-use Rattle.propagation_laws.proofs.Fits.{known_has}
-use Rattle.propagation_laws.proofs.Registers.{Speaks, OfFact, of_fact, speaks_of, rewritten_reads, after_of}
+use Rattle.image_laws.specs.Propagation.Homes.{IsUsed, HasHomes, HaveHomes}
+use Rattle.image_laws.proofs.Propagation.Fits.{known_has}
+use Rattle.image_laws.proofs.Propagation.Registers.{Speaks, OfFact, of_fact, speaks_of, rewritten_reads, after_of}
 
 -- ---- what an instruction makes, and where it leads
 

@@ -1,7 +1,7 @@
 -- Which registers a propagated instruction reads: those that it read, and those of which facts speak.
-use Rattle.std.proofs.Common.{◌≡◌, ◌⊎◌, inl, inr, ⊎_elim, ℕ, zero, suc, ◌+◌, ◌<◌, ◌≤◌, refl, sym, ap, ◌∙◌, subst, arith}
-use Rattle.std.proofs.Common.{Bool, true, false, List, [], ◌∷◌, Option, Some, None}
-use Rattle.std.specs.Prelude.{slice_get, nat_lt, nat_le, ◌==◌, ◌||◌, if◌then◌else◌}
+use Rattle.std.proofs.Common.{◌≡◌, ◌⊎◌, inl, inr, ⊎_elim, ℕ, ◌+◌, refl, sym, subst, arith}
+use Rattle.std.proofs.Common.{Bool, true}
+use Rattle.std.specs.Prelude.{nat_lt, nat_le, ◌==◌, ◌||◌}
 use Rattle.std.proofs.lemmas.Bool.{or_left, or_right, or_cases, and_parts, and_from, ltb-true, lt-ltb, leb-true, le-leb}
 use Rattle.addr_map.specs.Places.{MapSizes}
 use Rattle.rv_isa.specs.declared.instruction.RegOp.{RegOp}
@@ -19,15 +19,15 @@ use Rattle.reg_plan.specs.declared.effects.Span.{Span}
 use Rattle.reg_plan.specs.Effects.{read_by, is_read, is_among, one, none, many, operand}
 use Rattle.flat_propagation.specs.declared.fact.Fact.{Fact}
 use Rattle.flat_propagation.specs.declared.fact.Fact.TheVariants.{Unknown, Same, Word, Difference, Condition}
-use Rattle.flat_propagation.specs.Facts.{Facts, opposite}
+use Rattle.flat_propagation.specs.Facts.{Facts}
 use Rattle.flat_propagation.specs.Known.{source, source_but, register_or_zero, right_source_but, copied, if_branchable}
 use Rattle.flat_propagation.specs.Known.{is_zero, turned, if_one, computed, after}
 use Rattle.flat_propagation.specs.Propagated.{is_short, takes, takes32, register_or_number, right_but, right_source}
 use Rattle.flat_propagation.specs.Propagated.{unless_zero, if_zero, compared, compared_zero, branch_on, moved, rewritten}
 use Rattle.flat_propagation.specs.Propagated.{propagated}
 use Rattle.flat_propagation.proofs.Holding.{either}
-use Rattle.flat_propagation.proofs.Meaning.{moved_is, parameters_same, results_same}
-use Rattle.propagation_laws.proofs.Fits.{with_has}
+use Rattle.flat_propagation.proofs.Meaning.{parameters_same, results_same}
+use Rattle.image_laws.proofs.Propagation.Fits.{with_has}
 
 -- ---- spans
 

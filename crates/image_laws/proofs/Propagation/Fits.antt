@@ -1,18 +1,18 @@
 -- What facts compare, a branch can have: registers, or one and 0.
-use Rattle.std.proofs.Common.{◌≡◌, ℕ, zero, suc, ◌+◌, Bool, true, false, List, [], ◌∷◌, Option, Some, None, refl, subst}
+use Rattle.std.proofs.Common.{◌≡◌, ℕ, zero, suc, List, Option, Some, None, refl}
 use Rattle.std.specs.Prelude.{slice_get, ◌==◌, if◌then◌else◌}
 use Rattle.std.proofs.lemmas.Bool.{eqb-true}
 use Rattle.rv_isa.specs.declared.instruction.RegOp.{RegOp}
 use Rattle.rv_isa.specs.declared.instruction.RegOp.TheVariants.{Sub, Slt, Sltu, Xor}
-use Rattle.rv_isa.specs.declared.instruction.BranchOp.TheVariants.{Beq, Blt, Bltu}
+use Rattle.rv_isa.specs.declared.instruction.BranchOp.TheVariants.{Blt, Bltu}
 use Rattle.flat_meaning.specs.declared.instruction.RightOperand.{RightOperand}
 use Rattle.flat_meaning.specs.declared.instruction.RightOperand.TheVariants.{Register, Number}
 use Rattle.flat_meaning.specs.declared.instruction.FlatInstruction.{FlatInstruction}
 use Rattle.flat_meaning.specs.declared.instruction.FlatInstruction.TheVariants as flat
 use Rattle.flat_propagation.specs.declared.fact.Fact.{Fact}
 use Rattle.flat_propagation.specs.declared.fact.Fact.TheVariants.{Unknown, Same, Word, Difference, Condition}
-use Rattle.flat_propagation.specs.Facts.{Facts, nothing, names, unless_named, with_fact}
-use Rattle.flat_propagation.specs.Known.{source, source_but, register_or_zero, right_source_but, copied, if_branchable}
+use Rattle.flat_propagation.specs.Facts.{Facts, nothing, names, with_fact}
+use Rattle.flat_propagation.specs.Known.{source_but, right_source_but, copied, if_branchable}
 use Rattle.flat_propagation.specs.Known.{is_zero, turned, if_one, computed, after, is_target, after_at, known_at}
 use Rattle.flat_propagation.proofs.Holding.{either}
 

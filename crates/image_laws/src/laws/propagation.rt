@@ -13,16 +13,16 @@ ghost use Rattle.image_laws.specs.Propagation.Homes.{HaveHomes};
 /// as well when it is propagated: what is needed longer then is kept apart from what is needed with it, and where a
 /// function is entered no more is needed than before.
 pub fn propagated_programs_are_plannable()
-    ensures { (m : MapSizes) (p : FlatProgram) → ArePlannable p → HaveHomes p → ArePlannable (propagated p) }
+    ensures { (p : FlatProgram) → ArePlannable p → HaveHomes p → ArePlannable (propagated p) }
 {}
 
 /// One whose instructions are ones of the machine has such instructions when it is propagated: numbers that are put in
 /// are short.
 pub fn propagated_programs_are_encodable()
-    ensures { (m : MapSizes) (p : FlatProgram) → IsEncodable p → IsEncodable (propagated p) }
+    ensures { (p : FlatProgram) → IsEncodable p → IsEncodable (propagated p) }
 {}
 
 /// One that the machine can begin can be begun when it is propagated.
 pub fn propagated_programs_are_startable()
-    ensures { (m : MapSizes) (p : FlatProgram) → IsStartable m p → IsStartable m (propagated p) }
+    ensures { (map : MapSizes) (p : FlatProgram) → IsStartable map p → IsStartable map (propagated p) }
 {}

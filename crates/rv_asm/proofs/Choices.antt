@@ -1,5 +1,5 @@
 -- Which forms are chosen, and that they reach.
-use Rattle.std.proofs.Common.{◌≡◌, ◌≢◌, ℕ, zero, suc, ◌+◌, ◌<◌, ◌≤◌, List, [], ◌∷◌, length, Some, Bool, true, false}
+use Rattle.std.proofs.Common.{◌≡◌, ◌≢◌, ℕ, zero, suc, ◌+◌, ◌*◌, ◌<◌, ◌≤◌, List, [], ◌∷◌, length, Some, Bool, true, false}
 use Rattle.std.proofs.Common.{refl, sym, ap, ◌∙◌, arith, true≢false}
 use Rattle.std.specs.Prelude.{slice_get, if◌then◌else◌}
 use Rattle.std.proofs.lemmas.Bool.{eq-eqb, eqb-true}
@@ -45,6 +45,31 @@ pub size_at_most : (fs : List Form) (is : List Item) → size fs is ≤ longest_
 size_at_most [] is = omega arith
 size_at_most (f ∷ fs) [] = omega arith
 size_at_most (f ∷ fs) (i ∷ is) = let a = size_within f i in let b = size_at_most fs is in omega (arith, a, b)
+
+-- nor do the longest take more than three times theirs
+size_third : (f : Form) (i : Item) → size_of Far i ≤ 3 * size_of f i
+size_third Short (Label _) = omega arith
+size_third Near (Label _) = omega arith
+size_third Far (Label _) = omega arith
+size_third Short (Instr _) = omega arith
+size_third Near (Instr _) = omega arith
+size_third Far (Instr _) = omega arith
+size_third Short (Jump _) = omega arith
+size_third Near (Jump _) = omega arith
+size_third Far (Jump _) = omega arith
+size_third Short (Call _) = omega arith
+size_third Near (Call _) = omega arith
+size_third Far (Call _) = omega arith
+size_third Short (Branch _ _ _ _) = omega arith
+size_third Near (Branch _ _ _ _) = omega arith
+size_third Far (Branch _ _ _ _) = omega arith
+
+longest_third : (fs : List Form) (is : List Item) → length fs ≡ length is → longest_size is ≤ 3 * size fs is
+longest_third [] [] many = omega arith
+longest_third [] (i ∷ is) many = absurd (omega (arith, many))
+longest_third (f ∷ fs) [] many = omega arith
+longest_third (f ∷ fs) (i ∷ is) many =
+    let a = size_third f i in let b = longest_third fs is (omega (arith, many)) in omega (arith, a, b)
 
 -- two tables that have one place for each label that is gone to
 pub record Agree (P Q : ℕ → ℕ) (items : List Item) : Type 0 where
@@ -148,5 +173,11 @@ words_are items table apart there holds =
 pub words_count : (items : List Item) → length (words_of items) ≡ size (forms_of items) items
 unfolding words_of
 words_count items = words_length (label_place (forms_of items) items 0) 0 (forms_of items) items
+
+pub longest_few : (items : List Item) → longest_size items ≤ 3 * length (words_of items)
+longest_few items =
+    let count = words_count items in
+    let third = longest_third (forms_of items) items (forms_length items) in
+    omega (arith, count, third)
 
 pub ruleset choices = (forms_are, words_are, words_count, forms_length, longest_length, size_at_most)

@@ -1,5 +1,6 @@
 //! The assembler.
-ghost use Rattle.std.specs.Prelude.{◌≡◌, IfOk, length};
+ghost use Rattle.std.specs.Prelude.{◌≡◌, ◌<◌, ◌^◌, IfOk, length};
+ghost use Rattle.rv_asm.specs.Items.{AreApart, AreThere};
 ghost use Rattle.rv_asm.specs.Forms.{forms_of, IsAssemblable};
 ghost use Rattle.rv_asm.specs.Words.{words_of};
 
@@ -12,7 +13,8 @@ use std::alloc::{AllocError, Global};
 /// The form of each item.
 #[tactic(auto, using(crate::proofs::Choices::choices))]
 fn forms_of(alloc: Global, items: &[Item]) -> Result<Vec<Form>, AllocError>
-    requires { IsAssemblable items.now }
+    requires apart { AreApart items.now }
+    requires there { AreThere items.now }
     ensures { IfOk result (λ forms. forms.items ≡ forms_of items.now) }
 {
     let longest = longest_forms(alloc, items)?;
@@ -20,11 +22,14 @@ fn forms_of(alloc: Global, items: &[Item]) -> Result<Vec<Form>, AllocError>
     chosen_forms(alloc, &places, items)
 }
 
-/// How many words `assemble` gives. The caller's conditions are those of `assemble`.
+/// How many words a labelled list has, however long it is: as many as `assemble` gives where the list can be assembled.
+/// The caller shows that no label stands twice and that each label that an item goes to stands somewhere.
 #[tactic(auto, using(crate::proofs::Choices::choices))]
-pub fn word_count(alloc: Global, items: &[Item]) -> Result<u32, AllocError>
-    requires { IsAssemblable items.now }
-    ensures { IfOk result (λ count. count ≡ length (words_of items.now)) }
+pub fn word_count(alloc: Global, items: &[Item]) -> Result<u128, AllocError>
+    requires apart { AreApart items.now }
+    requires there { AreThere items.now }
+    ensures value { IfOk result (λ count. count ≡ length (words_of items.now)) }
+    ensures small { IfOk result (λ count. count < 2 ^ 66) }
 {
     let forms = forms_of(alloc, items)?;
     Ok(size(&forms, items))

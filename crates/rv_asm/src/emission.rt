@@ -43,11 +43,12 @@ fn opposite(op: BranchOp) -> BranchOp
 }
 
 /// From one place to another in bytes, modulo 2^32.
-fn offset(from: u32, to: u32) -> u32
+fn offset(from: u128, to: u128) -> u32
     requires { from < 2 ^ 29 }
     ensures { result ≡ offset 32 from to }
 {
-    ((0x1_0000_0000u64 + 4 * u64::from(to) - 4 * u64::from(from)) % 0x1_0000_0000) as u32
+    // modulo 2^32 bytes places are told apart modulo 2^30
+    ((0x1_0000_0000 + 4 * (to % 0x4000_0000) - 4 * from) % 0x1_0000_0000) as u32
 }
 
 /// Puts a jump that leaves the address behind it in `link`.
@@ -55,8 +56,8 @@ fn put_jump(
     words: &mut Vec<u32>,
     form: Form,
     link: Reg,
-    from: u32,
-    to: u32,
+    from: u128,
+    to: u128,
 ) -> Result<(), AllocError>
     requires { from < 2 ^ 29 }
     ensures { OnOk result (words.new.items ≡ words.old.items ++ map word_of (jump_instrs form link from to)) }
@@ -92,8 +93,8 @@ fn put_branch(
     op: BranchOp,
     rs1: Reg,
     rs2: Reg,
-    from: u32,
-    to: u32,
+    from: u128,
+    to: u128,
 ) -> Result<(), AllocError>
     requires { from < 2 ^ 28 }
     ensures { OnOk result (words.new.items ≡ words.old.items ++ map word_of (branch_instrs form op rs1 rs2 from to)) }
@@ -121,8 +122,8 @@ fn put_item(
     words: &mut Vec<u32>,
     form: Form,
     item: &Item,
-    from: u32,
-    to: u32,
+    from: u128,
+    to: u128,
 ) -> Result<(), AllocError>
     requires { from < 2 ^ 28 }
     ensures { OnOk result (words.new.items ≡ words.old.items ++ map word_of (instrs_of form from to item.now)) }
@@ -140,7 +141,7 @@ fn put_item(
 /// Puts all items, in their forms, with the places of labels that are in the table.
 pub(crate) fn put_items(
     words: &mut Vec<u32>,
-    table: &[u32],
+    table: &[u128],
     forms: &[Form],
     items: &[Item],
 ) -> Result<(), AllocError>
@@ -149,11 +150,11 @@ pub(crate) fn put_items(
     requires room { size forms.now items.now < 2 ^ 28 }
     ensures { OnOk result (words.new.items ≡ words_from (entry table.now) 0 forms.now items.now) }
 {
-    let mut place = 0u32;
+    let mut place = 0u128;
     for (index, item) in items.iter().enumerate() {
         let form = forms[index];
         put_item(words, form, item, place, target_place(table, item))?;
-        place += form.size(item);
+        place += u128::from(form.size(item));
     }
     Ok(())
 }

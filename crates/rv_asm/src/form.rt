@@ -18,7 +18,7 @@ pub enum Form {
 
 impl Form {
     /// The shortest form in which a branch, a jump or a call from one place to another, in words, is in reach.
-    pub(crate) fn shortest(from: u32, to: u32) -> Self
+    pub(crate) fn shortest(from: u128, to: u128) -> Self
         ensures { result ≡ shortest from to }
     {
         let distance = from.abs_diff(to);

@@ -19,7 +19,6 @@ ghost use Rattle.rv_asm.specs.Forms.{
   size,
   start,
   longest,
-  longest_size,
   chosen,
   shortest,
   target_place,
@@ -54,14 +53,14 @@ pub(crate) fn longest_forms(alloc: Global, items: &[Item]) -> Result<Vec<Form>, 
 }
 
 /// How many words the items have in these forms.
-pub(crate) fn size(forms: &[Form], items: &[Item]) -> u32
-    requires many { length forms.now ≡ length items.now }
-    requires room { size forms.now items.now < 2 ^ 28 }
-    ensures { result ≡ size forms.now items.now }
+pub(crate) fn size(forms: &[Form], items: &[Item]) -> u128
+    requires { length forms.now ≡ length items.now }
+    ensures value { result ≡ size forms.now items.now }
+    ensures small { result < 2 ^ 66 }
 {
-    let mut sum = 0u32;
+    let mut sum = 0u128;
     for (index, item) in items.iter().enumerate() {
-        sum += forms[index].size(item);
+        sum += u128::from(forms[index].size(item));
     }
     sum
 }
@@ -80,16 +79,16 @@ pub(crate) fn table_length(items: &[Item]) -> usize
 }
 
 /// A table of the labels of this list, with no place yet.
-fn empty_table(alloc: Global, items: &[Item]) -> Result<Vec<u32>, AllocError>
+fn empty_table(alloc: Global, items: &[Item]) -> Result<Vec<u128>, AllocError>
     ensures { IfOk result (λ table. HasRoom items.now table.items) }
 {
     let entries = table_length(items);
-    let table = vec![in alloc; 0u32; entries]?;
+    let table = vec![in alloc; 0u128; entries]?;
     Ok(table)
 }
 
 /// Puts the place of an item, if it is a label, into the table.
-fn mark(table: &mut Vec<u32>, item: &Item, place: u32)
+fn mark(table: &mut Vec<u128>, item: &Item, place: u128)
     requires { IsWithin item.now table.old.items }
     ensures { table.new.items ≡ marked item.now place table.old.items }
 {
@@ -103,23 +102,22 @@ pub(crate) fn label_places(
     alloc: Global,
     forms: &[Form],
     items: &[Item],
-) -> Result<Vec<u32>, AllocError>
+) -> Result<Vec<u128>, AllocError>
     requires many { length forms.now ≡ length items.now }
-    requires room { size forms.now items.now < 2 ^ 28 }
     requires apart { AreApart items.now }
     ensures { IfOk result (λ table. Holds forms.now items.now (length items.now) table.items) }
 {
     let mut table = empty_table(alloc, items)?;
-    let mut place = 0u32;
+    let mut place = 0u128;
     for (index, item) in items.iter().enumerate() {
         mark(&mut table, item, place);
-        place += forms[index].size(item);
+        place += u128::from(forms[index].size(item));
     }
     Ok(table)
 }
 
 /// The place of the label that an item goes to; 0 where it goes to none.
-pub(crate) fn target_place(table: &[u32], item: &Item) -> u32
+pub(crate) fn target_place(table: &[u128], item: &Item) -> u128
     ensures { result ≡ target_place (entry table.now) item.now }
 {
     match item.target() {
@@ -131,17 +129,16 @@ pub(crate) fn target_place(table: &[u32], item: &Item) -> u32
 /// For each item the shortest form with which it reaches its label, whose place with the longest forms is in the table.
 pub(crate) fn chosen_forms(
     alloc: Global,
-    table: &[u32],
+    table: &[u128],
     items: &[Item],
 ) -> Result<Vec<Form>, AllocError>
-    requires { longest_size items.now < 2 ^ 28 }
     ensures { IfOk result (λ forms. forms.items ≡ chosen (entry table.now) 0 items.now) }
 {
     let mut forms = Vec::new(alloc);
-    let mut place = 0u32;
+    let mut place = 0u128;
     for item in items {
         forms.push(Form::shortest(place, target_place(table, item)))?;
-        place += Form::Far.size(item);
+        place += u128::from(Form::Far.size(item));
     }
     Ok(forms)
 }

@@ -115,7 +115,7 @@ fn put_words(rt: &HostRuntime, words: &[u32]) -> Result<()> {
 }
 
 // The words of a list, and how many they are.
-fn assembled(alloc: Global, items: &[Item]) -> Result<Option<(Vec<u32>, u32)>> {
+fn assembled(alloc: Global, items: &[Item]) -> Result<Option<(Vec<u32>, u128)>> {
     if !is_assemblable(alloc, items)? {
         return Ok(None);
     }
@@ -134,7 +134,7 @@ fn put_assembled(rt: &HostRuntime, items: &[Item]) -> Result<()> {
     }
 }
 
-fn put_whole(rt: &HostRuntime, words: &[u32], count: u32) -> Result<()> {
+fn put_whole(rt: &HostRuntime, words: &[u32], count: u128) -> Result<()> {
     put_words(rt, words)?;
     println!(rt; "{count} words\n%%")?;
     Ok(())

@@ -28,7 +28,7 @@ loop-index-preserved c =
     let rest = words_from (entry c.args.table.now) (c.loop-index.place + size_of form i) (drop (k + 1) forms)
     (drop (k + 1) items) in
     record {
-      words = rw (put, c.target_place.ensures, c.size-place.ensures.value)
+      words = rw (put, c.target_place.ensures, c.from-place.ensures, c.size.ensures.value)
           (append_assoc old block rest ∙ (ap (λ ws. old ++ ws) (sym step) ∙ c.loop-index.invariant.words));
-      left = omega (arith, left, c.loop-index.invariant.left, c.size-place.ensures.value);
+      left = omega (arith, left, c.loop-index.invariant.left, c.from-place.ensures, c.size.ensures.value);
     }

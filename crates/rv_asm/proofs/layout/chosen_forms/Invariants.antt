@@ -1,5 +1,5 @@
-use Rattle.std.proofs.Common.{◌≡◌, ◌+◌, ◌++◌, drop}
-use Rattle.rv_asm.specs.Forms.{chosen, longest_size}
+use Rattle.std.proofs.Common.{◌≡◌, ◌≤◌, ◌*◌, ◌++◌, drop}
+use Rattle.rv_asm.specs.Forms.{chosen}
 use Rattle.rv_asm.specs.Tables.{entry}
 use Rattle.rv_asm.proofs.layout.chosen_forms.Given as goal
 
@@ -7,5 +7,5 @@ abbrev pub invariant-loop-item : goal.invariant-loop-item
 invariant-loop-item l = record {
   forms : l.forms.items ++ chosen (entry l.table) l.place (drop l.item-index l.items)
       ≡ chosen (entry l.table) 0 l.items;
-  left : l.place + longest_size (drop l.item-index l.items) ≡ longest_size l.items;
+  few : l.place ≤ 3 * l.item-index;
 }

@@ -6,6 +6,9 @@ use Rattle.rv_asm.proofs.layout.size.Goals as goal
 pub loop-index-preserved : goal.loop-index-preserved
 loop-index-preserved c =
     let step = size_step c.args.forms.now c.args.items.now c.loop-index.index (c.loop-index.index + 1)
-    c.index-items-index.result Short c.requires.many
+    c.index-items-index.result Short c.requires
     (omega (arith, c.loop-index-test.true, c.loop-index.auto.index-end)) c.index-items-index.is (omega arith) in
-    omega (arith, step, c.loop-index.invariant, c.size-sum.ensures.value)
+    record {
+      left = omega (arith, step, c.loop-index.invariant.left, c.size.ensures.value, c.from-sum.ensures);
+      few = omega (arith, c.loop-index.invariant.few, c.size.ensures.small, c.from-sum.ensures);
+    }

@@ -8,7 +8,7 @@ use Rattle.rv_isa.specs.declared.instruction.Instr.{Instr}
 use Rattle.rv_isa.specs.declared.instruction.Instr.TheVariants.{Ebreak}
 use Rattle.rv_asm.specs.declared.item.Item.{Item}
 use Rattle.rv_asm.specs.declared.item.Item.TheVariants as item
-use Rattle.rv_asm.specs.Items.{target_of}
+use Rattle.rv_asm.specs.Items.{AreApart, AreThere, target_of}
 use Rattle.rv_asm.specs.Forms.{IsAssemblable, longest_size}
 use Rattle.flat_meaning.specs.declared.instruction.FlatInstruction.{FlatInstruction}
 use Rattle.flat_meaning.specs.declared.instruction.FlatInstruction.TheVariants as flat
@@ -197,31 +197,44 @@ module _ (m : MapSizes) (p : FlatProgram) (plans : List FunctionPlan) (f n : ℕ
       item_behind n (inner pc x) (from (suc pc) is) k l i (inner_plain pc x)
       (λ j g. targets_low (suc pc) is j l i g t) h t
 
--- a list whose longest forms reach can be assembled
-pub labels_meet : (m : MapSizes) (p : FlatProgram) (plans : List FunctionPlan) (f : ℕ)
-    → longest_size (items_of m p plans f) < 2 ^ 28 → IsAssemblable (items_of m p plans f)
-unfolding from
-labels_meet m p plans f room =
-    let body = body_of (function_in p f) in
-    let n = length body in
-    let entry = plain (entry_block (keeping p plans f) (parameters_of (function_in p f))) in
-    let rest = items_from m p plans f n 0 body in
-    let entry_plain = instrs_plain n (entry_block (keeping p plans f) (parameters_of (function_in p f))) in
-    let whole : n ≡ 0 + length body = omega arith in
-    record {
-      apart = record {
-        once = λ j k l h g.
-            let r = label_behind n entry rest j l entry_plain h in
-            let s = label_behind n entry rest k l entry_plain g in
-            let same = once m p plans f n 0 body r.0 s.0 l whole r.2 s.2 in
-            omega (arith, same, r.1, s.1);
-      };
-      there = record {
-        place = λ k l i h t.
-            let near = item_behind n entry rest k l i entry_plain
-            (λ j g. targets_low m p plans f n 0 body j l i g t) h t in
-            let r = there m p plans f n 0 body l whole (omega arith) near in
-            (length entry + r.0, get_behind entry rest r.0 ∙ r.1);
-      };
-      room = room;
-    }
+module _ (m : MapSizes) (p : FlatProgram) (plans : List FunctionPlan) (f : ℕ) where
+  abbrev body : List FlatInstruction
+  body = body_of (function_in p f)
+
+  abbrev entry : List Item
+  entry = plain (entry_block (keeping p plans f) (parameters_of (function_in p f)))
+
+  abbrev rest : List Item
+  rest = items_from m p plans f (length body) 0 body
+
+  entry_plain : IsPlain (length body) entry
+  entry_plain = instrs_plain (length body) (entry_block (keeping p plans f) (parameters_of (function_in p f)))
+
+  whole : length body ≡ 0 + length body
+  whole = omega arith
+
+  -- no label of the list stands twice
+  pub labels_apart : AreApart (items_of m p plans f)
+  unfolding from
+  labels_apart = record {
+    once = λ j k l h g.
+        let r = label_behind (length body) entry rest j l entry_plain h in
+        let s = label_behind (length body) entry rest k l entry_plain g in
+        let same = once m p plans f (length body) 0 body r.0 s.0 l whole r.2 s.2 in
+        omega (arith, same, r.1, s.1);
+  }
+
+  -- each that an item goes to stands somewhere
+  pub labels_there : AreThere (items_of m p plans f)
+  unfolding from
+  labels_there = record {
+    place = λ k l i h t.
+        let near = item_behind (length body) entry rest k l i entry_plain
+        (λ j g. targets_low m p plans f (length body) 0 body j l i g t) h t in
+        let r = there m p plans f (length body) 0 body l whole (omega arith) near in
+        (length entry + r.0, get_behind entry rest r.0 ∙ r.1);
+  }
+
+  -- so a list whose longest forms reach can be assembled
+  pub labels_meet : longest_size (items_of m p plans f) < 2 ^ 28 → IsAssemblable (items_of m p plans f)
+  labels_meet room = record { apart = labels_apart; there = labels_there; room = room }

@@ -11,6 +11,7 @@ ghost use Rattle.flat_meaning.specs.State.{Stuck};
 ghost use Rattle.flat_meaning.specs.Meaning.{step, started, flat_meaning};
 ghost use Rattle.reg_plan.specs.declared.plan.FunctionPlan.{FunctionPlan};
 ghost use Rattle.reg_plan.specs.Tests.{AreAccepted};
+ghost use Rattle.rv_asm.specs.Items.{AreApart, AreThere};
 ghost use Rattle.rv_asm.specs.Forms.{IsAssemblable, longest_size};
 ghost use Rattle.rv_sim.specs.Behaviour.{behaviour};
 ghost use Rattle.machine_laws.specs.View.Segments.{Hold};
@@ -24,9 +25,14 @@ ghost use Rattle.machine_laws.specs.Segments.Segments.{FitsSegments};
 
 use rv_asm::laws::targets_are_met;
 
-/// The list of a function can be assembled where its longest forms have fewer than 2^28 words together.
+/// In the list of a function no label stands twice, and each label that an item goes to stands somewhere. So it can be
+/// assembled where its longest forms have fewer than 2^28 words together.
 pub fn lists_can_be_assembled()
-    ensures { (map : MapSizes) (p : FlatProgram) (plans : List FunctionPlan) (f : ℕ)
+    ensures apart { (map : MapSizes) (p : FlatProgram) (plans : List FunctionPlan) (f : ℕ)
+        → AreApart (items_of map p plans f) }
+    ensures there { (map : MapSizes) (p : FlatProgram) (plans : List FunctionPlan) (f : ℕ)
+        → AreThere (items_of map p plans f) }
+    ensures assembled { (map : MapSizes) (p : FlatProgram) (plans : List FunctionPlan) (f : ℕ)
         → longest_size (items_of map p plans f) < 2 ^ 28 → IsAssemblable (items_of map p plans f) }
 {}
 

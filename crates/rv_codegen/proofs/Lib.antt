@@ -1,4 +1,4 @@
 mod Below
-mod TooLong
+mod Counted
 pub mod EmittedCode
 pub mod MachineImages

@@ -25,8 +25,6 @@ pub enum GenerateError {
     /// The jump table, the start, the tails of endings and the functions of the runtime take more than 983040 bytes,
     /// this many.
     RuntimeTooLarge(u128),
-    /// The function with this number has 2^28 words or more, if each branch and jump has its longest form.
-    FunctionTooLong(u32),
     /// There is no memory.
     Memory,
 }

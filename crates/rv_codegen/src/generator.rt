@@ -10,8 +10,8 @@ ghost use Rattle.rv_asm.specs.Forms.{IsAssemblable};
 ghost use Rattle.machine_laws.specs.Calls.Calls.{row};
 ghost use Rattle.machine_laws.specs.Calls.Table.{source_count, runtime_begin};
 ghost use Rattle.machine_laws.specs.Layout.Lists.{items_of};
-ghost use Rattle.machine_laws.specs.Segments.Segments.{function_words, start_with_tails};
-ghost use Rattle.rv_codegen.specs.Generated.{IsReady, AreBelow, IsGenerated, IsCause};
+ghost use Rattle.machine_laws.specs.Segments.Segments.{function_words, words_if, words_below, start_with_tails};
+ghost use Rattle.rv_codegen.specs.Generated.{IsReady, HasLongFunction, AreBelow, IsGenerated, IsCause};
 
 use crate::code::{Code, GenerateError};
 use crate::emission::{START_BYTES, put_row, put_start, put_tails, start_address};
@@ -20,9 +20,82 @@ use addr_map::AddrMap;
 use flat_meaning::{FlatFunction, FlatProgram};
 use machine_laws::laws::segments::lists_can_be_assembled;
 use reg_plan::FunctionPlan;
-use rv_asm::{assemble, is_assemblable};
+use rv_asm::laws::long_lists_have_many_words;
+use rv_asm::{assemble, is_assemblable, word_count};
 use rv_isa::{Instr, encode};
 use std::alloc::{AllocError, Global};
+
+// How many words a function has, if it is one of those that are asked for.
+fn word_count_if(
+    alloc: Global,
+    map: &AddrMap,
+    program: &FlatProgram,
+    plans: &[FunctionPlan],
+    sources: u32,
+    runtime: bool,
+    number: u32,
+) -> Result<u128, AllocError>
+    requires sources { sources ≡ source_count program.now }
+    requires ready { IsReady program.now plans.now }
+    requires function { number < length program.now.functions }
+    ensures value { IfOk result (λ count. count ≡ length (words_if map.now program.now plans.now runtime number)) }
+    ensures small { IfOk result (λ count. count < 2 ^ 66) }
+{
+    let functions = program.functions.as_slice();
+    if is_of_runtime(&functions[number as usize]) != runtime {
+        return Ok(0);
+    }
+    let list = function_items(alloc, map, program, plans, sources, number)?;
+    lists_can_be_assembled();
+    word_count(alloc, list.as_slice())
+}
+
+// How many words all of these functions have.
+#[tactic(auto, using(crate::proofs::Counted::counts))]
+fn word_count_of(
+    alloc: Global,
+    map: &AddrMap,
+    program: &FlatProgram,
+    plans: &[FunctionPlan],
+    sources: u32,
+    runtime: bool,
+) -> Result<u128, AllocError>
+    requires sources { sources ≡ source_count program.now }
+    requires ready { IsReady program.now plans.now }
+    ensures value { IfOk result (λ count.
+        count ≡ length (words_below map.now program.now plans.now runtime (length program.now.functions))) }
+    ensures small { IfOk result (λ count. count < 2 ^ 99) }
+{
+    let mut count = 0u128;
+    for number in 0..program.functions.as_slice().len() as u32 {
+        count += word_count_if(alloc, map, program, plans, sources, runtime, number)?;
+    }
+    Ok(count)
+}
+
+// Why nothing is generated where a function cannot be assembled: it alone has more words than its segment has room for.
+fn refusal(
+    alloc: Global,
+    map: &AddrMap,
+    program: &FlatProgram,
+    plans: &[FunctionPlan],
+    sources: u32,
+) -> Result<GenerateError, AllocError>
+    requires sources { sources ≡ source_count program.now }
+    requires ready { IsReady program.now plans.now }
+    requires long { HasLongFunction map.now program.now plans.now }
+    ensures { IfOk result (IsCause map.now program.now plans.now) }
+{
+    long_lists_have_many_words();
+    let code_bytes = 4 * word_count_of(alloc, map, program, plans, sources, false)?;
+    if code_bytes > 0x80_0000 {
+        return Ok(GenerateError::TooLarge(code_bytes));
+    }
+    let runtime = word_count_of(alloc, map, program, plans, sources, true)?;
+    let count = program.functions.as_slice().len() as u128;
+    let table_bytes = 16 * count + u128::from(START_BYTES) + 4 * runtime;
+    Ok(GenerateError::RuntimeTooLarge(table_bytes))
+}
 
 // The words of a function.
 fn function_words(
@@ -48,7 +121,7 @@ fn function_words(
     if able {
         return Ok(assemble(alloc, items)?);
     }
-    Err(GenerateError::FunctionTooLong(number))
+    Err(refusal(alloc, map, program, plans, sources)?)
 }
 
 // What is generated so far.
@@ -225,10 +298,9 @@ fn source_count(program: &FlatProgram) -> u32
     count
 }
 
-/// The code of a program under its plans, one for each function. `TooLarge` comes exactly where every function can be
-/// assembled and the functions of the program take more than 8388608 bytes; `RuntimeTooLarge` where they take no more,
-/// and the jump table with the start and the tails of endings, and the functions of the runtime, more than 983040;
-/// `FunctionTooLong` names a function whose longest forms have 2^28 words or more; `Memory` where there is none.
+/// The code of a program under its plans, one for each function. `TooLarge` comes exactly where the functions of the
+/// program take more than 8388608 bytes; `RuntimeTooLarge` where they take no more, and the jump table with the start
+/// and the tails of endings, and the functions of the runtime, more than 983040; `Memory` where there is none.
 pub fn generate(
     alloc: Global,
     map: &AddrMap,

@@ -1,6 +1,7 @@
 //! Programs whose operands are taken from where their values come.
 
-ghost use Rattle.std.specs.Prelude.{◌≡◌, ◌<◌, ◌+◌, ◌^◌, ◌++◌, ◌∷◌, [], ℕ, IfOk, OnOk, length, map, if◌then◌else◌};
+ghost use Rattle.std.specs.Prelude.{◌≡◌, ◌<◌, ◌+◌, ◌^◌, ◌++◌, ◌∷◌, [], ℕ, length, map, if◌then◌else◌};
+ghost use Rattle.std.specs.Prelude.{IfOk, OnOk};
 ghost use Rattle.data_flow.specs.NodeSets.{is_in, node_count};
 ghost use Rattle.flat_propagation.specs.Facts.{nothing};
 ghost use Rattle.flat_propagation.specs.Known.{after};

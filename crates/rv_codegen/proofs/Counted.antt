@@ -1,10 +1,10 @@
 -- How many words the functions have, and what is too large where one of them cannot be assembled.
-use Rattle.std.proofs.Common.{◌≡◌, ℕ, zero, suc, ◌+◌, ◌*◌, ◌^◌, ◌<◌, ◌≤◌, Bool, true, false, not, List, [], ◌++◌}
-use Rattle.std.proofs.Common.{length, map, Option, Some, None, get_or, IsTrue, ◌↔◌, refl, sym, ap, ◌∙◌, subst, arith}
+use Rattle.std.proofs.Common.{◌≡◌, ℕ, zero, suc, ◌+◌, ◌*◌, ◌^◌, ◌<◌, ◌≤◌, Bool, true, false, not, List, []}
+use Rattle.std.proofs.Common.{length, map, Option, Some, None, IsTrue, ◌↔◌, refl, sym, ap, ◌∙◌, subst, arith}
 use Rattle.std.proofs.Common.{⊎_elim, length-append}
 use Rattle.std.specs.Prelude.{if◌then◌else◌}
 use Rattle.std.proofs.lemmas.Bool.{cases_lt, false≢true}
-use Rattle.std.proofs.lemmas.Option.{slice_get_past, slice_get_cases}
+use Rattle.std.proofs.lemmas.Option.{slice_get_cases}
 use Rattle.addr_map.specs.Places.{MapSizes, functions_begin, code_begin, code_size}
 use Rattle.rv_isa.specs.Table.{word_of}
 use Rattle.rv_asm.specs.declared.item.Item.{Item}
@@ -72,39 +72,39 @@ module _ (m : MapSizes) (p : FlatProgram) (plans : List FunctionPlan) where
 
   -- a long function has more words than a segment has room for
   module _ (law : (items : List Item) → longest_size items ≤ 3 * length (words_of items)) (h : HasLongFunction m p plans)
-      where
-    abbrev long : ℕ
-    long = h.0
+    where
+      abbrev long : ℕ
+      long = h.0
 
-    among : (r : Bool) → is_of r (function_in p long) ≡ true
-        → 2 ^ 28 ≤ 3 * length (words_below m p plans r (length p.functions))
-    among r of =
-        let words : words_if m p plans r long ≡ function_words m p plans long
-        = ap (λ b. if b then function_words m p plans long else []) of in
-        let count = ap length words in
-        let within = one_of r long (length p.functions) h.1 in
-        let third = law (items_of m p plans long) in
-        let size = h.2 in
-        omega (arith, count, within, third, size)
+      among : (r : Bool) → is_of r (function_in p long) ≡ true
+          → 2 ^ 28 ≤ 3 * length (words_below m p plans r (length p.functions))
+      among r of =
+          let words : words_if m p plans r long ≡ function_words m p plans long
+          = ap (λ b. if b then function_words m p plans long else []) of in
+          let count = ap length words in
+          let within = one_of r long (length p.functions) h.1 in
+          let third = law (items_of m p plans long) in
+          let size = h.2 in
+          omega (arith, count, within, third, size)
 
-    pub is_too_large : code_bytes m p plans ≤ code_size → code_begin < functions_begin + table_bytes m p plans
-    is_too_large fits = by (function_in p long) refl
-      where
-        of_kind : (g : FlatFunction) (b : Bool) → function_in p long ≡ Some g → g.is_runtime ≡ b
-            → code_begin < functions_begin + table_bytes m p plans
-        of_kind g true there kind =
-            let many = among true (ap (is_of true) there ∙ kind) in
-            let all = table_count in
-            omega (arith, many, all)
-        of_kind g false there kind =
-            let many = among false (ap (is_of false) there ∙ ap not kind) in
-            absurd (omega (arith, many, fits))
+      pub is_too_large : code_bytes m p plans ≤ code_size → code_begin < functions_begin + table_bytes m p plans
+      is_too_large fits = by (function_in p long) refl
+        where
+          of_kind : (g : FlatFunction) (b : Bool) → function_in p long ≡ Some g → g.is_runtime ≡ b
+              → code_begin < functions_begin + table_bytes m p plans
+          of_kind g true there kind =
+              let many = among true (ap (is_of true) there ∙ kind) in
+              let all = table_count in
+              omega (arith, many, all)
+          of_kind g false there kind =
+              let many = among false (ap (is_of false) there ∙ ap not kind) in
+              absurd (omega (arith, many, fits))
 
-        by : (o : Option FlatFunction) → function_in p long ≡ o → code_begin < functions_begin + table_bytes m p plans
-        by None none = ⊎_elim
-            (λ there. let e : Some there.0 ≡ None = sym there.2 ∙ none in cc)
-            (λ past. let le = past.0 in let lt = h.1 in absurd (omega (arith, le, lt)))
-            (slice_get_cases p.functions long).1
-        by (Some g) there = of_kind g g.is_runtime there refl
+          by : (o : Option FlatFunction) → function_in p long ≡ o → code_begin < functions_begin + table_bytes m p plans
+          by None none = ⊎_elim
+              (λ there. let e : Some there.0 ≡ None = sym there.2 ∙ none in cc)
+              (λ past. let le = past.0 in let lt = h.1 in absurd (omega (arith, le, lt)))
+              (slice_get_cases p.functions long).1
+          by (Some g) there = of_kind g g.is_runtime there refl
 
 pub ruleset counts = (first_count, next_count)

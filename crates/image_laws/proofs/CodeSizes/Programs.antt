@@ -149,5 +149,5 @@ pub not_too_large : (m : MapSizes) (p : FlatProgram) (plans : List FunctionPlan)
 not_too_large m p plans v bytes ok few fits cause =
     let b = few_bytes m p plans ok in
     let a = all_most p v few (length p.functions) in
-    let large = cause.1 in
+    let large = cause.0 in
     omega arith

@@ -29,8 +29,7 @@ use Rattle.rv_codegen.specs.declared.code.GenerateError.TheVariants as generate
 use Rattle.rv_codegen.specs.Generated.{IsCause}
 use Rattle.image_laws.specs.Sizes.Nodes.{program_nodes}
 use Rattle.image_compiler.specs.declared.error.CompileError.{CompileError}
-use Rattle.image_compiler.specs.declared.error.CompileError.TheVariants.{NumbersTooLarge, TooLarge, FunctionTooLong}
-use Rattle.image_compiler.specs.declared.error.CompileError.TheVariants.{Memory}
+use Rattle.image_compiler.specs.declared.error.CompileError.TheVariants.{NumbersTooLarge, TooLarge, Memory}
 use Rattle.image_compiler.specs.declared.compiler.Built.{Built}
 use Rattle.image_compiler.specs.Built.{HasChecks, IsExpandable, IsBuilt, IsRefused, NeedsNodes, Refuses}
 use Rattle.image_compiler.specs.Built.{UnlessMemory}
@@ -79,8 +78,6 @@ pub refused_for : (p : Program) (t : Tac) (m n : MapSizes) (e : CompileError) �
     → UnlessMemory e (IsRefused (HasChecks t) m e) → UnlessMemory e (IsRefused (IsChecked p) n e)
 refused_for p t m n NumbersTooLarge low weighed bodies same h = refused_one p t m n NumbersTooLarge low weighed bodies same h
 refused_for p t m n (TooLarge bytes) low weighed bodies same h = refused_one p t m n (TooLarge bytes) low weighed bodies same h
-refused_for p t m n (FunctionTooLong number) low weighed bodies same h =
-    refused_one p t m n (FunctionTooLong number) low weighed bodies same h
 refused_for p t m n Memory low weighed bodies same h = tt
 
 -- why code with its checks put in has no image
@@ -89,7 +86,6 @@ refused_with : (t checked : Tac) (m : MapSizes) (e : CompileError) → HasChecks
     → UnlessMemory e (IsRefused (HasChecks t) m e)
 refused_with t checked m NumbersTooLarge h r = record { checked = checked; is = h; refuses = r }
 refused_with t checked m (TooLarge bytes) h r = record { checked = checked; is = h; refuses = r }
-refused_with t checked m (FunctionTooLong number) h r = record { checked = checked; is = h; refuses = r }
 refused_with t checked m Memory h r = tt
 
 pub refused_checked : {A : Type 0} (t checked : Tac) (m : MapSizes) (IsOk : A → Type 0) (image : Result A CompileError)
@@ -181,5 +177,4 @@ pub nodes_result : (p : Program) (t : Tac) (m : MapSizes) (r : Result Built Comp
 nodes_result p t m (Ok b) law h = tt
 nodes_result p t m (Err NumbersTooLarge) law h = tt
 nodes_result p t m (Err (TooLarge bytes)) law h = large_code p t m bytes (λ k plans. law k plans bytes) h
-nodes_result p t m (Err (FunctionTooLong number)) law h = tt
 nodes_result p t m (Err Memory) law h = tt

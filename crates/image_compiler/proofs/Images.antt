@@ -55,9 +55,6 @@ module _ (m : MapSizes) (r : Tac) (small : AreAllSmall m r) where
       let no_code : HasNoCode m r (generate.TooLarge n) = record { small = small; cause = h } in
       subst (Refuses m r) (sym is) no_code
   refuses_by (generate.RuntimeTooLarge n) e h is = absurd is
-  refuses_by (generate.FunctionTooLong n) e h is =
-      let no_code : HasNoCode m r (generate.FunctionTooLong n) = record { small = small; cause = h } in
-      subst (Refuses m r) (sym is) no_code
   refuses_by generate.Memory e h is = subst (Refuses m r) (sym is) tt
 
   pub compiled_result : (code : FlatProgram) (generated : Result (Vec ℕ Global) GenerateError)
@@ -87,5 +84,5 @@ module _ (m : MapSizes) (r : Tac) (small : AreAllSmall m r) where
       MatchResult q (λ file. IsPlannedImage m code file.items) (IsNotGenerated m code)) e h in
       let cause = subst (λ k. HasCause m k (generate.RuntimeTooLarge bytes)) same failed in
       let fits = room cause.plans cause.planned in
-      let above = cause.cause.2 in
+      let above = cause.cause.1 in
       omega (arith, fits, above)

@@ -17,8 +17,7 @@ use Rattle.rv_codegen.specs.MachineImages.Image.{IsImage}
 use Rattle.image_laws.specs.Images.Images.{flat_code}
 use Rattle.image_laws.specs.Sizes.Nodes.{program_nodes}
 use Rattle.image_compiler.specs.declared.error.CompileError.{CompileError}
-use Rattle.image_compiler.specs.declared.error.CompileError.TheVariants.{NumbersTooLarge, TooLarge, FunctionTooLong}
-use Rattle.image_compiler.specs.declared.error.CompileError.TheVariants.{Memory}
+use Rattle.image_compiler.specs.declared.error.CompileError.TheVariants.{NumbersTooLarge, TooLarge, Memory}
 use Rattle.image_compiler.specs.declared.compiler.Built.{Built}
 
 -- what is asked of checked code: its flat code can be planned, and is of instructions that the machine has
@@ -61,14 +60,12 @@ pub record HasNoCode (map : MapSizes) (code : Tac) (error : GenerateError) : Typ
 abbrev pub Refuses : MapSizes → Tac → CompileError → Type 0
 Refuses m r NumbersTooLarge = AreAllSmall m r → ⊥
 Refuses m r (TooLarge bytes) = HasNoCode m r (generate.TooLarge bytes)
-Refuses m r (FunctionTooLong number) = HasNoCode m r (generate.FunctionTooLong number)
 Refuses m r Memory = Unit {0}
 
 -- what was generated, with an error of its own; want of room before compiled code is none
 abbrev pub IsErrorOf : GenerateError → CompileError → Type 0
 IsErrorOf (generate.TooLarge bytes) e = e ≡ TooLarge bytes
 IsErrorOf (generate.RuntimeTooLarge bytes) e = ⊥
-IsErrorOf (generate.FunctionTooLong number) e = e ≡ FunctionTooLong number
 IsErrorOf generate.Memory e = e ≡ Memory
 
 abbrev pub IsCompiled : {A : Type 0} → Result A GenerateError → Result A CompileError → Type 0

@@ -13,8 +13,6 @@ pub enum CompileError {
     /// The machine code of the functions takes more than 8388608 bytes, this many: at most 1024 for each node of the
     /// text.
     TooLarge(u128),
-    /// The function with this number has 2^28 words or more, if each branch and jump has its longest form.
-    FunctionTooLong(u32),
     /// There is no memory.
     Memory,
 }

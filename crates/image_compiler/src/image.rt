@@ -60,7 +60,6 @@ fn compiled(generated: Result<Vec<u8>, GenerateError>) -> Result<Vec<u8>, Compil
         Ok(file) => Ok(file),
         Err(GenerateError::TooLarge(bytes)) => Err(CompileError::TooLarge(bytes)),
         Err(GenerateError::RuntimeTooLarge(_)) => unreachable!(),
-        Err(GenerateError::FunctionTooLong(number)) => Err(CompileError::FunctionTooLong(number)),
         Err(GenerateError::Memory) => Err(CompileError::Memory),
     }
 }

@@ -44,7 +44,6 @@ not_too_long held files name bytes max n most told there short t =
 by_size : (e : CompileError) (refusal : SourceRefusal) → IsOfSize e refusal → IsRefusalBySize refusal
 by_size compile.NumbersTooLarge refusal is = subst IsRefusalBySize (sym is) tt
 by_size (compile.TooLarge bytes) refusal is = subst IsRefusalBySize (sym is) tt
-by_size (compile.FunctionTooLong number) refusal is = subst IsRefusalBySize (sym is) tt
 by_size compile.Memory refusal is = absurd is
 
 refused_by_size : (held : Option (List ℕ → Option (List ℕ))) (name : List ℕ) (budgets : BudgetSizes)

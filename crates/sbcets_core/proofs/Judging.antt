@@ -18,8 +18,7 @@ use Rattle.c_parser.specs.Parsed.{IsTreeOf, IsRefusedAt, line_at, is_nested_too_
 use Rattle.sbcets_core.specs.declared.refusal.SourceRefusal.{SourceRefusal}
 use Rattle.sbcets_core.specs.declared.refusal.SourceRefusal.TheVariants.{Lex, Pre, Unsupported, Syntax, Nesting}
 use Rattle.sbcets_core.specs.declared.refusal.SourceRefusal.TheVariants.{Typing, Const, TooLarge, Uncompiled}
-use Rattle.sbcets_core.specs.declared.refusal.SourceRefusal.TheVariants.{RoomTooLarge, NumbersTooLarge}
-use Rattle.sbcets_core.specs.declared.refusal.SourceRefusal.TheVariants.{FunctionTooLong, Memory}
+use Rattle.sbcets_core.specs.declared.refusal.SourceRefusal.TheVariants.{RoomTooLarge, NumbersTooLarge, Memory}
 use Rattle.sbcets_core.specs.Programs.{Judged, unless_large, if_compiled, judged_program, judged_unit}
 use Rattle.sbcets_core.specs.Accepted.{Readable, expanded_tokens, unless_unsupported, with_support, of_readable}
 use Rattle.sbcets_core.specs.Accepted.{supported_tokens, RefusesTokens, IsTyped, HasProgram, JudgesTokens}
@@ -38,7 +37,6 @@ unless_memory (TooLarge which n) A B f a = f a
 unless_memory (Uncompiled line) A B f a = f a
 unless_memory (RoomTooLarge number) A B f a = f a
 unless_memory NumbersTooLarge A B f a = f a
-unless_memory (FunctionTooLong number) A B f a = f a
 unless_memory Memory A B f a = tt
 
 -- what is known of the expanded tokens of a source
@@ -137,7 +135,6 @@ unparsed_by list (TooLarge which n) Holds syntax nesting r = absurd r
 unparsed_by list (Uncompiled line) Holds syntax nesting r = absurd r
 unparsed_by list (RoomTooLarge number) Holds syntax nesting r = absurd r
 unparsed_by list NumbersTooLarge Holds syntax nesting r = absurd r
-unparsed_by list (FunctionTooLong number) Holds syntax nesting r = absurd r
 unparsed_by list Memory Holds syntax nesting r = absurd r
 
 pub by_judgement : (list : TokenList) (answer : Judged) (Holds : Judged → Type 0) → JudgesTokens list answer

@@ -26,7 +26,7 @@ use Rattle.image_compiler.specs.Built.{IsBuilt, IsRefused, NeedsNodes}
 use Rattle.sbcets_core.specs.declared.refusal.Counted.TheVariants.{Source, Code}
 use Rattle.sbcets_core.specs.declared.refusal.SourceRefusal.{SourceRefusal}
 use Rattle.sbcets_core.specs.declared.refusal.SourceRefusal.TheVariants.{Lex, Pre, Unsupported, Syntax, Nesting}
-use Rattle.sbcets_core.specs.declared.refusal.SourceRefusal.TheVariants.{TooLarge, NumbersTooLarge, FunctionTooLong}
+use Rattle.sbcets_core.specs.declared.refusal.SourceRefusal.TheVariants.{TooLarge, NumbersTooLarge}
 use Rattle.sbcets_core.specs.declared.refusal.SourceRefusal.TheVariants.{Memory}
 use Rattle.sbcets_core.specs.Outcomes.{max_source}
 use Rattle.sbcets_core.specs.Programs.{Judged, judged_unit}
@@ -110,7 +110,6 @@ Judges source judged = JudgesReadable (supported_tokens source) judged
 abbrev pub IsOfSize : CompileError → SourceRefusal → Type 0
 IsOfSize compile.NumbersTooLarge refusal = refusal ≡ NumbersTooLarge
 IsOfSize (compile.TooLarge bytes) refusal = refusal ≡ TooLarge Code bytes
-IsOfSize (compile.FunctionTooLong number) refusal = refusal ≡ FunctionTooLong number
 IsOfSize compile.Memory refusal = ⊥
 
 -- A source is accepted, and some checked code of its program under some plans of registers is too large. (Which plans

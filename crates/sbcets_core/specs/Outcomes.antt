@@ -13,7 +13,6 @@ use Rattle.sbcets_core.specs.declared.refusal.SourceRefusal.{SourceRefusal}
 use Rattle.sbcets_core.specs.declared.refusal.SourceRefusal.TheVariants.{Lex, Pre, Unsupported, Syntax, Nesting}
 use Rattle.sbcets_core.specs.declared.refusal.SourceRefusal.TheVariants.{Typing, Const, TooLarge, Uncompiled}
 use Rattle.sbcets_core.specs.declared.refusal.SourceRefusal.TheVariants.{RoomTooLarge, NumbersTooLarge}
-use Rattle.sbcets_core.specs.declared.refusal.SourceRefusal.TheVariants.{FunctionTooLong}
 use Rattle.sbcets_core.specs.declared.refusal.SourceRefusal.TheVariants as refusals
 use Rattle.sbcets_core.specs.declared.outcome.ReadFault.TheVariants.{Failed, TooLong}
 use Rattle.sbcets_core.specs.declared.outcome.Outcome.{Outcome}
@@ -115,7 +114,6 @@ refusal_line (TooLarge which n) = line_of (counted_name which) (codes " of ") (d
 refusal_line (Uncompiled line) = at_line (codes "unsupported program") line
 refusal_line (RoomTooLarge number) = numbered_line (codes "room of function ") number (codes " is too large")
 refusal_line NumbersTooLarge = plain_line (codes "numbers of the code are too large")
-refusal_line (FunctionTooLong number) = numbered_line (codes "function ") number (codes " is too long")
 refusal_line refusals.Memory = plain_line (codes "out of memory")
 
 -- all but a program's own end, what was done in full and a fault of writing have a line of the tool

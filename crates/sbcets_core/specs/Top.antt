@@ -6,7 +6,7 @@ use Rattle.c_tree.specs.Programs.{Program}
 use Rattle.elf_image.specs.Tests.{image_fault}
 use Rattle.sbcets_core.specs.declared.refusal.Counted.TheVariants.{Code}
 use Rattle.sbcets_core.specs.declared.refusal.SourceRefusal.{SourceRefusal}
-use Rattle.sbcets_core.specs.declared.refusal.SourceRefusal.TheVariants.{NumbersTooLarge, TooLarge, FunctionTooLong}
+use Rattle.sbcets_core.specs.declared.refusal.SourceRefusal.TheVariants.{NumbersTooLarge, TooLarge}
 use Rattle.sbcets_core.specs.declared.outcome.ReadFault.TheVariants.{TooLong}
 use Rattle.sbcets_core.specs.declared.outcome.ReadFault.TheVariants as reads
 use Rattle.sbcets_core.specs.declared.outcome.Outcome.{Outcome}
@@ -86,7 +86,6 @@ Answers command outcome image before after = AnswersInFull command outcome image
 abbrev pub IsRefusalBySize : SourceRefusal → Type 0
 IsRefusalBySize NumbersTooLarge = Unit {0}
 IsRefusalBySize (TooLarge Code bytes) = Unit {0}
-IsRefusalBySize (FunctionTooLong number) = Unit {0}
 IsRefusalBySize refusal = ⊥
 
 -- what a run of an image can come to, that of an accepted source, and a build of it; the counts tell when a fault may

@@ -53,7 +53,6 @@ fn size_refusal(error: CompileError) -> SourceRefusal
             which: Counted::Code,
             count,
         },
-        CompileError::FunctionTooLong(number) => SourceRefusal::FunctionTooLong(number),
         CompileError::Memory => SourceRefusal::Memory,
     }
 }

@@ -114,9 +114,6 @@ pub enum SourceRefusal {
     /// A function has 2^32 virtual registers or more, or 2^31 instructions or more.
     #[error("the numbers of a function are too large")]
     NumbersTooLarge,
-    /// The function with this number has 2^28 words of code or more, if each branch and jump has its longest form.
-    #[error("a function of the source is too long")]
-    FunctionTooLong(u32),
     /// There was no memory to compile it.
     #[error("out of memory")]
     Memory,

@@ -88,9 +88,6 @@ fn report_refusal<S: Sink>(sink: &mut S, refusal: &SourceRefusal) -> Result<(), 
             )
         }
         SourceRefusal::NumbersTooLarge => put_plain(sink, b"numbers of the code are too large"),
-        SourceRefusal::FunctionTooLong(number) => {
-            put_numbered(sink, b"function ", u128::from(*number), b" is too long")
-        }
         SourceRefusal::Memory => put_plain(sink, b"out of memory"),
     }
 }

@@ -87,10 +87,6 @@ pub home_most : (g : FlatFunction) (y : ℕ) → home_words g y ≤ 3
 unfolding home_words
 home_most g y = offset_most (home g y)
 
-pub home_some : (g : FlatFunction) (y : ℕ) → 1 ≤ home_words g y
-unfolding home_words
-home_some g y = offset_some (home g y)
-
 pub passed_most : (g : FlatFunction) (y n : ℕ) → passed_words g y n ≤ 6 * n
 unfolding passed_words
 passed_most g y zero = omega arith

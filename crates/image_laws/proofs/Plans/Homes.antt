@@ -4,7 +4,7 @@ use Rattle.std.proofs.Common.{arith, List, [], ◌∷◌, ◌++◌, length, leng
 use Rattle.std.specs.Prelude.{slice_get}
 use Rattle.std.proofs.lemmas.Bool.{cases_lt}
 use Rattle.tac_ir.specs.declared.function.CodeFunction.{CodeFunction}
-use Rattle.metadata_plan.specs.Registers.{words_in, all_variables, most_temporaries, first_free}
+use Rattle.metadata_plan.specs.Registers.{words_in, all_variables, most_temporaries}
 use Rattle.metadata_expansion.specs.Homes.{free_count, words_from, temporary_homes, homes}
 use Rattle.metadata_expansion.specs.Numbers.{register_count}
 use Rattle.image_laws.proofs.Plans.Roles.{Role, OfVariable, OfTemporary, Scratch}
@@ -80,10 +80,6 @@ module _ (c : CodeFunction) where
   word y (OfVariable lt) = free_count c + y
   word y (OfTemporary z lt e) = free_count c + words_in (all_variables c) + z
   word y (Scratch j lt e) = j
-
-  pub scratch_word : (y j : ℕ) (lt : j < free_count c) (e : y ≡ first_free c + j) → word y (Scratch j lt e) ≡ j
-  unfolding word
-  scratch_word y j lt e = refl
 
   pub home_at : (y : ℕ) (r : Role c y) → slice_get (homes c) y ≡ Some (word y r)
   unfolding word

@@ -12,6 +12,7 @@ use Rattle.data_flow.specs.Relations.{Has, IsRelated, images}
 use Rattle.data_flow.specs.NodeSets.{is_in, Visits}
 use Rattle.data_flow.specs.Reached.{IsReached, Begins, Flows}
 use Rattle.data_flow.specs.Runs.{in_run, is_covered, IsRun, IsFound, AreFound, Grows}
+use Rattle.data_flow.specs.Stretches.{FlowsWithin, Ends, Goes}
 use Rattle.data_flow.proofs.Lists.{at_cases}
 use Rattle.data_flow.proofs.Visits.{cases_of}
 
@@ -71,17 +72,13 @@ covered_new runs runs' r e v low high =
     ∙ or_right (is_covered runs v) (is_covered (r ∷ []) v)
     (or_left (in_run r v) false (in_between r v low high))
 
--- a fact that reaches the last node of a run reaches the others, where none of them is killed
-pub reached_back : (edges : Relation) (generated killed : List ℕ) (first last : ℕ) → IsRun edges first last
-    → ((k : ℕ) → first ≤ k → k < last → Has killed k → ⊥) → IsReached edges generated killed last → (n v : ℕ)
-    → v + n ≡ last → first ≤ v → IsReached edges generated killed v
-reached_back edges generated killed first last run free h zero v e low =
-    let same : last ≡ v = omega arith in subst (IsReached edges generated killed) same h
-reached_back edges generated killed first last run free h (suc n) v e low =
-    let before : v < last = omega arith in
-    Flows (v + 1) v
-    (reached_back edges generated killed first last run free h n (v + 1) (omega arith) (omega arith))
-    (0, ap (λ xs. slice_get xs 0) (run.linked v low before)) (free v low before)
+-- a fact that reaches the last node of a stretch reaches the others, where none of them is killed
+pub reached_back : (edges : Relation) (generated killed : List ℕ) (first last : ℕ)
+    → ((k : ℕ) → first ≤ k → k < last → Has killed k → ⊥) → IsReached edges generated killed last → (v : ℕ)
+    → FlowsWithin edges first last v → IsReached edges generated killed v
+reached_back edges generated killed first last free h v (Ends _ e) = subst (IsReached edges generated killed) (sym e) h
+reached_back edges generated killed first last free h v (Goes u _ f r low lt) =
+    Flows u v (reached_back edges generated killed first last free h u f) r (free v low lt)
 
 pub found_more : (edges : Relation) (generated killed : List ℕ) (s s' : NodeSet) (firsts firsts' : List ℕ)
     (runs runs' : List Run) (first last : ℕ) → AreFound edges generated killed s firsts runs
@@ -90,12 +87,12 @@ pub found_more : (edges : Relation) (generated killed : List ℕ) (s s' : NodeSe
     → IsReached edges generated killed last → AreFound edges generated killed s' firsts' runs'
 found_more edges generated killed s s' firsts firsts' runs runs' first last a visits e run free h =
     let all : (v : ℕ) → first ≤ v → v ≤ last → IsReached edges generated killed v
-    = λ v low high. reached_back edges generated killed first last run free h (last - v) v (omega (arith, high)) low in
+    = λ v low high. reached_back edges generated killed first last free h v (run.stretch.flows v low high) in
     record {
       lists = visits.lists;
       reached = λ k v q. ⊎_elim
           (λ old. a.reached k v old)
-          (λ new. subst (IsReached edges generated killed) (sym new) (all first (omega arith) run.forward))
+          (λ new. subst (IsReached edges generated killed) (sym new) (all first (omega arith) run.stretch.forward))
           (visits.new k v q);
       found = λ k r q. ⊎_elim
           (λ old. let f = a.found k r old in record {
@@ -219,19 +216,6 @@ solving_more edges generated killed killing s s' firsts firsts' runs runs' done 
   within = let l : done < length firsts' = slice_get_within firsts' done u (grows.kept done u here) in omega arith;
 }
 
--- where an edge leads that follows a run
-along : (edges : Relation) (first last u v : ℕ) → IsRun edges first last → first < u → u ≤ last → IsRelated edges u v
-    → v + 1 ≡ u
-along edges first last u v run low high r =
-    let e : (u - 1) + 1 ≡ u = omega arith in
-    let one : images edges u ≡ (u - 1) ∷ [] = ap (images edges) (sym e) ∙ run.linked (u - 1) (omega arith) (omega arith)
-    in
-    by r.0 (ap (λ xs. slice_get xs r.0) (sym one) ∙ r.1)
-  where
-    by : (k : ℕ) → slice_get ((u - 1) ∷ []) k ≡ Some v → v + 1 ≡ u
-    by zero h = let e : u - 1 ≡ v = cc in omega (arith, e, low)
-    by (suc k) h = let w : ⊥ = cc in absurd w
-
 -- at the end all nodes are covered that are reached, and no others
 pub solved_closed : (edges : Relation) (generated killed : List ℕ) (killing s : NodeSet) (firsts : List ℕ)
     (runs : List Run) (done : ℕ) → Kills killed killing → Solving edges generated killed killing s firsts runs done
@@ -241,8 +225,7 @@ solved_closed edges generated killed killing s firsts runs done kills g le _ (Fl
     let o = covered_by runs u (solved_closed edges generated killed killing s firsts runs done kills g le u r) in
     let f = g.found.found o.0 o.1 o.2 in
     ⊎_elim
-    (λ inside. let next = along edges o.1.first o.1.last u v f.run inside o.4 e in
-    covered_at runs o.0 v o.1 o.2 (omega (arith, next, inside)) (let high = o.4 in omega (arith, next, high)))
+    (λ inside. covered_at runs o.0 v o.1 o.2 (f.run.stretch.enters u v inside o.4 e) (f.run.stays u v inside o.4 e))
     (λ start. let low = o.3 in
     let same : o.1.first ≡ u = omega (arith, low, start) in
     let b = f.begins in

@@ -2,3 +2,4 @@ pub mod Relations
 pub mod NodeSets
 pub mod Reached
 pub mod Runs
+pub mod Stretches

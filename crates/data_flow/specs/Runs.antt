@@ -1,13 +1,14 @@
--- Runs of nodes: stretches along which a fact can only flow from each node to the one before it.
+-- Runs of nodes: stretches that a fact fills and leaves by their first nodes alone.
 use Rattle.std.specs.Prelude.{◌≡◌, ℕ, ◌+◌, ◌<◌, ◌≤◌, List, [], ◌∷◌, length, Bool, true, ◌&&◌, nat_le, Option, Some}
 use Rattle.std.specs.Prelude.{None, slice_get}
 use Rattle.std.specs.List.{list_any}
 use Rattle.data_flow.specs.declared.node_set.NodeSet.{NodeSet}
 use Rattle.data_flow.specs.declared.relation.Relation.{Relation}
 use Rattle.data_flow.specs.declared.runs.Run.{Run}
-use Rattle.data_flow.specs.Relations.{Has, images}
+use Rattle.data_flow.specs.Relations.{Has, IsRelated}
 use Rattle.data_flow.specs.NodeSets.{Lists, absent}
 use Rattle.data_flow.specs.Reached.{IsReached}
+use Rattle.data_flow.specs.Stretches.{IsStretch}
 
 -- whether a run has a node, and whether one of a list has it
 abbrev pub in_run : Run → ℕ → Bool
@@ -16,14 +17,11 @@ in_run r v = nat_le r.first v && nat_le v r.last
 abbrev pub is_covered : List Run → ℕ → Bool
 is_covered runs v = list_any (λ r. in_run r v) runs
 
--- from each node but the first there is one edge alone, to the node before it
+-- A stretch from whose nodes behind the first no edge leads behind the last: a fact that comes to the last fills the run
+-- and leaves it by the first alone.
 pub record IsRun (edges : Relation) (first last : ℕ) : Type 0 where
-  pub forward : first ≤ last
-  pub linked : (k : ℕ) → first ≤ k → k < last → images edges (k + 1) ≡ k ∷ []
-
--- for each node the first of a run that ends with it
-pub record HasStarts (edges : Relation) (starts : List ℕ) : Type 0 where
-  pub runs : (v s : ℕ) → slice_get starts v ≡ Some s → IsRun edges s v
+  pub stretch : IsStretch edges first last
+  pub stays : (u v : ℕ) → first < u → u ≤ last → IsRelated edges u v → v ≤ last
 
 -- the greatest number of a list that is below another
 abbrev pub IsLastBelow : List ℕ → ℕ → Option ℕ → Type 0

@@ -5,12 +5,16 @@
 //! turned round; a fact is available on all paths where its opposite does not come.
 #![tactic(auto)]
 
+mod bounds;
+mod cover;
 pub mod node_set;
 pub mod relation;
 pub mod runs;
 pub mod solver;
+pub mod stretches;
 
 pub use crate::node_set::NodeSet;
 pub use crate::relation::Relation;
-pub use crate::runs::{Run, run_starts};
+pub use crate::runs::Run;
 pub use crate::solver::least_runs;
+pub use crate::stretches::Stretches;

@@ -1,12 +1,13 @@
-//! Runs of nodes, along which a fact can only flow from each node to the one before it.
+//! Runs of nodes, which a fact that comes to their last node fills, and which it leaves by their first alone.
 
-ghost use Rattle.std.specs.Prelude.{◌≡◌, ◌+◌, ◌-◌, ◌<◌, ◌≤◌, ◌^◌, ◌∷◌, [], ℕ, IfOk, length, true};
+ghost use Rattle.std.specs.Prelude.{◌≡◌, ◌<◌, ◌≤◌, ℕ};
 ghost use Rattle.std.specs.List.Sorted.{IsNonDecreasing};
-ghost use Rattle.data_flow.specs.Relations.{Has, images};
-ghost use Rattle.data_flow.specs.Runs.{IsRun, HasStarts, IsLastBelow};
+ghost use Rattle.data_flow.specs.Relations.{Has};
+ghost use Rattle.data_flow.specs.Runs.{IsRun, IsLastBelow};
+ghost use Rattle.data_flow.specs.Stretches.{AreStretches};
 
 use crate::relation::Relation;
-use std::alloc::{AllocError, Global};
+use crate::stretches::Stretches;
 
 /// The nodes from one to another.
 #[derive(Clone, Copy)]
@@ -15,43 +16,6 @@ pub struct Run {
     pub first: u32,
     /// The last node.
     pub last: u32,
-}
-
-// Whether a list has one number alone, this one.
-fn is_only(list: &[u32], number: u32) -> bool
-    ensures { result ≡ true → list.now ≡ number ∷ [] }
-{
-    match list {
-        [only] => *only == number,
-        _ => false,
-    }
-}
-
-// The first node of a run that ends with a node, from those of the nodes before it.
-fn start_of(edges: &Relation, starts: &[u32], node: u32) -> u32
-    requires size { length starts.now ≡ node }
-    requires starts { HasStarts edges.now starts.now }
-    ensures { IsRun edges.now result node }
-{
-    if node > 0 && is_only(edges.images(node as usize), node - 1) {
-        return starts[node as usize - 1];
-    }
-    node
-}
-
-/// For each node the first of a run that ends with it: the node itself, where not its only edge leads to the one
-/// before it.
-pub fn run_starts(alloc: Global, edges: &Relation) -> Result<Vec<u32>, AllocError>
-    requires { length edges.now.rows.items < 2 ^ 32 }
-    ensures size { IfOk result (λ starts. length starts.items ≡ length edges.now.rows.items) }
-    ensures starts { IfOk result (λ starts. HasStarts edges.now starts.items) }
-{
-    let mut starts = Vec::new(alloc);
-    for node in 0..edges.rows.len() as u32 {
-        let start = start_of(edges, &starts, node);
-        starts.push(start)?;
-    }
-    Ok(starts)
 }
 
 // The greatest number of a sorted list that is below another.
@@ -66,17 +30,16 @@ fn last_below(list: &[u32], bound: u32) -> Option<u32>
     Some(list[count - 1])
 }
 
-/// The first node of a run that ends with a node, and in which no other is killed.
-pub(crate) fn run_start(edges: &Relation, starts: &[u32], killed: &[u32], node: u32) -> u32
-    requires inside { node < length starts.now }
-    requires starts { HasStarts edges.now starts.now }
+/// The first node of the longest run that is found which ends with a node, and in which no other is killed.
+pub(crate) fn run_start(stretches: &Stretches, edges: &Relation, killed: &[u32], node: u32) -> u32
+    requires stretches { AreStretches edges.now stretches.now }
     requires sorted { IsNonDecreasing killed.now }
     ensures run { IsRun edges.now result node }
     ensures free { (k : ℕ) → result ≤ k → k < node → Has killed.now k → ⊥ }
 {
-    let start = starts[node as usize];
+    let inner = stretches.at(node).inner;
     match last_below(killed, node) {
-        Some(last) if last >= start => last + 1,
-        _ => start,
+        Some(last) => stretches.first_from(node, inner.max(last + 1)),
+        None => stretches.first_from(node, inner),
     }
 }

@@ -4,21 +4,23 @@ ghost use Rattle.std.specs.Prelude.{◌≡◌, ◌<◌, ◌≤◌, ◌⊎◌, �
 ghost use Rattle.data_flow.specs.Relations.{Has, IsRelated};
 ghost use Rattle.data_flow.specs.NodeSets.{is_in, node_count, Lists, Visits};
 ghost use Rattle.data_flow.specs.declared.runs.Run.{Run};
-ghost use Rattle.data_flow.specs.Runs.{HasStarts, AreFound, Grows, is_covered};
+ghost use Rattle.data_flow.specs.Runs.{AreFound, Grows, is_covered};
+ghost use Rattle.data_flow.specs.Stretches.{AreStretches};
 ghost use Rattle.std.specs.List.Sorted.{IsNonDecreasing};
 ghost use Rattle.data_flow.specs.Reached.{IsReached, AreBelow, LeadsBelow};
 
 use crate::node_set::NodeSet;
 use crate::relation::Relation;
 use crate::runs::{Run, run_start};
+use crate::stretches::Stretches;
 use std::alloc::{AllocError, Global};
 
-// What a fact does: the edges along which it flows, for each node the first of a run that ends with it, and where it is
-// generated and killed.
+// What a fact does: the edges along which it flows, where stretches of nodes begin, and where it is generated and
+// killed.
 #[derive(Clone, Copy)]
 struct Flow<'a> {
     edges: &'a Relation,
-    starts: &'a [u32],
+    stretches: &'a Stretches,
     generated: &'a [u32],
     killed: &'a [u32],
 }
@@ -46,8 +48,7 @@ fn visit_run(
     node: u32,
 ) -> Result<(), AllocError>
     requires inside { node < node_count begun.old }
-    requires starts_size { length flow.now.starts.now ≡ node_count begun.old }
-    requires starts { HasStarts flow.now.edges.now flow.now.starts.now }
+    requires stretches { AreStretches flow.now.edges.now flow.now.stretches.now }
     requires sorted { IsNonDecreasing flow.now.killed.now }
     requires reached { IsReached flow.now.edges.now flow.now.generated.now flow.now.killed.now node }
     requires found { AreFound flow.now.edges.now flow.now.generated.now flow.now.killed.now
@@ -60,7 +61,7 @@ fn visit_run(
     ensures covered { OnOk result (is_covered runs.new.items node ≡ true) }
     ensures size { node_count begun.new ≡ node_count begun.old }
 {
-    let first = run_start(flow.edges, flow.starts, flow.killed, node);
+    let first = run_start(flow.stretches, flow.edges, flow.killed, node);
     runs.push(Run { first, last: node })?;
     let visited = visit(begun, firsts, first)?;
     Ok(visited)
@@ -78,8 +79,7 @@ fn visit_run_unless(
 ) -> Result<(), AllocError>
     requires inside { node < node_count begun.old }
     requires same_size { node_count but.now ≡ node_count begun.old }
-    requires starts_size { length flow.now.starts.now ≡ node_count begun.old }
-    requires starts { HasStarts flow.now.edges.now flow.now.starts.now }
+    requires stretches { AreStretches flow.now.edges.now flow.now.stretches.now }
     requires sorted { IsNonDecreasing flow.now.killed.now }
     requires reached { is_in but.now node ≡ false
         → IsReached flow.now.edges.now flow.now.generated.now flow.now.killed.now node }
@@ -111,8 +111,7 @@ fn visit_runs(
 ) -> Result<(), AllocError>
     requires inside { AreBelow (node_count begun.old) nodes.now }
     requires same_size { node_count but.now ≡ node_count begun.old }
-    requires starts_size { length flow.now.starts.now ≡ node_count begun.old }
-    requires starts { HasStarts flow.now.edges.now flow.now.starts.now }
+    requires stretches { AreStretches flow.now.edges.now flow.now.stretches.now }
     requires sorted { IsNonDecreasing flow.now.killed.now }
     requires reached { (v : ℕ) → Has nodes.now v → is_in but.now v ≡ false
         → IsReached flow.now.edges.now flow.now.generated.now flow.now.killed.now v }
@@ -146,13 +145,13 @@ fn insert_all(set: &mut NodeSet, nodes: &[u32])
 }
 
 /// The nodes that a fact reaches which is generated at some nodes, flows along edges, and is killed at some nodes: the
-/// least solution, as runs, which may overlap. It takes time for what is generated and killed, and for the edges of the
-/// runs' first nodes alone. For each node the first is given of a run that ends with it. The two sets, of all nodes,
-/// are only made use of.
+/// least solution, as runs, which may overlap. It takes time for what is generated and killed, and for the runs and the
+/// edges of their first nodes, each with the logarithm of the nodes. The stretches are those of the graph. The two sets,
+/// of all nodes, are only made use of.
 pub fn least_runs(
     alloc: Global,
     edges: &Relation,
-    starts: &[u32],
+    stretches: &Stretches,
     generated: &[u32],
     killed: &[u32],
     begun: &mut NodeSet,
@@ -162,8 +161,7 @@ pub fn least_runs(
     requires generated_inside { AreBelow (node_count begun.old) generated.now }
     requires killed_inside { AreBelow (node_count begun.old) killed.now }
     requires same_size { node_count killing.old ≡ node_count begun.old }
-    requires starts_size { length starts.now ≡ node_count begun.old }
-    requires starts { HasStarts edges.now starts.now }
+    requires stretches { AreStretches edges.now stretches.now }
     requires sorted { IsNonDecreasing killed.now }
     ensures closed { IfOk result
         (λ runs. (v : ℕ) → IsReached edges.now generated.now killed.now v → is_covered runs.items v ≡ true) }
@@ -176,7 +174,7 @@ pub fn least_runs(
 {
     let flow = Flow {
         edges,
-        starts,
+        stretches,
         generated,
         killed,
     };

@@ -5,7 +5,7 @@ ghost use Rattle.std.specs.Prelude.{true, slice_get};
 ghost use Rattle.std.specs.List.Sorted.{IsNonDecreasing};
 ghost use Rattle.data_flow.specs.Relations.{Has};
 ghost use Rattle.data_flow.specs.NodeSets.{node_count};
-ghost use Rattle.data_flow.specs.Runs.{HasStarts};
+ghost use Rattle.data_flow.specs.Stretches.{AreStretches};
 ghost use Rattle.reg_plan.specs.Needs.{IsNeeded};
 ghost use Rattle.reg_plan.specs.Flow.{Represents, IsNamed, HasSizes};
 ghost use Rattle.reg_plan.specs.Accepted.{covers, intervals_of};
@@ -13,7 +13,7 @@ ghost use Rattle.reg_plan.specs.Accepted.{covers, intervals_of};
 use crate::flow::{Problem, problem_of};
 use crate::intervals::intervals;
 use crate::plan::LiveInterval;
-use data_flow::{NodeSet, least_runs, run_starts};
+use data_flow::{NodeSet, Stretches, least_runs};
 use flat_meaning::{FlatInstruction, FlatProgram};
 use std::alloc::{AllocError, Global};
 
@@ -28,15 +28,15 @@ fn sorted(alloc: Global, list: &[u32]) -> Result<Vec<u32>, AllocError>
     Ok(sorted)
 }
 
-// A function of a program, the data-flow problem of its virtual registers, and for each instruction the first of a run
-// that ends with it.
+// A function of a program, the data-flow problem of its virtual registers, and where stretches of its instructions
+// begin.
 #[derive(Clone, Copy)]
 struct Analysis<'a> {
     program: &'a FlatProgram,
     function: u32,
     body: &'a [FlatInstruction],
     problem: &'a Problem,
-    starts: &'a [u32],
+    stretches: &'a Stretches,
 }
 
 // The live range of one virtual register.
@@ -50,8 +50,7 @@ fn live_range(
     requires count { length analysis.now.body.now < 2 ^ 32 }
     requires represents { Represents analysis.now.program.now analysis.now.function analysis.now.body.now
         (length analysis.now.body.now) analysis.now.problem.now }
-    requires starts_size { length analysis.now.starts.now ≡ length analysis.now.body.now }
-    requires starts { HasStarts analysis.now.problem.now.edges analysis.now.starts.now }
+    requires stretches { AreStretches analysis.now.problem.now.edges analysis.now.stretches.now }
     requires begun_size { node_count begun.old ≡ length analysis.now.body.now }
     requires killing_size { node_count killing.old ≡ length analysis.now.body.now }
     ensures needed { IfOk result
@@ -67,7 +66,7 @@ fn live_range(
     let runs = least_runs(
         alloc,
         &analysis.problem.edges,
-        analysis.starts,
+        analysis.stretches,
         analysis.problem.generated.images(register),
         &killed,
         begun,
@@ -78,8 +77,8 @@ fn live_range(
 }
 
 /// The live ranges of the virtual registers of a function, so many of which have homes: each is exactly where its
-/// value is needed. It takes time for the instructions, and for the blocks of straight code in which each value is
-/// needed.
+/// value is needed. It takes time for the instructions, for what they read and make and for the intervals, each with the
+/// logarithm of the instructions.
 pub fn live_ranges(
     alloc: Global,
     program: &FlatProgram,
@@ -98,13 +97,13 @@ pub fn live_ranges(
         → IsNeeded program.now function body.now pc y) }
 {
     let problem = problem_of(alloc, program, function, body, registers)?;
-    let starts = run_starts(alloc, &problem.edges)?;
+    let stretches = Stretches::new(alloc, &problem.edges)?;
     let analysis = Analysis {
         program,
         function,
         body,
         problem: &problem,
-        starts: &starts,
+        stretches: &stretches,
     };
     let mut begun = NodeSet::new(alloc, body.len())?;
     let mut killing = NodeSet::new(alloc, body.len())?;

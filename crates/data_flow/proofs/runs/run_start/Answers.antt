@@ -1,23 +1,24 @@
-use Rattle.std.proofs.Common.{arith, get_or}
-use Rattle.std.proofs.lemmas.Option.{slice_get-get_or}
+use Rattle.std.proofs.Common.{arith, ◌∙◌}
+use Rattle.data_flow.proofs.Joining.{run_by}
 use Rattle.data_flow.proofs.runs.run_start.Goals as goal
+
+pub returns-in-Some-clause-run : goal.returns-in-Some-clause-run
+returns-in-Some-clause-run c =
+    let edges = c.args.edges.now in
+    let from = c.first_from.ensures.from in
+    run_by edges c.at-inner.result.inner c.first_from.result c.args.node
+    (c.at-inner.ensures edges c.requires.stretches).inner (omega (arith, c.max.ensures, from))
+    (c.first_from.ensures.stretch edges c.requires.stretches)
+
+pub returns-in-None-clause-run : goal.returns-in-None-clause-run
+returns-in-None-clause-run c =
+    let edges = c.args.edges.now in
+    run_by edges c.at-inner.result.inner c.first_from-in-None.result c.args.node
+    (c.at-inner.ensures edges c.requires.stretches).inner c.first_from-in-None.ensures.from
+    (c.first_from-in-None.ensures.stretch edges c.requires.stretches)
 
 pub returns-in-Some-clause-free : goal.returns-in-Some-clause-free
 returns-in-Some-clause-free c k low high h =
     let l = c.in-Some.ensures.1 k h high in
-    omega (arith, l, low)
-
-pub returns-in_default-clause-run : goal.returns-in_default-clause-run
-returns-in_default-clause-run c =
-    c.requires.starts.runs c.args.node (get_or c.args.starts.now c.args.node 0)
-    (slice_get-get_or c.args.starts.now c.args.node 0 c.requires.inside)
-
-pub returns-in_default-clause-free : goal.returns-in_default-clause-free
-returns-in_default-clause-free c k low high h =
-    let l = c.in-Some.ensures.1 k h high in
-    omega (arith, l, low, c.if-last-start.false)
-
-pub returns-in_default-2-clause-run : goal.returns-in_default-2-clause-run
-returns-in_default-2-clause-run c =
-    c.requires.starts.runs c.args.node (get_or c.args.starts.now c.args.node 0)
-    (slice_get-get_or c.args.starts.now c.args.node 0 c.requires.inside)
+    let from = c.first_from.ensures.from in
+    omega (arith, l, low, c.max.ensures, from)

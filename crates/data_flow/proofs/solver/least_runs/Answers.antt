@@ -91,4 +91,4 @@ returns-clause-least c = solved_least c.args.edges.now c.args.generated.now c.ar
 pub returns-clause-last : goal.returns-clause-last
 returns-clause-last c k r h =
     let f = c.loop-done.invariant.solving.found.found k r h in
-    f.reached r.last f.run.forward (omega arith)
+    f.reached r.last f.run.stretch.forward (omega arith)

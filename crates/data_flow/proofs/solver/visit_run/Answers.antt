@@ -4,7 +4,7 @@ use Rattle.data_flow.proofs.solver.visit_run.Goals as goal
 
 pub visit-requires-clause-inside : goal.visit-requires-clause-inside
 visit-requires-clause-inside c =
-    let f = c.run_start-first.ensures.run.forward in
+    let f = c.run_start-first.ensures.run.stretch.forward in
     omega (arith, f, c.requires.inside)
 
 pub returns-clause-found : goal.returns-clause-found
@@ -18,5 +18,5 @@ returns-clause-grows c =
 
 pub returns-clause-covered : goal.returns-clause-covered
 returns-clause-covered c =
-    let f = c.run_start-first.ensures.run.forward in
+    let f = c.run_start-first.ensures.run.stretch.forward in
     covered_new _ _ _ c.in_ok-push.ensures.items c.args.node f (omega arith)

@@ -142,20 +142,20 @@ grows_on s s' s'' firsts firsts' firsts'' runs runs' runs'' a b = record {
   total = b.total ∙ a.total;
 }
 
--- the nodes before one more are covered, and that one
+-- the nodes behind one more are covered, and that one
 pub covered_more : (nodes : List ℕ) (but : NodeSet) (runs runs' : List Run) (i node : ℕ)
     → slice_get nodes i ≡ Some node
-    → ((k v : ℕ) → k < i → slice_get nodes k ≡ Some v → is_in but v ≡ false → is_covered runs v ≡ true)
+    → ((k v : ℕ) → i + 1 ≤ k → slice_get nodes k ≡ Some v → is_in but v ≡ false → is_covered runs v ≡ true)
     → ((v : ℕ) → is_covered runs v ≡ true → is_covered runs' v ≡ true)
-    → (is_in but node ≡ false → is_covered runs' node ≡ true) → (k v : ℕ) → k < i + 1 → slice_get nodes k ≡ Some v
+    → (is_in but node ≡ false → is_covered runs' node ≡ true) → (k v : ℕ) → i ≤ k → slice_get nodes k ≡ Some v
     → is_in but v ≡ false → is_covered runs' v ≡ true
-covered_more nodes but runs runs' i node here old grows new k v lt h f = ⊎_elim
-    (λ low. grows v (old k v low h f))
-    (λ high. let same : k ≡ i = omega arith in
+covered_more nodes but runs runs' i node here old grows new k v le h f = ⊎_elim
+    (λ behind. grows v (old k v (omega (arith, behind)) h f))
+    (λ upto. let same : k ≡ i = omega (arith, upto, le) in
     let q : Some node ≡ Some v = sym here ∙ ap (slice_get nodes) (sym same) ∙ h in
     let e : v ≡ node = cc in
     subst (λ x. is_covered runs' x ≡ true) (sym e) (new (subst (λ x. is_in but x ≡ false) e f)))
-    (cases_lt k i)
+    (cases_lt i k)
 
 -- ---- the worklist
 

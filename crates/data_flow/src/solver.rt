@@ -67,7 +67,18 @@ fn visit_run(
     Ok(visited)
 }
 
-// Visits the run that ends with a node which is not in `but`.
+// Whether the last of the runs has a node.
+fn is_in_last(runs: &[Run], node: u32) -> bool
+    ensures { result ≡ true → is_covered runs.now node ≡ true }
+{
+    if runs.is_empty() {
+        return false;
+    }
+    let last = runs[runs.len() - 1];
+    last.first <= node && node <= last.last
+}
+
+// Visits the run that ends with a node which is not in `but`, unless the last run has it.
 #[tactic(auto, using(crate::proofs::Solving::grows_none))]
 fn visit_run_unless(
     begun: &mut NodeSet,
@@ -96,11 +107,15 @@ fn visit_run_unless(
     if but.contains(node as usize) {
         return Ok(());
     }
+    if is_in_last(runs.as_slice(), node) {
+        return Ok(());
+    }
     let visited = visit_run(begun, firsts, runs, flow, node)?;
     Ok(visited)
 }
 
-// Visits the runs that end with nodes which are not in `but`.
+// Visits the runs that end with nodes which are not in `but`, from the last node of the list on: a run that ends with
+// the end of a loop has all of the loop, and mostly the nodes from which the loop is entered.
 fn visit_runs(
     begun: &mut NodeSet,
     firsts: &mut Vec<u32>,
@@ -126,8 +141,10 @@ fn visit_runs(
         ((v : ℕ) → Has nodes.now v → is_in but.now v ≡ false → is_covered runs.new.items v ≡ true) }
     ensures size { node_count begun.new ≡ node_count begun.old }
 {
-    for node in nodes {
-        visit_run_unless(begun, firsts, runs, flow, but, *node)?;
+    let mut left = nodes.len();
+    while left > 0 {
+        left -= 1;
+        visit_run_unless(begun, firsts, runs, flow, but, nodes[left])?;
     }
     Ok(())
 }

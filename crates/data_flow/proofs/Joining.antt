@@ -1,11 +1,10 @@
 -- Stretches put together.
-use Rattle.std.proofs.Common.{◌≡◌, ℕ, zero, suc, ◌+◌, ◌-◌, ◌<◌, ◌≤◌, ◌⊎◌, inl, inr, ⊎_elim, List, [], ◌∷◌, ◌++◌, length}
-use Rattle.std.proofs.Common.{Some, refl, sym, ap, ◌∙◌, subst, arith}
-use Rattle.std.specs.Prelude.{slice_get}
+use Rattle.std.proofs.Common.{◌≡◌, ℕ, ◌+◌, ◌-◌, ◌<◌, ◌≤◌, ◌⊎◌, inl, inr, ⊎_elim}
+use Rattle.std.proofs.Common.{refl, sym, subst, arith}
 use Rattle.std.proofs.lemmas.Bool.{cases_lt, cases_eq}
 use Rattle.data_flow.specs.declared.relation.Relation.{Relation}
 use Rattle.data_flow.specs.declared.cover.Cover.{Cover}
-use Rattle.data_flow.specs.Relations.{Has, IsRelated}
+use Rattle.data_flow.specs.Relations.{IsRelated}
 use Rattle.data_flow.specs.Stretches.{FlowsWithin, Ends, Goes, IsStretch, IsInner, IsCover}
 use Rattle.data_flow.specs.Runs.{IsRun}
 

@@ -6,7 +6,7 @@ use Rattle.data_flow.specs.declared.runs.Run.{Run}
 use Rattle.data_flow.specs.declared.stretches.Starts.{Starts}
 use Rattle.data_flow.specs.declared.stretches.Stretches.{Stretches}
 use Rattle.data_flow.specs.declared.cover.Cover.{Cover}
-use Rattle.data_flow.specs.Relations.{Has, IsRelated, images}
+use Rattle.data_flow.specs.Relations.{IsRelated}
 
 -- the nodes to which a fact flows from the last of some nodes, all the way within them
 pub data FlowsWithin (edges : Relation) (first last : ℕ) : ℕ → Type 0 where

@@ -1,6 +1,6 @@
-use Rattle.std.proofs.Common.{◌≡◌, ℕ, ◌+◌, ◌≤◌, List, length, length-append, ap, sym, subst, ◌∙◌}
+use Rattle.std.proofs.Common.{ℕ, ◌+◌, ◌≤◌, List, length, length-append, ap, sym, subst, ◌∙◌}
 use Rattle.data_flow.specs.declared.runs.Run.{Run}
-use Rattle.data_flow.specs.Relations.{Has, IsRelated, images}
+use Rattle.data_flow.specs.Relations.{Has, IsRelated}
 use Rattle.data_flow.proofs.Lists.{each_more}
 use Rattle.data_flow.proofs.bounds.all_bounds.Goals as goal
 

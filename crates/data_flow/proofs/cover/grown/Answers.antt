@@ -1,4 +1,4 @@
-use Rattle.std.proofs.Common.{◌≡◌, ◌-◌, ◌+◌, ◌≤◌, ℕ, subst, sym, ap, refl, arith}
+use Rattle.std.proofs.Common.{◌≡◌, ◌-◌, subst, sym, ap, refl, arith}
 use Rattle.data_flow.specs.declared.cover.Cover.{Cover}
 use Rattle.data_flow.specs.Stretches.{IsStretch}
 use Rattle.data_flow.proofs.Joining.{alone, joined, stretch_by, cover_by}

@@ -1,4 +1,4 @@
-use Rattle.std.proofs.Common.{◌≡◌, ℕ, List, Some, subst, refl, arith}
+use Rattle.std.proofs.Common.{◌≡◌, ℕ, List, subst, refl, arith}
 use Rattle.data_flow.specs.Relations.{Has}
 use Rattle.data_flow.specs.Stretches.{FlowsWithin, IsStretch}
 use Rattle.data_flow.proofs.Joining.{flows_directly, flows_back}

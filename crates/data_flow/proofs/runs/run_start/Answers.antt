@@ -1,4 +1,4 @@
-use Rattle.std.proofs.Common.{arith, ◌∙◌}
+use Rattle.std.proofs.Common.{arith}
 use Rattle.data_flow.proofs.Joining.{run_by}
 use Rattle.data_flow.proofs.runs.run_start.Goals as goal
 

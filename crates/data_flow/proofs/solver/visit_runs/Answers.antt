@@ -6,8 +6,11 @@ use Rattle.data_flow.proofs.solver.visit_runs.Goals as goal
 pub visit_run_unless-requires-clause-reached : goal.visit_run_unless-requires-clause-reached
 visit_run_unless-requires-clause-reached c f =
     let i = c.loop-left.left - 1 in
-    c.requires.reached _ (i, slice_get-get_or c.args.nodes.now i 0
-    (let w = c.loop-left.invariant.within in omega (arith, w, c.loop-left-test.true))) f
+    c.requires.reached _ (
+      i,
+      slice_get-get_or c.args.nodes.now i 0
+          (let w = c.loop-left.invariant.within in omega (arith, w, c.loop-left-test.true)),
+    ) f
 
 pub loop-left-init : goal.loop-left-init
 loop-left-init c = record {

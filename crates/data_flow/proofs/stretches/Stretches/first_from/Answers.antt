@@ -1,4 +1,4 @@
-use Rattle.std.proofs.Common.{refl, arith}
+use Rattle.std.proofs.Common.{refl}
 use Rattle.data_flow.proofs.Joining.{alone, joined}
 use Rattle.data_flow.proofs.stretches.Stretches.first_from.Goals as goal
 

@@ -1,4 +1,4 @@
-use Rattle.std.proofs.Common.{◌≡◌, ℕ, ◌+◌, List, length, length-append, ap, ◌∙◌}
+use Rattle.std.proofs.Common.{ℕ, ◌+◌, length, length-append, ap, ◌∙◌}
 use Rattle.data_flow.specs.declared.stretches.Starts.{Starts}
 use Rattle.data_flow.specs.Stretches.{AreStarts}
 use Rattle.data_flow.proofs.Lists.{each_more}

@@ -1,7 +1,8 @@
 -- A pointer is narrowed: over registers of its own, and to what the definition says.
-use Rattle.std.proofs.Common.{◌≡◌, ◌≢◌, ℕ, ◌+◌, ◌-◌, ◌%◌, ◌^◌, ◌<◌, ◌≤◌, max, min, List, [], ◌∷◌, map, true, refl, sym, ap}
-use Rattle.std.proofs.Common.{ap₂, ◌∙◌, subst, arith, ⊎_elim}
-use Rattle.addr_map.specs.Places.{AreMapped}
+use Rattle.std.proofs.Common.{◌≡◌, ◌≢◌, ℕ, ◌+◌, ◌-◌, ◌%◌, ◌^◌, ◌<◌, ◌≤◌, max, min, List, [], ◌∷◌, Bool, map, true, refl, sym}
+use Rattle.std.proofs.Common.{ap, ap₂, ◌∙◌, subst, arith, ⊎_elim}
+use Rattle.std.proofs.lemmas.Bool.{cases_eq}
+use Rattle.addr_map.specs.Places.{MapSizes, AreMapped}
 use Rattle.rv_isa.specs.declared.instruction.BranchOp.TheVariants.{Beq, Bgeu, Bltu}
 use Rattle.rv_isa.specs.declared.instruction.RegOp.TheVariants.{Add, Sub}
 use Rattle.rv_isa.specs.Results.{reg_result}
@@ -21,8 +22,8 @@ use Rattle.flat_meaning.specs.Words.{IsOfWords}
 use Rattle.flat_meaning.specs.Meaning.{Context, Goes, right_value}
 use Rattle.flat_meaning.proofs.Stored.{put_other}
 use Rattle.flat_routines.specs.declared.registers.Held.{Held}
-use Rattle.flat_routines.specs.Registers.{AreBelow, IsNoneOf}
-use Rattle.flat_routines.specs.Routine.{Does, Either, Never, Outcome, Reaches}
+use Rattle.flat_routines.specs.Registers.{AreBelow, IsNoneOf, OthersStay}
+use Rattle.flat_routines.specs.Routine.{Does, Either, Never, Outcome, Continues, Halts, Reaches}
 use Rattle.flat_routines.specs.Effects.{worked, effects}
 use Rattle.flat_routines.specs.Renaming.{all_fit, rename, through, Agrees}
 use Rattle.flat_routines.specs.Metadata.{Metadata, ShowsNothing, metadata_in}
@@ -37,7 +38,7 @@ use Rattle.shadow_space.proofs.Entries.{agrees_shows, agrees_memory, context_of}
 use Rattle.lock_space.proofs.Spaces.{locks_laid_out}
 use Rattle.flat_actions.specs.Judgement.Testing.{IsToTest}
 use Rattle.flat_actions.specs.Narrowing.{IsOther, CanNarrow, narrowed_registers, narrow_code, HasNarrowed}
-use Rattle.flat_actions.specs.Narrowing.{IsNarrowRoutine}
+use Rattle.flat_actions.specs.Narrowing.{IsNarrowRoutine, HasGoneOn, IsMoveOnRoutine}
 
 -- ---- over registers of its own
 
@@ -194,54 +195,80 @@ module _ (c : Context) (o n : RightOperand) (v : State) (w : IsOfWords v) where
         shows = record { input = refl; output = refl; taken = refl; accesses = refl; turns = refl };
       })))))
 
+-- ---- the numbers in the registers of a pointer
+
+-- what stands there when it was narrowed, and nothing else changed but registers from scratch on
+record HasNumbers (h : Held) (offset size t : ℕ) (s s' : State) : Type 0 where
+  value : s'.values h.value ≡ (s.values h.value + offset) % 2 ^ 64
+  base : s.values h.tag.lock ≢ 0
+      → s'.values h.tag.base ≡ max (s.values h.tag.base) ((s.values h.value + offset) % 2 ^ 64)
+  bound : s.values h.tag.lock ≢ 0
+      → s'.values h.tag.bound ≡ min (s.values h.tag.bound) ((s.values h.value + offset) % 2 ^ 64 + size)
+  none : s.values h.tag.lock ≡ 0
+      → (s'.values h.tag.base ≡ s.values h.tag.base) × (s'.values h.tag.bound ≡ s.values h.tag.bound)
+  key : s'.values h.tag.key ≡ s.values h.tag.key
+  lock : s'.values h.tag.lock ≡ s.values h.tag.lock
+  memory : s'.memory ≡ s.memory
+  shows : ShowsNothing s s'
+  others : OthersStay (narrowed_registers h) t s s'
+
+module _ (h : Held) (offset size t : ℕ) (s s' : State) (q : HasNumbers h offset size t s s')
+    (none : s.values h.tag.lock ≡ 0) where
+  -- without a lock word nothing changed but the address
+  alike : metadata_in s'.values h.tag ≡ metadata_in s.values h.tag
+  alike = same_metadata (metadata_in s'.values h.tag) (metadata_in s.values h.tag) (q.none none).0 (q.none none).1 q.key
+      q.lock
+
+  others_alike : OthersStay (h.value ∷ []) t s s'
+  others_alike x l ne = ⊎_elim
+      (λ e. ap s'.values e ∙ (q.none none).0 ∙ ap s.values (sym e))
+      (λ no_base. ⊎_elim
+      (λ e. ap s'.values e ∙ (q.none none).1 ∙ ap s.values (sym e))
+      (λ no_bound. q.others x l (ne.0, (no_base, (no_bound, tt))))
+      (cases_eq x h.tag.bound))
+      (cases_eq x h.tag.base)
+
+  moved_on : HasGoneOn h offset t s s'
+  moved_on = record {
+    address = q.value;
+    metadata = alike;
+    memory = q.memory;
+    shows = q.shows;
+    others = others_alike;
+  }
+
 -- ---- the entry is that of the narrowed pointer
 
 module _ (g : Views) (k : Keys) (objects : Objects) (v : Value) (offset size : ℕ) (mapped : AreMapped g.sizes) (h : Held)
-    (s s' : State) (p : IsToTest g k objects v h s) where
-  abbrev address_of : ℕ
-  address_of = (s.values h.value + offset) % 2 ^ 64
+    (t : ℕ) (s s' : State) (p : IsToTest g k objects v h s) (q : HasNumbers h offset size t s s') where
+  kept : s.values h.tag.lock ≡ 0 → metadata_in s'.values h.tag ≡ metadata_in s.values h.tag
+  kept = alike h offset size t s s' q
 
-  -- the registers of the pointer have these numbers
-  record HasNumbers : Type 0 where
-    value : s'.values h.value ≡ address_of
-    base : s.values h.tag.lock ≢ 0 → s'.values h.tag.base ≡ max (s.values h.tag.base) address_of
-    bound : s.values h.tag.lock ≢ 0 → s'.values h.tag.bound ≡ min (s.values h.tag.bound) (address_of + size)
-    none : s.values h.tag.lock ≡ 0
-        → (s'.values h.tag.base ≡ s.values h.tag.base) × (s'.values h.tag.bound ≡ s.values h.tag.bound)
-    key : s'.values h.tag.key ≡ s.values h.tag.key
-    lock : s'.values h.tag.lock ≡ s.values h.tag.lock
+  word_is : s'.values h.value ≡ (narrowed offset size v).word
+  unfolding narrowed
+  word_is = q.value ∙ ap (λ a. (a + offset) % 2 ^ 64) p.spells.word
 
-  module _ (q : HasNumbers) where
-    word_is : s'.values h.value ≡ (narrowed offset size v).word
-    unfolding narrowed
-    word_is = q.value ∙ ap (λ a. (a + offset) % 2 ^ 64) p.spells.word
+  by_tag : (t : Tag) → IsSoundTag g.functions objects t → metadata_in s.values h.tag ≡ spell g k t
+      → metadata_in s'.values h.tag ≡ spell g k (narrowed_tag ((v.word + offset) % 2 ^ 64) size t)
+  by_tag Untagged sound e = kept (ap (λ (m : Metadata). m.lock) e) ∙ e
+  by_tag (OfFunction f) sound e = kept (ap (λ (m : Metadata). m.lock) e) ∙ e
+  by_tag (OfObject i b) sound e =
+      let lock = (p.stands.keyed.each i sound.made).lock in
+      let lie = locks_laid_out g.sizes mapped in
+      let first = lie.first in
+      let from = lock.first in
+      let is : s.values h.tag.lock ≡ (k.held i).lock = ap (λ (m : Metadata). m.lock) e in
+      let some : s.values h.tag.lock ≢ 0 = λ zero. absurd (omega arith) in
+      let word = p.spells.word in
+      same_metadata (metadata_in s'.values h.tag)
+      (spell g k (narrowed_tag ((v.word + offset) % 2 ^ 64) size (OfObject i b)))
+      (q.base some ∙ ap₂ (λ x a. max x ((a + offset) % 2 ^ 64)) (ap (λ (m : Metadata). m.base) e) word)
+      (q.bound some ∙ ap₂ (λ x a. min x ((a + offset) % 2 ^ 64 + size)) (ap (λ (m : Metadata). m.bound) e) word)
+      (q.key ∙ ap (λ (m : Metadata). m.key) e) (q.lock ∙ is)
 
-    -- without a lock word nothing changed
-    alike : s.values h.tag.lock ≡ 0 → metadata_in s'.values h.tag ≡ metadata_in s.values h.tag
-    alike none = same_metadata (metadata_in s'.values h.tag) (metadata_in s.values h.tag) (q.none none).0
-        (q.none none).1 q.key q.lock
-
-    by_tag : (t : Tag) → IsSoundTag g.functions objects t → metadata_in s.values h.tag ≡ spell g k t
-        → metadata_in s'.values h.tag ≡ spell g k (narrowed_tag ((v.word + offset) % 2 ^ 64) size t)
-    by_tag Untagged sound e = alike (ap (λ (m : Metadata). m.lock) e) ∙ e
-    by_tag (OfFunction f) sound e = alike (ap (λ (m : Metadata). m.lock) e) ∙ e
-    by_tag (OfObject i b) sound e =
-        let lock = (p.stands.keyed.each i sound.made).lock in
-        let lie = locks_laid_out g.sizes mapped in
-        let first = lie.first in
-        let from = lock.first in
-        let is : s.values h.tag.lock ≡ (k.held i).lock = ap (λ (m : Metadata). m.lock) e in
-        let some : s.values h.tag.lock ≢ 0 = λ zero. absurd (omega arith) in
-        let word = p.spells.word in
-        same_metadata (metadata_in s'.values h.tag)
-        (spell g k (narrowed_tag ((v.word + offset) % 2 ^ 64) size (OfObject i b)))
-        (q.base some ∙ ap₂ (λ x a. max x ((a + offset) % 2 ^ 64)) (ap (λ (m : Metadata). m.base) e) word)
-        (q.bound some ∙ ap₂ (λ x a. min x ((a + offset) % 2 ^ 64 + size)) (ap (λ (m : Metadata). m.bound) e) word)
-        (q.key ∙ ap (λ (m : Metadata). m.key) e) (q.lock ∙ is)
-
-    spells_narrowed : Spells g k (narrowed offset size v) h s'.values
-    unfolding narrowed
-    spells_narrowed = record { word = word_is; tag = by_tag v.tag p.sound p.spells.tag }
+  spells_narrowed : Spells g k (narrowed offset size v) h s'.values
+  unfolding narrowed
+  spells_narrowed = record { word = word_is; tag = by_tag v.tag p.sound p.spells.tag }
 
 -- ---- over any registers
 
@@ -300,44 +327,45 @@ module _ (h : Held) (t : ℕ) where
     seen_size (Register x) s = refl
     seen_size (Number m) s = refl
 
-pub narrow_does : (h : Held) (o n : RightOperand) (t : ℕ) → CanNarrow h o n t → IsNarrowRoutine h o n t
-    (narrow_code h o n t)
-narrow_does h o n t can g k objects v offset size runtime charge weight mapped =
-    let c = context_of g.sizes runtime charge weight in
+-- the numbers, whatever the registers stand for
+numbers : (h : Held) (o n : RightOperand) (t : ℕ) → CanNarrow h o n t → (map : MapSizes) (offset size : ℕ)
+    (runtime : Bool) (charge weight : ℕ)
+    → Does (context_of map runtime charge weight) (narrow_code h o n t)
+    (λ s. (right_value o s.values ≡ offset) × (right_value n s.values ≡ size)) (λ s. 8)
+    (λ s. Either (HasNumbers h offset size t s) Never)
+numbers h o n t can map offset size runtime charge weight =
+    let c = context_of map runtime charge weight in
     let r = are_registers h t o n can in
     let f = names h t o n in
-    let P : State → Type 0 = λ s. IsToTest g k objects v h s × (right_value o s.values ≡ offset)
-    × (right_value n s.values ≡ size) in
-    subst (λ code. Does c code P (λ s. 8) (λ s. Either (HasNarrowed g k (narrowed offset size v) h t s) Never))
+    let P : State → Type 0 = λ s. (right_value o s.values ≡ offset) × (right_value n s.values ≡ size) in
+    subst (λ code. Does c code P (λ s. 8) (λ s. Either (HasNumbers h offset size t s) Never))
     (renamed_code h t o n)
     (routine c 7 3 f (alone o n) P (registers_rename (inputs h o n) (narrowed_registers h) (t ∷ []) t r)
     (all_are_fit h t o n) (λ s. 8)
     (λ s. IsNarrowed (right_value (own o 0) (through f s).values) (right_value (own n 1) (through f s).values) (through f s))
-    (λ s. HasNarrowed g k (narrowed offset size v) h t s)
+    (λ s. HasNumbers h offset size t s)
     (λ s w seen p. narrows_alone c o n (through f s) seen)
     (λ s s' y w p q agrees only.
-    let by : right_value (own o 0) (through f s).values ≡ offset = seen_offset h t o n can o s ∙ p.1 in
-    let many : right_value (own n 1) (through f s).values ≡ size = seen_size h t o n can n s ∙ p.2 in
+    let by : right_value (own o 0) (through f s).values ≡ offset = seen_offset h t o n can o s ∙ p.0 in
+    let many : right_value (own n 1) (through f s).values ≡ size = seen_size h t o n can n s ∙ p.1 in
     let others = others_stay (inputs h o n) (narrowed_registers h) (t ∷ []) t r s s' only in
     let b = can.below in let a = can.apart in
     let z = q.shows in
     record {
-      spells = spells_narrowed g k objects v offset size mapped h s s' p.0 (record {
-        value = sym (agrees.values 3 (omega arith)) ∙ q.value
-            ∙ ap (λ x. (s.values h.value + x) % 2 ^ 64) by;
-        base = λ some. sym (agrees.values 4 (omega arith)) ∙ q.base some
-            ∙ ap (λ x. max (s.values h.tag.base) ((s.values h.value + x) % 2 ^ 64)) by;
-        bound = λ some. sym (agrees.values 5 (omega arith)) ∙ q.bound some
-            ∙ ap₂ (λ x e. min (s.values h.tag.bound) ((s.values h.value + x) % 2 ^ 64 + e)) by many;
-        none = λ zero. (
-          sym (agrees.values 4 (omega arith)) ∙ (q.none zero).0,
-          sym (agrees.values 5 (omega arith)) ∙ (q.none zero).1,
-        );
-        key = others h.tag.key b.1.1.1.0
-            ((λ e. a.0.1.1.0 (sym e)), ((λ e. a.1.0.1.0 (sym e)), ((λ e. a.1.1.0.0 (sym e)), tt)));
-        lock = others h.tag.lock b.1.1.1.1.0
-            ((λ e. a.0.1.1.1.0 (sym e)), ((λ e. a.1.0.1.1.0 (sym e)), ((λ e. a.1.1.0.1.0 (sym e)), tt)));
-      });
+      value = sym (agrees.values 3 (omega arith)) ∙ q.value
+          ∙ ap (λ x. (s.values h.value + x) % 2 ^ 64) by;
+      base = λ some. sym (agrees.values 4 (omega arith)) ∙ q.base some
+          ∙ ap (λ x. max (s.values h.tag.base) ((s.values h.value + x) % 2 ^ 64)) by;
+      bound = λ some. sym (agrees.values 5 (omega arith)) ∙ q.bound some
+          ∙ ap₂ (λ x e. min (s.values h.tag.bound) ((s.values h.value + x) % 2 ^ 64 + e)) by many;
+      none = λ zero. (
+        sym (agrees.values 4 (omega arith)) ∙ (q.none zero).0,
+        sym (agrees.values 5 (omega arith)) ∙ (q.none zero).1,
+      );
+      key = others h.tag.key b.1.1.1.0
+          ((λ e. a.0.1.1.0 (sym e)), ((λ e. a.1.0.1.0 (sym e)), ((λ e. a.1.1.0.0 (sym e)), tt)));
+      lock = others h.tag.lock b.1.1.1.1.0
+          ((λ e. a.0.1.1.1.0 (sym e)), ((λ e. a.1.0.1.1.0 (sym e)), ((λ e. a.1.1.0.1.0 (sym e)), tt)));
       memory = agrees_memory 7 f y s' agrees ∙ q.memory;
       shows = agrees_shows 7 f y s s' agrees (record {
         input = z.input;
@@ -348,3 +376,38 @@ narrow_does h o n t can g k objects v offset size runtime charge weight mapped =
       });
       others = others;
     }))
+
+-- ---- what is left, by what the registers stand for
+
+weaker : (I J : State → Type 0) → ((s : State) → I s → J s) → (x : Outcome) → Either I Never x → Either J Never x
+weaker I J to (Continues s) i = to s i
+weaker I J to (Halts status report s) never = never
+
+module _ (h : Held) (o n : RightOperand) (t : ℕ) (can : CanNarrow h o n t) where
+  pub narrow_does : IsNarrowRoutine h o n t (narrow_code h o n t)
+  narrow_does g k objects v offset size runtime charge weight mapped = record {
+    from = λ code pc s has words p.
+        weaken (context_of g.sizes runtime charge weight) code 8 8 (Goes pc s) (pc + 8)
+        (Either (HasNumbers h offset size t s) Never) (Either (HasNarrowed g k (narrowed offset size v) h t s) Never)
+        (omega arith)
+        (weaker (HasNumbers h offset size t s) (HasNarrowed g k (narrowed offset size v) h t s) (λ s' q. record {
+          spells = spells_narrowed g k objects v offset size mapped h t s s' p.0 q;
+          memory = q.memory;
+          shows = q.shows;
+          others = q.others;
+        }))
+        ((numbers h o n t can g.sizes offset size runtime charge weight).from code pc s has words (p.1, p.2));
+  }
+
+  -- the size plays no part
+  pub goes_on : IsMoveOnRoutine h o t (narrow_code h o n t)
+  goes_on map offset runtime charge weight = record {
+    from = λ code pc s has words p.
+        weaken (context_of map runtime charge weight) code 8 8 (Goes pc s) (pc + 8)
+        (Either (HasNumbers h offset (right_value n s.values) t s) Never) (Either (HasGoneOn h offset t s) Never)
+        (omega arith)
+        (weaker (HasNumbers h offset (right_value n s.values) t s) (HasGoneOn h offset t s)
+        (λ s' q. moved_on h offset (right_value n s.values) t s s' q p.0))
+        ((numbers h o n t can map offset (right_value n s.values) runtime charge weight).from code pc s has words
+        (p.1, refl));
+  }

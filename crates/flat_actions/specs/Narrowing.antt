@@ -1,6 +1,6 @@
 -- A pointer narrowed in flat code to a member of what it points to.
-use Rattle.std.specs.Prelude.{◌≡◌, ℕ, ◌<◌, Bool, List, [], ◌∷◌}
-use Rattle.addr_map.specs.Places.{AreMapped}
+use Rattle.std.specs.Prelude.{◌≡◌, ℕ, ◌+◌, ◌%◌, ◌^◌, ◌<◌, Bool, List, [], ◌∷◌}
+use Rattle.addr_map.specs.Places.{MapSizes, AreMapped}
 use Rattle.rv_isa.specs.declared.instruction.BranchOp.TheVariants.{Beq, Bgeu, Bltu}
 use Rattle.rv_isa.specs.declared.instruction.RegOp.TheVariants.{Add, Sub}
 use Rattle.obj_memory.specs.declared.value.Value.{Value}
@@ -15,7 +15,7 @@ use Rattle.flat_meaning.specs.Meaning.{right_value}
 use Rattle.flat_routines.specs.declared.registers.Held.{Held}
 use Rattle.flat_routines.specs.Registers.{AreBelow, AreDistinct, IsNoneOf, OthersStay}
 use Rattle.flat_routines.specs.Routine.{Does, Either, Never}
-use Rattle.flat_routines.specs.Metadata.{held_registers, ShowsNothing}
+use Rattle.flat_routines.specs.Metadata.{held_registers, metadata_in, ShowsNothing}
 use Rattle.flat_routines.specs.Objects.StandsFor.{Views, Keys, Spells}
 use Rattle.flat_actions.specs.Judgement.Testing.{IsToTest}
 
@@ -65,3 +65,21 @@ IsNarrowRoutine h by many t r =
     → Does (record { sizes = g.sizes; is_runtime = runtime; charge = charge; weight = weight }) r
     (λ s. IsToTest g k objects v h s × (right_value by s.values ≡ offset) × (right_value many s.values ≡ size))
     (λ s. 8) (λ s. Either (HasNarrowed g k (narrowed offset size v) h t s) Never)
+
+-- ---- what is no pointer to an object
+
+-- The address goes on by so many bytes, and keeps its metadata.
+pub record HasGoneOn (held : Held) (offset scratch : ℕ) (before after : State) : Type 0 where
+  pub address : after.values held.value ≡ (before.values held.value + offset) % 2 ^ 64
+  pub metadata : metadata_in after.values held.tag ≡ metadata_in before.values held.tag
+  pub memory : after.memory ≡ before.memory
+  pub shows : ShowsNothing before after
+  pub others : OthersStay (held.value ∷ []) scratch before after
+
+-- Whatever the registers stand for, where there is no lock word: within 8 steps the address alone goes on.
+abbrev pub IsMoveOnRoutine : Held → (offset : RightOperand) → (scratch : ℕ) → List FlatInstruction → Type 0
+IsMoveOnRoutine h by t r =
+    (map : MapSizes) (offset : ℕ) (runtime : Bool) (charge weight : ℕ)
+    → Does (record { sizes = map; is_runtime = runtime; charge = charge; weight = weight }) r
+    (λ s. (s.values h.tag.lock ≡ 0) × (right_value by s.values ≡ offset)) (λ s. 8)
+    (λ s. Either (HasGoneOn h offset t s) Never)

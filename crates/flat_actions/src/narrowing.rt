@@ -1,7 +1,8 @@
 //! Pointers to members: SoftBound's narrowing of bounds.
 
 ghost use Rattle.std.specs.Prelude.{◌≡◌, ◌≤◌, ◌^◌, IfOk};
-ghost use Rattle.flat_actions.specs.Narrowing.{CanNarrow, IsNarrowRoutine, narrow_code};
+ghost use Rattle.flat_routines.specs.InputOutput.{IsWithoutInputOutput};
+ghost use Rattle.flat_actions.specs.Narrowing.{CanNarrow, IsNarrowRoutine, IsMoveOnRoutine, narrow_code};
 
 use flat_meaning::{FlatInstruction, RightOperand};
 use flat_routines::Held;
@@ -10,9 +11,10 @@ use std::alloc::{AllocError, Global};
 
 /// Narrows the pointer in `pointer`, in place, to a member of `size` bytes that begins `offset` bytes on: the address
 /// goes on, and the bounds are those where the old ones meet the member's bytes, also where its end is behind the last
-/// address. A pointer to no object keeps its metadata. Both operands are numbers or registers other than those of the
-/// pointer that are written, its value, base and bound. It may write the registers from `scratch` on, and shows nothing.
-/// The only refusal is that memory fails.
+/// address. What has no lock word, and so is no pointer to an object, keeps its metadata: the address alone goes on. Both
+/// operands are numbers or registers other than those of the pointer that are written, its value, base and bound. It may
+/// write the registers from `scratch` on, and shows nothing: it takes no input and puts no output. The only refusal is
+/// that memory fails.
 pub fn narrow(
     alloc: Global,
     pointer: Held,
@@ -21,7 +23,9 @@ pub fn narrow(
     scratch: u32,
 ) -> Result<Vec<FlatInstruction>, AllocError>
     requires { CanNarrow pointer offset size scratch }
-    ensures { IfOk result (λ r. IsNarrowRoutine pointer offset size scratch r.items) }
+    ensures narrows { IfOk result (λ r. IsNarrowRoutine pointer offset size scratch r.items) }
+    ensures goes_on { IfOk result (λ r. IsMoveOnRoutine pointer offset scratch r.items) }
+    ensures computes { IfOk result (λ r. IsWithoutInputOutput r.items) }
 {
     narrow_instructions(alloc, pointer, offset, size, scratch)
 }

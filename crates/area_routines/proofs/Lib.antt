@@ -3,6 +3,7 @@ pub mod Behind
 pub mod Bodies
 pub mod Contents
 pub mod MoveAreas
+pub mod NarrowParts
 pub mod Parts
 pub mod PutRanges
 pub mod PutValues

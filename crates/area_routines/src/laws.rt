@@ -1,17 +1,22 @@
 //! What keeps areas, and what areas keep: laws, each as the contract of a function that does nothing.
 
-ghost use Rattle.std.specs.Prelude.{◌≡◌, ◌≤◌, ◌<◌, ℕ};
+ghost use Rattle.std.specs.Prelude.{◌≡◌, ◌≤◌, ◌<◌, ℕ, List};
 ghost use Rattle.addr_map.specs.declared.region.Region.TheVariants.{StructureValues};
 ghost use Rattle.addr_map.specs.Places.{MapSizes, AreMapped, region_start};
 ghost use Rattle.obj_memory.specs.Objects.{ObjectState, Objects};
 ghost use Rattle.obj_memory.specs.Sound.{IsSoundObject};
 ghost use Rattle.source_meaning.specs.State.{State as Source};
+ghost use Rattle.flat_meaning.specs.declared.instruction.RightOperand.{RightOperand};
+ghost use Rattle.flat_meaning.specs.declared.instruction.FlatInstruction.{FlatInstruction};
 ghost use Rattle.flat_meaning.specs.Memory.{Bytes};
 ghost use Rattle.flat_meaning.specs.State.{State};
+ghost use Rattle.flat_routines.specs.declared.registers.Held.{Held};
 ghost use Rattle.flat_routines.specs.Metadata.{ShowsNothing};
 ghost use Rattle.flat_routines.specs.Objects.StandsFor.{Views, Keys};
 ghost use Rattle.flat_actions.specs.Actions.{KeepsHeld, IsFor, views_of};
+ghost use Rattle.flat_actions.specs.Narrowing.{IsMoveOnRoutine};
 ghost use Rattle.area_routines.specs.Areas.{IsArea};
+ghost use Rattle.area_routines.specs.Parts.{IsNarrowPartRoutine};
 
 use shadow_space::ShadowForm;
 
@@ -34,3 +39,10 @@ pub fn objects_stay_where_areas_change<S: ShadowForm>()
 {
     S::entries_are_local();
 }
+
+/// What narrows pointers narrows parts of contents as well, in place: these have no lock word, so the address alone goes
+/// on, to the member that the source narrows the part to.
+pub fn members_of_contents_are_narrowed_in_place()
+    ensures { (h : Held) (by : RightOperand) (t : ℕ) (r : List FlatInstruction) → IsMoveOnRoutine h by t r
+        → IsNarrowPartRoutine h by t r }
+{}

@@ -42,7 +42,7 @@ use Rattle.runtime_functions.specs.Calls.{CallSite, waits_at, begins_in, CallsRu
 use Rattle.runtime_functions.specs.Calls.{Exited, IsCalled, ComesOfCall}
 use Rattle.runtime_functions.specs.Actions.{over_registers, argument_register, result_register, AreParameters}
 use Rattle.runtime_functions.specs.Actions.{AreResults, AreTaken, Interface, price_of, IsActionFunction}
-use Rattle.runtime_functions.specs.Actions.{IsReady, work_of_call, IsBehind, IsServed}
+use Rattle.runtime_functions.specs.Actions.{IsReady, work_of_call, IsBehind, HasCompleted, IsServed}
 use Rattle.runtime_functions.specs.Actions.{HasTold, HasExited, ComesBehind, steps_of, ServesCall}
 use Rattle.runtime_functions.proofs.Calls.{comes_of_call, weight_is, no_report, some_report}
 
@@ -128,6 +128,10 @@ module _ (s : CallSite) (a : ℕ) where
   pub argument_is : (r : ℕ) → r < a → (begins_in s a).values r ≡ s.state.values (argument_register s r)
   argument_is r l = ap (λ b. if b then s.state.values (s.first + r) else 0) (lt-ltb r a l)
 
+  -- the same, of the caller's register
+  pub argument_at : (r i : ℕ) → r < a → s.first + r ≡ i → (begins_in s a).values r ≡ s.state.values i
+  argument_at r i l e = argument_is r l ∙ ap s.state.values e
+
   pub status_is_zero : (begins_in s a).values a ≡ 0
   status_is_zero = ap (λ b. if b then s.state.values (s.first + a) else 0) (le-ltb a a (omega arith))
 
@@ -146,7 +150,7 @@ module _ (s : CallSite) (a : ℕ) where
   begins_for g k IsGood x h = for_still g k IsGood x s.state (begins_in s a) refl
       (record { input = refl; output = refl; taken = refl; accesses = refl; turns = refl }) h
 
-  argument_held : (g : Views) (k : Keys) (objects : Objects) (o : Holder) (v : Value)
+  pub argument_held : (g : Views) (k : Keys) (objects : Objects) (o : Holder) (v : Value)
       → AreParameters a (registers_of o)
       → IsHeldBy g k objects (over_registers (argument_register s) o) v s.state.values
       → IsHeldBy g k objects o v (begins_in s a).values
@@ -258,6 +262,19 @@ module _ (m : MapSizes) (p : FlatProgram) (s : CallSite) (fn : FlatFunction) (r 
         work = omega arith;
       }
 
+  pub of_runtime : is_runtime_function (function_in p s.function) ≡ true
+  of_runtime = ap is_runtime_function h.calls.found ∙ h.is.of_runtime
+
+  -- what it does in functions of the runtime
+  pub serves_in_runtime : (P : State → Type 0) (B : State → ℕ) (Q : State → Outcome → Type 0)
+      → ((charge weight : ℕ)
+      → Does (record { sizes = m; is_runtime = true; charge = charge; weight = weight }) r P B Q)
+      → IsOfWords s.state → P (begins_in s a) → Serves m p s r a n (B (begins_in s a)) (Q (begins_in s a))
+  serves_in_runtime P B Q does =
+      serves P B Q
+      (subst (λ b. Does (record { sizes = m; is_runtime = b; charge = c.charge; weight = c.weight }) r P B Q)
+      (sym of_runtime) (does c.charge c.weight))
+
 -- ---- a run that is ended
 
 -- the work of a call: the values handed over, the status, and the routine's
@@ -323,6 +340,32 @@ module _ (s : CallSite) (a n line w : ℕ) where
           let none : length (report_of e) ≡ 0 = ap length (sym ended.report_is ∙ empty) in
           absurd (omega (arith, some))
 
+-- ---- a run that goes on
+
+-- the routine gives its result behind the status, and leaves that alone
+module _ (s : CallSite) (a n : ℕ) (result : Holder) (scratch : ℕ) (behind_status : AreResults a n (registers_of result))
+    (own : a + 1 + n ≤ scratch) where
+  pub went_on : (g : Views) (k : Keys) (IsGood : Bytes → Type 0) (x : Source) (w : ℕ) (v : Value) (x' : Source)
+      (z : State) (stage : Stage) → HasGiven g k IsGood result scratch x (begins_in s a) v x' z
+      → HasReturned s a n (z.values a) z stage → z.work ≤ (begins_in s a).work + w
+      → HasCompleted g k IsGood result s a n (16 + 2 * (a + (1 + n)) + 1 + w) x v x' stage
+  went_on g k IsGood x w v x' z stage given back work = record {
+    behind = behind s a n (z.values a) z stage back (16 + 2 * (a + (1 + n)) + 1 + w) given.turns (omega arith);
+    status = back.status_is
+        ∙ given.others a (omega arith) (none_of_results a n (registers_of result) behind_status)
+        ∙ status_is_zero s a;
+    keys_after = given.keys;
+    kept = given.held;
+    stands = returned_for s a n (z.values a) z stage back g given.keys IsGood x' given.stands;
+    given = result_given s a n (z.values a) z stage back g given.keys result v behind_status given.given;
+    elsewhere = record {
+      low = λ b l out. ap (λ (q : Bytes). q b) (memory_is s a n (z.values a) z stage back)
+          ∙ given.elsewhere.low b l out;
+      behind = λ b l. ap (λ (q : Bytes). q b) (memory_is s a n (z.values a) z stage back)
+          ∙ given.elsewhere.behind b l;
+    };
+  }
+
 -- ---- an action
 
 module _ (m : MapSizes) (entry : View) (IsGood : Bytes → Type 0) (P : Source → List Value → Type 0)
@@ -345,35 +388,13 @@ module _ (m : MapSizes) (entry : View) (IsGood : Bytes → Type 0) (P : Source �
   abbrev Q : Completed Value → Stage → Type 0
   Q = IsServed g k IsGood face.result s a n cost line x
 
-  -- ---- it went on
-
-  completed : (v : Value) (x' : Source) (z : State) (stage : Stage)
-      → HasGiven g k IsGood face.result face.scratch x f v x' z → HasReturned s a n (z.values a) z stage
-      → z.work ≤ f.work + (face.price * steps + 0) → Q (Gives v x') stage
-  completed v x' z stage given back work =
-      let own = act.laid.own in
-      record {
-        behind = behind s a n (z.values a) z stage back cost given.turns (omega arith);
-        status = back.status_is
-            ∙ given.others a (omega arith) (none_of_results a n (registers_of face.result) act.laid.given)
-            ∙ status_is_zero s a;
-        keys_after = given.keys;
-        kept = given.held;
-        stands = returned_for s a n (z.values a) z stage back g given.keys IsGood x' given.stands;
-        given = result_given s a n (z.values a) z stage back g given.keys face.result v act.laid.given given.given;
-        elsewhere = record {
-          low = λ b l out. ap (λ (q : Bytes). q b) (memory_is s a n (z.values a) z stage back)
-              ∙ given.elsewhere.low b l out;
-          behind = λ b l. ap (λ (q : Bytes). q b) (memory_is s a n (z.values a) z stage back)
-              ∙ given.elsewhere.behind b l;
-        };
-      }
-
   by_outcome : (o : Completed Value) (out : Outcome) (stage : Stage)
       → Leaves g k IsGood face.result face.scratch x f o out
       → work_left out ≤ f.work + (face.price * steps + report_length out) → IsCalled s a n out stage
       → Q (outcome_at line o) stage
-  by_outcome (Gives v x') (Continues z) stage l w called = completed v x' z stage l called w
+  by_outcome (Gives v x') (Continues z) stage l w called =
+      went_on s a n face.result face.scratch act.laid.given act.laid.own g k IsGood x (face.price * steps) v x' z stage l
+      called (omega arith)
   by_outcome (Ended e x') (Halts status report z) stage l w called =
       told s a n line (face.price * steps) e x' status report z stage l called w
   by_outcome (Gives v x') (Halts status report z) stage l w called = absurd l
@@ -382,27 +403,14 @@ module _ (m : MapSizes) (entry : View) (IsGood : Bytes → Type 0) (P : Source �
 
   -- ---- the call
 
-  abbrev own : Context
-  own = context m p s.function (waits_at s)
-
-  of_runtime : is_runtime_function (function_in p s.function) ≡ true
-  of_runtime = ap is_runtime_function h.calls.found ∙ h.is.of_runtime
-
-  does : Does own act.routine
-      (λ f. IsFor g k IsGood x f × AreHeldBy g k x.objects face.arguments vs f.values × P x vs)
-      (λ f. steps) (λ f. Leaves g k IsGood face.result face.scratch x f (at_line 1 vs x))
-  does = subst (λ b. Does (record { sizes = m; is_runtime = b; charge = own.charge; weight = own.weight }) act.routine
-      (λ f. IsFor g k IsGood x f × AreHeldBy g k x.objects face.arguments vs f.values × P x vs)
-      (λ f. steps) (λ f. Leaves g k IsGood face.result face.scratch x f (at_line 1 vs x)))
-      (sym of_runtime) (act.does functions types k x vs own.charge own.weight)
-
   pub at_one : IsReady g k IsGood face s x vs → P x vs
       → ComesBehind m p s (steps + 3) (Q (outcome_at line (at_line 1 vs x)))
   at_one ready premise =
       let held = arguments_held s a g k x.objects face.arguments vs act.laid.taken ready.held in
-      let t = serves m p s fn act.routine a n h
+      let t = serves_in_runtime m p s fn act.routine a n h
       (λ f. IsFor g k IsGood x f × AreHeldBy g k x.objects face.arguments vs f.values × P x vs)
-      (λ f. steps) (λ f. Leaves g k IsGood face.result face.scratch x f (at_line 1 vs x)) does ready.words
+      (λ f. steps) (λ f. Leaves g k IsGood face.result face.scratch x f (at_line 1 vs x))
+      (act.does functions types k x vs) ready.words
       (begins_for s a g k IsGood x ready.stands, held, premise) in
       let work = t.work in
       let price : price_of act.routine * steps ≤ face.price * steps = mul-le _ _ _ _ act.priced (omega arith) in

@@ -13,21 +13,19 @@ use Rattle.flat_meaning.specs.declared.function.FlatFunction.{FlatFunction}
 use Rattle.flat_meaning.specs.declared.function.FlatProgram.{FlatProgram}
 use Rattle.flat_meaning.specs.Memory.{Bytes}
 use Rattle.flat_meaning.specs.State.{State, Stage}
-use Rattle.flat_meaning.specs.Calls.{function_in}
-use Rattle.flat_meaning.specs.Meaning.{Context, context, is_runtime_function}
 use Rattle.flat_routines.specs.Registers.{IsNoneOf}
-use Rattle.flat_routines.specs.Routine.{Outcome, Continues, Halts, Does}
+use Rattle.flat_routines.specs.Routine.{Outcome, Continues, Halts}
 use Rattle.flat_routines.specs.Laws.{work_of as work_left, report_length}
 use Rattle.flat_routines.specs.Metadata.{View}
 use Rattle.flat_routines.specs.Objects.StandsFor.{Views, Keys}
 use Rattle.flat_actions.specs.Actions.{views_of, IsFor, work_of}
 use Rattle.object_routines.specs.AllocatingRoutines.Entering.{block_bytes, AreOfLock, CanEnter, HasEntered, IsEntered}
 use Rattle.object_routines.specs.AllocatingRoutines.Entering.{IsEnterRoutine}
-use Rattle.runtime_functions.specs.Calls.{CallSite, waits_at, begins_in, CallsRuntime, HasReturned, IsCalled}
+use Rattle.runtime_functions.specs.Calls.{CallSite, begins_in, CallsRuntime, HasReturned, IsCalled}
 use Rattle.runtime_functions.specs.Actions.{price_of, work_of_call, ComesBehind}
 use Rattle.runtime_functions.specs.Runtime.{entered_registers}
 use Rattle.runtime_functions.specs.Entering.{IsToEnter, IsBlockServed, entering_steps, ServesBlock}
-use Rattle.runtime_functions.proofs.Actions.{serves, begins_for, argument_is, status_is_zero, result_is, memory_is}
+use Rattle.runtime_functions.proofs.Actions.{serves_in_runtime, begins_for, argument_is, status_is_zero, result_is, memory_is}
 use Rattle.runtime_functions.proofs.LibraryCalls.{price_at_most}
 use Rattle.runtime_functions.proofs.Actions.{returned_for, behind, told, same_state}
 
@@ -92,25 +90,15 @@ module _ (m : MapSizes) (entry : View) (IsGood : Bytes → Type 0) (p : FlatProg
   by_outcome (Ended e x') (Continues z) stage l w called = absurd l
   by_outcome (Paused x') out stage l w called = absurd l
 
-  abbrev own : Context
-  own = context m p s.function (waits_at s)
-
   abbrev P : State → Type 0
   P = λ f. IsFor g k IsGood x f × (f.values 0 ≡ x.stacked) × (f.values 1 ≡ block_bytes vs) × CanEnter m vs x
-
-  of_runtime : is_runtime_function (function_in p s.function) ≡ true
-  of_runtime = ap is_runtime_function h.calls.found ∙ h.is.of_runtime
-
-  enters : Does own r P (λ f. steps) (λ f. IsEntered g k IsGood entered_registers 7 x f (enter_block set vs 1 x))
-  enters = subst (λ b. Does (record { sizes = m; is_runtime = b; charge = own.charge; weight = own.weight }) r P
-      (λ f. steps) (λ f. IsEntered g k IsGood entered_registers 7 x f (enter_block set vs 1 x)))
-      (sym of_runtime) (does set sizes functions types k x vs own.charge own.weight)
 
   at_one : IsToEnter m g k IsGood s x vs → ComesBehind m p s (steps + 3) (Q (outcome_at line (enter_block set vs 1 x)))
   at_one ready =
       let top : s.first + 0 ≡ s.first = omega arith in
-      let t = serves m p s fn r 2 4 h P (λ f. steps)
-      (λ f. IsEntered g k IsGood entered_registers 7 x f (enter_block set vs 1 x)) enters ready.words (
+      let t = serves_in_runtime m p s fn r 2 4 h P (λ f. steps)
+      (λ f. IsEntered g k IsGood entered_registers 7 x f (enter_block set vs 1 x))
+      (does set sizes functions types k x vs) ready.words (
         begins_for s 2 g k IsGood x ready.stands,
         argument_is s 2 0 (omega arith) ∙ ap s.state.values top ∙ ready.top,
         argument_is s 2 1 (omega arith) ∙ ready.bytes,

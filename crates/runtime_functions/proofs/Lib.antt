@@ -5,5 +5,7 @@ pub mod LibraryCalls
 pub mod Entering
 pub mod CopyCalls
 pub mod ZeroCalls
+pub mod PrintCalls
+pub mod AreaCalls
 mod Listed
 pub mod Sizes

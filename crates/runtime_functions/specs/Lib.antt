@@ -8,3 +8,5 @@ pub mod Entering
 pub mod Copying
 pub mod Zeroing
 pub mod Sizes
+pub mod Printing
+pub mod Areas

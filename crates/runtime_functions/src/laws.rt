@@ -1,7 +1,7 @@
 //! The law of calls, as the contract of a function that does nothing. What it says of a routine with any condition and
 //! any result is a public lemma of `proofs/Calls`.
 
-ghost use Rattle.std.specs.Prelude.{◌≡◌, ◌+◌, ◌*◌, ◌^◌, ◌≤◌, ℕ, List, length, true};
+ghost use Rattle.std.specs.Prelude.{◌≡◌, ◌+◌, ◌*◌, ◌^◌, ◌≤◌, ℕ, Bool, List, length, true, Some, None};
 ghost use Rattle.addr_map.specs.Places.{MapSizes, AreMapped, functions_begin, code_begin};
 ghost use Rattle.flat_meaning.specs.declared.instruction.FlatInstruction.{FlatInstruction};
 ghost use Rattle.flat_meaning.specs.declared.function.FlatFunction.{FlatFunction};
@@ -10,22 +10,35 @@ ghost use Rattle.flat_meaning.specs.Meaning.{Goes, context};
 ghost use Rattle.flat_routines.specs.Local.{local_run};
 ghost use Rattle.flat_routines.specs.Routine.{Outcome, left_at};
 ghost use Rattle.obj_memory.specs.declared.value.Value.{Value};
+ghost use Rattle.obj_memory.specs.Objects.{ObjectState};
+ghost use Rattle.c_tree.specs.declared.expression.Kind.TheVariants.{Structure};
+ghost use Rattle.c_tree.specs.declared.format.Directive.{Directive};
 ghost use Rattle.c_tree.specs.declared.program.Variable.{Variable};
 ghost use Rattle.source_meaning.specs.State.{State as Source, Setting};
 ghost use Rattle.source_meaning.specs.Library.{routine};
+ghost use Rattle.source_meaning.specs.Structures.{taken, make_zero};
 ghost use Rattle.flat_routines.specs.Objects.StandsFor.{Keys};
 ghost use Rattle.flat_actions.specs.Actions.{views_of};
 ghost use Rattle.object_routines.specs.AllocatingRoutines.Premises.{AreStanding};
+ghost use Rattle.area_routines.specs.Zeroing.{IsToZeroArea};
+ghost use Rattle.area_routines.specs.Values.{IsToTakePlace, IsToPutPlace};
+ghost use Rattle.area_routines.specs.Parts.{IsToTakePart};
 ghost use Rattle.runtime_functions.specs.declared.library.LibraryFunction.{LibraryFunction};
 ghost use Rattle.runtime_functions.specs.declared.runtime.RuntimeFunction.{RuntimeFunction};
 ghost use Rattle.runtime_functions.specs.declared.runtime.RuntimeFunction.TheVariants.{Library, Enter};
 ghost use Rattle.runtime_functions.specs.declared.runtime.RuntimeFunction.TheVariants.{Zero, CopyTagged};
+ghost use Rattle.runtime_functions.specs.declared.runtime.RuntimeFunction.TheVariants.{Scan, PutBytes, PutNumber};
+ghost use Rattle.runtime_functions.specs.declared.runtime.RuntimeFunction.TheVariants.{ZeroArea, TakeArea, PutArea};
+ghost use Rattle.runtime_functions.specs.declared.runtime.RuntimeFunction.TheVariants.{MoveArea};
+ghost use Rattle.runtime_functions.specs.Printing.{IsToScan, ServesScan, IsToPutBytes, ServesPut, IsToPutArgument};
+ghost use Rattle.runtime_functions.specs.Printing.{ServesArgument};
+ghost use Rattle.runtime_functions.specs.Areas.{IsAtCall, ServesArea, ServesPlace};
 ghost use Rattle.runtime_functions.specs.Zeroing.{zeroing, IsToZeroObject, zeroing_interface};
 ghost use Rattle.runtime_functions.specs.Copying.{copying, AreToCopy, copying_interface};
 ghost use Rattle.runtime_functions.specs.Calls.{CallSite, CallsFunction, CallsRuntime, ComesOfCall, begins_in};
 ghost use Rattle.runtime_functions.specs.Calls.{waits_at};
 ghost use Rattle.runtime_functions.specs.Actions.{IsReady, ServesCall};
-ghost use Rattle.runtime_functions.specs.Library.{library_interface, parameters_of, results_of, routine_of};
+ghost use Rattle.runtime_functions.specs.Library.{library_interface, parameters_of, results_of, routine_of, held_from};
 ghost use Rattle.runtime_functions.specs.Runtime.{runtime_list, IsOfRuntime, AreOfRuntime};
 ghost use Rattle.runtime_functions.specs.Sizes.{are_encodable, all_words};
 ghost use Rattle.runtime_functions.specs.Entering.{IsToEnter, ServesBlock};
@@ -88,6 +101,77 @@ pub fn calls_of_zero_set_objects_to_zero<S: ShadowForm>()
         → IsReady (views_of m functions types S.entry) k (S.IsGood m) zeroing_interface s x vs → IsToZeroObject n x vs
         → ServesCall m p (views_of m functions types S.entry) k (S.IsGood m) zeroing_interface s 2 0 line x
         (zeroing n line vs) }
+{}
+
+/// The call that scans a string gives, at any line, the address of its 0 byte where the source scans its bytes, which
+/// stand in memory; and tells the ending where the source ends the run.
+pub fn calls_of_scan_find_the_end_of_strings<S: ShadowForm>()
+    ensures { (m : MapSizes) (p : FlatProgram) (s : CallSite) (fn : FlatFunction)
+        → IsOfRuntime m S.entry (S.IsGood m) Scan fn → CallsFunction m p s fn
+        → (functions : ℕ) (types : ℕ → ℕ) (k : Keys) (x : Source) (v : Value) (line : ℕ)
+        → IsToScan (views_of m functions types S.entry) k (S.IsGood m) s x v
+        → ServesScan m p (views_of m functions types S.entry) k (S.IsGood m) s v line x }
+{}
+
+/// The call that puts a range out puts the bytes that stand there, as the source does.
+pub fn calls_of_put_bytes_put_what_was_scanned<S: ShadowForm>()
+    ensures { (m : MapSizes) (p : FlatProgram) (s : CallSite) (fn : FlatFunction)
+        → IsOfRuntime m S.entry (S.IsGood m) PutBytes fn → CallsFunction m p s fn
+        → (functions : ℕ) (types : ℕ → ℕ) (k : Keys) (x : Source) (a : ℕ) (bytes : List ℕ)
+        → IsToPutBytes (views_of m functions types S.entry) k (S.IsGood m) s x a bytes
+        → ServesPut m p (views_of m functions types S.entry) k (S.IsGood m) s bytes x }
+{}
+
+/// The call for a directive puts its argument out, as the source does, and counts the bytes; strings apart.
+pub fn calls_of_put_number_put_arguments<S: ShadowForm>()
+    ensures { (m : MapSizes) (p : FlatProgram) (s : CallSite) (d : Directive) (fn : FlatFunction)
+        → IsOfRuntime m S.entry (S.IsGood m) (PutNumber d) fn → CallsFunction m p s fn
+        → (functions : ℕ) (types : ℕ → ℕ) (k : Keys) (x : Source) (v : Value) (line : ℕ) (bytes : List ℕ)
+        → IsToPutArgument (views_of m functions types S.entry) k (S.IsGood m) s x d v line bytes
+        → ServesArgument m p (views_of m functions types S.entry) k (S.IsGood m) s bytes x }
+{}
+
+/// The call that makes an area zero leaves there the structure of zeros that the source makes.
+pub fn calls_of_zero_area_make_structures_of_zeros<S: ShadowForm>()
+    ensures { (m : MapSizes) (p : FlatProgram) (s : CallSite) (fn : FlatFunction)
+        → IsOfRuntime m S.entry (S.IsGood m) ZeroArea fn → CallsFunction m p s fn
+        → (functions : ℕ) (types : ℕ → ℕ) (k : Keys) (x : Source) (size : ℕ)
+        → IsAtCall (views_of m functions types S.entry) k (S.IsGood m) s x
+        → IsToZeroArea m s.first (s.first + 1) size s.state
+        → ServesArea m p (views_of m functions types S.entry) k (S.IsGood m) s 2 16 5 x (make_zero (Structure size)) }
+{}
+
+/// The call that takes a structure from its place leaves in the area the contents that the source takes.
+pub fn calls_of_take_area_take_structures<S: ShadowForm>()
+    ensures { (m : MapSizes) (p : FlatProgram) (s : CallSite) (fn : FlatFunction)
+        → IsOfRuntime m S.entry (S.IsGood m) TakeArea fn → CallsFunction m p s fn
+        → (functions : ℕ) (types : ℕ → ℕ) (k : Keys) (x : Source) (v : Value) (size line : ℕ)
+        → IsAtCall (views_of m functions types S.entry) k (S.IsGood m) s x
+        → IsToTakePlace m x v size s.first (s.first + 1) (s.first + 2) s.state
+        → ServesArea m p (views_of m functions types S.entry) k (S.IsGood m) s 3 48 16 x (taken None size v line) }
+{}
+
+/// The call that takes a part of contents leaves in the area the contents that the source takes of it.
+pub fn calls_of_move_area_take_parts_of_contents<S: ShadowForm>()
+    ensures { (m : MapSizes) (p : FlatProgram) (s : CallSite) (fn : FlatFunction)
+        → IsOfRuntime m S.entry (S.IsGood m) MoveArea fn → CallsFunction m p s fn
+        → (functions : ℕ) (types : ℕ → ℕ) (k : Keys) (x : Source) (c : ObjectState) (v : Value) (size line a : ℕ)
+        → IsAtCall (views_of m functions types S.entry) k (S.IsGood m) s x
+        → IsToTakePart (views_of m functions types S.entry) k x c v.word size a s.first (held_from (s.first + 2))
+        (s.first + 1) s.state
+        → ServesArea m p (views_of m functions types S.entry) k (S.IsGood m) s 7 48 16 x (taken (Some c) size v line) }
+{}
+
+/// The call that puts a part of contents to a place does at any line what the source does where the place is found.
+pub fn calls_of_put_area_assign_contents<S: ShadowForm>()
+    ensures { (m : MapSizes) (p : FlatProgram) (s : CallSite) (fn : FlatFunction)
+        → IsOfRuntime m S.entry (S.IsGood m) PutArea fn → CallsFunction m p s fn
+        → (functions : ℕ) (types : ℕ → ℕ) (k : Keys) (x : Source) (c : ObjectState) (size : ℕ) (is_judged : Bool)
+        (to : Value) (line : ℕ) (v : Value) (a : ℕ)
+        → IsAtCall (views_of m functions types S.entry) k (S.IsGood m) s x
+        → IsToPutPlace (views_of m functions types S.entry) k x is_judged to c v.word size a s.first
+        (held_from (s.first + 2)) (s.first + 1) s.state
+        → ServesPlace m p (views_of m functions types S.entry) k (S.IsGood m) s c size is_judged to line v x }
 {}
 
 /// Of the functions of the runtime each instruction names registers below 254, and has numbers that machine instructions

@@ -1,6 +1,6 @@
 -- The functions on areas do what the source does with contents.
-use Rattle.std.proofs.Common.{◌≡◌, ℕ, ◌+◌, ◌-◌, ◌*◌, ◌<◌, ◌≤◌, ◌⊎◌, Bool, true, List, [], ◌∷◌, Option, Some, None}
-use Rattle.std.proofs.Common.{refl, sym, ap, ◌∙◌, subst, arith}
+use Rattle.std.proofs.Common.{◌≡◌, ℕ, ◌+◌, ◌*◌, ◌<◌, ◌≤◌, ◌⊎◌, Bool, true, List, Option, Some, None}
+use Rattle.std.proofs.Common.{sym, ap, ◌∙◌, subst, arith}
 use Rattle.std.proofs.lemmas.Nat.{mul-le}
 use Rattle.addr_map.specs.Places.{MapSizes}
 use Rattle.obj_memory.specs.declared.value.Value.{Value}
@@ -27,7 +27,7 @@ use Rattle.area_routines.specs.Values.{IsMakeZeroRoutine, IsToPutPlace, putting,
 use Rattle.area_routines.specs.Parts.{IsToTakePart, IsTakePartRoutine}
 use Rattle.runtime_functions.specs.Calls.{CallSite, begins_in, CallsRuntime, HasReturned, IsCalled}
 use Rattle.runtime_functions.specs.Library.{held_from}
-use Rattle.runtime_functions.specs.Actions.{price_of, work_of_call, IsServed, ComesBehind}
+use Rattle.runtime_functions.specs.Actions.{price_of, work_of_call, IsServed}
 use Rattle.runtime_functions.specs.Areas.{IsAtCall, HasContentsBehind, IsAreaServed, ServesArea, placing_steps}
 use Rattle.runtime_functions.specs.Areas.{ServesPlace}
 use Rattle.runtime_functions.proofs.Actions.{serves_in_runtime, begins_for, argument_at, status_is_zero, memory_is}

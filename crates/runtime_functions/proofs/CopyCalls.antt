@@ -1,11 +1,9 @@
 -- The function that moves a range with its entries assigns structures.
-use Rattle.std.proofs.Common.{◌≡◌, ℕ, ◌+◌, ◌-◌, ◌*◌, ◌≤◌, List, [], ◌∷◌, false, refl, sym, ap, ◌∙◌, subst, arith, length}
+use Rattle.std.proofs.Common.{◌≡◌, ℕ, ◌+◌, ◌-◌, ◌*◌, List, [], ◌∷◌, false, sym, ap, ◌∙◌, subst, arith, length}
 use Rattle.addr_map.specs.Places.{MapSizes, AreMapped}
 use Rattle.obj_memory.specs.declared.value.Value.{Value}
 use Rattle.obj_memory.specs.declared.value.Place.{Place}
-use Rattle.obj_memory.specs.declared.judgement.Verdict.TheVariants.{Inside}
-use Rattle.obj_memory.specs.Objects.{Objects}
-use Rattle.obj_memory.specs.Judgement.{place_in, named_in, named}
+use Rattle.obj_memory.specs.Judgement.{place_in, named}
 use Rattle.source_meaning.specs.State.{State as Source, Gives, ◌>>◌, done, on}
 use Rattle.source_meaning.specs.Acting.{state_of}
 use Rattle.source_meaning.specs.Actions.{integer, copy_structure, place_or_stop, move_bytes}

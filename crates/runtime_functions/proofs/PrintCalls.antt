@@ -1,5 +1,5 @@
 -- The functions that a print is put together of do what the source does.
-use Rattle.std.proofs.Common.{◌≡◌, ℕ, zero, suc, ◌+◌, ◌-◌, ◌*◌, ◌%◌, ◌^◌, ◌<◌, ◌≤◌, ◌==◌, List, [], ◌∷◌, ◌++◌}
+use Rattle.std.proofs.Common.{◌≡◌, ℕ, zero, suc, ◌+◌, ◌-◌, ◌*◌, ◌%◌, ◌^◌, ◌≤◌, ◌==◌, List, [], ◌++◌}
 use Rattle.std.proofs.Common.{true, length, refl, sym, ap, ◌∙◌, subst, arith}
 use Rattle.std.proofs.lemmas.Nat.{mul-le}
 use Rattle.sb_base.specs.declared.ending.Ending.TheVariants.{Spatial}
@@ -36,10 +36,10 @@ use Rattle.lib_wrappers.proofs.PrintingRoutines.Scans.{number_done}
 use Rattle.runtime_functions.specs.Calls.{CallSite, begins_in, CallsRuntime, HasReturned, IsCalled}
 use Rattle.runtime_functions.specs.Library.{held_from}
 use Rattle.runtime_functions.specs.Actions.{price_of, work_of_call, ComesBehind}
-use Rattle.runtime_functions.specs.Printing.{HasGoneBehind, AreBytesAt, IsToScan, HasFoundEnd, IsScanServed}
+use Rattle.runtime_functions.specs.Printing.{HasGoneBehind, IsToScan, IsScanServed}
 use Rattle.runtime_functions.specs.Printing.{scanning_steps, ServesScan, IsToPutBytes, with_bytes, putting_steps}
 use Rattle.runtime_functions.specs.Printing.{ServesPut, IsToPutArgument, HasPutArgument, number_steps, ServesArgument}
-use Rattle.runtime_functions.proofs.Actions.{Serves, serves_in_runtime, begins_for, argument_at, argument_held}
+use Rattle.runtime_functions.proofs.Actions.{serves_in_runtime, begins_for, argument_at, argument_held}
 use Rattle.runtime_functions.proofs.Actions.{status_is_zero, result_is, memory_is, returned_for, behind, told, same_state}
 use Rattle.runtime_functions.proofs.LibraryCalls.{price_at_most}
 

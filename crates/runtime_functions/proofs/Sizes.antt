@@ -1,6 +1,6 @@
 -- The functions of the runtime are encodable, and fit the first segment.
-use Rattle.std.proofs.Common.{◌≡◌, ℕ, zero, suc, ◌+◌, ◌*◌, ◌<◌, ◌≤◌, ◌^◌, Bool, true, ◌&&◌, List, [], ◌∷◌, ◌++◌, length}
-use Rattle.std.proofs.Common.{refl, sym, ap, ◌∙◌, subst, arith, Option, Some, None}
+use Rattle.std.proofs.Common.{◌≡◌, ℕ, zero, suc, ◌+◌, ◌*◌, ◌<◌, ◌≤◌, ◌^◌, true, ◌&&◌, List, [], ◌∷◌, ◌++◌, length}
+use Rattle.std.proofs.Common.{refl, sym, ap, subst, arith, Option, Some, None}
 use Rattle.std.specs.Prelude.{nat_lt}
 use Rattle.std.proofs.lemmas.Bool.{and_parts, and_from, lt-ltb, leb-true}
 use Rattle.sb_base.specs.declared.ending.Ending.{Ending}
@@ -15,7 +15,6 @@ use Rattle.flat_meaning.specs.Memory.{Bytes}
 use Rattle.flat_routines.specs.Metadata.{View}
 use Rattle.flat_routines.specs.Shape.{is_short, is_shaped, are_shaped, HasShape}
 use Rattle.flat_routines.proofs.Shape.{short_below}
-use Rattle.runtime_functions.specs.declared.library.LibraryFunction.{LibraryFunction}
 use Rattle.runtime_functions.specs.declared.library.LibraryFunction.TheVariants as library
 use Rattle.runtime_functions.specs.declared.runtime.RuntimeFunction.{RuntimeFunction}
 use Rattle.runtime_functions.specs.declared.runtime.RuntimeFunction.TheVariants.{Library, Scan, PutBytes, PutNumber}
@@ -24,7 +23,6 @@ use Rattle.runtime_functions.specs.declared.runtime.RuntimeFunction.TheVariants.
 use Rattle.runtime_functions.specs.declared.status.ReturnStatus.{ReturnStatus}
 use Rattle.runtime_functions.specs.Status.{return_status}
 use Rattle.runtime_functions.specs.Functions.{with_status, with_stub, with_stubs, stubs, function_body}
-use Rattle.runtime_functions.specs.Functions.{IsRuntimeFunction}
 use Rattle.runtime_functions.specs.Runtime.{runtime_list, most_instructions, argument_count, result_count, IsOfRuntime, AreOfRuntime}
 use Rattle.runtime_functions.specs.Sizes.{is_encodable, are_encodable, instruction_words, body_words, function_words}
 use Rattle.runtime_functions.specs.Sizes.{all_words, most_registers}

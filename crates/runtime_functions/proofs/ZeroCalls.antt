@@ -1,13 +1,11 @@
 -- The function that makes a range zero sets an object to zero.
-use Rattle.std.proofs.Common.{◌≡◌, ℕ, ◌+◌, ◌-◌, ◌*◌, ◌%◌, ◌≤◌, inl, inr, ⊎_elim, List, [], ◌∷◌, length, refl, sym, ap, ◌∙◌}
+use Rattle.std.proofs.Common.{◌≡◌, ℕ, ◌+◌, ◌*◌, inl, inr, ⊎_elim, List, [], ◌∷◌, length, refl, ◌∙◌}
 use Rattle.std.proofs.Common.{subst, arith}
-use Rattle.addr_map.specs.declared.region.Region.TheVariants.{Locks}
-use Rattle.addr_map.specs.Places.{MapSizes, AreMapped, region_start}
+use Rattle.addr_map.specs.Places.{MapSizes, AreMapped}
 use Rattle.obj_memory.specs.declared.value.Value.{Value}
 use Rattle.obj_memory.specs.Objects.{object_at, with_zeroed}
 use Rattle.obj_memory.proofs.Keeping.{keeps_zeroed}
 use Rattle.source_meaning.specs.State.{State as Source}
-use Rattle.source_meaning.specs.Acting.{state_of}
 use Rattle.source_meaning.specs.Actions.{integer}
 use Rattle.source_meaning.specs.Lines.{RunsAlikeAt}
 use Rattle.flat_meaning.specs.declared.instruction.FlatInstruction.{FlatInstruction}

@@ -1,6 +1,6 @@
 -- The calls of the functions on areas of structure values, in the source's terms: a structure is taken from its place or
 -- from other contents, made of zeros, or put to a place (C99 6.5.2.2 paragraph 4, 6.5.16.1, 6.8.6.4 paragraph 3).
-use Rattle.std.specs.Prelude.{◌≡◌, ℕ, ◌+◌, ◌*◌, ◌<◌, Bool, Option, Some, None}
+use Rattle.std.specs.Prelude.{◌≡◌, ℕ, ◌+◌, ◌*◌, Bool, Option, Some, None}
 use Rattle.addr_map.specs.Places.{MapSizes}
 use Rattle.obj_memory.specs.declared.value.Value.{Value}
 use Rattle.obj_memory.specs.Objects.{ObjectState}

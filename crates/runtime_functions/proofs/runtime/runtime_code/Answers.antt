@@ -1,6 +1,5 @@
-use Rattle.std.proofs.Common.{◌+◌, arith, sym, subst}
+use Rattle.std.proofs.Common.{◌+◌, arith}
 use Rattle.std.proofs.lemmas.Result.{IfOk-weaker}
-use Rattle.flat_routines.specs.Shape.{HasShape}
 use Rattle.runtime_functions.specs.Sizes.{most_registers}
 use Rattle.runtime_functions.specs.Runtime.{most_instructions}
 use Rattle.runtime_functions.specs.declared.runtime.RuntimeFunction.TheVariants.{Library}

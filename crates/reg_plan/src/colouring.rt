@@ -1,7 +1,8 @@
 //! Registers by greedy colouring: each virtual register gets, in turn, a register in which none is kept that shares an
 //! instruction with it; of these the one in which most are kept that copies join to it.
 
-ghost use Rattle.std.specs.Prelude.{◌≡◌, ◌<◌, ◌≤◌, ◌+◌, ◌⊎◌, ℕ, IfOk, OnOk, length, None, Some, true, false, slice_get};
+ghost use Rattle.std.specs.Prelude.{◌≡◌, ◌<◌, ◌≤◌, ◌+◌, ◌⊎◌, ℕ, length, None, Some, true, false, slice_get};
+ghost use Rattle.std.specs.Prelude.{IfOk, OnOk};
 ghost use Rattle.reg_plan.specs.Accepted.{covers};
 ghost use Rattle.reg_plan.specs.declared.plan.Place.{Place};
 ghost use Rattle.reg_plan.specs.declared.plan.Place.TheVariants.{Home};
@@ -122,8 +123,8 @@ fn none_used(alloc: Global) -> Result<Vec<Vec<LiveInterval>>, AllocError>
     Ok(used)
 }
 
-/// A place for each virtual register of a function, from the live ranges. It takes time for their intervals, with the
-/// logarithm of how many lie in a register, and for the copies.
+/// A place for each virtual register of a function, from the live ranges. An interval is looked for by halving, and put
+/// in by moving those behind it in its register.
 pub fn coloured(
     alloc: Global,
     body: &[FlatInstruction],

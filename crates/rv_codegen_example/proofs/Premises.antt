@@ -31,7 +31,7 @@ use Rattle.machine_laws.specs.Calls.Table.{program_end, start_address, row_addre
 use Rattle.machine_laws.specs.Blocks.Immediates.{immediate}
 use Rattle.machine_laws.specs.Blocks.Blocks.{RightIsShort, digits, constant, load_at, store_at}
 use Rattle.machine_laws.specs.Blocks.Places.{home, location}
-use Rattle.machine_laws.specs.Calls.Calls.{give, take, save, restore}
+use Rattle.machine_laws.specs.Calls.Calls.{give, take, save, restore, advance, retreat}
 use Rattle.machine_laws.specs.Following.Code.{keeping, block, IsEncodable}
 use Rattle.machine_laws.specs.Following.Matching.{object_bytes, space_bytes}
 use Rattle.machine_laws.specs.Following.Start.{IsStartable, begins}
@@ -224,26 +224,26 @@ module _ (a : Global) where
   -- ---- the code fits
 
   main_long : nat_lt (longest_size (items_of sizes program plans 0)) (2 ^ 28) ≡ true
-  unfolding plans keeping block location home give take save restore digits constant immediate load_at store_at
+  unfolding plans keeping block location home give take save restore advance retreat digits constant immediate load_at store_at
       row_address program_end function_address
   main_long = refl
 
   next_long : nat_lt (longest_size (items_of sizes program plans 1)) (2 ^ 28) ≡ true
-  unfolding plans keeping block location home give take save restore digits constant immediate load_at store_at
+  unfolding plans keeping block location home give take save restore advance retreat digits constant immediate load_at store_at
       row_address program_end function_address
   next_long = refl
 
   same_long : nat_lt (longest_size (items_of sizes program plans 2)) (2 ^ 28) ≡ true
-  unfolding plans keeping block location home give take save restore digits constant immediate load_at store_at
+  unfolding plans keeping block location home give take save restore advance retreat digits constant immediate load_at store_at
   same_long = refl
 
   code_long : nat_le (code_bytes sizes program plans) 0x800000 ≡ true
-  unfolding plans keeping block location home give take save restore digits constant immediate load_at store_at words_of
+  unfolding plans keeping block location home give take save restore advance retreat digits constant immediate load_at store_at words_of
       forms_of words_below row_address program_end function_address
   code_long = refl
 
   table_long : nat_le (0x10000 + table_bytes sizes program plans) 0x100000 ≡ true
-  unfolding plans keeping block location home give take save restore digits constant immediate load_at store_at words_of
+  unfolding plans keeping block location home give take save restore advance retreat digits constant immediate load_at store_at words_of
       forms_of words_below rows_below row_address program_end function_address tails
   table_long = refl
 
@@ -266,7 +266,7 @@ module _ (a : Global) where
   -- ---- the forms of the longer branch and jump
 
   near_forms : HasNearForms plans
-  unfolding plans keeping block location home give take save restore digits constant immediate load_at store_at forms_of
+  unfolding plans keeping block location home give take save restore advance retreat digits constant immediate load_at store_at forms_of
       row_address program_end function_address
   near_forms = record {
     branch = record { item = _; stands = refl; goes = refl; is = refl };

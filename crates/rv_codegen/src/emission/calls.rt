@@ -310,7 +310,11 @@ fn put_far_move(code: &mut Vec<Instr>, function: &FlatFunction, op: RegOp) -> Re
 
 // Puts what moves the register of the activation record behind that of the function.
 #[tactic(auto, unfolding(machine_laws::specs::Calls::Calls::advance))]
-fn put_advance(code: &mut Vec<Instr>, function: &FlatFunction, plan: &FunctionPlan) -> Result<(), AllocError>
+fn put_advance(
+    code: &mut Vec<Instr>,
+    function: &FlatFunction,
+    plan: &FunctionPlan,
+) -> Result<(), AllocError>
     ensures { OnOk result (code.new.items ≡ code.old.items ++ advance (kept_by function.now plan.now)) }
 {
     if function.room < 0x800 {
@@ -321,7 +325,11 @@ fn put_advance(code: &mut Vec<Instr>, function: &FlatFunction, plan: &FunctionPl
 
 // Puts what moves it back.
 #[tactic(auto, unfolding(machine_laws::specs::Calls::Calls::retreat))]
-fn put_retreat(code: &mut Vec<Instr>, function: &FlatFunction, plan: &FunctionPlan) -> Result<(), AllocError>
+fn put_retreat(
+    code: &mut Vec<Instr>,
+    function: &FlatFunction,
+    plan: &FunctionPlan,
+) -> Result<(), AllocError>
     ensures { OnOk result (code.new.items ≡ code.old.items ++ retreat (kept_by function.now plan.now)) }
 {
     if function.room < 0x800 {

@@ -88,4 +88,5 @@ def main():
             print(f"{shape.__name__:22} {size:8} bytes {seconds:7.2f} s {memory:8} kB {runs[0][2]}", flush=True)
 
 
-main()
+if __name__ == "__main__":
+    main()

@@ -1,13 +1,15 @@
 -- What the routines of a form of the shadow space do.
-use Rattle.std.specs.Prelude.{◌≡◌, ◌≢◌, ℕ, ◌+◌, ◌*◌, ◌%◌, ◌<◌, ◌≤◌, ◌⊎◌, List, [], Bool}
+use Rattle.std.specs.Prelude.{◌≡◌, ◌≢◌, ℕ, ◌+◌, ◌*◌, ◌%◌, ◌<◌, ◌≤◌, ◌⊎◌, List, [], ◌∷◌, Bool}
 use Rattle.addr_map.specs.declared.region.Region.TheVariants.{Heap}
-use Rattle.addr_map.specs.Places.{MapSizes, objects_begin, region_end}
+use Rattle.addr_map.specs.Places.{MapSizes, AreMapped, objects_begin, region_end}
 use Rattle.flat_meaning.specs.declared.instruction.FlatInstruction.{FlatInstruction}
 use Rattle.flat_meaning.specs.Memory.{Bytes}
 use Rattle.flat_meaning.specs.State.{State}
 use Rattle.flat_routines.specs.declared.registers.Entry.{Entry}
-use Rattle.flat_routines.specs.Registers.{OthersStay}
+use Rattle.flat_routines.specs.Registers.{AreDistinct, AreBelow, OthersStay}
 use Rattle.flat_routines.specs.Routine.{Does, Either, Never}
+use Rattle.flat_routines.specs.Shape.{HasShape}
+use Rattle.flat_routines.specs.InputOutput.{IsWithoutInputOutput}
 use Rattle.flat_routines.specs.Metadata.{View, no_metadata, metadata_in, entry_registers, IsObjectWord}
 use Rattle.flat_routines.specs.Metadata.{KeepsButShadow, ShowsNothing}
 
@@ -70,3 +72,28 @@ IsClearRoutine map entry IsGood first bytes scratch r =
     (count : ℕ)
     → DoesAnywhere map r (λ s. IsWordRange map (s.values first) (s.values bytes) count × IsGood s.memory)
     (8 + 16 * count) (HasCleared map entry IsGood first count scratch)
+
+-- ---- the instructions of a form
+
+-- by the register with the address of the word, those of its entry, and the first that may be written besides
+abbrev pub EntryCode : Type 0
+EntryCode = MapSizes → (at : ℕ) → Entry → (scratch : ℕ) → List FlatInstruction
+
+-- they read entries, whatever the registers: those of the entry differ from each other and from that of the address
+abbrev pub ReadsEntries : View → (MapSizes → Bytes → Type 0) → EntryCode → Type 0
+ReadsEntries entry IsGood code =
+    (map : MapSizes) (at : ℕ) (into : Entry) (t : ℕ) → AreMapped map → AreDistinct (at ∷ entry_registers into)
+    → AreBelow t (at ∷ entry_registers into) → IsReadRoutine map entry (IsGood map) at into t (code map at into t)
+
+-- and write them
+abbrev pub WritesEntries : View → (MapSizes → Bytes → Type 0) → EntryCode → Type 0
+WritesEntries entry IsGood code =
+    (map : MapSizes) (at : ℕ) (from : Entry) (t : ℕ) → AreMapped map → AreBelow t (at ∷ entry_registers from)
+    → IsWriteRoutine map entry (IsGood map) at from t (code map at from t)
+
+-- They are so many at most, over registers up to so many behind the first that may be written, and take no input and
+-- put no output.
+abbrev pub HasEntryShape : EntryCode → (most own : ℕ) → Type 0
+HasEntryShape code most own =
+    (map : MapSizes) (at : ℕ) (e : Entry) (t : ℕ) → AreMapped map → AreBelow t (at ∷ entry_registers e)
+    → HasShape (code map at e t) most (t + own) × IsWithoutInputOutput (code map at e t)

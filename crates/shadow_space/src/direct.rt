@@ -22,6 +22,10 @@ impl ShadowForm for Direct {
 
     ghost IsGood = { λ _ _. Unit {0} };
 
+    ghost entry_read = { λ map. direct_read };
+
+    ghost entry_write = { λ map. direct_write };
+
     fn read_entry(
         alloc: Global,
         map: &AddrMap,
@@ -53,6 +57,8 @@ impl ShadowForm for Direct {
     }
 
     fn entries_are_local() {}
+
+    fn entries_are_read_and_written() {}
 
     fn start(alloc: Global, map: &AddrMap, entries: &[StartEntry]) -> Result<Vec<u8>, AllocError> {
         start_bytes(alloc, map, entries)

@@ -8,6 +8,7 @@ ghost use Rattle.flat_routines.specs.Metadata.{View, IsObjectWord, KeepsShadow, 
 ghost use Rattle.flat_routines.specs.InputOutput.{IsWithoutInputOutput};
 ghost use Rattle.flat_routines.specs.Shape.{HasShape};
 ghost use Rattle.shadow_space.specs.Form.{IsReadRoutine, IsWriteRoutine, IsClearRoutine};
+ghost use Rattle.shadow_space.specs.Form.{EntryCode, ReadsEntries, WritesEntries, HasEntryShape};
 ghost use Rattle.shadow_space.specs.Start.{AreStartEntries, StartsShadow};
 
 use crate::start::StartEntry;
@@ -27,6 +28,12 @@ pub trait ShadowForm {
     /// What holds of the memory whenever a routine is called.
     ghost IsGood: { MapSizes → Bytes → Type 0 };
 
+    /// The instructions that read an entry: compiled code has them where it loads a pointer.
+    ghost entry_read: { EntryCode };
+
+    /// The instructions that write an entry.
+    ghost entry_write: { EntryCode };
+
     /// Reads the entry of the word at the address in `at` into the registers of `into`, without input and output.
     fn read_entry(
         alloc: Global,
@@ -39,6 +46,7 @@ pub trait ShadowForm {
         requires distinct { AreDistinct (at ∷ entry_registers into) }
         requires below { AreBelow scratch (at ∷ entry_registers into) }
         requires room { scratch ≤ 2 ^ 31 }
+        ensures code { IfOk result (λ r. r.items ≡ entry_read map.now at into scratch) }
         ensures does { IfOk result (λ r. IsReadRoutine map.now entry (IsGood map.now) at into scratch r.items) }
         ensures computes { IfOk result (λ r. IsWithoutInputOutput r.items) }
         ensures shape { IfOk result (λ r. HasShape r.items 32 (scratch + 6)) }
@@ -56,6 +64,7 @@ pub trait ShadowForm {
         requires map { AreMapped map.now }
         requires below { AreBelow scratch (at ∷ entry_registers from) }
         requires room { scratch ≤ 2 ^ 31 }
+        ensures code { IfOk result (λ r. r.items ≡ entry_write map.now at from scratch) }
         ensures does { IfOk result (λ r. IsWriteRoutine map.now entry (IsGood map.now) at from scratch r.items) }
         ensures computes { IfOk result (λ r. IsWithoutInputOutput r.items) }
         ensures shape { IfOk result (λ r. HasShape r.items 32 (scratch + 6)) }
@@ -82,6 +91,14 @@ pub trait ShadowForm {
     fn entries_are_local()
         ensures { (map : MapSizes) (m m' : Bytes) → AreMapped map → KeepsShadow map m m' → IsGood map m
             → IsGood map m' × ((a : ℕ) → IsObjectWord map a → entry m' a ≡ entry m a) };
+
+    /// The instructions that read and write an entry do so over whatever registers meet the premises of the two calls:
+    /// at most 16 and 22, which name no register from the third and the fifth behind `scratch` on.
+    fn entries_are_read_and_written()
+        ensures reads { ReadsEntries entry IsGood entry_read }
+        ensures writes { WritesEntries entry IsGood entry_write }
+        ensures read_shape { HasEntryShape entry_read 16 3 }
+        ensures write_shape { HasEntryShape entry_write 22 5 };
 
     /// The bytes with which the region of the shadow space begins, where all behind them is zero: then each of these
     /// words of static objects reads as its entry, every other word as one without a pointer, and what holds whenever

@@ -32,6 +32,10 @@ two_level_read a e t f u =
     (look_up a t f u ++ Constant e.base 0 ∷ Constant e.bound 0 ∷ Constant e.key 0 ∷ Constant e.lock 0 ∷ [])
     ++ unless_code Beq t (Number 0) (Operate Add t t (Register u) ∷ load_entry t e)
 
+-- its own registers stand behind the first that may be written
+abbrev pub two_level_read_behind : MapSizes → (at : ℕ) → Entry → (scratch : ℕ) → List FlatInstruction
+two_level_read_behind map a e t = two_level_read a e t (t + 1) (t + 2)
+
 -- the next table of the reserve is taken for the page
 abbrev pub take_table : MapSizes → (table cell taken next : ℕ) → List FlatInstruction
 take_table map t f z y =
@@ -53,6 +57,9 @@ two_level_write map a e t f u z y =
     ∷ Branch Bne e.key (Number 0) 1
     ∷ Branch Beq e.lock (Number 0) 11
     ∷ (take_table map t f z y ++ Operate Add t t (Register u) ∷ store_entry t e))
+
+abbrev pub two_level_write_behind : MapSizes → (at : ℕ) → Entry → (scratch : ℕ) → List FlatInstruction
+two_level_write_behind map a e t = two_level_write map a e t (t + 1) (t + 2) (t + 3) (t + 4)
 
 -- an entry is cleared where the page has a table
 abbrev pub clear_word : (cursor zero table cell offset : ℕ) → List FlatInstruction

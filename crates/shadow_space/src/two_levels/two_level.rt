@@ -4,7 +4,7 @@ ghost use Rattle.std.specs.Prelude.{◌≡◌, ◌+◌, ◌≤◌, ◌^◌, IfOk
 ghost use Rattle.addr_map.specs.Places.{AreMapped};
 ghost use Rattle.shadow_space.specs.TwoLevel.Tables.{two_level_entry, AreTablesGood, first_table};
 ghost use Rattle.shadow_space.specs.TwoLevel.Code.{look_up as look_up_code, two_level_read, two_level_write};
-ghost use Rattle.shadow_space.specs.TwoLevel.Code.{two_level_clear};
+ghost use Rattle.shadow_space.specs.TwoLevel.Code.{two_level_clear, two_level_read_behind, two_level_write_behind};
 ghost use Rattle.shadow_space.specs.TwoLevel.Start.{global_pages as pages_of_globals};
 
 use crate::entry_words::{load_entry, same_register, store_entry};
@@ -31,6 +31,10 @@ impl ShadowForm for TwoLevel {
     ghost entry = { two_level_entry };
 
     ghost IsGood = { AreTablesGood };
+
+    ghost entry_read = { two_level_read_behind };
+
+    ghost entry_write = { two_level_write_behind };
 
     fn read_entry(
         alloc: Global,
@@ -63,6 +67,8 @@ impl ShadowForm for TwoLevel {
     }
 
     fn entries_are_local() {}
+
+    fn entries_are_read_and_written() {}
 
     fn start(alloc: Global, map: &AddrMap, entries: &[StartEntry]) -> Result<Vec<u8>, AllocError> {
         start_bytes(alloc, map, entries)

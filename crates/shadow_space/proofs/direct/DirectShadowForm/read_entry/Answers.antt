@@ -1,4 +1,4 @@
-use Rattle.std.proofs.Common.{refl, sym, subst, ◌+◌}
+use Rattle.std.proofs.Common.{refl, sym, subst, ◌+◌, arith}
 use Rattle.std.proofs.lemmas.Result.{IfOk-weaker}
 use Rattle.flat_routines.proofs.Regions.{laid_out}
 use Rattle.flat_routines.specs.InputOutput.{IsWithoutInputOutput}
@@ -8,6 +8,7 @@ use Rattle.shadow_space.specs.Form.{IsReadRoutine}
 use Rattle.shadow_space.specs.Direct.{direct_entry}
 use Rattle.shadow_space.proofs.Entries.{direct_reads}
 use Rattle.flat_routines.specs.Shape.{HasShape}
+use Rattle.flat_routines.proofs.Shape.{more}
 use Rattle.shadow_space.proofs.Shapes.{direct_read_shape}
 use Rattle.shadow_space.proofs.direct.DirectShadowForm.read_entry.Goals as goal
 
@@ -25,4 +26,5 @@ returns-clause-computes c = IfOk-weaker _ _ _
 
 pub returns-clause-shape : goal.returns-clause-shape
 returns-clause-shape c = IfOk-weaker _ _ _
-    (λ r e. subst (λ l. HasShape l 32 (c.args.scratch + 6)) (sym e) (direct_read_shape c.args.at c.args.into c.args.scratch c.requires.below)) c.read_code.ensures
+    (λ r e. subst (λ l. HasShape l 32 (c.args.scratch + 6)) (sym e)
+    (more _ 16 32 (c.args.scratch + 3) (c.args.scratch + 6) (omega arith) (omega arith) (direct_read_shape c.args.at c.args.into c.args.scratch c.requires.below))) c.read_code.ensures

@@ -23,6 +23,7 @@ pub fn narrow(
     scratch: u32,
 ) -> Result<Vec<FlatInstruction>, AllocError>
     requires { CanNarrow pointer offset size scratch }
+    ensures code { IfOk result (λ r. r.items ≡ narrow_code pointer offset size scratch) }
     ensures narrows { IfOk result (λ r. IsNarrowRoutine pointer offset size scratch r.items) }
     ensures goes_on { IfOk result (λ r. IsMoveOnRoutine pointer offset scratch r.items) }
     ensures computes { IfOk result (λ r. IsWithoutInputOutput r.items) }

@@ -5,8 +5,7 @@ ghost use Rattle.flat_routines.specs.Registers.{AreBelow};
 ghost use Rattle.flat_routines.specs.Metadata.{held_registers};
 ghost use Rattle.flat_routines.specs.InputOutput.{IsWithoutInputOutput};
 ghost use Rattle.flat_actions.specs.Judgement.Testing.{IsBelow, IsSpatialRoutine, IsTemporalRoutine};
-ghost use Rattle.flat_actions.specs.Judgement.Code.{spatial_code};
-ghost use Rattle.flat_actions.specs.Judgement.Code.{temporal_code};
+ghost use Rattle.flat_actions.specs.Judgement.Code.{spatial_code, temporal_code};
 
 use flat_meaning::{FlatInstruction, RightOperand};
 use flat_routines::Held;
@@ -28,6 +27,7 @@ pub fn spatial_check(
     requires below { AreBelow scratch (held_registers pointer) }
     requires size { IsBelow scratch size }
     requires room { scratch ≤ 2 ^ 31 }
+    ensures code { IfOk result (λ r. r.items ≡ spatial_code pointer size line scratch) }
     ensures does { IfOk result (λ r. IsSpatialRoutine pointer size line scratch r.items) }
     ensures computes { IfOk result (λ r. IsWithoutInputOutput r.items) }
 {
@@ -45,6 +45,7 @@ pub fn temporal_check(
 ) -> Result<Vec<FlatInstruction>, AllocError>
     requires below { AreBelow scratch (held_registers pointer) }
     requires room { scratch ≤ 2 ^ 31 }
+    ensures code { IfOk result (λ r. r.items ≡ temporal_code pointer line scratch) }
     ensures does { IfOk result (λ r. IsTemporalRoutine pointer line scratch r.items) }
     ensures computes { IfOk result (λ r. IsWithoutInputOutput r.items) }
 {

@@ -3,3 +3,4 @@ pub mod Values
 pub mod Operators
 pub mod Division
 mod PointerCode
+pub mod Shapes

@@ -1,6 +1,7 @@
 //! Laws of the lists, each as the contract of a function that does nothing.
 
-ghost use Rattle.std.specs.Prelude.{ℕ, ◌^◌, ◌<◌, ◌≤◌, Some};
+ghost use Rattle.std.specs.Prelude.{ℕ, ◌+◌, ◌^◌, ◌<◌, ◌≤◌, Some};
+ghost use Rattle.rv_isa.specs.declared.instruction.RegOp.{RegOp};
 ghost use Rattle.rv_isa.specs.declared.instruction.RegOp.TheVariants as op;
 ghost use Rattle.obj_memory.specs.declared.int_type.IntType.{IntType};
 ghost use Rattle.obj_memory.specs.declared.operator.UnaryOperator.{UnaryOperator};
@@ -9,6 +10,8 @@ ghost use Rattle.obj_memory.specs.Integers.{fit};
 ghost use Rattle.obj_memory.specs.Operators.{unary_value, binary_value};
 ghost use Rattle.flat_meaning.specs.Meaning.{Context};
 ghost use Rattle.flat_routines.specs.Routine.{Does};
+ghost use Rattle.flat_routines.specs.InputOutput.{IsWithoutInputOutput};
+ghost use Rattle.flat_routines.specs.Shape.{HasShape};
 ghost use Rattle.flat_operators.specs.Operators.{constant_code, conversion_code, unary_code, binary_code};
 ghost use Rattle.flat_operators.specs.Pointers.{address_back, address_forward, difference_code, elements_between};
 ghost use Rattle.flat_operators.specs.Pointers.{offset_code};
@@ -55,4 +58,18 @@ pub fn differences_are_in_elements()
     ensures { (c : Context) (line d a b n size : ℕ) → size < 2 ^ 64 → 1 ≤ size → AreOperands d a b n
         → Does c (difference_code size d a b n) Anywhere (λ s. 7)
         (λ s. IsResult (Some (elements_between size (s.values a) (s.values b))) line d n s) }
+{}
+
+/// A word gets into a register by at most five instructions, a pointer moves by elements by at most seven, and a
+/// difference of pointers is made by at most seven. They name no register behind `scratch`, hold their numbers, take no
+/// input and put no output.
+pub fn lists_for_pointers_have_shapes()
+    ensures constant { (d n w : ℕ) → d < n → w < 2 ^ 64 → HasShape (constant_code d w) 5 n }
+    ensures moved { (o : RegOp) (size d a i n : ℕ) → size < 2 ^ 64 → AreOperands d a i n
+        → HasShape (offset_code o size d a i n) 7 (n + 1) }
+    ensures difference { (size d a b n : ℕ) → size < 2 ^ 64 → AreOperands d a b n
+        → HasShape (difference_code size d a b n) 7 (n + 1) }
+    ensures constant_computes { (d w : ℕ) → IsWithoutInputOutput (constant_code d w) }
+    ensures moved_computes { (o : RegOp) (size d a i n : ℕ) → IsWithoutInputOutput (offset_code o size d a i n) }
+    ensures difference_computes { (size d a b n : ℕ) → IsWithoutInputOutput (difference_code size d a b n) }
 {}

@@ -70,6 +70,8 @@ pub fn release(
     requires map { AreMapped map.now }
     requires below { AreBelow scratch (lock ∷ []) }
     requires room { scratch ≤ 2 ^ 31 }
+    ensures code { IfOk result
+        (λ r. r.items ≡ release_code map.now lock scratch (scratch + 1) (scratch + 2)) }
     ensures does { IfOk result (λ r. IsReleaseRoutine map.now lock scratch r.items) }
     ensures computes { IfOk result (λ r. IsWithoutInputOutput r.items) }
     ensures shape { IfOk result (λ r. HasShape r.items 11 (scratch + 3)) }

@@ -15,19 +15,19 @@ use Rattle.obj_memory.specs.Sound.{IsSoundTag}
 use Rattle.flat_meaning.specs.declared.instruction.RightOperand.{RightOperand}
 use Rattle.flat_meaning.specs.declared.instruction.RightOperand.TheVariants.{Register, Number}
 use Rattle.flat_meaning.specs.declared.instruction.FlatInstruction.{FlatInstruction}
-use Rattle.flat_meaning.specs.declared.instruction.FlatInstruction.TheVariants.{Operate, Move, Branch}
+use Rattle.flat_meaning.specs.declared.instruction.FlatInstruction.TheVariants.{Operate, Move}
 use Rattle.flat_meaning.specs.Memory.{put}
 use Rattle.flat_meaning.specs.State.{State, Values}
 use Rattle.flat_meaning.specs.Words.{IsOfWords}
 use Rattle.flat_meaning.specs.Meaning.{Context, Goes, right_value}
 use Rattle.flat_meaning.proofs.Stored.{put_other}
 use Rattle.flat_routines.specs.declared.registers.Held.{Held}
-use Rattle.flat_routines.specs.Registers.{AreBelow, IsNoneOf, OthersStay}
+use Rattle.flat_routines.specs.Registers.{IsNoneOf, OthersStay}
 use Rattle.flat_routines.specs.Routine.{Does, Either, Never, Outcome, Continues, Halts, Reaches}
 use Rattle.flat_routines.specs.Effects.{worked, effects}
-use Rattle.flat_routines.specs.Renaming.{all_fit, rename, through, Agrees}
+use Rattle.flat_routines.specs.Renaming.{all_fit, rename, through}
 use Rattle.flat_routines.specs.Metadata.{Metadata, ShowsNothing, metadata_in}
-use Rattle.flat_routines.specs.Objects.StandsFor.{Views, Keys, spell, StandsFor, Spells}
+use Rattle.flat_routines.specs.Objects.StandsFor.{Views, Keys, spell, Spells}
 use Rattle.flat_routines.proofs.Steps.{has_self}
 use Rattle.flat_routines.proofs.Rules.{branch, line_on, arrived, weaken}
 use Rattle.flat_routines.proofs.Branches.{if_equal, if_unequal, if_less, if_not_less, if_below, if_not_below}

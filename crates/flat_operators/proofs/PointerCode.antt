@@ -1,20 +1,17 @@
 -- The code of pointers that move by elements, and of their differences, gives its value.
-use Rattle.std.proofs.Common.{◌≡◌, ◌≢◌, ℕ, ◌+◌, ◌-◌, ◌*◌, ◌%◌, ◌^◌, ◌<◌, ◌≤◌, Bool, true, false, ◌==◌, if◌then◌else◌, List}
+use Rattle.std.proofs.Common.{◌≡◌, ℕ, ◌+◌, ◌-◌, ◌*◌, ◌%◌, ◌^◌, ◌<◌, ◌≤◌, Bool, true, false, ◌==◌, if◌then◌else◌}
 use Rattle.std.proofs.Common.{[], ◌∷◌, ◌++◌, length, Option, Some, None, refl, sym, ap, ap₂, ◌∙◌, subst, arith}
 use Rattle.std.proofs.Common.{length-append}
-use Rattle.std.proofs.lemmas.Bool.{cond-true, cond-false, eqb-true, ne_eqb, cases_Bool}
-use Rattle.std.proofs.Common.{⊎_elim}
+use Rattle.std.proofs.lemmas.Bool.{eqb-true, ne_eqb}
 use Rattle.rv_isa.specs.declared.instruction.RegOp.{RegOp}
 use Rattle.rv_isa.specs.declared.instruction.RegOp.TheVariants as op
 use Rattle.rv_isa.specs.Results.{reg_result}
 use Rattle.rv_isa.proofs.Words.{reg_fits}
 use Rattle.words.specs.TwosComplement.{low_bits}
-use Rattle.words.specs.Operations.{sum, difference, product}
-use Rattle.obj_memory.specs.declared.int_type.IntType.TheVariants.{Long}
+use Rattle.words.specs.Operations.{difference}
 use Rattle.obj_memory.specs.Integers.{fit}
 use Rattle.obj_memory.specs.Operators.{negated, quotient}
-use Rattle.flat_meaning.specs.declared.instruction.RightOperand.TheVariants.{Register, Number}
-use Rattle.flat_meaning.specs.declared.instruction.FlatInstruction.{FlatInstruction}
+use Rattle.flat_meaning.specs.declared.instruction.RightOperand.TheVariants.{Register}
 use Rattle.flat_meaning.specs.declared.instruction.FlatInstruction.TheVariants.{Operate}
 use Rattle.flat_meaning.specs.State.{State}
 use Rattle.flat_meaning.specs.Words.{IsOfWords}

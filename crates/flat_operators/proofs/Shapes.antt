@@ -1,15 +1,15 @@
 -- What the lists of constants and of pointers are made of.
-use Rattle.std.proofs.Common.{◌≡◌, ℕ, ◌+◌, ◌-◌, ◌/◌, ◌%◌, ◌^◌, ◌<◌, ◌≤◌, Bool, true, false, ◌&&◌, ◌||◌, List, [], ◌∷◌, ◌++◌, Option, Some, None}
-use Rattle.std.proofs.Common.{refl, arith, ap}
+use Rattle.std.proofs.Common.{◌≡◌, ℕ, ◌+◌, ◌-◌, ◌/◌, ◌%◌, ◌^◌, ◌<◌, Bool, true, false, ◌&&◌, ◌||◌, List, [], ◌∷◌, ◌++◌, Option, Some, None}
+use Rattle.std.proofs.Common.{refl, arith}
 use Rattle.std.specs.Prelude.{nat_lt, nat_le, if◌then◌else◌, ◌==◌}
-use Rattle.std.proofs.lemmas.Bool.{lt-ltb, ltb-true}
+use Rattle.std.proofs.lemmas.Bool.{lt-ltb}
 use Rattle.rv_isa.specs.declared.instruction.RegOp.{RegOp}
 use Rattle.rv_isa.specs.declared.instruction.RegOp.TheVariants as op
 use Rattle.flat_meaning.specs.declared.instruction.RightOperand.TheVariants.{Register, Number}
 use Rattle.flat_meaning.specs.declared.instruction.FlatInstruction.{FlatInstruction}
 use Rattle.flat_meaning.specs.declared.instruction.FlatInstruction.TheVariants.{Constant, Operate}
-use Rattle.flat_routines.specs.InputOutput.{has_input_output, IsWithoutInputOutput}
-use Rattle.flat_routines.specs.Shape.{is_short as holds, is_shaped, are_shaped, HasShape}
+use Rattle.flat_routines.specs.InputOutput.{IsWithoutInputOutput}
+use Rattle.flat_routines.specs.Shape.{is_short as holds, HasShape}
 use Rattle.flat_routines.proofs.InputOutput.{computes}
 use Rattle.flat_routines.proofs.Shape.{shaped, both, short_below, at_most, shaped_append}
 use Rattle.flat_operators.specs.Operators.{is_short, appended, wide_code, constant_code}

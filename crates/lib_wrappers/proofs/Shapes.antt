@@ -1,5 +1,5 @@
 -- What the routines of the library are made of.
-use Rattle.std.proofs.Common.{◌≡◌, ℕ, ◌+◌, ◌≤◌, ◌<◌, List, [], ◌∷◌, ◌++◌, refl, arith, ◌∙◌}
+use Rattle.std.proofs.Common.{◌≡◌, ℕ, ◌+◌, ◌≤◌, ◌<◌, List, [], ◌∷◌, ◌++◌, refl, arith}
 use Rattle.rv_isa.specs.declared.instruction.BranchOp.TheVariants.{Beq}
 use Rattle.c_tree.specs.declared.format.Directive.{Directive}
 use Rattle.c_tree.specs.declared.format.Directive.TheVariants as directive
@@ -15,7 +15,7 @@ use Rattle.flat_routines.proofs.Shape.{piece, piece_behind, below_both, shaped_a
 use Rattle.flat_routines.proofs.Shape.{shaped_until, up_to, at_most}
 use Rattle.flat_actions.specs.Lists.{give_code, guarded_code}
 use Rattle.flat_actions.proofs.Shapes.{pointer_from, give_shape, guarded_shape}
-use Rattle.lib_wrappers.specs.MovingRoutines.Copying.{CellSize, OneByte, OneWord, bump, copy_loop, choose_order}
+use Rattle.lib_wrappers.specs.MovingRoutines.Copying.{bump, copy_loop, choose_order}
 use Rattle.lib_wrappers.specs.MovingRoutines.Moving.{move_bytes_code}
 use Rattle.lib_wrappers.specs.MovingRoutines.Tagged.{count_words, move_words}
 use Rattle.lib_wrappers.specs.MovingRoutines.Filling.{fill_code}

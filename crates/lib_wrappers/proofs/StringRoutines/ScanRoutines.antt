@@ -31,7 +31,6 @@ use Rattle.flat_routines.proofs.Wrapped.{routine_that_may_end}
 use Rattle.flat_routines.proofs.Showing.{shows_both}
 use Rattle.flat_routines.specs.Objects.StandsFor.{Views, Keys}
 use Rattle.shadow_space.proofs.Entries.{agrees_shows, agrees_memory}
-use Rattle.flat_actions.specs.Actions.{ChangesNothing}
 use Rattle.flat_actions.proofs.Standing.{nothing_then}
 use Rattle.flat_actions.specs.Judgement.Judging.{IsSameBut}
 use Rattle.flat_actions.specs.Actions.{Basis, Pointer, IsHeldBy, IsFor, context_in, views_of, work_of}

@@ -1,5 +1,5 @@
 -- The arguments of directives put out in flat code (C99 7.19.6.1 paragraph 8), strings apart.
-use Rattle.std.specs.Prelude.{◌≡◌, ℕ, ◌+◌, ◌*◌, ◌^◌, pos, false, List, [], ◌∷◌, ◌++◌, length}
+use Rattle.std.specs.Prelude.{◌≡◌, ℕ, ◌+◌, ◌*◌, pos, false, List, [], ◌∷◌, ◌++◌, length}
 use Rattle.std.specs.Fmt.{digits, decimal, signed_decimal}
 use Rattle.std.specs.Int.{w64, int_wrap}
 use Rattle.addr_map.specs.Places.{MapSizes}

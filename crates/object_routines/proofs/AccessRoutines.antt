@@ -7,3 +7,4 @@ pub mod IntegerStores
 pub mod PointerStores
 pub mod Judged
 pub mod TestActions
+pub mod Lists

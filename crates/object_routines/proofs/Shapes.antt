@@ -12,7 +12,7 @@ use Rattle.flat_routines.specs.Metadata.{held_registers}
 use Rattle.flat_routines.specs.Shape.{HasShape}
 use Rattle.flat_routines.proofs.Distinct.{below_more}
 use Rattle.flat_routines.proofs.Shape.{shaped, both, short_below, start_short, piece, piece_behind, below_both}
-use Rattle.flat_routines.proofs.Shape.{shaped_append, shaped_registers, shaped_unless, same_shape, up_to, at_most}
+use Rattle.flat_routines.proofs.Shape.{shaped_append, shaped_registers, shaped_unless, up_to, at_most}
 use Rattle.flat_actions.proofs.Shapes.{pointer_from}
 use Rattle.flat_routines.specs.InputOutput.{IsWithoutInputOutput}
 use Rattle.flat_routines.specs.InputOutput.{does_input_output, has_input_output}

@@ -3,6 +3,7 @@
 
 pub mod checked;
 pub mod held;
+pub mod laws;
 pub mod loading;
 pub mod storing;
 

@@ -6,6 +6,7 @@ use Rattle.rv_isa.specs.declared.instruction.LoadOp.{LoadOp}
 use Rattle.rv_isa.specs.declared.instruction.LoadOp.TheVariants.{Lb, Lh, Lw, Ld, Lbu, Lhu, Lwu}
 use Rattle.rv_isa.specs.declared.instruction.StoreOp.{StoreOp}
 use Rattle.rv_isa.specs.declared.instruction.StoreOp.TheVariants.{Sb, Sh, Sw, Sd}
+use Rattle.addr_map.specs.Places.{MapSizes}
 use Rattle.obj_memory.specs.declared.int_type.IntType.{IntType}
 use Rattle.obj_memory.specs.declared.int_type.IntType.TheVariants.{Char, SignedChar, UnsignedChar, Short}
 use Rattle.obj_memory.specs.declared.int_type.IntType.TheVariants.{UnsignedShort, Int, UnsignedInt, Long}
@@ -23,6 +24,7 @@ use Rattle.flat_meaning.specs.declared.instruction.FlatInstruction.TheVariants.{
 use Rattle.flat_routines.specs.declared.registers.Held.{Held}
 use Rattle.flat_routines.specs.declared.registers.Entry.{Entry}
 use Rattle.flat_routines.specs.Routine.{unless_code}
+use Rattle.shadow_space.specs.Form.{EntryCode}
 use Rattle.flat_actions.specs.Actions.{Basis, Nowhere, Word, Pointer as InPointer, IsAction}
 use Rattle.flat_actions.specs.Actions.{IsActionIn}
 use Rattle.object_routines.specs.declared.accesses.held.HeldScalar.{HeldScalar}
@@ -69,6 +71,16 @@ load_pointer_code a into t read = word_code a into t (length read) ++ read
 abbrev pub load_integer_code : (address : ℕ) → IntType → (into : ℕ) → List FlatInstruction
 load_integer_code a t r = Load (load_op t) r a 0 ∷ []
 
+-- a scalar of either kind, where entries are read so
+abbrev pub load_code : EntryCode → MapSizes → (address : ℕ) → (into : HeldScalar) → (scratch : ℕ) → List FlatInstruction
+load_code read map a (Integer t r) scratch = load_integer_code a t r
+load_code read map a (Pointer h) scratch = load_pointer_code a h scratch (read map a h.tag scratch)
+
+-- how many instructions these are at most
+abbrev pub load_length : HeldScalar → ℕ
+load_length (Integer t r) = 1
+load_length (Pointer h) = 24
+
 -- an integer takes one step, and a pointer what its entry takes and a few
 abbrev pub load_steps : HeldScalar → ℕ
 load_steps (Integer t r) = 1
@@ -105,6 +117,16 @@ abbrev pub store_pointer_code : (address : ℕ) → Held → (scratch : ℕ) →
     → List FlatInstruction
 store_pointer_code a from t write =
     Store Sd a 0 from.value ∷ Operate Sll t a (Number 61) ∷ unless_code Bne t (Number 0) write
+
+-- a scalar of either kind, where entries are written so
+abbrev pub store_code : EntryCode → MapSizes → (address : ℕ) → (from : HeldScalar) → (scratch : ℕ)
+    → List FlatInstruction
+store_code write map a (Integer t r) scratch = store_integer_code a t r
+store_code write map a (Pointer h) scratch = store_pointer_code a h scratch (write map a h.tag scratch)
+
+abbrev pub store_length : HeldScalar → ℕ
+store_length (Integer t r) = 1
+store_length (Pointer h) = 25
 
 abbrev pub store_steps : HeldScalar → ℕ
 store_steps (Integer t r) = 1

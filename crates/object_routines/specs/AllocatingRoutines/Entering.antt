@@ -25,6 +25,7 @@ use Rattle.flat_routines.specs.Registers.{OthersStay}
 use Rattle.flat_routines.specs.Routine.{Does, Outcome, Continues, Halts, Either, Never}
 use Rattle.flat_routines.specs.Metadata.{View}
 use Rattle.flat_routines.specs.Objects.StandsFor.{Views, Keys}
+use Rattle.lock_space.specs.Routines.{release_code}
 use Rattle.flat_actions.specs.Actions.{IsFor, KeepsHeld, HasEnded, views_of, context_in, work_of, runtime_basis}
 use Rattle.object_routines.specs.declared.allocating.entering.EntryRegisters.{EntryRegisters}
 use Rattle.object_routines.specs.AllocatingRoutines.Premises.{HaveBytes}
@@ -152,6 +153,10 @@ pub record HasLeft (views : Views) (keys : Keys) (IsGood : Bytes
     pub low : (a : ℕ) → a < spaces_begin → after.memory a ≡ before.memory a
     pub behind : (a : ℕ) → region_start views.sizes StructureValues ≤ a → after.memory a ≡ before.memory a
     pub others : OthersStay [] scratch before after
+
+-- its lock word is released
+abbrev pub leave_code : MapSizes → (lock scratch : ℕ) → List FlatInstruction
+leave_code map lock t = release_code map lock t (t + 1) (t + 2)
 
 -- A register holds the lock word of the block: within 11 steps its objects die, in functions of the program and of the
 -- runtime.

@@ -8,7 +8,7 @@ ghost use Rattle.flat_routines.specs.InputOutput.{IsWithoutInputOutput};
 ghost use Rattle.flat_actions.specs.Actions.{registers_of, program_basis};
 ghost use Rattle.object_routines.specs.AccessRoutines.Holding.{holder_in, IsApartFrom};
 ghost use Rattle.object_routines.specs.AccessRoutines.Accessing.{IsLoadRoutine, load_op, load_integer_code};
-ghost use Rattle.object_routines.specs.AccessRoutines.Accessing.{load_pointer_code};
+ghost use Rattle.object_routines.specs.AccessRoutines.Accessing.{load_pointer_code, load_code};
 ghost use Rattle.object_routines.specs.declared.accesses.held.HeldScalar.TheVariants.{Pointer};
 
 use crate::accesses::held::HeldScalar;
@@ -35,6 +35,7 @@ pub fn load<S: ShadowForm>(
     requires below { AreBelow scratch (address ∷ registers_of (holder_in into)) }
     requires apart { IsApartFrom address into }
     requires room { scratch ≤ 2 ^ 31 }
+    ensures code { IfOk result (λ r. r.items ≡ load_code S.entry_read map.now address into scratch) }
     ensures does { IfOk result
         (λ r. IsLoadRoutine (program_basis map.now S.entry (S.IsGood map.now)) address into scratch r.items) }
     ensures computes { IfOk result (λ r. IsWithoutInputOutput r.items) }
@@ -91,6 +92,8 @@ fn load_pointer<S: ShadowForm>(
     requires below { AreBelow scratch (address ∷ held_registers into) }
     requires apart { AreDistinct (address ∷ held_registers into) }
     requires room { scratch ≤ 2 ^ 31 }
+    ensures code { IfOk result
+        (λ r. r.items ≡ load_pointer_code address into scratch (S.entry_read map.now address into.tag scratch)) }
     ensures does { IfOk result
         (λ r. IsLoadRoutine (program_basis map.now S.entry (S.IsGood map.now)) address (Pointer into) scratch r.items) }
     ensures computes { IfOk result (λ r. IsWithoutInputOutput r.items) }

@@ -8,7 +8,7 @@ ghost use Rattle.flat_routines.specs.InputOutput.{IsWithoutInputOutput};
 ghost use Rattle.flat_actions.specs.Actions.{registers_of, program_basis};
 ghost use Rattle.object_routines.specs.AccessRoutines.Holding.{holder_in};
 ghost use Rattle.object_routines.specs.AccessRoutines.Accessing.{IsStoreRoutine, store_op, store_integer_code};
-ghost use Rattle.object_routines.specs.AccessRoutines.Accessing.{store_pointer_code};
+ghost use Rattle.object_routines.specs.AccessRoutines.Accessing.{store_pointer_code, store_code};
 ghost use Rattle.object_routines.specs.declared.accesses.held.HeldScalar.TheVariants.{Pointer};
 
 use crate::accesses::held::HeldScalar;
@@ -34,6 +34,7 @@ pub fn store<S: ShadowForm>(
     requires map { AreMapped map.now }
     requires below { AreBelow scratch (address ∷ registers_of (holder_in from)) }
     requires room { scratch ≤ 2 ^ 31 }
+    ensures code { IfOk result (λ r. r.items ≡ store_code S.entry_write map.now address from scratch) }
     ensures does { IfOk result
         (λ r. IsStoreRoutine (program_basis map.now S.entry (S.IsGood map.now)) address from scratch r.items) }
     ensures computes { IfOk result (λ r. IsWithoutInputOutput r.items) }
@@ -86,6 +87,8 @@ fn store_pointer<S: ShadowForm>(
     requires map { AreMapped map.now }
     requires below { AreBelow scratch (address ∷ held_registers from) }
     requires room { scratch ≤ 2 ^ 31 }
+    ensures code { IfOk result
+        (λ r. r.items ≡ store_pointer_code address from scratch (S.entry_write map.now address from.tag scratch)) }
     ensures does { IfOk result
         (λ r. IsStoreRoutine (program_basis map.now S.entry (S.IsGood map.now)) address (Pointer from) scratch r.items) }
     ensures computes { IfOk result (λ r. IsWithoutInputOutput r.items) }

@@ -10,7 +10,7 @@ ghost use Rattle.object_routines.specs.AllocatingRoutines.Allocating.{key_test};
 ghost use Rattle.object_routines.specs.AllocatingRoutines.Entering.{registers_in, IsEnterRoutine, IsLeaveRoutine};
 ghost use Rattle.object_routines.specs.AllocatingRoutines.Entering.{round_code};
 ghost use Rattle.object_routines.specs.AllocatingRoutines.Entering.{room_code};
-ghost use Rattle.object_routines.specs.AllocatingRoutines.Entering.{room_test, end_of_block, enter_code};
+ghost use Rattle.object_routines.specs.AllocatingRoutines.Entering.{room_test, end_of_block, enter_code, leave_code};
 
 use crate::allocating::allocating::{key_test, keys_list};
 use crate::allocating::zeroing::zero;
@@ -99,6 +99,7 @@ pub fn leave<S: ShadowForm>(
     requires map { AreMapped map.now }
     requires below { AreBelow scratch (lock ∷ []) }
     requires room { scratch ≤ 2 ^ 31 }
+    ensures code { IfOk result (λ r. r.items ≡ leave_code map.now lock scratch) }
     ensures does { IfOk result (λ r. IsLeaveRoutine map.now S.entry (S.IsGood map.now) lock scratch r.items) }
     ensures computes { IfOk result (λ r. IsWithoutInputOutput r.items) }
     ensures shape { IfOk result (λ r. HasShape r.items 11 (scratch + 3)) }

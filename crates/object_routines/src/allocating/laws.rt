@@ -1,6 +1,6 @@
 //! Laws of what the routines do and take for granted, each as the contract of a function that does nothing.
 
-ghost use Rattle.std.specs.Prelude.{◌≡◌, ℕ, ◌≤◌, List, [], true};
+ghost use Rattle.std.specs.Prelude.{◌≡◌, ℕ, ◌+◌, ◌≤◌, List, [], ◌∷◌, true};
 ghost use Rattle.addr_map.specs.Places.{MapSizes, AreMapped};
 ghost use Rattle.obj_memory.specs.declared.object.Storage.{Storage};
 ghost use Rattle.obj_memory.specs.declared.object.Storage.TheVariants.{Automatic};
@@ -8,13 +8,19 @@ ghost use Rattle.obj_memory.specs.Objects.{Objects, object_at, with_new, with_de
 ghost use Rattle.obj_memory.specs.Sound.{KeepsObjects};
 ghost use Rattle.source_meaning.specs.State.{State as Source, Home};
 ghost use Rattle.flat_meaning.specs.Memory.{Bytes};
+ghost use Rattle.flat_routines.specs.Registers.{AreBelow};
+ghost use Rattle.flat_routines.specs.InputOutput.{IsWithoutInputOutput};
+ghost use Rattle.flat_routines.specs.Shape.{HasShape};
 ghost use Rattle.flat_routines.specs.Metadata.{View};
 ghost use Rattle.flat_routines.specs.Objects.StandsFor.{Views, Keys, StandsFor};
 ghost use Rattle.heap_space.specs.Table.{IsTableGood};
 ghost use Rattle.flat_actions.specs.Actions.{views_of};
 ghost use Rattle.object_routines.specs.AllocatingRoutines.Entering.{IsHomeOf, AreOfLock, AreNewlyKeyed};
+ghost use Rattle.object_routines.specs.AllocatingRoutines.Entering.{IsLeaveRoutine, leave_code};
 ghost use Rattle.object_routines.specs.AllocatingRoutines.Premises.{HaveBytes};
 ghost use Rattle.object_routines.specs.AllocatingRoutines.Zeroing.{IsZeroed};
+
+use shadow_space::ShadowForm;
 
 /// Where the bytes of a live object become zero, and its words words without a pointer, as by `zero`, the memory stands
 /// for the objects with that one set to zero.
@@ -44,3 +50,15 @@ pub fn the_lock_word_of_a_block_stays_its_own()
         → IsHomeOf some homes → (object_at x'.objects some).is_live ≡ true → AreOfLock k x homes lock
         → AreOfLock k' x' homes lock }
 {}
+
+/// The instructions of `leave` leave a block, over whatever registers meet its premises, in functions of the program and
+/// of the runtime. They are eleven, and name three registers behind the one that they are given.
+pub fn blocks_are_left_exactly<S: ShadowForm>()
+    ensures does { (map : MapSizes) (lock t : ℕ) → AreMapped map → AreBelow t (lock ∷ [])
+        → IsLeaveRoutine map S.entry (S.IsGood map) lock t (leave_code map lock t) }
+    ensures shape { (map : MapSizes) (lock t : ℕ) → AreMapped map → AreBelow t (lock ∷ [])
+        → HasShape (leave_code map lock t) 11 (t + 3) }
+    ensures computes { (map : MapSizes) (lock t : ℕ) → IsWithoutInputOutput (leave_code map lock t) }
+{
+    S::entries_are_local()
+}

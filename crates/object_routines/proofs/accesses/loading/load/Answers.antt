@@ -1,8 +1,9 @@
-use Rattle.std.proofs.Common.{refl, sym, subst}
+use Rattle.std.proofs.Common.{◌≡◌, refl, sym, subst}
+use Rattle.std.specs.Prelude.{IfOk}
 use Rattle.std.proofs.lemmas.Result.{IfOk-weaker}
 use Rattle.flat_routines.specs.InputOutput.{IsWithoutInputOutput}
 use Rattle.flat_routines.proofs.InputOutput.{computes}
-use Rattle.object_routines.specs.AccessRoutines.Accessing.{IsLoadRoutine, load_integer_code}
+use Rattle.object_routines.specs.AccessRoutines.Accessing.{IsLoadRoutine, load_integer_code, load_code}
 use Rattle.object_routines.proofs.AccessRoutines.Integers.{load_integer_does}
 use Rattle.object_routines.proofs.accesses.loading.load.Goals as goal
 use Rattle.flat_actions.specs.Actions.{program_basis}
@@ -25,3 +26,15 @@ pub returns-in-Integer-clause-computes : goal.returns-in-Integer-clause-computes
 returns-in-Integer-clause-computes g c = IfOk-weaker _ _ _
     (λ v e. subst IsWithoutInputOutput (sym e)
     (computes (load_integer_code c.args.address c.in-Integer.of c.in-Integer.register) refl)) c.load_integer.ensures
+
+pub returns-in-Integer-clause-code : goal.returns-in-Integer-clause-code
+returns-in-Integer-clause-code g c =
+    let a = c.args in
+    subst (λ h. IfOk c.load_integer.result (λ r. r.items ≡ load_code g.S.ShadowForm.entry_read a.map.now a.address h a.scratch))
+    (sym c.in-Integer.is) c.load_integer.ensures
+
+pub returns-in-Pointer-clause-code : goal.returns-in-Pointer-clause-code
+returns-in-Pointer-clause-code g c =
+    let a = c.args in
+    subst (λ h. IfOk c.load_pointer.result (λ r. r.items ≡ load_code g.S.ShadowForm.entry_read a.map.now a.address h a.scratch))
+    (sym c.in-Pointer.is) c.load_pointer.ensures.code

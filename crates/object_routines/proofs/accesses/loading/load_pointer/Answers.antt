@@ -23,3 +23,9 @@ returns-clause-computes g c =
     let same = c.in_ok-code.ensures ∙ ap (load_pointer_code a.address a.into a.scratch) c.deref.ensures.value in
     subst IsWithoutInputOutput (sym same)
     (computes (load_pointer_code a.address a.into a.scratch c.in_ok-read.read.items) c.in_ok-read.ensures.computes.none)
+
+pub returns-clause-code : goal.returns-clause-code
+returns-clause-code g c =
+    c.in_ok-code.ensures
+    ∙ ap (load_pointer_code c.args.address c.args.into c.args.scratch)
+    (c.deref.ensures.value ∙ c.in_ok-read.ensures.code)

@@ -1,8 +1,9 @@
-use Rattle.std.proofs.Common.{refl, sym, subst}
+use Rattle.std.proofs.Common.{◌≡◌, refl, sym, subst}
+use Rattle.std.specs.Prelude.{IfOk}
 use Rattle.std.proofs.lemmas.Result.{IfOk-weaker}
 use Rattle.flat_routines.specs.InputOutput.{IsWithoutInputOutput}
 use Rattle.flat_routines.proofs.InputOutput.{computes}
-use Rattle.object_routines.specs.AccessRoutines.Accessing.{IsStoreRoutine, store_integer_code}
+use Rattle.object_routines.specs.AccessRoutines.Accessing.{IsStoreRoutine, store_integer_code, store_code}
 use Rattle.object_routines.proofs.AccessRoutines.IntegerStores.{store_integer_does}
 use Rattle.object_routines.proofs.accesses.storing.store.Goals as goal
 use Rattle.flat_actions.specs.Actions.{program_basis}
@@ -26,3 +27,15 @@ pub returns-in-Integer-clause-computes : goal.returns-in-Integer-clause-computes
 returns-in-Integer-clause-computes g c = IfOk-weaker _ _ _
     (λ v e. subst IsWithoutInputOutput (sym e)
     (computes (store_integer_code c.args.address c.in-Integer.of c.in-Integer.register) refl)) c.store_integer.ensures
+
+pub returns-in-Integer-clause-code : goal.returns-in-Integer-clause-code
+returns-in-Integer-clause-code g c =
+    let a = c.args in
+    subst (λ h. IfOk c.store_integer.result (λ r. r.items ≡ store_code g.S.ShadowForm.entry_write a.map.now a.address h a.scratch))
+    (sym c.in-Integer.is) c.store_integer.ensures
+
+pub returns-in-Pointer-clause-code : goal.returns-in-Pointer-clause-code
+returns-in-Pointer-clause-code g c =
+    let a = c.args in
+    subst (λ h. IfOk c.store_pointer.result (λ r. r.items ≡ store_code g.S.ShadowForm.entry_write a.map.now a.address h a.scratch))
+    (sym c.in-Pointer.is) c.store_pointer.ensures.code

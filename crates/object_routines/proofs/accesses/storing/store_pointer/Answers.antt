@@ -24,3 +24,9 @@ returns-clause-computes g c =
     let same = c.in_ok-code.ensures ∙ ap (store_pointer_code a.address a.from a.scratch) c.deref.ensures.value in
     subst IsWithoutInputOutput (sym same)
     (computes (store_pointer_code a.address a.from a.scratch c.in_ok-write.write.items) c.in_ok-write.ensures.computes.none)
+
+pub returns-clause-code : goal.returns-clause-code
+returns-clause-code g c =
+    c.in_ok-code.ensures
+    ∙ ap (store_pointer_code c.args.address c.args.from c.args.scratch)
+    (c.deref.ensures.value ∙ c.in_ok-write.ensures.code)

@@ -1,12 +1,11 @@
 -- What keeps an area: memory that is the same there, keys that are added, objects that go on.
-use Rattle.std.proofs.Common.{◌≡◌, ℕ, ◌+◌, ◌*◌, ◌/◌, ◌%◌, ◌<◌, ◌≤◌, get_or, sym, ap, ◌∙◌, subst, arith}
+use Rattle.std.proofs.Common.{◌≡◌, ℕ, ◌+◌, ◌*◌, ◌/◌, ◌≤◌, get_or, sym, ◌∙◌, subst, arith}
 use Rattle.addr_map.specs.declared.region.Region.TheVariants.{StructureValues}
 use Rattle.addr_map.specs.Places.{MapSizes, region_start}
 use Rattle.obj_memory.specs.declared.value.Tag.TheVariants.{Untagged}
 use Rattle.obj_memory.specs.Objects.{ObjectState, Objects}
 use Rattle.obj_memory.specs.Sound.{IsSoundObject}
-use Rattle.flat_meaning.specs.Memory.{Bytes, Keeps, KeepsBut}
-use Rattle.flat_routines.specs.Metadata.{metadata_at}
+use Rattle.flat_meaning.specs.Memory.{Bytes, Keeps}
 use Rattle.flat_routines.specs.Objects.StandsFor.{Views, Keys}
 use Rattle.flat_routines.proofs.Words.{metadata_kept}
 use Rattle.flat_actions.specs.Actions.{KeepsHeld}

@@ -1,7 +1,7 @@
 -- What changes behind the table of blocks alone: the memory stands for the same.
-use Rattle.std.proofs.Common.{◌≡◌, ℕ, ◌+◌, ◌*◌, ◌/◌, ◌<◌, ◌≤◌, true, false, sym, ap, ◌∙◌, subst, arith}
-use Rattle.addr_map.specs.declared.region.Region.TheVariants.{Heap, Locks, Blocks, StructureValues}
-use Rattle.addr_map.specs.Places.{MapSizes, AreMapped, spaces_begin, region_start, region_end}
+use Rattle.std.proofs.Common.{◌≡◌, ℕ, ◌+◌, ◌*◌, ◌<◌, sym, ◌∙◌, subst, arith}
+use Rattle.addr_map.specs.declared.region.Region.TheVariants.{Locks, Blocks, StructureValues}
+use Rattle.addr_map.specs.Places.{MapSizes, AreMapped, spaces_begin, region_start}
 use Rattle.obj_memory.specs.Objects.{Objects, object_at}
 use Rattle.source_meaning.specs.State.{State as Source}
 use Rattle.flat_meaning.specs.Memory.{Bytes, load}

@@ -1,6 +1,6 @@
 -- A part of contents is moved from area to area.
 use Rattle.std.proofs.Common.{◌≡◌, ◌≢◌, ℕ, suc, ◌+◌, ◌-◌, ◌*◌, ◌/◌, ◌%◌, ◌^◌, ◌<◌, ◌≤◌, ◌⊎◌, inl, inr, ⊎_elim, List}
-use Rattle.std.proofs.Common.{[], ◌∷◌, ◌++◌, true, refl, sym, ap, ◌∙◌, subst, arith}
+use Rattle.std.proofs.Common.{[], ◌∷◌, ◌++◌, refl, sym, ap, ◌∙◌, subst, arith}
 use Rattle.std.specs.Prelude.{nat_lt}
 use Rattle.std.proofs.lemmas.Bool.{cases_eq, cases_lt, lt-ltb, le-ltb}
 use Rattle.addr_map.specs.Places.{MapSizes, AreMapped}
@@ -9,13 +9,12 @@ use Rattle.words.specs.Operations.{product}
 use Rattle.flat_meaning.specs.declared.instruction.FlatInstruction.{FlatInstruction}
 use Rattle.flat_meaning.specs.Memory.{Bytes, put, KeepsBut}
 use Rattle.flat_meaning.specs.State.{State}
-use Rattle.flat_meaning.specs.Words.{IsOfWords}
 use Rattle.flat_meaning.specs.Meaning.{Context}
 use Rattle.flat_meaning.proofs.Stored.{kept_beside, keeps_both, keeps_within}
 use Rattle.flat_routines.specs.declared.registers.Held.{Held}
 use Rattle.flat_routines.specs.Registers.{AreBelow, OthersStay}
 use Rattle.flat_routines.specs.Routine.{Does, Either, Never}
-use Rattle.flat_routines.specs.Metadata.{Metadata, metadata_at, metadata_in, no_metadata, ShowsNothing, held_registers}
+use Rattle.flat_routines.specs.Metadata.{Metadata, metadata_at, metadata_in, ShowsNothing, held_registers}
 use Rattle.flat_routines.proofs.Showing.{shows_both}
 use Rattle.flat_routines.proofs.Words.{IsOfFourWords, store_four, four_read, four_beside, metadata_kept}
 use Rattle.flat_actions.specs.Ranges.{HasMovedBytes}
@@ -24,7 +23,7 @@ use Rattle.obj_memory.specs.Sound.{DoNotMeet}
 use Rattle.lib_wrappers.specs.MovingRoutines.Moving.{IsToMoveUsable, IsUsableMoveRoutine}
 use Rattle.lib_wrappers.proofs.MovingRoutines.Steps.{both_quiet, quiet_weaken, IsGlued, glued}
 use Rattle.lib_wrappers.proofs.MovingRoutines.Bytes.{in_runtime}
-use Rattle.area_routines.specs.Areas.{IsAreaPlace, HoldsPart, area_bytes, entries_begin}
+use Rattle.area_routines.specs.Areas.{IsAreaPlace, area_bytes, entries_begin}
 use Rattle.area_routines.specs.Loops.{word_loop, zero_body, entry_behind, load_entry, store_entry, IsAtWord, HasDoneWord}
 use Rattle.area_routines.specs.Loops.{DoesWord}
 use Rattle.area_routines.specs.Moving.{IsToMoveArea, HasMovedArea, IsMoveAreaRoutine, count_parts, entry_of_word}

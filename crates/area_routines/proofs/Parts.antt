@@ -1,11 +1,8 @@
 -- A part of contents that is taken to an area is what the run of the source gives.
-use Rattle.std.proofs.Common.{◌≡◌, ◌≢◌, ℕ, ◌+◌, ◌-◌, ◌*◌, ◌/◌, ◌%◌, ◌<◌, ◌≤◌, List, length, get_or, refl, sym, ap, ◌∙◌}
+use Rattle.std.proofs.Common.{◌≡◌, ℕ, ◌+◌, ◌-◌, ◌*◌, ◌/◌, List, sym, ◌∙◌}
 use Rattle.std.proofs.Common.{subst, arith, Some}
 use Rattle.addr_map.specs.Places.{MapSizes, AreMapped}
-use Rattle.obj_memory.specs.declared.value.Value.{Value}
-use Rattle.obj_memory.specs.Objects.{ObjectState}
-use Rattle.source_meaning.specs.State.{State as Source}
-use Rattle.source_meaning.specs.Structures.{taken, contents_of}
+use Rattle.source_meaning.specs.Structures.{taken}
 use Rattle.flat_meaning.specs.declared.instruction.FlatInstruction.{FlatInstruction}
 use Rattle.flat_meaning.specs.Memory.{Bytes, KeepsBut}
 use Rattle.flat_meaning.specs.State.{State}
@@ -13,7 +10,6 @@ use Rattle.flat_routines.specs.declared.registers.Held.{Held}
 use Rattle.flat_routines.specs.Routine.{Outcome, Continues, Halts, Either, Never}
 use Rattle.flat_routines.specs.Metadata.{View}
 use Rattle.flat_routines.proofs.Words.{IsLocal}
-use Rattle.flat_routines.specs.Objects.StandsFor.{Views, Keys}
 use Rattle.flat_actions.specs.Actions.{IsFor, views_of}
 use Rattle.lib_wrappers.proofs.MovingRoutines.Steps.{does_weaken}
 use Rattle.lib_wrappers.proofs.MovingRoutines.Bytes.{in_runtime}

@@ -1,13 +1,11 @@
 -- Contents are put from an area to an object.
 use Rattle.std.proofs.Common.{◌≡◌, ◌≢◌, ℕ, ◌+◌, ◌-◌, ◌*◌, ◌/◌, ◌%◌, ◌^◌, ◌<◌, ◌≤◌, ◌⊎◌, inl, inr, ⊎_elim, List, []}
-use Rattle.std.proofs.Common.{◌∷◌, ◌++◌, true, refl, sym, ap, ◌∙◌, subst, arith}
-use Rattle.addr_map.specs.declared.region.Region.TheVariants.{Shadow, StructureValues}
-use Rattle.addr_map.specs.Places.{MapSizes, AreMapped, spaces_begin, region_size, region_start}
+use Rattle.std.proofs.Common.{◌∷◌, ◌++◌, refl, sym, ap, ◌∙◌, subst, arith}
+use Rattle.addr_map.specs.Places.{MapSizes, AreMapped}
 use Rattle.rv_isa.specs.Results.{reg_result}
 use Rattle.flat_meaning.specs.declared.instruction.FlatInstruction.{FlatInstruction}
-use Rattle.flat_meaning.specs.Memory.{Bytes, put, KeepsBut}
+use Rattle.flat_meaning.specs.Memory.{Bytes, put}
 use Rattle.flat_meaning.specs.State.{State}
-use Rattle.flat_meaning.specs.Words.{IsOfWords}
 use Rattle.flat_meaning.specs.Meaning.{Context}
 use Rattle.flat_routines.specs.declared.registers.Held.{Held}
 use Rattle.flat_routines.specs.Registers.{AreBelow, OthersStay}
@@ -26,9 +24,9 @@ use Rattle.lib_wrappers.specs.MovingRoutines.Moving.{IsToMoveUsable, IsUsableMov
 use Rattle.lib_wrappers.specs.MovingRoutines.Tagged.{count_words}
 use Rattle.lib_wrappers.proofs.MovingRoutines.Steps.{both_quiet, quiet_weaken, IsGlued, glued}
 use Rattle.lib_wrappers.proofs.MovingRoutines.Bytes.{in_runtime, object_usable}
-use Rattle.lib_wrappers.proofs.MovingRoutines.Words.{AreSome, AreNone, AreLow, HasCounted, counts, first_word, end_word}
+use Rattle.lib_wrappers.proofs.MovingRoutines.Words.{AreNone, AreLow, HasCounted, counts, first_word, end_word}
 use Rattle.lib_wrappers.proofs.MovingRoutines.Tagged.{ChangesRange, tables_stay, spaces_stay, behind_stays, shadow_stays}
-use Rattle.area_routines.specs.Areas.{IsAreaPlace, HoldsPart, area_bytes, entries_begin}
+use Rattle.area_routines.specs.Areas.{area_bytes, entries_begin}
 use Rattle.area_routines.specs.Loops.{word_loop, entry_behind, load_entry}
 use Rattle.area_routines.specs.Putting.{IsToPut, HasPutRange, IsPutRangeRoutine, entry_place, put_entries}
 use Rattle.area_routines.proofs.WordLoops.{Going, words_all}

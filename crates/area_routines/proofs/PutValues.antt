@@ -1,22 +1,20 @@
 -- Contents that are put to a place are what the run of the source puts there.
 use Rattle.std.proofs.Common.{◌≡◌, ◌≢◌, ℕ, ◌+◌, ◌-◌, ◌*◌, ◌/◌, ◌%◌, ◌<◌, ◌≤◌, ◌⊎◌, inl, inr, ⊎_elim, List, [], ◌∷◌}
-use Rattle.std.proofs.Common.{Bool, true, false, length, get_or, refl, sym, ap, ◌∙◌, subst, arith, Some}
+use Rattle.std.proofs.Common.{Bool, true, length, get_or, refl, sym, ap, ◌∙◌, subst, arith}
 use Rattle.std.proofs.lemmas.Bool.{cases_eq, cases_lt}
-use Rattle.addr_map.specs.declared.region.Region.TheVariants.{StructureValues}
-use Rattle.addr_map.specs.Places.{MapSizes, AreMapped, spaces_begin, region_start}
+use Rattle.addr_map.specs.Places.{MapSizes, AreMapped}
 use Rattle.obj_memory.specs.declared.value.Value.{Value}
 use Rattle.obj_memory.specs.declared.value.Place.{Place}
 use Rattle.obj_memory.specs.declared.value.Tag.TheVariants.{Untagged}
-use Rattle.obj_memory.specs.declared.judgement.Verdict.TheVariants.{Inside}
 use Rattle.obj_memory.specs.Objects.{ObjectState, Objects, object_at}
 use Rattle.obj_memory.specs.Judgement.{place_in}
-use Rattle.obj_memory.specs.Sound.{IsSound, IsSoundObject, IsPlace, IsAllowed}
+use Rattle.obj_memory.specs.Sound.{IsSound, IsSoundObject, IsPlace}
 use Rattle.obj_memory.proofs.Continuing.{IsLater}
 use Rattle.obj_memory.proofs.Soundness.{sound_set}
 use Rattle.obj_memory.proofs.Moving.{tag_not_moved}
-use Rattle.source_meaning.specs.State.{State as Source, Gives, ◌>>◌, done, on}
+use Rattle.source_meaning.specs.State.{State as Source, Gives, on}
 use Rattle.source_meaning.specs.Acting.{state_of}
-use Rattle.source_meaning.specs.Actions.{integer, place_or_stop, verdict_on}
+use Rattle.source_meaning.specs.Actions.{integer, place_or_stop}
 use Rattle.source_meaning.specs.Structures.{moved_into, put_range, put_contents}
 use Rattle.source_meaning.proofs.Holding.{direct_allowed}
 use Rattle.source_meaning.proofs.SureStructures.{moved_sound, keeps_put, put_object, put_other, range_is}
@@ -32,13 +30,13 @@ use Rattle.flat_routines.proofs.Rules.{weaken}
 use Rattle.flat_routines.specs.Objects.StandsFor.{Views, Keys, spell, StandsFor}
 use Rattle.flat_routines.specs.Objects.Changes.{Changes, IsKeptWord}
 use Rattle.flat_routines.proofs.Objects.Changing.{word_of, changed}
-use Rattle.flat_actions.specs.Actions.{IsFor, HasGiven, StaysElsewhere, Nowhere, Leaves, views_of, work_of}
+use Rattle.flat_actions.specs.Actions.{IsFor, HasGiven, Nowhere, Leaves, views_of, work_of}
 use Rattle.flat_actions.specs.Ranges.{IsObjectRange}
 use Rattle.flat_actions.proofs.Standing.{shown_still, keeps_same}
 use Rattle.lib_wrappers.proofs.MovingRoutines.Bytes.{in_runtime}
 use Rattle.lib_wrappers.proofs.MovingRoutines.Moves.{allowed_range}
-use Rattle.area_routines.specs.Areas.{IsArea, IsAreaPlace, entries_begin}
-use Rattle.area_routines.specs.Putting.{IsPutIn, IsToPut, HasPutRange, IsPutRangeRoutine}
+use Rattle.area_routines.specs.Areas.{IsArea, entries_begin}
+use Rattle.area_routines.specs.Putting.{IsPutIn, HasPutRange, IsPutRangeRoutine}
 use Rattle.area_routines.specs.Values.{IsToPutPlace, IsPutRoutine, putting}
 use Rattle.area_routines.proofs.Contents.{byte_moved, byte_beside, tag_moved}
 

@@ -1,48 +1,48 @@
 -- Scalars read out of contents are what the source reads.
-use Rattle.std.proofs.Common.{◌≡◌, ◌≢◌, ℕ, ◌+◌, ◌-◌, ◌*◌, ◌/◌, ◌%◌, ◌^◌, ◌<◌, ◌≤◌, ⊎_elim, List, [], ◌∷◌, ◌++◌, Bool}
-use Rattle.std.proofs.Common.{true, take, drop, get_or, if◌then◌else◌, refl, sym, ap, ◌∙◌, subst, arith}
-use Rattle.std.specs.Prelude.{nat_lt}
-use Rattle.std.proofs.lemmas.Bool.{cases_eq, lt-ltb, le-ltb, eq-eqb, ne_eqb}
+use Rattle.std.proofs.Common.{◌≡◌, ◌≢◌, ℕ, ◌+◌, ◌-◌, ◌*◌, ◌/◌, ◌%◌, ◌^◌, ◌<◌, ◌≤◌, ⊎_elim, List, [], ◌∷◌, Bool}
+use Rattle.std.proofs.Common.{drop, get_or, if◌then◌else◌, refl, sym, ap, ◌∙◌, subst, arith}
+use Rattle.std.proofs.lemmas.Bool.{cases_eq, eq-eqb, ne_eqb}
 use Rattle.std.proofs.lemmas.List.{get_or-take, get_or-drop}
 use Rattle.byteorder.specs.Endian.{little_number}
 use Rattle.behaviours.specs.Shown.{Access, Read}
-use Rattle.addr_map.specs.Places.{MapSizes, AreMapped, spaces_begin}
-use Rattle.rv_isa.specs.declared.instruction.LoadOp.TheVariants.{Ld}
-use Rattle.rv_isa.specs.Results.{reg_result, extended, bit_of, load_bytes}
-use Rattle.words.specs.Operations.{product}
+use Rattle.addr_map.specs.Places.{AreMapped}
+use Rattle.rv_isa.specs.Results.{reg_result, extended, load_bytes}
 use Rattle.obj_memory.specs.declared.int_type.IntType.{IntType}
 use Rattle.obj_memory.specs.declared.value.Tag.TheVariants.{Untagged}
 use Rattle.obj_memory.specs.declared.value.Place.{Place}
 use Rattle.obj_memory.specs.Objects.{ObjectState}
 use Rattle.obj_memory.specs.Integers.{size_of, fit}
-use Rattle.obj_memory.specs.Access.{bytes_at, tag_at, tag_of, read_value}
+use Rattle.obj_memory.specs.Access.{bytes_at, tag_of, read_value}
 use Rattle.flat_meaning.specs.declared.instruction.FlatInstruction.{FlatInstruction}
 use Rattle.flat_meaning.specs.Memory.{Bytes, put, load}
 use Rattle.flat_meaning.specs.State.{State}
 use Rattle.flat_meaning.specs.Words.{IsOfWords}
-use Rattle.flat_meaning.specs.Meaning.{Context, Goes}
+use Rattle.flat_meaning.specs.Meaning.{Context}
 use Rattle.flat_meaning.proofs.Stored.{put_same, put_other, load_fits as loads_fit}
 use Rattle.flat_routines.specs.declared.registers.Held.{Held}
 use Rattle.flat_routines.specs.Registers.{AreDistinct, AreBelow, AreNoneOf, IsNoneOf, OthersStay}
 use Rattle.flat_routines.specs.Renaming.{through}
 use Rattle.flat_routines.specs.Routine.{Does, Either, Never}
 use Rattle.flat_routines.specs.Effects.{effects, with_shown, AreAllowed}
-use Rattle.flat_routines.specs.Metadata.{Metadata, metadata_at, metadata_in, no_metadata, ShowsNothing, held_registers}
+use Rattle.flat_routines.specs.Metadata.{metadata_at, metadata_in, no_metadata, ShowsNothing, held_registers}
 use Rattle.flat_routines.proofs.Rules.{line}
-use Rattle.flat_routines.proofs.Regions.{IsLaidOut, laid_out, shadow_not_shown}
+use Rattle.flat_routines.proofs.Regions.{laid_out, shadow_not_shown}
 use Rattle.flat_routines.proofs.Showing.{shows_both}
 use Rattle.flat_routines.proofs.Words.{same_metadata}
 use Rattle.flat_routines.specs.Objects.StandsFor.{Views, Keys, spell}
 use Rattle.lock_space.proofs.Spaces.{allowed_at}
+use Rattle.flat_actions.specs.Actions.{registers_of}
 use Rattle.flat_actions.specs.Lists.{give_code}
 use Rattle.lib_wrappers.proofs.MovingRoutines.Steps.{both_quiet, quiet_weaken, IsGlued, glued, named}
 use Rattle.lib_wrappers.proofs.MovingRoutines.Guarded.{HasHanded, hands}
+use Rattle.object_routines.specs.declared.accesses.held.HeldScalar.{HeldScalar}
 use Rattle.object_routines.specs.declared.accesses.held.HeldScalar.TheVariants.{Integer, Pointer}
+use Rattle.object_routines.specs.AccessRoutines.Holding.{holder_in}
 use Rattle.object_routines.specs.AccessRoutines.Accessing.{load_op, load_integer_code}
 use Rattle.object_routines.proofs.AccessRoutines.Places.{number_loaded, load_size, load_fits}
-use Rattle.area_routines.specs.Areas.{IsArea, IsAreaPlace, HoldsPart, area_bytes, entries_begin}
+use Rattle.area_routines.specs.Areas.{IsArea, IsAreaPlace, area_bytes, entries_begin}
 use Rattle.area_routines.specs.Reading.{IsToReadPart, HasReadPart, IsReadPartRoutine, scalar_of_part, read_word}
-use Rattle.area_routines.specs.Reading.{word_held, read_pointer_code}
+use Rattle.area_routines.specs.Reading.{word_held, read_pointer_code, read_part_code}
 use Rattle.area_routines.proofs.Bodies.{IsSpaceRange}
 use Rattle.area_routines.proofs.Spaces.{structure_space, part_of_area}
 use Rattle.area_routines.proofs.TakeRanges.{all_counted, none_counted}
@@ -326,3 +326,9 @@ pub pointers_read : (h into : Held) (t : ℕ) → AreBelow t (held_registers h) 
     → AreDistinct (held_registers into) → IsReadPartRoutine h (Pointer into) t (read_pointer_code h into t)
 pointers_read h into t below below_into distinct g k c q a runtime charge weight mapped =
     pointer_does g mapped k c q a runtime charge weight h into t below below_into distinct
+
+pub parts_read : (h : Held) (into : HeldScalar) (t : ℕ) → AreBelow t (held_registers h)
+    → AreBelow t (registers_of (holder_in into)) → AreDistinct (registers_of (holder_in into))
+    → IsReadPartRoutine h into t (read_part_code h into t)
+parts_read h (Integer ty r) t below results distinct = integers_read ty r h t
+parts_read h (Pointer into) t below results distinct = pointers_read h into t below results distinct

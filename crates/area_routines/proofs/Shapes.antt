@@ -1,5 +1,6 @@
 -- What the routines on areas are made of.
 use Rattle.std.proofs.Common.{◌≡◌, ℕ, ◌+◌, ◌≤◌, List, [], ◌∷◌, ◌++◌, refl, arith}
+use Rattle.std.proofs.lemmas.Bool.{lt-ltb}
 use Rattle.rv_isa.specs.declared.instruction.BranchOp.TheVariants.{Beq}
 use Rattle.flat_meaning.specs.declared.instruction.RightOperand.TheVariants.{Number}
 use Rattle.flat_meaning.specs.declared.instruction.FlatInstruction.{FlatInstruction}
@@ -7,13 +8,24 @@ use Rattle.flat_routines.specs.declared.registers.Held.{Held}
 use Rattle.flat_routines.specs.Registers.{AreBelow}
 use Rattle.flat_routines.specs.Metadata.{held_registers}
 use Rattle.flat_routines.specs.Shape.{HasShape}
+use Rattle.flat_routines.specs.InputOutput.{IsWithoutInputOutput}
+use Rattle.flat_routines.proofs.Distinct.{below_more}
+use Rattle.flat_routines.proofs.InputOutput.{computes}
+use Rattle.flat_routines.proofs.Shape.{shaped, both}
 use Rattle.flat_routines.proofs.Shape.{piece, piece_behind, shaped_append, shaped_joined, shaped_until, up_to, at_most}
-use Rattle.flat_actions.proofs.Shapes.{pointer_from}
+use Rattle.flat_actions.specs.Actions.{registers_of}
+use Rattle.flat_actions.specs.Lists.{give_code}
+use Rattle.flat_actions.proofs.Shapes.{pointer_from, give_shape}
+use Rattle.object_routines.specs.declared.accesses.held.HeldScalar.{HeldScalar}
+use Rattle.object_routines.specs.declared.accesses.held.HeldScalar.TheVariants.{Integer, Pointer}
+use Rattle.object_routines.specs.AccessRoutines.Holding.{holder_in}
+use Rattle.object_routines.specs.AccessRoutines.Accessing.{load_integer_code}
 use Rattle.lib_wrappers.specs.MovingRoutines.Tagged.{count_words}
 use Rattle.area_routines.specs.Loops.{stride, word_loop, zero_body, entry_behind, store_entry, load_entry}
 use Rattle.area_routines.specs.Zeroing.{area_words, zero_area_code}
 use Rattle.area_routines.specs.Taking.{count_entries, take_entries}
 use Rattle.area_routines.specs.Putting.{entry_place, put_entries}
+use Rattle.area_routines.specs.Reading.{read_word, word_held, read_pointer_code, read_part_code, read_length}
 use Rattle.area_routines.specs.Moving.{count_parts, move_body, count_rest, move_parts, clear_rest}
 
 loop_shape : (t k m : ℕ) (body : List FlatInstruction) → t + 3 ≤ m → HasShape body k m
@@ -173,3 +185,28 @@ move_shape {r} {a} {b} {x} to part bytes t below e f g h =
     (shaped_joined e f g (up_to (t + 5) m (omega arith) h)
     (shaped_append (move_parts to part bytes t) (clear_rest part bytes t) 27 17 m (parts_shape to part bytes t below)
     (rest_shape to part bytes t below)))
+
+-- ---- a scalar read out of contents
+
+pub read_part_shape : (h : Held) (into : HeldScalar) (t : ℕ) → AreBelow t (held_registers h)
+    → AreBelow t (registers_of (holder_in into)) → HasShape (read_part_code h into t) (read_length into) (t + 7)
+read_part_shape h (Integer ty r) t below results =
+    let a = below.0 in let b = results.0 in
+    shaped (load_integer_code h.value ty r) 1 (t + 7) (omega arith)
+    (both _ _ (both _ _ (lt-ltb r (t + 7) (omega (arith, b))) (both _ _ (lt-ltb h.value (t + 7) (omega (arith, a))) refl))
+    refl)
+read_part_shape h (Pointer into) t below results =
+    let v = below.0 in let b = below.1.0 in let d = below.1.1.0 in
+    shaped_append (read_word h t) (give_code (word_held t) into) 15 5 (t + 7)
+    (piece (t + 7)
+    (h.value ∷ h.tag.base ∷ h.tag.bound ∷ t ∷ (t + 1) ∷ (t + 2) ∷ (t + 3) ∷ (t + 4) ∷ (t + 5) ∷ (t + 6) ∷ [])
+    (read_word (record { value = 0; tag = record { base = 1; bound = 2; key = 0; lock = 0 } }) 3) 15
+    (omega arith, (omega arith, (omega arith, (omega arith, (omega arith, entry_all t (t + 7) (omega arith))))))
+    refl refl)
+    (give_shape (t + 7) (word_held t) into
+    (omega arith, (omega arith, (omega arith, (omega arith, (omega arith, tt)))))
+    (below_more t (t + 7) (held_registers into) (omega arith) results))
+
+pub read_part_computes : (h : Held) (into : HeldScalar) (t : ℕ) → IsWithoutInputOutput (read_part_code h into t)
+read_part_computes h (Integer ty r) t = computes (load_integer_code h.value ty r) refl
+read_part_computes h (Pointer into) t = computes (read_pointer_code h into t) refl

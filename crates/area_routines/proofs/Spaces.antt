@@ -1,8 +1,7 @@
 -- Where areas lie.
-use Rattle.std.proofs.Common.{◌≡◌, ℕ, ◌+◌, ◌*◌, ◌/◌, ◌%◌, ◌^◌, ◌<◌, ◌≤◌, true, refl, arith}
+use Rattle.std.proofs.Common.{ℕ, ◌+◌, ◌^◌, ◌<◌, ◌≤◌, refl, arith}
 use Rattle.addr_map.specs.declared.region.Region.TheVariants.{Shadow, StructureValues, Cells}
 use Rattle.addr_map.specs.Places.{MapSizes, AreMapped, spaces_begin, region_size, region_start, region_end}
-use Rattle.flat_meaning.specs.Spaces.{is_allowed}
 use Rattle.lock_space.proofs.Spaces.{allowed_at}
 use Rattle.lib_wrappers.specs.MovingRoutines.Moving.{IsUsableRange}
 use Rattle.area_routines.specs.Areas.{IsAreaPlace, area_bytes}

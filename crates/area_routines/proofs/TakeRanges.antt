@@ -1,24 +1,22 @@
 -- The contents of a structure are taken to an area.
 use Rattle.std.proofs.Common.{◌≡◌, ◌≢◌, ℕ, ◌+◌, ◌-◌, ◌*◌, ◌/◌, ◌%◌, ◌^◌, ◌<◌, ◌≤◌, ◌⊎◌, inl, inr, ⊎_elim, List, []}
-use Rattle.std.proofs.Common.{◌∷◌, ◌++◌, true, refl, sym, ap, ◌∙◌, subst, arith}
+use Rattle.std.proofs.Common.{◌∷◌, ◌++◌, refl, sym, ap, ◌∙◌, subst, arith}
 use Rattle.std.specs.Prelude.{nat_lt}
 use Rattle.std.proofs.lemmas.Bool.{cases_eq, cases_lt, lt-ltb, le-ltb}
-use Rattle.addr_map.specs.declared.region.Region.TheVariants.{Shadow}
-use Rattle.addr_map.specs.Places.{MapSizes, AreMapped, spaces_begin, region_size}
+use Rattle.addr_map.specs.Places.{MapSizes, AreMapped, spaces_begin}
 use Rattle.rv_isa.specs.Results.{reg_result, bit_of}
 use Rattle.words.specs.Operations.{product}
 use Rattle.flat_meaning.specs.declared.instruction.FlatInstruction.{FlatInstruction}
 use Rattle.flat_meaning.specs.Memory.{Bytes, put, load, KeepsBut}
 use Rattle.flat_meaning.specs.State.{State}
-use Rattle.flat_meaning.specs.Words.{IsOfWords}
 use Rattle.flat_meaning.specs.Meaning.{Context}
 use Rattle.flat_meaning.proofs.Stored.{load_kept}
 use Rattle.flat_routines.specs.Registers.{AreBelow, OthersStay}
 use Rattle.flat_routines.specs.Routine.{Does, Either, Never}
-use Rattle.flat_routines.specs.Metadata.{View, metadata_at, no_metadata, IsObjectWord, KeepsShadow, ShowsNothing}
+use Rattle.flat_routines.specs.Metadata.{View, metadata_at, no_metadata, IsObjectWord, ShowsNothing}
 use Rattle.flat_routines.proofs.Regions.{laid_out}
 use Rattle.flat_routines.proofs.Showing.{shows_both}
-use Rattle.flat_routines.proofs.Words.{IsLocal, same_metadata, metadata_kept, zero_loaded}
+use Rattle.flat_routines.proofs.Words.{IsLocal, same_metadata, zero_loaded}
 use Rattle.shadow_space.specs.Form.{IsReadRoutine}
 use Rattle.flat_actions.specs.Ranges.{IsObjectRange, HasMovedBytes}
 use Rattle.flat_actions.proofs.Standing.{others_trans}
@@ -28,7 +26,7 @@ use Rattle.lib_wrappers.proofs.MovingRoutines.Bytes.{in_runtime, object_usable}
 use Rattle.area_routines.specs.Areas.{IsAreaPlace, area_bytes, entries_begin}
 use Rattle.area_routines.specs.Loops.{word_loop, entry_behind, store_entry}
 use Rattle.area_routines.specs.Zeroing.{IsToZeroArea, HasZeroedArea, IsZeroAreaRoutine, zero_area_code}
-use Rattle.area_routines.specs.Taking.{IsToTake, HasTaken, IsTakeRangeRoutine, count_entries, take_entries, take_code}
+use Rattle.area_routines.specs.Taking.{IsToTake, HasTaken, IsTakeRangeRoutine, count_entries, take_entries}
 use Rattle.area_routines.proofs.WordLoops.{Going, words_all}
 use Rattle.area_routines.proofs.Bodies.{IsSpaceRange, AreTaken, take_does_word}
 use Rattle.area_routines.proofs.Spaces.{structure_space, part_of_area, space_usable}

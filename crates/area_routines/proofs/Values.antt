@@ -1,16 +1,12 @@
 -- Areas that are made zero and that structures are taken to are what the runs of the source give.
-use Rattle.std.proofs.Common.{◌≡◌, ◌≢◌, ℕ, ◌+◌, ◌-◌, ◌*◌, ◌/◌, ◌%◌, ◌<◌, ◌≤◌, inl, inr, List, false, length, get_or}
+use Rattle.std.proofs.Common.{◌≡◌, ℕ, ◌+◌, ◌-◌, ◌*◌, ◌/◌, inl, List, length}
 use Rattle.std.proofs.Common.{refl, sym, ap, ◌∙◌, subst, arith, None}
-use Rattle.addr_map.specs.declared.region.Region.TheVariants.{StructureValues}
-use Rattle.addr_map.specs.Places.{MapSizes, AreMapped, region_start}
+use Rattle.addr_map.specs.Places.{MapSizes, AreMapped}
 use Rattle.obj_memory.specs.declared.value.Value.{Value}
-use Rattle.obj_memory.specs.declared.value.Place.{Place}
-use Rattle.obj_memory.specs.declared.value.Tag.TheVariants.{Untagged}
 use Rattle.obj_memory.specs.declared.judgement.Verdict.TheVariants.{Inside}
 use Rattle.obj_memory.specs.declared.object.Storage.TheVariants.{Automatic}
 use Rattle.obj_memory.specs.Objects.{ObjectState, Objects, object_at, new_object}
 use Rattle.obj_memory.specs.Judgement.{place_in, named_in, named}
-use Rattle.obj_memory.specs.Sound.{IsAllowed}
 use Rattle.c_tree.specs.declared.expression.Kind.TheVariants.{Structure}
 use Rattle.source_meaning.specs.State.{State as Source, Gives, ◌>>◌, read_state, tally, on}
 use Rattle.source_meaning.specs.Actions.{place_or_stop}
@@ -28,14 +24,13 @@ use Rattle.flat_routines.proofs.Rules.{weaken}
 use Rattle.flat_routines.proofs.Words.{IsLocal}
 use Rattle.flat_routines.specs.Objects.StandsFor.{Views, Keys}
 use Rattle.flat_actions.specs.Actions.{IsFor, views_of}
-use Rattle.flat_actions.proofs.Standing.{for_worked}
 use Rattle.lib_wrappers.proofs.MovingRoutines.Steps.{does_weaken}
 use Rattle.lib_wrappers.proofs.MovingRoutines.Bytes.{in_runtime}
 use Rattle.lib_wrappers.proofs.MovingRoutines.Moves.{allowed_range}
 use Rattle.flat_actions.specs.Ranges.{IsObjectRange}
 use Rattle.area_routines.specs.Areas.{IsAreaPlace, IsArea, area_bytes, entries_begin}
 use Rattle.area_routines.specs.Zeroing.{IsToZeroArea, HasZeroedArea, IsZeroAreaRoutine}
-use Rattle.area_routines.specs.Taking.{IsToTake, HasTaken, IsTakeRangeRoutine}
+use Rattle.area_routines.specs.Taking.{HasTaken, IsTakeRangeRoutine}
 use Rattle.area_routines.specs.Values.{HasGivenArea, LeavesArea, IsToTakePlace, IsTakeRoutine, IsMakeZeroRoutine}
 use Rattle.area_routines.specs.Values.{work_from}
 use Rattle.area_routines.proofs.Behind.{for_behind}

@@ -1,12 +1,11 @@
 -- An area is made zero.
-use Rattle.std.proofs.Common.{◌≡◌, ℕ, ◌+◌, ◌-◌, ◌*◌, ◌/◌, ◌%◌, ◌^◌, ◌<◌, ◌≤◌, ◌⊎◌, List, [], ◌∷◌, true, refl, sym, ap, ◌∙◌}
+use Rattle.std.proofs.Common.{◌≡◌, ℕ, ◌+◌, ◌-◌, ◌*◌, ◌/◌, ◌<◌, ◌≤◌, ◌⊎◌, List, [], ◌∷◌, refl, sym, ap, ◌∙◌}
 use Rattle.std.proofs.Common.{subst, arith}
 use Rattle.addr_map.specs.Places.{MapSizes, AreMapped}
 use Rattle.rv_isa.specs.Results.{reg_result}
 use Rattle.flat_meaning.specs.declared.instruction.FlatInstruction.{FlatInstruction}
-use Rattle.flat_meaning.specs.Memory.{Bytes, put, KeepsBut}
+use Rattle.flat_meaning.specs.Memory.{put, KeepsBut}
 use Rattle.flat_meaning.specs.State.{State}
-use Rattle.flat_meaning.specs.Words.{IsOfWords}
 use Rattle.flat_meaning.specs.Meaning.{Context}
 use Rattle.flat_routines.specs.Registers.{AreBelow, OthersStay}
 use Rattle.flat_routines.specs.Routine.{Does, Either, Never}
@@ -15,7 +14,7 @@ use Rattle.flat_routines.proofs.Showing.{shows_both}
 use Rattle.flat_actions.proofs.Standing.{others_trans}
 use Rattle.lib_wrappers.proofs.MovingRoutines.Steps.{both_quiet, quiet_weaken, IsGlued, glued}
 use Rattle.lib_wrappers.proofs.MovingRoutines.Bytes.{in_runtime}
-use Rattle.area_routines.specs.Areas.{IsAreaPlace, area_bytes, whole_words}
+use Rattle.area_routines.specs.Areas.{area_bytes}
 use Rattle.area_routines.specs.Loops.{word_loop, zero_body}
 use Rattle.area_routines.specs.Zeroing.{IsToZeroArea, HasZeroedArea, IsZeroAreaRoutine, area_words, zero_area_code}
 use Rattle.area_routines.proofs.WordLoops.{Going, words_all}

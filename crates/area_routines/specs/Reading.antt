@@ -20,6 +20,7 @@ use Rattle.flat_actions.specs.Lists.{give_code}
 use Rattle.object_routines.specs.declared.accesses.held.HeldScalar.{HeldScalar}
 use Rattle.object_routines.specs.declared.accesses.held.HeldScalar.TheVariants.{Integer, Pointer}
 use Rattle.object_routines.specs.AccessRoutines.Holding.{scalar_in, holder_in}
+use Rattle.object_routines.specs.AccessRoutines.Accessing.{load_integer_code}
 use Rattle.area_routines.specs.Areas.{IsAreaPlace, IsArea, HoldsPart}
 
 -- the scalar at an offset of contents
@@ -81,3 +82,13 @@ word_held t = record { value = t; tag = record { base = t + 3; bound = t + 4; ke
 
 abbrev pub read_pointer_code : Held → (into : Held) → (t : ℕ) → List FlatInstruction
 read_pointer_code h into t = read_word h t ++ give_code (word_held t) into
+
+-- a scalar of either kind
+abbrev pub read_part_code : Held → HeldScalar → (t : ℕ) → List FlatInstruction
+read_part_code h (Integer ty r) t = load_integer_code h.value ty r
+read_part_code h (Pointer into) t = read_pointer_code h into t
+
+-- how many instructions these are
+abbrev pub read_length : HeldScalar → ℕ
+read_length (Integer t r) = 1
+read_length (Pointer h) = 20

@@ -10,7 +10,6 @@ use Rattle.flat_meaning.specs.State.{State}
 use Rattle.flat_routines.specs.Registers.{OthersStay}
 use Rattle.flat_routines.specs.Metadata.{View, metadata_at, no_metadata, ShowsNothing}
 use Rattle.flat_actions.specs.Ranges.{IsObjectRange, DoesInRuntime}
-use Rattle.lib_wrappers.specs.MovingRoutines.Moving.{move_bytes_code}
 use Rattle.area_routines.specs.Areas.{IsAreaPlace, area_bytes, entries_begin}
 use Rattle.area_routines.specs.Loops.{word_loop, entry_behind, store_entry}
 use Rattle.area_routines.specs.Zeroing.{zero_area_code}

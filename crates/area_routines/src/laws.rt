@@ -1,6 +1,6 @@
 //! What keeps areas, and what areas keep: laws, each as the contract of a function that does nothing.
 
-ghost use Rattle.std.specs.Prelude.{◌≡◌, ◌≤◌, ◌<◌, ℕ, List};
+ghost use Rattle.std.specs.Prelude.{◌≡◌, ◌+◌, ◌≤◌, ◌<◌, ℕ, List};
 ghost use Rattle.addr_map.specs.declared.region.Region.TheVariants.{StructureValues};
 ghost use Rattle.addr_map.specs.Places.{MapSizes, AreMapped, region_start};
 ghost use Rattle.obj_memory.specs.Objects.{ObjectState, Objects};
@@ -11,12 +11,18 @@ ghost use Rattle.flat_meaning.specs.declared.instruction.FlatInstruction.{FlatIn
 ghost use Rattle.flat_meaning.specs.Memory.{Bytes};
 ghost use Rattle.flat_meaning.specs.State.{State};
 ghost use Rattle.flat_routines.specs.declared.registers.Held.{Held};
-ghost use Rattle.flat_routines.specs.Metadata.{ShowsNothing};
+ghost use Rattle.flat_routines.specs.InputOutput.{IsWithoutInputOutput};
+ghost use Rattle.flat_routines.specs.Metadata.{ShowsNothing, held_registers};
+ghost use Rattle.flat_routines.specs.Registers.{AreBelow, AreDistinct};
+ghost use Rattle.flat_routines.specs.Shape.{HasShape};
 ghost use Rattle.flat_routines.specs.Objects.StandsFor.{Views, Keys};
-ghost use Rattle.flat_actions.specs.Actions.{KeepsHeld, IsFor, views_of};
+ghost use Rattle.flat_actions.specs.Actions.{KeepsHeld, IsFor, registers_of, views_of};
 ghost use Rattle.flat_actions.specs.Narrowing.{IsMoveOnRoutine};
+ghost use Rattle.object_routines.specs.declared.accesses.held.HeldScalar.{HeldScalar};
+ghost use Rattle.object_routines.specs.AccessRoutines.Holding.{holder_in};
 ghost use Rattle.area_routines.specs.Areas.{IsArea};
 ghost use Rattle.area_routines.specs.Parts.{IsNarrowPartRoutine};
+ghost use Rattle.area_routines.specs.Reading.{IsReadPartRoutine, read_length, read_part_code};
 
 use shadow_space::ShadowForm;
 
@@ -45,4 +51,16 @@ pub fn objects_stay_where_areas_change<S: ShadowForm>()
 pub fn members_of_contents_are_narrowed_in_place()
     ensures { (h : Held) (by : RightOperand) (t : ℕ) (r : List FlatInstruction) → IsMoveOnRoutine h by t r
         → IsNarrowPartRoutine h by t r }
+{}
+
+/// The instructions of `read_part` read a scalar out of contents, over whatever registers meet its premises, in functions
+/// of the program and of the runtime. They name no register from the seventh behind `scratch` on.
+pub fn parts_are_read_exactly()
+    ensures does { (h : Held) (into : HeldScalar) (t : ℕ) → AreBelow t (held_registers h)
+        → AreBelow t (registers_of (holder_in into)) → AreDistinct (registers_of (holder_in into))
+        → IsReadPartRoutine h into t (read_part_code h into t) }
+    ensures shape { (h : Held) (into : HeldScalar) (t : ℕ) → AreBelow t (held_registers h)
+        → AreBelow t (registers_of (holder_in into))
+        → HasShape (read_part_code h into t) (read_length into) (t + 7) }
+    ensures computes { (h : Held) (into : HeldScalar) (t : ℕ) → IsWithoutInputOutput (read_part_code h into t) }
 {}

@@ -8,6 +8,7 @@ ghost use Rattle.object_routines.specs.declared.accesses.held.HeldScalar.TheVari
 ghost use Rattle.object_routines.specs.AccessRoutines.Accessing.{load_integer_code};
 ghost use Rattle.object_routines.specs.AccessRoutines.Holding.{holder_in};
 ghost use Rattle.area_routines.specs.Reading.{IsReadPartRoutine, read_word, word_held, read_pointer_code};
+ghost use Rattle.area_routines.specs.Reading.{read_part_code};
 
 use flat_actions::{give_instructions, joined};
 use flat_meaning::{FlatInstruction, RightOperand};
@@ -30,7 +31,8 @@ pub fn read_part(
     requires into_below { AreBelow scratch (registers_of (holder_in into)) }
     requires distinct { AreDistinct (registers_of (holder_in into)) }
     requires room { scratch + 8 ≤ 2 ^ 31 }
-    ensures { IfOk result (λ r. IsReadPartRoutine part into scratch r.items) }
+    ensures code { IfOk result (λ r. r.items ≡ read_part_code part into scratch) }
+    ensures does { IfOk result (λ r. IsReadPartRoutine part into scratch r.items) }
 {
     match into {
         HeldScalar::Integer(of, register) => read_integer(alloc, part, of, register, scratch),
@@ -45,7 +47,8 @@ fn read_integer(
     into: u32,
     scratch: u32,
 ) -> Result<Vec<FlatInstruction>, AllocError>
-    ensures { IfOk result (λ r. IsReadPartRoutine part (Integer of into) scratch r.items) }
+    ensures code { IfOk result (λ r. r.items ≡ load_integer_code part.value of into) }
+    ensures does { IfOk result (λ r. IsReadPartRoutine part (Integer of into) scratch r.items) }
 {
     integer_instructions(alloc, part.value, of, into)
 }
@@ -77,7 +80,8 @@ fn read_pointer(
     requires into_below { AreBelow scratch (held_registers into) }
     requires distinct { AreDistinct (held_registers into) }
     requires room { scratch + 8 ≤ 2 ^ 31 }
-    ensures { IfOk result (λ r. IsReadPartRoutine part (Pointer into) scratch r.items) }
+    ensures code { IfOk result (λ r. r.items ≡ read_pointer_code part into scratch) }
+    ensures does { IfOk result (λ r. IsReadPartRoutine part (Pointer into) scratch r.items) }
 {
     pointer_instructions(alloc, part, into, scratch)
 }

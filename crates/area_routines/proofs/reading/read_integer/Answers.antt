@@ -5,8 +5,8 @@ use Rattle.area_routines.specs.Reading.{IsReadPartRoutine}
 use Rattle.area_routines.proofs.ReadParts.{integers_read}
 use Rattle.area_routines.proofs.reading.read_integer.Goals as goal
 
-pub returns : goal.returns
-returns c =
+pub returns-clause-does : goal.returns-clause-does
+returns-clause-does c =
     let a = c.args in
     IfOk-weaker _ _ _
     (λ r e. subst (IsReadPartRoutine a.part (Integer a.of a.into) a.scratch) (sym e)

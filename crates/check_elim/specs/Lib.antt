@@ -1,0 +1,4 @@
+pub mod Paths
+pub mod Facts
+pub mod Available
+pub mod Dropped

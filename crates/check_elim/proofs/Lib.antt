@@ -4,3 +4,7 @@ pub mod Homes
 pub mod Keeping
 pub mod Trails
 pub mod Sameness
+pub mod Worklists
+pub mod Exploring
+pub mod Searching
+pub mod Going

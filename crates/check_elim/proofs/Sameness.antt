@@ -28,7 +28,7 @@ use Rattle.tac_ir.proofs.Fits.{only_true, act_fits}
 use Rattle.tac_ir.proofs.SameTables.{act_same, begins_same, setting_same, first_same}
 use Rattle.check_elim.specs.Available.{IsAvailableCheck}
 use Rattle.check_elim.specs.Facts.{Fact}
-use Rattle.check_elim.specs.Dropped.{Choice, skipped, DroppedAt, FunctionDropped, DroppedIn, Dropped}
+use Rattle.check_elim.specs.Dropped.{Choice, skipped, DroppedAt, FunctionDropped, AreDropped, Dropped}
 use Rattle.check_elim.proofs.Keeping.{passes, passed, passed_as, IsKnown}
 use Rattle.check_elim.proofs.Trails.{key_fits, Knows, IsTrailed, step_trailed, at_spent}
 
@@ -47,20 +47,21 @@ module _ (Goes : Choice) where
     loops = ap (λ (x : CodeFunction). map without_added x.loops) h.rest;
   }
 
-  same_at : (o o' : Option CodeFunction) → DroppedIn Goes o o' → SameAt o o'
-  same_at None None h = tt
-  same_at None (Some c') h = absurd h
-  same_at (Some c) None h = absurd h
-  same_at (Some c) (Some c') h = same_function c c' h
+  same_at : (fs fs' : List CodeFunction) → AreDropped Goes fs fs' → (u : ℕ) → SameAt (slice_get fs u) (slice_get fs' u)
+  same_at [] [] h u = tt
+  same_at [] (c' ∷ fs') h u = absurd h
+  same_at (c ∷ fs) [] h u = absurd h
+  same_at (c ∷ fs) (c' ∷ fs') h zero = same_function c c' h.0
+  same_at (c ∷ fs) (c' ∷ fs') h (suc u) = same_at fs fs' h.1 u
 
-  same_headers : (fs fs' : List CodeFunction) → ((u : ℕ) → DroppedIn Goes (slice_get fs u) (slice_get fs' u))
+  same_headers : (fs fs' : List CodeFunction) → AreDropped Goes fs fs'
       → map header_of_code fs' ≡ map header_of_code fs
   same_headers [] [] h = refl
-  same_headers [] (c' ∷ fs') h = absurd (h 0)
-  same_headers (c ∷ fs) [] h = absurd (h 0)
+  same_headers [] (c' ∷ fs') h = absurd h
+  same_headers (c ∷ fs) [] h = absurd h
   same_headers (c ∷ fs) (c' ∷ fs') h =
-      ap (λ x. x ∷ map header_of_code fs') (same_function c c' (h 0)).header
-      ∙ ap (λ xs. header_of_code c ∷ xs) (same_headers fs fs' (λ u. h (suc u)))
+      ap (λ x. x ∷ map header_of_code fs') (same_function c c' h.0).header
+      ∙ ap (λ xs. header_of_code c ∷ xs) (same_headers fs fs' h.1)
 
   pub same_tables : (t r : Tac) → Dropped Goes t r → SameTables t r
   same_tables t r h = record {
@@ -70,7 +71,7 @@ module _ (Goes : Choice) where
     statics = ap (λ (x : Tac). x.statics) h.rest;
     bytes = ap (λ (x : Tac). x.global_bytes) h.rest;
     texts = ap (λ (x : Tac). x.texts) h.rest;
-    functions = λ u. same_at (function_in t u) (function_in r u) (h.functions u);
+    functions = same_at t.functions r.functions h.functions;
   }
 
 -- a check that passes does nothing
@@ -120,13 +121,14 @@ SkipsBy g t Goes (Stands u n temps frames s) = (c : CodeFunction) (i : Instructi
 SkipsBy g t Goes (Over e s) = Unit {0}
 SkipsBy g t Goes Stuck = Unit {0}
 
-functions_by : (Goes : Choice) (o o' : Option CodeFunction) → DroppedIn Goes o o' → (c : CodeFunction) → o ≡ Some c
-    → (c' : CodeFunction) × (o' ≡ Some c') × FunctionDropped Goes c c'
-functions_by Goes None o' h c e = cc
-functions_by Goes (Some x) None h c e = absurd h
-functions_by Goes (Some x) (Some c') h c e =
+function_of : (Goes : Choice) (fs fs' : List CodeFunction) → AreDropped Goes fs fs' → (u : ℕ) (c : CodeFunction)
+    → slice_get fs u ≡ Some c → (c' : CodeFunction) × (slice_get fs' u ≡ Some c') × FunctionDropped Goes c c'
+function_of Goes [] fs' h u c e = cc
+function_of Goes (x ∷ fs) [] h u c e = absurd h
+function_of Goes (x ∷ fs) (c' ∷ fs') h zero c e =
     let same : x ≡ c = cc in
-    (c', refl, subst (λ z. FunctionDropped Goes z c') same h)
+    (c', refl, subst (λ z. FunctionDropped Goes z c') same h.0)
+function_of Goes (x ∷ fs) (c' ∷ fs') h (suc u) c e = function_of Goes fs fs' h.1 u c e
 
 node_in : (o : Option CodeFunction) (n : ℕ) (i : Instruction) → slice_get (code_of o) n ≡ Some i
     → (c : CodeFunction) × (o ≡ Some c) × (slice_get c.code n ≡ Some i)
@@ -156,9 +158,9 @@ module _ (g : Setting) (t r : Tac) (Goes : Choice) (drops : Dropped Goes t r) wh
   node_same None u n temps frames s is skips fine = absurd (fine refl)
   node_same (Some i) u n temps frames s is skips fine =
       let c = node_in (function_in t u) n i is in
-      let q = functions_by Goes (function_in t u) (function_in r u) (drops.functions u) c.0 c.1 in
+      let q = function_of Goes t.functions r.functions drops.functions u c.0 c.1 in
       ap (λ o. act_at g r (slice_get (code_of o) n) u temps frames s) q.1
-      ∙ kept_or_gone i u n temps frames s c.0 q.0.code c.1 c.2 skips fine (q.2.code n i c.2)
+      ∙ kept_or_gone i u n temps frames s c.0 q.0.code c.1 c.2 skips fine (q.2.code.nodes n i c.2)
 
   step_same : (x : Stage) → SkipsBy g t Goes x → IsFine (step g t x) → step g r x ≡ step g t x
   step_same (Begins s) skips fine = begins_same tables g s

@@ -1,10 +1,7 @@
 -- What is available is the complement of a least solution.
-use Rattle.std.proofs.Common.{◌≡◌, ◌⊎◌, inl, inr, ⊎_elim, ℕ, Some, true, false, sym, ◌∙◌}
-use Rattle.std.specs.Prelude.{slice_get}
+use Rattle.std.proofs.Common.{◌≡◌, ◌⊎◌, inl, inr, ⊎_elim, ℕ, true, false, sym, ◌∙◌}
 use Rattle.std.proofs.lemmas.Bool.{cases_Bool, false≢true}
-use Rattle.tac_ir.specs.declared.instruction.Instruction.{Instruction}
 use Rattle.tac_ir.specs.declared.function.CodeFunction.{CodeFunction}
-use Rattle.tac_ir.specs.Edges.{LeadsTo}
 use Rattle.check_elim.specs.Paths.{Path, Start, On, IsKnownOn}
 use Rattle.check_elim.specs.Facts.{Fact, Checks, ends, Ends}
 use Rattle.check_elim.specs.Available.{IsAvailable, IsOpen, Begins, Stops, Flows}

@@ -1,5 +1,5 @@
 -- The search forward from the entry.
-use Rattle.std.proofs.Common.{◌≡◌, ◌≢◌, ◌⊎◌, inl, inr, ⊎_elim, ℕ, ◌+◌, ◌<◌, ◌≤◌, List, [], ◌∷◌, ◌++◌, length, Some, refl}
+use Rattle.std.proofs.Common.{◌≡◌, ◌≢◌, ◌⊎◌, inl, inr, ⊎_elim, ℕ, ◌<◌, ◌≤◌, List, [], ◌∷◌, ◌++◌, length, Some}
 use Rattle.std.proofs.Common.{sym, ap, ◌∙◌, subst, arith, get_or}
 use Rattle.std.specs.Prelude.{slice_get}
 use Rattle.std.proofs.lemmas.Bool.{cases_eq}
@@ -12,9 +12,9 @@ use Rattle.tac_ir.specs.declared.function.CodeFunction.{CodeFunction}
 use Rattle.tac_ir.specs.Edges.{IsAmong, LeadsTo, successors}
 use Rattle.check_elim.specs.Paths.{Path, Start, On}
 use Rattle.check_elim.specs.Searches.{Listed, HasPredecessors, Follows, IsFollowed, IsExploring}
-use Rattle.check_elim.specs.Worklists.{IsWorklist, Grows, Puts}
+use Rattle.check_elim.specs.Worklists.{IsWorklist, Puts}
 use Rattle.check_elim.specs.declared.worklist.Worklist.{Worklist}
-use Rattle.check_elim.proofs.Worklists.{grows_none, grows_then, has_more, all_done}
+use Rattle.check_elim.proofs.Worklists.{grows_none, grows_then, has_more}
 
 pub follows_nowhere : (count node : ℕ) (r : Worklist) (b : Relation) → Follows count node [] r r b b
 follows_nowhere count node r b = record {
@@ -150,7 +150,7 @@ pub stepped : (function : CodeFunction) (r r' : Worklist) (b b' : Relation) (nod
 stepped function r r' b b' node i xs ns same lt is path e nexts follows list rows =
     let here = at_node xs function.code node i same lt is in
     let h = subst (λ z. Follows z node (successors i) r r' b b') e.rows
-            (subst (λ z. Follows (length b.rows.items) node z r r' b b') nexts follows) in
+    (subst (λ z. Follows (length b.rows.items) node z r r' b b') nexts follows) in
     record {
       exploring = exploring_on function r r' b b' node i here path h e (subst (λ z. IsWorklist z r') e.rows list) rows;
       followed = followed_here function r r' b b' node i here path h;

@@ -1,19 +1,16 @@
 -- Checks go one after the other.
-use Rattle.std.proofs.Common.{◌≡◌, ◌⊎◌, inl, inr, ⊎_elim, ℕ, ◌+◌, ◌<◌, ◌≤◌, List, [], ◌∷◌, ◌++◌, length, Option, Some, None}
-use Rattle.std.proofs.Common.{suc, Bool, true, false, refl, sym, ap, ◌∙◌, subst, arith, append_assoc, length-append}
+use Rattle.std.proofs.Common.{◌≡◌, ◌⊎◌, inl, inr, ⊎_elim, ℕ, ◌+◌, ◌<◌, ◌≤◌, List, [], ◌∷◌, ◌++◌, length, Some, None}
+use Rattle.std.proofs.Common.{suc, Bool, true, false, refl, sym, ap, ◌∙◌, subst, arith, append_assoc}
 use Rattle.std.specs.Prelude.{slice_get, not}
 use Rattle.std.proofs.lemmas.Bool.{cases_lt}
-use Rattle.data_flow.specs.declared.relation.Relation.{Relation}
 use Rattle.data_flow.proofs.Lists.{at_front, at_end}
 use Rattle.tac_ir.specs.declared.instruction.Instruction.{Instruction}
 use Rattle.tac_ir.specs.declared.instruction.Instruction.TheVariants.{Judge}
-use Rattle.tac_ir.specs.declared.key.Key.{Key}
 use Rattle.tac_ir.specs.declared.function.CodeFunction.{CodeFunction}
 use Rattle.tac_ir.specs.declared.function.Tac.{Tac}
 use Rattle.check_insert.specs.Counting.{is_check, sum_over, sum_of_functions, checks}
 use Rattle.check_elim.specs.Available.{IsAvailable, IsAvailableCheck, IsOpen}
-use Rattle.check_elim.specs.Dropped.{Choice, skipped, DroppedAt, left_of, CodeDropped, FunctionDropped, AreDropped, Dropped}
-use Rattle.check_elim.specs.Facts.{Fact}
+use Rattle.check_elim.specs.Dropped.{Choice, skipped, DroppedAt, left_of, FunctionDropped, AreDropped, Dropped}
 use Rattle.check_elim.specs.Seeking.{fact_of, IsFactOf}
 use Rattle.check_elim.specs.declared.facts.Sought.{Sought}
 use Rattle.check_elim.proofs.Complement.{open_is_not_available, closed_is_available}

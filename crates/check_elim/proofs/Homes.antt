@@ -1,8 +1,8 @@
 -- The homes of variables, and the blocks that are entered, change only where a block is entered or left, and where a
 -- function is called or returns.
 use Rattle.std.proofs.Common.{◌≡◌, ℕ, ◌+◌, zero, suc, List, [], ◌∷◌, map, length, Option, Some, None, Bool, true, false}
-use Rattle.std.proofs.Common.{refl, sym, ap, ◌∙◌, subst, arith}
-use Rattle.std.specs.Prelude.{slice_get, get_or, ◌==◌, if◌then◌else◌, ◌||◌}
+use Rattle.std.proofs.Common.{refl, sym, ap, ◌∙◌, arith}
+use Rattle.std.specs.Prelude.{slice_get, get_or, ◌==◌, if◌then◌else◌}
 use Rattle.std.proofs.lemmas.Bool.{true≢false, eqb-true}
 use Rattle.sb_base.specs.declared.ending.Ending.{Ending}
 use Rattle.sb_base.specs.declared.ending.Ending.TheVariants as ending
@@ -14,21 +14,21 @@ use Rattle.c_tree.specs.declared.expression.Kind.{Kind}
 use Rattle.c_tree.specs.declared.expression.Kind.TheVariants.{Void, Scalar as OfScalar, Structure, Array}
 use Rattle.c_tree.specs.declared.expression.Update.{Update as UpdateOf}
 use Rattle.c_tree.specs.declared.program.Variable.{Variable}
-use Rattle.c_tree.specs.Blocks.{no_variable, closed, is_among, opened, block_objects}
+use Rattle.c_tree.specs.Blocks.{no_variable, closed, is_among, opened}
 use Rattle.c_tree.specs.Kinds.{size_of_kind}
-use Rattle.source_meaning.specs.State.{State, Home, NoObject, InObject, Outcome, Gives, Ended, Paused, Run, on, ◌>>=◌, ◌>>◌}
+use Rattle.source_meaning.specs.State.{State, Home, NoObject, Outcome, Gives, Ended, Paused, Run, on, ◌>>=◌, ◌>>◌}
 use Rattle.source_meaning.specs.State.{Rvalue, done, change, choose, read_state, Setting}
 use Rattle.source_meaning.specs.Actions.{plain_value, given, updated, set_plain, update_plain, home_pointer}
-use Rattle.source_meaning.specs.Structures.{rvalue, as_rvalue, values_of, make_zero}
-use Rattle.source_meaning.specs.Blocks.{pass_or_stop, test_space, test_keys, place_object, place_variables, place_block}
+use Rattle.source_meaning.specs.Structures.{rvalue, as_rvalue, values_of}
+use Rattle.source_meaning.specs.Blocks.{pass_or_stop, test_space, test_keys, place_object, place_variables}
 use Rattle.source_meaning.specs.Blocks.{place_variable, over, homes_over, enter_block, has_objects, Block}
 use Rattle.source_meaning.specs.Judging.{is_within, is_live_tag}
 use Rattle.source_meaning.specs.Staying.{KeepsBy}
-use Rattle.source_meaning.proofs.Local.{IsLocal, local_on, local_then, local_done, local_skip, local_stop, local_choose}
-use Rattle.source_meaning.proofs.Local.{local_read, local_tally, local_changes, local_basic}
+use Rattle.source_meaning.proofs.Local.{IsLocal, local_on, local_then, local_skip, local_stop, local_choose}
+use Rattle.source_meaning.proofs.Local.{local_read, local_tally}
 use Rattle.source_meaning.proofs.ActionsAct.{local_operate, local_updated, local_update, local_take_value}
 use Rattle.source_meaning.proofs.ActionsAct.{local_read_rvalue, local_write_rvalue, local_zero_variable}
-use Rattle.source_meaning.proofs.ActionsAct.{local_store_bytes, local_as_rvalue, local_take_key, local_make_object}
+use Rattle.source_meaning.proofs.ActionsAct.{local_store_bytes, local_as_rvalue, local_take_key}
 use Rattle.source_meaning.proofs.ActionsAct.{local_make_zero}
 use Rattle.source_meaning.proofs.LibraryActs.{local_routine, local_print}
 use Rattle.tac_ir.specs.declared.instruction.Mode.{Mode}
@@ -46,9 +46,9 @@ use Rattle.tac_ir.specs.declared.function.Tac.{Tac}
 use Rattle.tac_ir.specs.Stage.{Temps, gathered, Frame, Waits, Entered, Stage, Begins, Stands, Over, Stuck, came}
 use Rattle.tac_ir.specs.Costs.{fourfold, heavier}
 use Rattle.tac_ir.specs.Keys.{gives}
-use Rattle.tac_ir.specs.Accesses.{can_check, only_if, admitted, moved_from, is_through}
+use Rattle.tac_ir.specs.Accesses.{only_if, admitted, moved_from, is_through}
 use Rattle.tac_ir.specs.Meaning.{function_in, variables_in, blocks_in, if_there, objects_in, text_in, keyed_by, keyed}
-use Rattle.tac_ir.specs.Meaning.{right_value, part_pointer, check, given_in, left_for, fits, effect, act}
+use Rattle.tac_ir.specs.Meaning.{right_value, part_pointer, check, left_for, fits, effect, act}
 
 -- runs that keep the homes
 
@@ -210,7 +210,7 @@ effect_homes g t (Write kind mode line key d a b m) u temps frames s e =
     search (homes, came_keeps {frames = frames} s (keeps_heavier (of_local run))) depth 9
 effect_homes g t (Update w k f mode line at key d a right m) u temps frames s e =
     let run = local_update k (is_through mode) (temps a).value line (updated w k (right_value right temps) at) f
-            (local_updated w k (right_value right temps) at) in
+    (local_updated w k (right_value right temps) at) in
     search (homes, came_keeps {frames = frames} s (of_local (local_as_rvalue run))) depth 9
 effect_homes g t (Judge test size line key a m) u temps frames s e =
     search (homes, came_keeps {frames = frames} s (keeps_check test size (temps a).value line)) depth 9
@@ -221,7 +221,7 @@ effect_homes g t (StorePart kind line x offset a m) u temps frames s e =
     search (homes, came_keeps {frames = frames} s (keeps_heavier (of_local run))) depth 9
 effect_homes g t (StoreText n x offset m) u temps frames s e =
     let run = local_then (local_tally (length (text_in t n)))
-            (local_store_bytes (home_pointer x s) offset (text_in t n)) in
+    (local_store_bytes (home_pointer x s) offset (text_in t n)) in
     search (homes, came_keeps {frames = frames} s (keeps_heavier (of_local run))) depth 9
 effect_homes g t (Library r line d n m) u temps frames s e =
     let run = local_as_rvalue (local_routine g r (values_of (gathered temps d n)) line) in

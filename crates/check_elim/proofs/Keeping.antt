@@ -1,18 +1,18 @@
 -- What a passed check makes known stays so until it ends.
-use Rattle.std.proofs.Common.{◌≡◌, ◌⊎◌, inl, inr, ⊎_elim, ℕ, ◌+◌, ◌*◌, ◌%◌, ◌^◌, ◌<◌, ◌≤◌, List, [], ◌∷◌, Option, Some}
+use Rattle.std.proofs.Common.{◌≡◌, ⊎_elim, ℕ, ◌+◌, ◌*◌, ◌%◌, ◌^◌, ◌<◌, ◌≤◌, List, [], ◌∷◌, Option, Some}
 use Rattle.std.proofs.Common.{None, Bool, true, false, length, refl, sym, ap, ◌∙◌, subst, arith, eq-eqb, le-leb}
-use Rattle.std.specs.Prelude.{◌||◌, ◌&&◌, ◌==◌, nat_le, nat_lt, slice_get, get_or}
-use Rattle.std.proofs.lemmas.Bool.{cases_Bool, cases_lt, false≢true, eqb-true, leb-true}
+use Rattle.std.specs.Prelude.{◌||◌, ◌&&◌, ◌==◌, nat_le, slice_get}
+use Rattle.std.proofs.lemmas.Bool.{cases_lt, false≢true, eqb-true, leb-true}
 use Rattle.std.proofs.lemmas.List.{get_or_past}
 use Rattle.obj_memory.specs.declared.value.Tag.{Tag}
 use Rattle.obj_memory.specs.declared.value.Tag.TheVariants.{Untagged, OfFunction, OfObject}
 use Rattle.obj_memory.specs.declared.value.Value.{Value}
 use Rattle.obj_memory.specs.Objects.{ObjectState, Objects, no_object, object_at, pointer_to}
 use Rattle.obj_memory.specs.Sound.{Continues}
-use Rattle.obj_memory.specs.Judgement.{narrowed_tag, are_within}
+use Rattle.obj_memory.specs.Judgement.{narrowed_tag}
 use Rattle.c_tree.specs.declared.program.Variable.{Variable}
 use Rattle.source_meaning.specs.State.{State, Home, NoObject, InObject}
-use Rattle.source_meaning.specs.Actions.{plain_value, home_pointer, home_value, integer}
+use Rattle.source_meaning.specs.Actions.{plain_value, home_value}
 use Rattle.source_meaning.specs.Judging.{is_within, is_live_tag}
 use Rattle.source_meaning.proofs.ValidNames.{both}
 use Rattle.tac_ir.specs.declared.instruction.Test.{Test}
@@ -175,8 +175,8 @@ known_stays f s z keeps lives h = record {
 
 live_made : (objects : Objects) (o : ℕ) → (object_at objects o).is_live ≡ true → o < length objects
 live_made objects o live = ⊎_elim (λ lt. lt) (λ ge. absurd (false≢true (
-  sym (ap (λ (x : ObjectState). x.is_live) (get_or_past objects o no_object ge))
-      ∙ live))) (cases_lt o (length objects))
+    sym (ap (λ (x : ObjectState). x.is_live) (get_or_past objects o no_object ge))
+    ∙ live))) (cases_lt o (length objects))
 
 whole_made : (objects : Objects) (size o : ℕ) → is_whole size (object_at objects o) ≡ true → o < length objects
 whole_made objects size o h =

@@ -8,3 +8,4 @@ pub mod Worklists
 pub mod Exploring
 pub mod Searching
 pub mod Going
+pub mod Rest

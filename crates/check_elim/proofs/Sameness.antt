@@ -1,6 +1,6 @@
 -- Code without some of its checks, each of which would pass, does what it does with them.
-use Rattle.std.proofs.Common.{◌≡◌, ◌⊎◌, inl, inr, ◌<◌, ◌^◌, zero, suc, ℕ, List, [], ◌∷◌, Option, Some, None, Bool, true}
-use Rattle.std.proofs.Common.{false, refl, sym, ap, ◌∙◌, subst}
+use Rattle.std.proofs.Common.{◌≡◌, inl, inr, zero, suc, ℕ, List, [], ◌∷◌, Option, Some, None, true}
+use Rattle.std.proofs.Common.{refl, sym, ap, ◌∙◌, subst}
 use Rattle.std.specs.Prelude.{slice_get, map}
 use Rattle.behaviours.specs.Steps.{run}
 use Rattle.behaviours.proofs.Running.{run_last}
@@ -12,7 +12,7 @@ use Rattle.source_meaning.specs.Blocks.{pass_or_stop}
 use Rattle.tac_ir.specs.declared.instruction.Test.{Test}
 use Rattle.tac_ir.specs.declared.instruction.Test.TheVariants.{Spatial, Temporal}
 use Rattle.tac_ir.specs.declared.instruction.Instruction.{Instruction}
-use Rattle.tac_ir.specs.declared.instruction.Instruction.TheVariants.{Judge, Skip}
+use Rattle.tac_ir.specs.declared.instruction.Instruction.TheVariants.{Judge}
 use Rattle.tac_ir.specs.declared.key.Key.{Key}
 use Rattle.tac_ir.specs.declared.function.CodeFunction.{CodeFunction}
 use Rattle.tac_ir.specs.declared.function.Tac.{Tac}
@@ -99,10 +99,10 @@ check_passes g t test size line k a m u key temps frames s is pass fine =
     let fit = act_fits g t (Judge test size line (Some k) a m) u temps frames s fine in
     let there = key_fits (variables_in (function_in t u)) t key _ s v is fit.0 in
     let opened = keyed_fine (keys_of (function_in t u)) k key s v
-            (only_if (can_check test size v) (came (check test size v line s) (λ _ z. F z))) is
-            (λ e. fine (fit.1 ∙ e)) in
+    (only_if (can_check test size v) (came (check test size v line s) (λ _ z. F z))) is
+    (λ e. fine (fit.1 ∙ e)) in
     let able = only_true (can_check test size v) (came (check test size v line s) (λ _ z. F z))
-            (λ e. fine (fit.1 ∙ opened.1 ∙ e)) in
+    (λ e. fine (fit.1 ∙ opened.1 ∙ e)) in
     fit.1 ∙ opened.1 ∙ able.1
     ∙ goes_past test size line v s F (passed_as test key s v size opened.0 there.0 ∙ pass)
 

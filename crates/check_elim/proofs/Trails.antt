@@ -1,19 +1,17 @@
 -- A run is a path of the function that runs, and one of each caller that waits. What is known on it holds.
 use Rattle.std.proofs.Common.{◌≡◌, ◌⊎◌, inl, inr, ⊎_elim, ℕ, ◌+◌, ◌<◌, ◌^◌, List, [], ◌∷◌, Option, Some, None}
-use Rattle.std.proofs.Common.{Bool, true, false, refl, sym, ap, ◌∙◌, subst, arith}
-use Rattle.std.specs.Prelude.{slice_get, ◌&&◌, ◌||◌, ◌==◌, nat_lt}
+use Rattle.std.proofs.Common.{Bool, true, false, refl, sym, ap, ◌∙◌, subst}
+use Rattle.std.specs.Prelude.{slice_get, ◌||◌, ◌==◌}
 use Rattle.std.proofs.lemmas.Bool.{cases_Bool, false≢true, eqb-true, ltb-true}
 use Rattle.obj_memory.specs.declared.value.Value.{Value}
-use Rattle.obj_memory.specs.Objects.{Objects, object_at}
+use Rattle.obj_memory.specs.Objects.{Objects}
 use Rattle.obj_memory.specs.Sound.{Continues}
 use Rattle.obj_memory.proofs.Continuing.{continues_same, continues_then}
 use Rattle.c_tree.specs.declared.program.Variable.{Variable}
-use Rattle.c_tree.specs.Blocks.{is_among}
 use Rattle.sb_base.specs.declared.ending.Ending.{Ending}
 use Rattle.sb_base.specs.declared.ending.Ending.TheVariants as ending
 use Rattle.source_meaning.specs.State.{State, Home, Rvalue, Outcome, Gives, Ended, Paused, Setting}
-use Rattle.source_meaning.specs.Acting.{ActsBy, Later, at_work}
-use Rattle.source_meaning.specs.Actions.{plain_value}
+use Rattle.source_meaning.specs.Acting.{ActsBy}
 use Rattle.source_meaning.specs.Blocks.{pass_or_stop, Block}
 use Rattle.source_meaning.specs.Calls.{Caller, caller, back_to, set_up}
 use Rattle.source_meaning.specs.Expressions.{callee}
@@ -32,15 +30,15 @@ use Rattle.tac_ir.specs.declared.function.Tac.{Tac}
 use Rattle.tac_ir.specs.Accesses.{only_if, can_check}
 use Rattle.tac_ir.specs.Changes.{ends_lives, KeepsLivesAt}
 use Rattle.tac_ir.specs.Costs.{cost, spent, heavier, handed_bytes, first_call}
-use Rattle.tac_ir.specs.Edges.{LeadsTo, callers, is_local, StaysIn}
+use Rattle.tac_ir.specs.Edges.{LeadsTo, is_local, StaysIn}
 use Rattle.tac_ir.specs.Fitting.{is_word, is_base_there, is_of_key}
 use Rattle.tac_ir.specs.Keys.{gives}
 use Rattle.tac_ir.specs.Later.{ComesLater}
-use Rattle.tac_ir.specs.Meaning.{code_of, keys_of, variables_in, blocks_in, function_in, keyed_by, keyed, check, fits_key}
-use Rattle.tac_ir.specs.Meaning.{header_of_code, begun, called_at, called, given_to, fits, effect, act, act_at, at_node}
+use Rattle.tac_ir.specs.Meaning.{code_of, keys_of, variables_in, function_in, keyed_by, keyed, check}
+use Rattle.tac_ir.specs.Meaning.{header_of_code, begun, called_at, called, given_to, fits, act, act_at, at_node}
 use Rattle.tac_ir.specs.Meaning.{step, line_in}
 use Rattle.tac_ir.specs.PlainVariables.PlainChanges.{changes_plain, KeepsPlainAt}
-use Rattle.tac_ir.specs.Stage.{Temps, no_temps, gathered, Waiting, Frame, Waits, Entered, Stage, Begins, Stands, Over}
+use Rattle.tac_ir.specs.Stage.{Temps, no_temps, gathered, Frame, Waits, Entered, Stage, Begins, Stands, Over}
 use Rattle.tac_ir.specs.Stage.{Stuck, came}
 use Rattle.tac_ir.proofs.Along.{act_stays}
 use Rattle.tac_ir.proofs.Fits.{act_fits}
@@ -50,9 +48,9 @@ use Rattle.tac_ir.proofs.PlainVariables.PlainVariables.{act_keeps}
 use Rattle.tac_ir.proofs.Turns.{acts_heavier}
 use Rattle.check_elim.specs.Paths.{Path, Start, On, IsKnownOn}
 use Rattle.check_elim.specs.Facts.{Fact, Checks, is_of, ends_life, is_of_block, ends, Ends}
-use Rattle.check_elim.proofs.Homes.{keeps_homes, KeepsHomes, act_homes, home_at, KeepsUndeclared, declared_in, Enters}
-use Rattle.check_elim.proofs.Homes.{EntersBy, LeavesBy, Leaves, act_enters, act_leaves}
-use Rattle.check_elim.proofs.Keeping.{IsKnown, KeepsKey, SameHome, known_stays, base_made, passes, passed, passed_as}
+use Rattle.check_elim.proofs.Homes.{keeps_homes, KeepsHomes, act_homes, home_at, KeepsUndeclared, declared_in}
+use Rattle.check_elim.proofs.Homes.{EntersBy, LeavesBy, act_enters, act_leaves}
+use Rattle.check_elim.proofs.Keeping.{IsKnown, SameHome, known_stays, base_made, passes, passed, passed_as}
 use Rattle.check_elim.proofs.Keeping.{fewer_pass}
 
 -- what an instruction that does not end a fact leaves as it was
@@ -204,7 +202,7 @@ pub key_fits : (vs : List Variable) (t : Tac) (key : Key) (o : Option Key) (s : 
     → (v.word < 2 ^ 64) × (is_base_there vs t.statics key.base s ≡ true)
 key_fits vs t key o s v is h =
     let two = both (is_word v.word) (is_base_there vs t.statics key.base s)
-            (ap (λ q. is_of_key vs t.statics q s v) (sym is) ∙ h) in
+    (ap (λ q. is_of_key vs t.statics q s v) (sym is) ∙ h) in
     (ltb-true v.word (2 ^ 64) two.0, two.1)
 
 stands_fine : {x : Stage} (w n : ℕ) (temps : Temps) (others : List Frame) (z : State) → x ≡ Stands w n temps others z
@@ -218,12 +216,12 @@ module _ (g : Setting) (t : Tac) (u : ℕ) (c : CodeFunction) (found : function_
       → act g t i u temps frames s ≡ Stands w n temps' others z → IsKnown f z
   made_by (tac.Judge test size line (Some k) a m) temps frames s f (is, has, le) w n temps' others z e =
       let fit = act_fits g t (tac.Judge test size line (Some k) a m) u temps frames s
-              (stands_fine w n temps' others z e) in
+      (stands_fine w n temps' others z e) in
       let here : slice_get (keys_of (function_in t u)) k ≡ Some f.key =
-              ap (λ o. slice_get (keys_of o) k) found ∙ has in
+      ap (λ o. slice_get (keys_of o) k) found ∙ has in
       let there = key_fits (variables_in (function_in t u)) t f.key _ s (temps a).value here fit.0 in
       let past = went_past size line (temps a).value u m temps frames s test (keys_of (function_in t u)) k f.key z here
-              (w, n, temps', others, sym fit.1 ∙ e) in
+      (w, n, temps', others, sym fit.1 ∙ e) in
       subst (IsKnown f) (sym past.state) (record {
         made = base_made (variables_in (function_in t u)) t.statics f.key.base s there.1;
         passes =
@@ -404,12 +402,12 @@ module _ (g : Setting) (t : Tac) where
       → IsTrailed t (act g t i u temps frames s)
   act_trailed (tac.Call f line d a m) u n temps frames s has k all =
       let w = call_waits g t u n temps frames s k all (tac.Call f line d a m) m (λ f. refl) refl (λ f h. h) has
-              (inl refl) in
+      (inl refl) in
       only_trailed (fits g t (tac.Call f line d a m) u temps s) _
       (begun_call g t (function_in t f) f refl _ line _ s (λ frame. (w, all)))
   act_trailed (tac.CallThrough ty line d a m) u n temps frames s has k all =
       let w = call_waits g t u n temps frames s k all (tac.CallThrough ty line d a m) m (λ f. refl) refl (λ f h. h) has
-              (inl refl) in
+      (inl refl) in
       only_trailed (fits g t (tac.CallThrough ty line d a m) u temps s) _
       (through_trailed ty line d a u m temps frames s w all (callee g.functions ty (temps d).value line s) _
       ((acts_callee g.functions ty (temps d).value line).acts s 0))

@@ -1,5 +1,5 @@
 -- Lists of nodes that grow.
-use Rattle.std.proofs.Common.{◌≡◌, ◌⊎◌, inl, inr, ⊎_elim, ℕ, ◌+◌, ◌<◌, ◌≤◌, List, [], ◌∷◌, length, Some, Vec, refl, sym, ap}
+use Rattle.std.proofs.Common.{◌≡◌, ⊎_elim, ℕ, ◌+◌, ◌<◌, ◌≤◌, List, length, Some, Vec, refl, sym, ap}
 use Rattle.std.proofs.Common.{◌∙◌, subst, arith, get_or}
 use Rattle.std.specs.Prelude.{slice_get}
 use Rattle.std.specs.Global.{Global}
@@ -7,9 +7,9 @@ use Rattle.std.proofs.lemmas.Bool.{cases_lt}
 use Rattle.std.proofs.lemmas.Option.{slice_get_within, slice_get-get_or}
 use Rattle.data_flow.specs.declared.node_set.NodeSet.{NodeSet}
 use Rattle.data_flow.specs.Relations.{Has}
-use Rattle.data_flow.specs.NodeSets.{node_count, absent, Lists, Visits}
+use Rattle.data_flow.specs.NodeSets.{node_count, Visits}
 use Rattle.check_elim.specs.declared.worklist.Worklist.{Worklist}
-use Rattle.check_elim.specs.Worklists.{IsWorklist, Grows, Puts}
+use Rattle.check_elim.specs.Worklists.{IsWorklist, Grows}
 
 pub put_list : (count : ℕ) (set set' : NodeSet) (nodes nodes' : Vec ℕ Global) (node : ℕ)
     → IsWorklist count (record { set = set; nodes = nodes }) → node < count
@@ -56,9 +56,9 @@ pub done_on : {a b : Worklist} (P Q : ℕ → Type 0) (n : ℕ) → n < length a
     → slice_get b.nodes.items k ≡ Some v → Q v
 done_on {a = a} {b = b} P Q n below g on old k v lt h =
     let is : slice_get a.nodes.items k ≡ Some (get_or a.nodes.items k 0) =
-            slice_get-get_or a.nodes.items k 0 (omega (arith, lt, below)) in
+    slice_get-get_or a.nodes.items k 0 (omega (arith, lt, below)) in
     let there : slice_get b.nodes.items k ≡ Some (get_or a.nodes.items k 0) =
-            g.kept k (get_or a.nodes.items k 0) is in
+    g.kept k (get_or a.nodes.items k 0) is in
     let same : get_or a.nodes.items k 0 ≡ v = cc in
     on v (old k v lt (is ∙ ap Some same))
 

@@ -1,5 +1,5 @@
 -- Available checks (available expressions, with the keys of checks for expressions).
-use Rattle.std.specs.Prelude.{◌≡◌, ℕ, Option, Some, None, slice_get}
+use Rattle.std.specs.Prelude.{◌≡◌, ℕ, Some, slice_get}
 use Rattle.tac_ir.specs.declared.instruction.Instruction.{Instruction}
 use Rattle.tac_ir.specs.declared.instruction.Instruction.TheVariants.{Judge}
 use Rattle.tac_ir.specs.declared.key.Key.{Key}

@@ -1,5 +1,5 @@
 -- What the searches over the nodes of a function have found so far.
-use Rattle.std.specs.Prelude.{◌≡◌, ◌≢◌, ◌⊎◌, ℕ, ◌<◌, List, length, Some, slice_get, true, false}
+use Rattle.std.specs.Prelude.{◌≡◌, ◌≢◌, ◌⊎◌, ℕ, ◌<◌, List, length, Some, slice_get, false}
 use Rattle.data_flow.specs.declared.relation.Relation.{Relation}
 use Rattle.data_flow.specs.Relations.{Has, IsRelated}
 use Rattle.tac_ir.specs.declared.instruction.Instruction.{Instruction}

@@ -1,5 +1,5 @@
 -- A fact that is sought in a function.
-use Rattle.std.specs.Prelude.{◌≡◌, ◌⊎◌, ℕ, true, false, Some, None, slice_get}
+use Rattle.std.specs.Prelude.{◌≡◌, true, false, Some, slice_get}
 use Rattle.tac_ir.specs.declared.instruction.Instruction.{Instruction}
 use Rattle.tac_ir.specs.declared.instruction.Instruction.TheVariants.{Judge}
 use Rattle.tac_ir.specs.declared.function.CodeFunction.{CodeFunction}

@@ -3,6 +3,8 @@
 ghost use Rattle.std.specs.Prelude.{◌≡◌, ℕ, List};
 ghost use Rattle.behaviours.specs.Steps.{run};
 ghost use Rattle.sb_base.specs.Budgets.{BudgetSizes};
+ghost use Rattle.check_insert.specs.SameButChecks.{SameButChecks};
+ghost use Rattle.tac_ir.specs.Bodies.{HaveClosedBodies, KeepVariables};
 ghost use Rattle.tac_ir.specs.declared.function.CodeFunction.{CodeFunction};
 ghost use Rattle.tac_ir.specs.declared.function.Tac.{Tac};
 ghost use Rattle.tac_ir.specs.Meaning.{setting_of_code, step, first_stage, tac_meaning};
@@ -30,4 +32,13 @@ pub fn code_without_available_checks_means_the_same()
     ensures never { (t : Tac) (r : Tac) → Dropped IsAvailableCheck t r → (budgets : BudgetSizes) (input : List ℕ)
         → ((k : ℕ) → run (step (setting_of_code t budgets) t) k (first_stage t budgets input) ≡ Stuck → ⊥)
         → (k : ℕ) → run (step (setting_of_code r budgets) r) k (first_stage r budgets input) ≡ Stuck → ⊥ }
+{}
+
+/// Code whose available checks are dropped is the same but for checks as the code without any, if it was so with them,
+/// and the bodies of its counted loops stay closed and keep their variables.
+pub fn code_without_available_checks_is_laid_out_the_same()
+    ensures same { (t : Tac) (checked : Tac) (r : Tac) → SameButChecks t checked → Dropped IsAvailableCheck checked r
+        → SameButChecks t r }
+    ensures closed { (t : Tac) (r : Tac) → Dropped IsAvailableCheck t r → HaveClosedBodies t → HaveClosedBodies r }
+    ensures variables { (t : Tac) (r : Tac) → Dropped IsAvailableCheck t r → KeepVariables t → KeepVariables r }
 {}

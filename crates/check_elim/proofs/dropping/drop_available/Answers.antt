@@ -7,8 +7,8 @@ use Rattle.check_elim.proofs.dropping.drop_available.Goals as goal
 pub returns : goal.returns
 returns c =
     let dropped = subst (λ cs. AreDropped IsAvailableCheck cs c.from_vec.result) c.into_vec.ensures
-            (subst (AreDropped IsAvailableCheck c.into_vec.result.items) (sym c.from_vec.ensures)
-            c.in_ok-without.ensures) in
+    (subst (AreDropped IsAvailableCheck c.into_vec.result.items) (sym c.from_vec.ensures)
+    c.in_ok-without.ensures) in
     let fewer = fewer_of IsAvailableCheck c.args.program.functions c.from_vec.result dropped in
     record {
       dropped = record { rest = refl; functions = dropped };

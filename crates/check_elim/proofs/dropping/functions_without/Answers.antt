@@ -1,4 +1,4 @@
-use Rattle.std.proofs.Common.{◌≡◌, ◌++◌, [], ap, sym, subst, ◌∙◌, arith, length, append-nil}
+use Rattle.std.proofs.Common.{[], ap, sym, subst, ◌∙◌, arith, length, append-nil}
 use Rattle.std.specs.Vec.Iter.{into_iter_items}
 use Rattle.check_elim.specs.Available.{IsAvailableCheck}
 use Rattle.check_elim.specs.Dropped.{AreDropped}
@@ -24,7 +24,7 @@ pub returns : goal.returns
 returns c =
     let old = c.loop-function.invariant in
     let none = none_left (into_iter_items c.loop-function.function-iterator)
-            (sym old.length ∙ c.in-None.ensures.steps.0) in
+    (sym old.length ∙ c.in-None.ensures.steps.0) in
     let all = old.done [] (subst (λ xs. AreDropped IsAvailableCheck xs []) (sym none) tt) in
     subst (λ xs. AreDropped IsAvailableCheck xs c.loop-function.without.items)
     (c.into_iter-function-iterator.ensures.into_iter_gives.0)

@@ -1,6 +1,4 @@
-use Rattle.std.proofs.Common.{◌≡◌, Some, true, false, sym, ap, ◌∙◌, subst}
-use Rattle.std.specs.Prelude.{slice_get}
-use Rattle.tac_ir.specs.declared.instruction.Instruction.{Instruction}
+use Rattle.std.proofs.Common.{◌≡◌, subst}
 use Rattle.check_elim.specs.Available.{IsAvailableCheck}
 use Rattle.check_elim.proofs.Exploring.{at_node}
 use Rattle.check_elim.proofs.Going.{closed_goes, open_stays, negated_true, negated_false}
@@ -9,7 +7,7 @@ use Rattle.check_elim.proofs.dropping.is_available.Goals as goal
 pub returns-in-None-clause-no : goal.returns-in-None-clause-no
 returns-in-None-clause-no c e i at =
     let here = at_node _ _ c.args.node c.index-as_slice-node.result c.as_slice.ensures c.requires.inside
-            c.index-as_slice-node.is in
+    c.index-as_slice-node.is in
     let same : c.index-as_slice-node.result ≡ i = cc in
     subst (λ z. IsAvailableCheck c.args.function.now c.args.node z → ⊥) same
     (c.fact_at.ensures.none c.in-None.is c.args.node)

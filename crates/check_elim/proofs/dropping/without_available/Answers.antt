@@ -1,5 +1,4 @@
-use Rattle.std.proofs.Common.{◌≡◌, ◌+◌, ◌<◌, ◌++◌, ◌∷◌, [], ℕ, length, Some, arith, ap, subst, ◌∙◌, length-append}
-use Rattle.std.specs.Prelude.{slice_get}
+use Rattle.std.proofs.Common.{◌<◌, ◌++◌, ◌∷◌, [], length, arith, ap, subst, ◌∙◌, length-append}
 use Rattle.std.proofs.lemmas.Option.{slice_get_within}
 use Rattle.check_elim.specs.Available.{IsAvailableCheck}
 use Rattle.check_elim.proofs.Exploring.{at_node}
@@ -11,7 +10,7 @@ loop-node-preserved c =
     let size = c.loop-node.invariant.size in
     let lt = subst (λ is. c.loop-node.node < length is) c.as_slice-instructions.ensures c.loop-node-test.true in
     let here = at_node _ _ c.loop-node.node c.index-instructions-node.result c.as_slice-instructions.ensures lt
-            c.index-instructions-node.is in
+    c.index-instructions-node.is in
     let more = c.in_ok-push.ensures.items in
     let longer = ap length more ∙ length-append c.loop-node.code.items (c.left.result ∷ []) in
     record {

@@ -1,7 +1,7 @@
-use Rattle.std.proofs.Common.{◌≡◌, ◌<◌, ℕ, ◌∙◌, ap, sym, subst, length, Some, arith, [], List}
+use Rattle.std.proofs.Common.{◌≡◌, ◌<◌, ℕ, ◌∙◌, ap, sym, length, Some, arith, [], List}
 use Rattle.std.specs.Prelude.{slice_get}
 use Rattle.std.proofs.lemmas.Option.{slice_get_within}
-use Rattle.data_flow.specs.Relations.{Has, images}
+use Rattle.data_flow.specs.Relations.{Has}
 use Rattle.check_elim.specs.Searches.{IsFollowed}
 use Rattle.check_elim.proofs.Worklists.{has_more, one_more, done_on, all_done, node_at}
 use Rattle.check_elim.proofs.Exploring.{has_predecessors}
@@ -43,9 +43,9 @@ loop-done-smaller c =
     let r = c.in_ok-follow.ensures in
     let t = r.grows.total in
     let here = node_at c.loop-done.reached.nodes.items c.loop-done.done c.index-node.result.now
-            (omega (arith, c.loop-done-test.true, c.len.ensures)) c.index-node.ensures in
+    (omega (arith, c.loop-done-test.true, c.len.ensures)) c.index-node.ensures in
     let w = slice_get_within c.follow.new.reached.nodes.items c.loop-done.done _
-            (r.grows.kept c.loop-done.done _ here) in
+    (r.grows.kept c.loop-done.done _ here) in
     omega (arith, t, w, c.loop-done-test.true)
 
 pub loop-done-preserved : goal.loop-done-preserved
@@ -53,9 +53,9 @@ loop-done-preserved c =
     let r = c.in_ok-follow.ensures in
     let old = c.loop-done.invariant in
     let below : c.loop-done.done < length c.loop-done.reached.nodes.items =
-            omega (arith, c.loop-done-test.true, c.len.ensures) in
+    omega (arith, c.loop-done-test.true, c.len.ensures) in
     let here = node_at c.loop-done.reached.nodes.items c.loop-done.done c.index-node.result.now below
-            c.index-node.ensures in
+    c.index-node.ensures in
     record {
       exploring = r.exploring;
       entry = λ lt. has_more r.grows _ (old.entry lt);

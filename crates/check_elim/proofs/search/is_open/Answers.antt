@@ -1,4 +1,4 @@
-use Rattle.std.proofs.Common.{◌≡◌, ◌<◌, ℕ, length, Some, arith, ap, subst, sym}
+use Rattle.std.proofs.Common.{◌<◌, length, arith, subst, sym}
 use Rattle.std.proofs.lemmas.Option.{slice_get_within}
 use Rattle.check_elim.specs.Searches.{IsDone}
 use Rattle.check_elim.specs.Seeking.{fact_of}
@@ -30,7 +30,7 @@ put-requires-clause-inside c =
 pub returns-then-from-sought-clause-open_there : goal.returns-then-from-sought-clause-open_there
 returns-then-from-sought-clause-open_there c x =
     let here = node_at c.loop-done.visited.nodes.items c.loop-done.done c.index-from.result.now
-            (omega (arith, c.loop-done-test.true, c.len.ensures)) c.index-from.ensures in
+    (omega (arith, c.loop-done-test.true, c.len.ensures)) c.index-from.ensures in
     at_entry c.args.sought.now.function.now (fact_of c.args.sought.now) c.args.before.now c.requires.graph c.args.node
     c.loop-done.visited _ c.loop-done.invariant.searching (c.loop-done.done, here) c.if-from-sought.true
 
@@ -46,9 +46,9 @@ loop-done-smaller c =
     let r = c.in_ok-step_back_from.ensures in
     let t = r.grows.total in
     let here = node_at c.loop-done.visited.nodes.items c.loop-done.done c.index-from.result.now
-            (omega (arith, c.loop-done-test.true, c.len.ensures)) c.index-from.ensures in
+    (omega (arith, c.loop-done-test.true, c.len.ensures)) c.index-from.ensures in
     let w = slice_get_within c.step_back_from.new.visited.nodes.items c.loop-done.done _
-            (r.grows.kept c.loop-done.done _ here) in
+    (r.grows.kept c.loop-done.done _ here) in
     omega (arith, t, w, c.loop-done-test.true)
 
 pub loop-done-preserved : goal.loop-done-preserved
@@ -56,9 +56,9 @@ loop-done-preserved c =
     let r = c.in_ok-step_back_from.ensures in
     let old = c.loop-done.invariant in
     let below : c.loop-done.done < length c.loop-done.visited.nodes.items =
-            omega (arith, c.loop-done-test.true, c.len.ensures) in
+    omega (arith, c.loop-done-test.true, c.len.ensures) in
     let here = node_at c.loop-done.visited.nodes.items c.loop-done.done c.index-from.result.now below
-            c.index-from.ensures in
+    c.index-from.ensures in
     record {
       searching = r.searching;
       done = one_more (IsDone c.args.sought.now.function.now (fact_of c.args.sought.now) c.step_back_from.new.visited)

@@ -1,4 +1,3 @@
-use Rattle.std.proofs.Common.{◌∙◌, sym, ap, Some}
 use Rattle.check_elim.specs.Seeking.{fact_of}
 use Rattle.check_elim.proofs.Exploring.{at_node}
 use Rattle.check_elim.proofs.Searching.{visited_new}

@@ -1,0 +1,11 @@
+pub mod Deciding
+pub mod Complement
+pub mod Homes
+pub mod Keeping
+pub mod Trails
+pub mod Sameness
+pub mod Worklists
+pub mod Exploring
+pub mod Searching
+pub mod Going
+pub mod Rest

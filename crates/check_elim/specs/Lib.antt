@@ -1,0 +1,9 @@
+pub mod Paths
+pub mod Facts
+pub mod Available
+pub mod Dropped
+pub mod Worklists
+pub mod Seeking
+pub mod Nodes
+pub mod Ways
+pub mod Searches

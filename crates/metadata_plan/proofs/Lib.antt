@@ -11,5 +11,6 @@ pub mod Entering
 pub mod Stepping
 pub mod Following
 pub mod Laying
+pub mod Entries
 mod Example
 pub mod OperatorLists

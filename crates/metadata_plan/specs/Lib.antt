@@ -2,6 +2,7 @@ pub mod Registers
 pub mod Operators
 pub mod Blocks
 pub mod Expanded
+pub mod Entries
 pub mod Part
 pub mod Laid
 pub mod Matching

@@ -20,6 +20,7 @@ ghost use Rattle.metadata_plan.specs.Expanded.{IsExpanded};
 ghost use Rattle.metadata_plan.specs.Part.{IsIntegerCode};
 ghost use Rattle.metadata_plan.specs.Laid.{address_of, program_of};
 
+pub mod entries;
 pub mod operator_lists;
 
 /// The expansion of an integer program follows it: it shows what the program in three-address code shows, at each

@@ -7,3 +7,4 @@ pub mod Part
 pub mod Laid
 pub mod Matching
 pub mod OperatorLists
+pub mod Objects

@@ -1,2 +1,4 @@
 mod Holding
 mod Registers
+mod Standing
+mod Waiting

@@ -12,6 +12,7 @@ use Rattle.obj_memory.specs.declared.value.Scalar.{Scalar}
 use Rattle.obj_memory.specs.Objects.{ObjectState, Objects, object_at, pointer_to}
 use Rattle.obj_memory.specs.Heap.{is_allocated}
 use Rattle.obj_memory.specs.Sound.{Continues, IsSoundTag}
+use Rattle.obj_memory.proofs.Continuing.{continues_same}
 use Rattle.obj_memory.proofs.Soundness.{sound_tag_continues, sound_object_continues}
 use Rattle.source_meaning.specs.State.{Rvalue, Home, NoObject, InObject}
 use Rattle.source_meaning.specs.Actions.{integer}
@@ -27,6 +28,7 @@ use Rattle.flat_routines.specs.Metadata.{metadata_in}
 use Rattle.flat_routines.specs.Objects.StandsFor.{Views, Keys, Holding, Spells, spell}
 use Rattle.flat_routines.proofs.Words.{same_metadata}
 use Rattle.flat_actions.specs.Actions.{KeepsHeld}
+use Rattle.flat_actions.proofs.Standing.{keeps_same}
 use Rattle.area_routines.specs.Areas.{HoldsPart}
 use Rattle.area_routines.proofs.Areas.{area_stays}
 use Rattle.runtime_functions.specs.Library.{held_from}
@@ -67,6 +69,13 @@ pub record GoesOn (g : Views) (k k' : Keys) (old new : Objects) (m m' : Bytes) :
   pub held : KeepsHeld old k k'
   pub continues : Continues old new
   pub behind : (b : ℕ) → region_start g.sizes StructureValues ≤ b → m' b ≡ m b
+
+pub same_world : (g : Views) (k : Keys) (objects : Objects) (m : Bytes) → GoesOn g k k objects objects m m
+same_world g k objects m = record {
+  held = keeps_same objects k;
+  continues = continues_same objects;
+  behind = λ b le. refl;
+}
 
 abbrev pub world_of : Views → Keys → Objects → Bytes → World
 world_of g k objects m = record { views = g; keys = k; objects = objects; memory = m }

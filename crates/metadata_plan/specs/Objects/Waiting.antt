@@ -17,7 +17,7 @@ use Rattle.flat_routines.specs.Routine.{HasAt}
 use Rattle.object_routines.specs.AllocatingRoutines.Entering.{IsHomeOf, AreOfLock}
 use Rattle.metadata_plan.specs.Registers.{most_temporaries}
 use Rattle.metadata_plan.specs.Expanded.{Leads}
-use Rattle.metadata_plan.specs.Objects.Registers.{lock_register, body_top_register, block_top_register, temporary_register}
+use Rattle.metadata_plan.specs.Objects.Registers.{variables_end, tops_end, lock_register, body_top_register, block_top_register, temporary_register}
 use Rattle.metadata_plan.specs.Objects.Blocks.{Expansion, objects_of_body, result_of, result_entry, before_main}
 use Rattle.metadata_plan.specs.Objects.Holding.{World, HasHomes, Holds}
 
@@ -38,12 +38,19 @@ AreNoObjects (InObject o ∷ homes) = ⊥
 
 -- ---- blocks
 
+-- a register of a home, or of an end of the object stack
+pub record IsHomeRegister (c : CodeFunction) (register : ℕ) : Type 0 where
+  pub first : variables_end c ≤ register
+  pub last : register < tops_end c
+
 -- the objects of a block, all variables of the function of which these alone are objects, live under the lock word in
 -- their register, and a register has the end of the object stack from before it
 pub record IsBlockAt (w : World) (state : State) (c : CodeFunction) (entered : List Variable) (top outer : ℕ)
     (homes : List Home) (values : flat.Values) : Type 0 where
   pub of_lock : AreOfLock w.keys state homes (values (lock_register c entered))
+  pub lock_is : IsHomeRegister c (lock_register c entered)
   pub top_is : values top ≡ outer
+  pub top_is_one : IsHomeRegister c top
 
 -- a block that was entered, and the homes around it
 pub record IsEnteredAs (w : World) (state : State) (c : CodeFunction) (bound number : ℕ) (b : Block)
@@ -67,6 +74,7 @@ pub record IsBodyAs (w : World) (state : State) (c : CodeFunction) (stacked oute
     (values : flat.Values) : Type 0 where
   pub by : BodyBy w state c stacked outer homes values (has_objects (objects_of_body c))
   pub mark : ℕ
+  pub within : mark ≤ bound
   pub own : AreBetween mark bound homes
 
 -- ---- callers

@@ -1,3 +1,4 @@
+mod Assigning
 mod Holding
 mod Registers
 mod Standing

@@ -1,4 +1,5 @@
 mod Assigning
+mod Giving
 mod Holding
 mod Registers
 mod Standing

@@ -1,4 +1,5 @@
 pub mod Blocks
+pub mod Contents
 pub mod Expanded
 pub mod Holding
 pub mod InlineCode

@@ -72,9 +72,9 @@ module _ (c : Compiled) (IsGood : Bytes → Type 0) (right : IsRight c IsGood) (
       (good_counted (names c) u ws s s.input s.output s.taken s.turns work h.steady.good)
       (gives_temporary (views c) h.keys h.keys s.objects s.objects v.memory v.memory
       (same_world (views c) h.keys s.objects v.memory) (activation c h.code u n s) (c.layout.expansion.entries u next)
-      (λ i. false) temps s.plain s.frame v.values values d (rvalue value) low
+      (c.layout.expansion.contents u next) (λ i. false) temps s.plain s.frame v.values values d (rvalue value) low
       (fewer c IsGood right u n temps ws s v xs h i k d next gives leads) (λ x o home live held. live) others
-      (record { by = held }) h.holds)
+      (record { by = held; none = λ e. refl }) h.holds)
       (λ r from to. others r (omega arith) (inl (omega arith))) cost
 
   -- an entry of no pointer behind what made an integer

@@ -144,11 +144,11 @@ module _ (g : Views) (k k' : Keys) (old new : Objects) (m m' : Bytes) (on : Goes
             no_lock = same 4 (omega arith) ∙ p.no_lock;
           }
 
-  pub temporary_on : (b : Bool) (v : Rvalue) (greatest a r : ℕ) (values after : flat.Values)
+  pub temporary_on : (b may : Bool) (v : Rvalue) (greatest a r : ℕ) (values after : flat.Values)
       → region_start g.sizes StructureValues ≤ a → Stay r (count_of b) values after
-      → IsTemporary (world_of g k old m) b v greatest a r values
-      → IsTemporary (world_of g k' new m') b v greatest a r after
-  temporary_on b v greatest a r values after first same h = record { by = on_by v.contents h.by }
+      → IsTemporary (world_of g k old m) b may v greatest a r values
+      → IsTemporary (world_of g k' new m') b may v greatest a r after
+  temporary_on b may v greatest a r values after first same h = record { by = on_by v.contents h.by; none = h.none }
     where
       on_by : (c : Option ObjectState) → IsRvalueAt (world_of g k old m) b v.value c greatest a r values
           → IsRvalueAt (world_of g k' new m') b v.value c greatest a r after
@@ -208,13 +208,15 @@ area_first map a i = omega arith
 
 -- the same function, where as many calls are charged: at another node, where other temporaries have entries, or others
 -- are not known
-abbrev pub at_node : Activation → (entries unknown : ℕ → Bool) → Activation
-at_node a entries unknown = record a { entries = entries; unknown = unknown }
+abbrev pub at_node : Activation → (entries contents unknown : ℕ → Bool) → Activation
+at_node a entries contents unknown = record a { entries = entries; contents = contents; unknown = unknown }
 
--- no temporary but one has an entry that had none before, or is known that was not
-pub record AreFewer (d : ℕ) (entries unknown entries' unknown' : ℕ → Bool) : Type 0 where
-  pub kept : (i : ℕ) → i ≢ d → entries' i ≡ true → entries i ≡ true
-  pub known : (i : ℕ) → i ≢ d → unknown' i ≡ false → unknown i ≡ false
+-- no temporary but one has an entry that had none before, has no contents where it might have had some, or is known that
+-- was not
+pub record AreFewer (d : ℕ) (a : Activation) (entries contents unknown : ℕ → Bool) : Type 0 where
+  pub kept : (i : ℕ) → i ≢ d → entries i ≡ true → a.entries i ≡ true
+  pub plain : (i : ℕ) → i ≢ d → contents i ≡ false → a.contents i ≡ false
+  pub known : (i : ℕ) → i ≢ d → unknown i ≡ false → a.unknown i ≡ false
 
 module _ (g : Views) (k k' : Keys) (old new : Objects) (m m' : Bytes) (on : GoesOn g k k' old new m m')
     (a : Activation) where
@@ -226,10 +228,12 @@ module _ (g : Views) (k k' : Keys) (old new : Objects) (m m' : Bytes) (on : Goes
   c = a.code
 
   -- a temporary of which less is asked
-  lesser : (b b' : Bool) → (b' ≡ true → b ≡ true) → (v : Rvalue) (greatest at r : ℕ) (values : flat.Values)
-      → IsTemporary (world_of g k' new m') b v greatest at r values
-      → IsTemporary (world_of g k' new m') b' v greatest at r values
-  lesser b b' less v greatest at r values h = record { by = by v.contents h.by }
+  lesser : (b b' may may' : Bool) → (b' ≡ true → b ≡ true) → (may' ≡ false → may ≡ false) → (v : Rvalue)
+      (greatest at r : ℕ) (values : flat.Values)
+      → IsTemporary (world_of g k' new m') b may v greatest at r values
+      → IsTemporary (world_of g k' new m') b' may' v greatest at r values
+  lesser b b' may may' less none v greatest at r values h =
+      record { by = by v.contents h.by; none = λ e. h.none (none e) }
     where
       by : (o : Option ObjectState) → IsRvalueAt (world_of g k' new m') b v.value o greatest at r values
           → IsRvalueAt (world_of g k' new m') b' v.value o greatest at r values
@@ -254,33 +258,33 @@ module _ (g : Views) (k k' : Keys) (old new : Objects) (m m' : Bytes) (on : Goes
       plain_on g k k' old new m m' on t (get_or plain x (integer 0)) (variable_register a.code x) values after
       (λ j few. same (variable_register a.code x + j) (omega arith)) (h x t e)
 
-  temporaries_on : (d : ℕ) (entries' unknown' : ℕ → Bool) → AreFewer d a.entries a.unknown entries' unknown'
+  temporaries_on : (d : ℕ) (entries' contents' unknown' : ℕ → Bool) → AreFewer d a entries' contents' unknown'
       → (temps : Temps) (values after : flat.Values) (i : ℕ) → i ≢ d → i < most_temporaries a.code.code
       → ((j : ℕ) → j < 5 → after (temporary_register a.code i + j) ≡ values (temporary_register a.code i + j))
       → ((i : ℕ) → i < most_temporaries a.code.code → a.unknown i ≡ false
-      → IsTemporary (world_of g k old m) (a.entries i) (temps i) (greatest_structure a.tac a.code.code i)
+      → IsTemporary (world_of g k old m) (a.entries i) (a.contents i) (temps i) (greatest_structure a.tac a.code.code i)
       (area_of g.sizes a.tac a.code a.charged i) (temporary_register a.code i) values)
       → unknown' i ≡ false
-      → IsTemporary (world_of g k' new m') (entries' i) (temps i) (greatest_structure a.tac a.code.code i)
+      → IsTemporary (world_of g k' new m') (entries' i) (contents' i) (temps i) (greatest_structure a.tac a.code.code i)
       (area_of g.sizes a.tac a.code a.charged i) (temporary_register a.code i) after
-  temporaries_on d entries' unknown' fewer temps values after i ne lt same h known =
+  temporaries_on d entries' contents' unknown' fewer temps values after i ne lt same h known =
       let few = few_in (a.entries i) in
-      lesser (a.entries i) (entries' i) (fewer.kept i ne) (temps i) (greatest_structure a.tac a.code.code i)
+      lesser (a.entries i) (entries' i) (a.contents i) (contents' i) (fewer.kept i ne) (fewer.plain i ne) (temps i) (greatest_structure a.tac a.code.code i)
       (area_of g.sizes a.tac a.code a.charged i) (temporary_register a.code i) after
-      (temporary_on g k k' old new m m' on (a.entries i) (temps i) (greatest_structure a.tac a.code.code i)
+      (temporary_on g k k' old new m m' on (a.entries i) (a.contents i) (temps i) (greatest_structure a.tac a.code.code i)
       (area_of g.sizes a.tac a.code a.charged i) (temporary_register a.code i) values after (area_first g.sizes a i)
       (λ j lt. same j (omega arith)) (h i lt (fewer.known i ne known)))
 
   -- One temporary gets a value, in its registers alone.
-  pub gives_temporary : (entries' unknown' : ℕ → Bool) (temps : Temps) (plain : List Value) (frame : List Home)
+  pub gives_temporary : (entries' contents' unknown' : ℕ → Bool) (temps : Temps) (plain : List Value) (frame : List Home)
       (values after : flat.Values) (d : ℕ) (v : Rvalue) → d < most_temporaries a.code.code
-      → AreFewer d a.entries a.unknown entries' unknown'
+      → AreFewer d a entries' contents' unknown'
       → LiveOn g k k' old new m m' on frame → StayBut (temporary_register a.code d) 5 values after
-      → IsTemporary (world_of g k' new m') (entries' d) v (greatest_structure a.tac a.code.code d)
+      → IsTemporary (world_of g k' new m') (entries' d) (contents' d) v (greatest_structure a.tac a.code.code d)
       (area_of g.sizes a.tac a.code a.charged d) (temporary_register a.code d) after
       → Holds (world_of g k old m) a temps plain frame values
-      → Holds (world_of g k' new m') (at_node a entries' unknown') (with_temp temps d v) plain frame after
-  gives_temporary entries' unknown' temps plain frame values after d v low fewer lives same given h = record {
+      → Holds (world_of g k' new m') (at_node a entries' contents' unknown') (with_temp temps d v) plain frame after
+  gives_temporary entries' contents' unknown' temps plain frame values after d v low fewer lives same given h = record {
     temporaries = λ i lt known. by i lt known (i == d) refl;
     variables = variables_on plain values after (λ r lt. same r (omega arith) (inl (omega arith))) h.variables;
     homes = homes_on g k k' old new m m' on a.code frame values after lives
@@ -289,29 +293,30 @@ module _ (g : Views) (k k' : Keys) (old new : Objects) (m m' : Bytes) (on : Goes
   }
     where
       by : (i : ℕ) → i < most_temporaries a.code.code → unknown' i ≡ false → (b : Bool) → (i == d) ≡ b
-          → IsTemporary (world_of g k' new m') (entries' i) (if b then v else temps i)
+          → IsTemporary (world_of g k' new m') (entries' i) (contents' i) (if b then v else temps i)
           (greatest_structure a.tac a.code.code i) (area_of g.sizes a.tac a.code a.charged i)
           (temporary_register a.code i) after
       by i lt known true e =
-          subst (λ z. IsTemporary (world_of g k' new m') (entries' z) v (greatest_structure a.tac a.code.code z)
+          subst (λ z. IsTemporary (world_of g k' new m') (entries' z) (contents' z) v (greatest_structure a.tac a.code.code z)
           (area_of g.sizes a.tac a.code a.charged z) (temporary_register a.code z) after) (sym (eqb-true i d e)) given
       by i lt known false e =
           let ne = eqb-false i d e in
-          temporaries_on d entries' unknown' fewer temps values after i ne lt
+          temporaries_on d entries' contents' unknown' fewer temps values after i ne lt
           (λ j few. same (temporary_register a.code i + j) (omega arith)
           (⊎_elim (λ below. inl (omega arith)) (λ above. inr (omega arith)) (temporaries_apart a.code i d ne)))
           h.temporaries known
 
   -- No register below the free ones changes.
-  pub holds_on : (entries' : ℕ → Bool) (temps : Temps) (plain : List Value) (frame : List Home)
+  pub holds_on : (entries' contents' : ℕ → Bool) (temps : Temps) (plain : List Value) (frame : List Home)
       (values after : flat.Values) → ((i : ℕ) → entries' i ≡ true → a.entries i ≡ true)
+      → ((i : ℕ) → contents' i ≡ false → a.contents i ≡ false)
       → LiveOn g k k' old new m m' on frame → ((r : ℕ) → r < first_free a.code → after r ≡ values r)
       → Holds (world_of g k old m) a temps plain frame values
-      → Holds (world_of g k' new m') (at_node a entries' a.unknown) temps plain frame after
-  holds_on entries' temps plain frame values after fewer lives same h = record {
+      → Holds (world_of g k' new m') (at_node a entries' contents' a.unknown) temps plain frame after
+  holds_on entries' contents' temps plain frame values after fewer none lives same h = record {
     temporaries = λ i lt known.
-        temporaries_on (suc i) entries' a.unknown
-        (record { kept = λ j ne e. fewer j e; known = λ j ne e. e }) temps values after i (λ e. omega arith) lt
+        temporaries_on (suc i) entries' contents' a.unknown
+        (record { kept = λ j ne e. fewer j e; plain = λ j ne e. none j e; known = λ j ne e. e }) temps values after i (λ e. omega arith) lt
         (λ j few. same (temporary_register a.code i + j) (omega arith)) h.temporaries known;
     variables = variables_on plain values after (λ r lt. same r (omega arith)) h.variables;
     homes = homes_on g k k' old new m m' on a.code frame values after lives (λ r from lt. same r (omega arith)) h.homes;

@@ -31,6 +31,7 @@ use Rattle.flat_actions.specs.Actions.{IsShown}
 use Rattle.metadata_plan.specs.Registers.{most_temporaries}
 use Rattle.metadata_plan.specs.Entries.{IsOther, given, AreClosed}
 use Rattle.metadata_plan.specs.Expanded.{Leads}
+use Rattle.metadata_plan.specs.Objects.Contents.{AreKept}
 use Rattle.metadata_plan.specs.Objects.InlineCode.{IsInlineCode}
 use Rattle.metadata_plan.specs.Objects.Registers.{parameters_end, result_words, variables_end, tops_end}
 use Rattle.metadata_plan.specs.Objects.Blocks.{Expansion, prologue, result_of}
@@ -147,6 +148,7 @@ pub record IsNode (c : Compiled) (u n : ℕ) (code : CodeFunction) (i : Instruct
       (c.layout.address u n) i
   pub temporaries_low : temporaries i ≤ most_temporaries code.code
   pub closed : AreClosed c.layout.expansion.code code (c.layout.expansion.entries u)
+  pub kept : AreKept code (c.layout.expansion.contents u)
   pub at : slice_get code.code n ≡ Some i
 
 module _ (c : Compiled) (IsGood : Bytes → Type 0) where
@@ -192,14 +194,17 @@ module _ (c : Compiled) (IsGood : Bytes → Type 0) (right : IsRight c IsGood) (
         (right.expanded.functions u h.code h.there)).blocks n i at;
     temporaries_low = most_at h.code.code n i at;
     closed = right.expanded.closed.by u h.code h.there;
+    kept = right.expanded.kept u h.code h.there;
     at = at;
   }
 
   -- where an instruction gives a temporary a value, no other one has an entry behind it that had none before
   pub fewer : (i : Instruction) → IsNode c u n h.code i → (d next : ℕ) → given i ≡ Some d → LeadsTo i next
-      → AreFewer d (c.layout.expansion.entries u n) (λ i. false) (c.layout.expansion.entries u next) (λ i. false)
+      → AreFewer d (activation c h.code u n s) (c.layout.expansion.entries u next) (c.layout.expansion.contents u next)
+      (λ i. false)
   fewer i k d next gives leads = record {
     kept = λ j ne e. k.closed.kept n next j i k.at leads (subst (λ o. IsOther o j) (sym gives) ne) e;
+    plain = λ j ne e. k.kept.kept n next j i k.at leads (subst (λ o. IsOther o j) (sym gives) ne) e;
     known = λ j ne e. refl;
   }
 
@@ -207,6 +212,10 @@ module _ (c : Compiled) (IsGood : Bytes → Type 0) (right : IsRight c IsGood) (
   pub none_more : (i : Instruction) → IsNode c u n h.code i → (next : ℕ) → given i ≡ None → LeadsTo i next
       → (j : ℕ) → c.layout.expansion.entries u next j ≡ true → c.layout.expansion.entries u n j ≡ true
   none_more i k next gives leads j e = k.closed.kept n next j i k.at leads (subst (λ o. IsOther o j) (sym gives) tt) e
+
+  pub none_less : (i : Instruction) → IsNode c u n h.code i → (next : ℕ) → given i ≡ None → LeadsTo i next
+      → (j : ℕ) → c.layout.expansion.contents u next j ≡ false → c.layout.expansion.contents u n j ≡ false
+  none_less i k next gives leads j e = k.kept.kept n next j i k.at leads (subst (λ o. IsOther o j) (sym gives) tt) e
 
   -- behind a block the code leads on
   pub leads_on : (q r : ℕ) (after : flat.State) (most : ℕ) → ComesTo q after most → Leads body q r

@@ -99,8 +99,10 @@ module _ (g : Views) (k k' : Keys) (s s' : State) (m m' : Bytes) (l : Layout) (f
       code = h.code;
       charged = w.caller.charged;
       entries = l.expansion.entries w.function w.node;
+      contents = l.expansion.contents w.function w.node;
       unknown = λ i. i == w.place;
-    }) (l.expansion.entries w.function w.node) w.temps w.caller.plain w.caller.frame x.values x.values (λ i e. e)
+    }) (l.expansion.entries w.function w.node) (l.expansion.contents w.function w.node) w.temps w.caller.plain
+        w.caller.frame x.values x.values (λ i e. e) (λ i e. e)
         (λ y o home. live o (let z = h.below y o home in omega arith)) (λ r lt. refl) h.holds;
     charge = h.charge;
     fits = h.fits;

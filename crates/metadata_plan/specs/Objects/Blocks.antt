@@ -64,6 +64,7 @@ use Rattle.metadata_plan.specs.Blocks.{call_tests}
 use Rattle.metadata_plan.specs.Entries.{Entries, pointer_of}
 use Rattle.metadata_plan.specs.Registers.{all_variables}
 use Rattle.metadata_plan.specs.Operators.{OperatorCode}
+use Rattle.metadata_plan.specs.Objects.Contents.{Contents}
 use Rattle.metadata_plan.specs.Objects.InlineCode.{InlineCode}
 use Rattle.metadata_plan.specs.Objects.Registers.{passed_as, parameters_end, variable_words, total}
 use Rattle.metadata_plan.specs.Objects.Registers.{variable_register, home_register, home_entry, body_top_register}
@@ -71,13 +72,14 @@ use Rattle.metadata_plan.specs.Objects.Registers.{block_top_register, lock_regis
 use Rattle.metadata_plan.specs.Objects.Registers.{first_free}
 
 -- What the code of a program depends on: the lists that stand inline, the map of the memory, the program, the number
--- that the key of each function's entry has, and which temporaries have entries.
+-- that the key of each function's entry has, and which temporaries have entries and may have contents.
 pub record Expansion : Type 0 where
   pub inline : InlineCode
   pub map : MapSizes
   pub code : Tac
   pub types : ℕ → ℕ
   pub entries : (function : ℕ) → Entries
+  pub contents : (function : ℕ) → Contents
 
 -- ---- values and their entries
 

@@ -15,6 +15,7 @@ use Rattle.runtime_functions.specs.declared.runtime.RuntimeFunction.{RuntimeFunc
 use Rattle.runtime_functions.specs.Runtime.{runtime_list, IsOfRuntime}
 use Rattle.metadata_plan.specs.Entries.{AreAllClosed}
 use Rattle.metadata_plan.specs.Expanded.{Leads, LeadOn}
+use Rattle.metadata_plan.specs.Objects.Contents.{AreKept}
 use Rattle.metadata_plan.specs.Objects.Registers.{parameters_end, result_words}
 use Rattle.metadata_plan.specs.Objects.Blocks.{Expansion, block, prologue, entry_code, result_of, runtime_number}
 use Rattle.metadata_plan.specs.Objects.Waiting.{Layout}
@@ -65,3 +66,5 @@ pub record IsExpanded (l : Layout) (entry : View) (IsGood : Bytes → Type 0) : 
       → IsRuntimeAt l.expansion.map entry IsGood f (function_in l.program (runtime_number l.expansion.code k))
   pub enters : EntersAt l.expansion (function_in l.program l.program.entry)
   pub closed : AreAllClosed l.expansion.code l.expansion.entries
+  pub kept : (u : ℕ) (c : CodeFunction) → slice_get l.expansion.code.functions u ≡ Some c
+      → AreKept c (l.expansion.contents u)

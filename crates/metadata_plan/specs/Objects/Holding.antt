@@ -66,9 +66,11 @@ abbrev pub IsRvalueAt : World → (with_entry : Bool) → Value → Option Objec
 IsRvalueAt w b v None greatest a r values = IsHeldAt w b v r values
 IsRvalueAt w b v (Some c) greatest a r values = IsContentsAt w b v c greatest a r values
 
-pub record IsTemporary (w : World) (with_entry : Bool) (v : Rvalue) (greatest area register : ℕ) (values : Values)
-    : Type 0 where
+-- a temporary, which may have contents, or has none
+pub record IsTemporary (w : World) (with_entry may_have : Bool) (v : Rvalue) (greatest area register : ℕ)
+    (values : Values) : Type 0 where
   pub by : IsRvalueAt w with_entry v.value v.contents greatest area register values
+  pub none : may_have ≡ false → v.contents ≡ None
 
 -- ---- variables
 
@@ -105,20 +107,21 @@ pub record HasHomes (w : World) (c : CodeFunction) (frame : List Home) (values :
 
 -- ---- a function
 
--- where a function of a program runs: how much the calls are charged, which temporaries have entries at its node, and of
--- which nothing is known
+-- where a function of a program runs: how much the calls are charged, which temporaries have entries at its node, which may
+-- have contents, and of which nothing is known
 pub record Activation : Type 0 where
   pub tac : Tac
   pub code : CodeFunction
   pub charged : ℕ
   pub entries : ℕ → Bool
+  pub contents : ℕ → Bool
   pub unknown : ℕ → Bool
 
 -- the registers of a function
 pub record Holds (w : World) (a : Activation) (temps : Temps) (plain : List Value) (frame : List Home)
     (values : Values) : Type 0 where
   pub temporaries : (i : ℕ) → i < most_temporaries a.code.code → a.unknown i ≡ false
-      → IsTemporary w (a.entries i) (temps i) (greatest_structure a.tac a.code.code i)
+      → IsTemporary w (a.entries i) (a.contents i) (temps i) (greatest_structure a.tac a.code.code i)
       (area_of w.views.sizes a.tac a.code a.charged i) (temporary_register a.code i) values
   pub variables : (x : ℕ) (k : Scalar) → plain_type (all_variables a.code) x ≡ Some k
       → IsPlain w k (get_or plain x (integer 0)) (variable_register a.code x) values

@@ -76,6 +76,7 @@ activation c code u n s = record {
   code = code;
   charged = s.charged;
   entries = c.layout.expansion.entries u n;
+  contents = c.layout.expansion.contents u n;
   unknown = λ i. false;
 }
 

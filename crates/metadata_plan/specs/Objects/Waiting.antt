@@ -110,6 +110,7 @@ pub record IsWaitingAs (w : World) (l : Layout) (callee : CodeFunction) (mark : 
     code = code;
     charged = waiting.caller.charged;
     entries = l.expansion.entries waiting.function waiting.node;
+    contents = l.expansion.contents waiting.function waiting.node;
     unknown = λ i. i == waiting.place;
   }) waiting.temps waiting.caller.plain waiting.caller.frame frame.values
   pub charge : waiting.caller.charged ≡ charged l.program waiting.function xs

@@ -1,6 +1,7 @@
 mod Assigning
 mod Giving
 mod Holding
+mod Moving
 mod Registers
 mod Simple
 mod Standing

@@ -3,6 +3,7 @@ mod Giving
 mod Holding
 mod Moving
 mod Registers
+mod Setting
 mod Simple
 mod Standing
 mod Waiting

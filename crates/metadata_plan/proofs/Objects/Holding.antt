@@ -1,6 +1,8 @@
 -- Registers hold on what they held: while objects go on and keys are added, and where one of them gets a value.
 use Rattle.std.proofs.Common.{◌≡◌, ◌≢◌, ◌⊎◌, ⊎_elim, inl, inr, ℕ, zero, suc, ◌+◌, ◌*◌, ◌<◌, ◌≤◌, Bool, true, false, List, []}
-use Rattle.std.proofs.Common.{◌∷◌, length, Option, Some, None, refl, sym, ap, ap₂, ◌∙◌, subst, arith, get_or}
+use Rattle.std.proofs.Common.{◌∷◌, length, length-set, set, Option, Some, None, refl, sym, ap, ap₂, ◌∙◌, subst, arith, get_or}
+use Rattle.std.proofs.lemmas.List.{get_or-set_same, get_or-set_other}
+use Rattle.std.proofs.lemmas.Option.{same_Some}
 use Rattle.std.specs.Prelude.{slice_get, ◌==◌, if◌then◌else◌}
 use Rattle.std.proofs.lemmas.Bool.{eqb-true, eqb-false}
 use Rattle.addr_map.specs.declared.region.Region.TheVariants.{StructureValues}
@@ -322,3 +324,47 @@ module _ (g : Views) (k k' : Keys) (old new : Objects) (m m' : Bytes) (on : Goes
     homes = homes_on g k k' old new m m' on a.code frame values after lives (λ r from lt. same r (omega arith)) h.homes;
     count = h.count;
   }
+
+  -- One plain variable gets a value, in its registers alone.
+  pub gives_variable : (entries' contents' : ℕ → Bool) (temps : Temps) (plain : List Value) (frame : List Home)
+      (values after : flat.Values) (x : ℕ) (t : Scalar) (value : Value)
+      → plain_type (all_variables a.code) x ≡ Some t → x < length plain
+      → ((i : ℕ) → entries' i ≡ true → a.entries i ≡ true)
+      → ((i : ℕ) → contents' i ≡ false → a.contents i ≡ false)
+      → LiveOn g k k' old new m m' on frame → StayBut (variable_register a.code x) (count_in t) values after
+      → IsPlain (world_of g k' new m') t value (variable_register a.code x) after
+      → Holds (world_of g k old m) a temps plain frame values
+      → Holds (world_of g k' new m') (at_node a entries' contents' a.unknown) temps (set plain x value) frame after
+  gives_variable entries' contents' temps plain frame values after x t value typed inside fewer none lives same given h =
+      let low = variable_low a.code x t typed in
+      record {
+        temporaries = λ i lt known.
+            temporaries_on (suc i) entries' contents' a.unknown
+            (record { kept = λ j ne e. fewer j e; plain = λ j ne e. none j e; known = λ j ne e. e }) temps values after i
+            (λ e. omega arith) lt
+            (λ j few. same (temporary_register a.code i + j) (omega arith) (inr (omega arith))) h.temporaries known;
+        variables = λ y q e. by y q e (y == x) refl;
+        homes = homes_on g k k' old new m m' on a.code frame values after lives
+            (λ r from lt. same r (omega arith) (inr (omega arith))) h.homes;
+        count = length-set plain x value ∙ h.count;
+      }
+    where
+      by : (y : ℕ) (q : Scalar) → plain_type (all_variables a.code) y ≡ Some q → (b : Bool) → (y == x) ≡ b
+          → IsPlain (world_of g k' new m') q (get_or (set plain x value) y (integer 0)) (variable_register a.code y) after
+      by y q e true is =
+          let one : y ≡ x = eqb-true y x is in
+          let type : t ≡ q = same_Some t q (sym typed ∙ ap (plain_type (all_variables a.code)) (sym one) ∙ e) in
+          subst (λ z. IsPlain (world_of g k' new m') q (get_or (set plain x value) z (integer 0))
+          (variable_register a.code z) after) (sym one)
+          (subst (λ z. IsPlain (world_of g k' new m') q z (variable_register a.code x) after)
+          (sym (get_or-set_same plain x value (integer 0) inside))
+          (subst (λ z. IsPlain (world_of g k' new m') z value (variable_register a.code x) after) type given))
+      by y q e false is =
+          let ne = eqb-false y x is in
+          let low = variable_low a.code y q e in
+          subst (λ z. IsPlain (world_of g k' new m') q z (variable_register a.code y) after)
+          (sym (get_or-set_other plain x y value (integer 0) ne))
+          (plain_on g k k' old new m m' on q (get_or plain y (integer 0)) (variable_register a.code y) values after
+          (λ j few. same (variable_register a.code y + j) (omega arith)
+          (⊎_elim (λ below. inl (omega arith)) (λ above. inr (omega arith))
+          (variables_apart a.code y x q t e typed ne))) (h.variables y q e))

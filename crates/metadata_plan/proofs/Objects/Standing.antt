@@ -1,5 +1,5 @@
 -- Functions and their expansions, and what comes of a step that stays in its function and leaves objects and memory.
-use Rattle.std.proofs.Common.{◌≡◌, ◌≢◌, ℕ, suc, ◌+◌, ◌*◌, ◌<◌, ◌≤◌, Bool, true, false, List, [], ◌∷◌, Option, Some, None, length, refl}
+use Rattle.std.proofs.Common.{◌≡◌, ◌≢◌, ℕ, suc, ◌+◌, ◌*◌, ◌<◌, ◌≤◌, Bool, true, false, List, [], ◌∷◌, map, Option, Some, None, length, refl}
 use Rattle.std.proofs.Common.{sym, ap, ◌∙◌, subst, arith}
 use Rattle.std.specs.Prelude.{slice_get, if◌then◌else◌}
 use Rattle.behaviours.specs.Steps.{run}
@@ -8,6 +8,7 @@ use Rattle.obj_memory.specs.declared.value.Value.{Value}
 use Rattle.sb_base.specs.declared.ending.Ending.{Ending}
 use Rattle.sb_base.specs.Endings.{code_of, report_of}
 use Rattle.source_meaning.specs.State.{State, Home}
+use Rattle.source_meaning.specs.Calls.{header_of}
 use Rattle.source_meaning.specs.Places.{stack_first}
 use Rattle.source_meaning.specs.Keeping.{LivesOn}
 use Rattle.source_meaning.specs.Good.{Context, IsGood, Leaves}
@@ -141,6 +142,7 @@ pub record IsRight (c : Compiled) (IsGood : Bytes → Type 0) : Type 0 where
   pub expanded : IsExpanded c.layout c.entry IsGood
   pub mapped : AreMapped (map_of c)
   pub sizes : c.setting.sizes ≡ map_of c
+  pub functions : map header_of c.typed.functions ≡ c.setting.functions
 
 -- what is known of a node and its block
 pub record IsNode (c : Compiled) (u n : ℕ) (code : CodeFunction) (i : Instruction) : Type 0 where

@@ -14,4 +14,4 @@ pub mod Laying
 pub mod Entries
 mod Example
 pub mod OperatorLists
-mod Objects
+pub mod Objects

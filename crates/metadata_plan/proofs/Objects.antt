@@ -1,9 +1,10 @@
-mod Assigning
-mod Giving
-mod Holding
-mod Moving
-mod Registers
-mod Setting
-mod Simple
-mod Standing
-mod Waiting
+pub mod Assigning
+pub mod Following
+pub mod Giving
+pub mod Holding
+pub mod Moving
+pub mod Registers
+pub mod Setting
+pub mod Simple
+pub mod Standing
+pub mod Waiting

@@ -1,11 +1,11 @@
 -- Which temporaries have entries: beside the word of a pointer the base, bound, key and lock that SoftBound and CETS keep
 -- with it. A temporary needs one at a node where the pointer that it holds may be read as a pointer later.
-use Rattle.std.specs.Prelude.{◌≡◌, ◌≢◌, ℕ, ◌+◌, ◌-◌, Bool, true, false, not, ◌&&◌, ◌==◌, nat_le, nat_lt, List, [], ◌∷◌}
+use Rattle.std.specs.Prelude.{◌≡◌, ◌≢◌, ℕ, ◌+◌, ◌-◌, Bool, true, false, not, ◌&&◌, ◌==◌, nat_le, nat_lt, List, []}
 use Rattle.std.specs.Prelude.{map, Option, Some, None, get_or, slice_get}
 use Rattle.obj_memory.specs.declared.value.Scalar.{Scalar}
 use Rattle.obj_memory.specs.declared.value.Scalar.TheVariants.{Integer, Pointer}
 use Rattle.c_tree.specs.declared.expression.Kind.{Kind}
-use Rattle.c_tree.specs.declared.expression.Kind.TheVariants.{Void, Scalar as OfScalar, Structure, Array}
+use Rattle.c_tree.specs.declared.expression.Kind.TheVariants.{Void, Scalar as OfScalar, Structure}
 use Rattle.c_tree.specs.declared.expression.OffsetForm.{OffsetForm}
 use Rattle.c_tree.specs.declared.expression.OffsetForm.TheVariants as form
 use Rattle.c_tree.specs.Kinds.{routine_signature}

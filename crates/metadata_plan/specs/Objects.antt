@@ -6,4 +6,5 @@ pub mod InlineCode
 pub mod Registers
 pub mod Scopes
 pub mod Stages
+pub mod Steps
 pub mod Waiting

@@ -1,6 +1,6 @@
 -- Lists of constants and moves: what they leave in registers.
-use Rattle.std.proofs.Common.{◌≡◌, ◌≢◌, ◌⊎◌, ⊎_elim, inl, inr, ℕ, zero, suc, ◌+◌, ◌*◌, ◌<◌, ◌≤◌, Bool, true, false, List, []}
-use Rattle.std.proofs.Common.{◌∷◌, ◌++◌, length, Option, Some, None, refl, sym, ap, ◌∙◌, subst, arith}
+use Rattle.std.proofs.Common.{◌≡◌, ◌≢◌, ◌⊎◌, ⊎_elim, inl, inr, ℕ, suc, ◌+◌, ◌*◌, ◌<◌, ◌≤◌, Bool, true, false, List, []}
+use Rattle.std.proofs.Common.{◌∷◌, length, ap, ◌∙◌, arith}
 use Rattle.words.specs.TwosComplement.{low_bits}
 use Rattle.addr_map.specs.Places.{MapSizes}
 use Rattle.flat_meaning.specs.declared.instruction.FlatInstruction.{FlatInstruction}
@@ -11,13 +11,12 @@ use Rattle.flat_meaning.specs.State as flat
 use Rattle.flat_meaning.specs.Calls.{function_in}
 use Rattle.flat_meaning.specs.Meaning.{body_of}
 use Rattle.flat_meaning.proofs.Stored.{put_same, put_other}
-use Rattle.flat_routines.specs.declared.registers.Entry.{Entry}
 use Rattle.flat_routines.specs.Metadata.{metadata_in, no_metadata}
 use Rattle.flat_routines.specs.Routine.{HasAt}
 use Rattle.flat_routines.proofs.Words.{same_metadata}
 use Rattle.object_routines.specs.AccessRoutines.Accessing.{no_entry}
 use Rattle.runtime_functions.specs.Library.{held_from}
-use Rattle.metadata_plan.specs.Objects.Blocks.{untagged, move_value, move_entry}
+use Rattle.metadata_plan.specs.Objects.Blocks.{move_value}
 use Rattle.metadata_plan.proofs.Flat.{Comes, next_comes, at_place, constant_comes, move_comes}
 
 -- what constants and moves leave

@@ -1,8 +1,6 @@
 -- An instruction that gives a temporary a value, and nothing else but registers changes.
-use Rattle.std.proofs.Common.{◌≡◌, ◌≢◌, ◌⊎◌, inl, inr, ℕ, ◌+◌, ◌*◌, ◌<◌, ◌≤◌, Bool, true, false, List, ◌++◌, length, Option, Some, None}
-use Rattle.std.proofs.Common.{refl, sym, ap, ◌∙◌, subst, arith}
-use Rattle.std.specs.Prelude.{slice_get}
-use Rattle.obj_memory.specs.declared.value.Tag.TheVariants.{Untagged}
+use Rattle.std.proofs.Common.{◌≡◌, ◌⊎◌, inl, inr, ℕ, ◌+◌, ◌*◌, ◌<◌, ◌≤◌, Bool, true, false, List, length, Some}
+use Rattle.std.proofs.Common.{refl, ◌∙◌, subst, arith}
 use Rattle.obj_memory.specs.declared.value.Value.{Value}
 use Rattle.source_meaning.specs.State.{State}
 use Rattle.source_meaning.specs.Actions.{integer}
@@ -16,21 +14,20 @@ use Rattle.flat_meaning.specs.State as flat
 use Rattle.flat_meaning.specs.Calls.{function_in}
 use Rattle.flat_meaning.specs.Meaning.{body_of}
 use Rattle.flat_routines.specs.Routine.{HasAt}
-use Rattle.flat_routines.specs.Objects.StandsFor.{Spells}
-use Rattle.runtime_functions.specs.Library.{held_from}
 use Rattle.metadata_plan.specs.Registers.{most_temporaries}
 use Rattle.metadata_plan.specs.Entries.{given}
 use Rattle.metadata_plan.specs.Expanded.{Leads}
-use Rattle.metadata_plan.specs.Objects.Registers.{variables_end, tops_end, temporary_register, first_free}
+use Rattle.metadata_plan.specs.Objects.Registers.{temporary_register, first_free}
 use Rattle.metadata_plan.specs.Objects.Blocks.{untagged}
 use Rattle.metadata_plan.specs.Objects.Holding.{IsHeldAt}
 use Rattle.metadata_plan.specs.Objects.Stages.{factor, Compiled, map_of, views, names, world, activation, IsAt}
+use Rattle.metadata_plan.specs.Objects.Steps.{IsCompiled}
 use Rattle.metadata_plan.proofs.Flat.{Comes, next_comes}
 use Rattle.metadata_plan.proofs.Holding.{IsSet}
 use Rattle.metadata_plan.proofs.Objects.Assigning.{assigned, assigns, IsCleared, cleared}
 use Rattle.metadata_plan.proofs.Objects.Holding.{same_world, gives_temporary}
 use Rattle.metadata_plan.proofs.Objects.Registers.{temporary_free}
-use Rattle.metadata_plan.proofs.Objects.Standing.{good_counted, IsRight, IsNode, fewer, arrives, leads_on, Result}
+use Rattle.metadata_plan.proofs.Objects.Standing.{good_counted, IsNode, fewer, arrives, leads_on, Result}
 
 -- a register has a value, where an entry is kept that of no pointer stands behind it, and all others below the free ones
 -- are as they were
@@ -39,7 +36,7 @@ pub record IsInteger (free register value : ℕ) (with_entry : Bool) (values aft
   pub entry : with_entry ≡ true → IsCleared register after after
   pub others : (y : ℕ) → y < free → (y < register) ⊎ (register + 5 ≤ y) → after y ≡ values y
 
-module _ (c : Compiled) (IsGood : Bytes → Type 0) (right : IsRight c IsGood) (u n : ℕ) (temps : Temps)
+module _ (c : Compiled) (IsGood : Bytes → Type 0) (right : IsCompiled c IsGood) (u n : ℕ) (temps : Temps)
     (ws : List Frame) (s : State) (v : flat.State) (xs : List flat.Frame)
     (h : IsAt c IsGood u n temps ws s u (c.layout.address u n) v xs) where
   abbrev ComesTo : (place : ℕ) → (after : flat.State) → (most : ℕ) → Type 0
@@ -83,34 +80,36 @@ module _ (c : Compiled) (IsGood : Bytes → Type 0) (right : IsRight c IsGood) (
       → ComesTo q (record v { values = between }) most → IsSet (first_free h.code) r value v.values between
       → (values : flat.Values) × ComesTo (q + length (untagged b r)) (record v { values = values }) (most + 8)
       × IsInteger (first_free h.code) r value b v.values values
-  untagged_behind false r q value most between has low comes is =
-      (between,
-      (let e : q ≡ q + 0 = omega arith in
-      subst (λ z. ComesTo z (record v { values = between }) (most + 8)) e
-      (record { steps = comes.steps; work = comes.work; few = (let f = comes.few in omega arith); comes = comes.comes })),
-      record {
-        gives = is.gives;
-        entry = λ e. cc;
-        others = λ y lt out. is.others y lt (λ e. beside y e out);
-      })
+  untagged_behind false r q value most between has low comes is = (
+    between,
+    (let e : q ≡ q + 0 = omega arith in
+        subst (λ z. ComesTo z (record v { values = between }) (most + 8)) e
+        (record { steps = comes.steps; work = comes.work; few = (let f = comes.few in omega arith); comes = comes.comes })),
+    record {
+      gives = is.gives;
+      entry = λ e. cc;
+      others = λ y lt out. is.others y lt (λ e. beside y e out);
+    },
+  )
     where
       beside : (y : ℕ) → y ≡ r → (y < r) ⊎ (r + 5 ≤ y) → ⊥
       beside y e (inl below) = absurd (omega arith)
       beside y e (inr above) = absurd (omega arith)
   untagged_behind true r q value most between has low comes is =
       let behind = assigned (untagged true r) between in
-      let z = cleared r between in
-      (behind,
-      next_comes (map_of c) c.layout.program u (c.layout.address u n) v xs q (q + 4) (record v { values = between })
-      (record v { values = behind }) most 8 comes
-      (λ w. (let a = assigns (map_of c) c.layout.program u xs (untagged true r) refl q
-      (record v { values = between; work = w }) has in
-      record { steps = a.steps; work = a.work; few = a.few; comes = a.comes })),
-      record {
-        gives = z.others r (inl (omega arith)) ∙ is.gives;
-        entry = λ e. record { entry = z.entry; others = λ y out. refl };
-        others = λ y lt out. z.others y (wider y out) ∙ is.others y lt (λ e. beside y e out);
-      })
+      let z = cleared r between in (
+        behind,
+        next_comes (map_of c) c.layout.program u (c.layout.address u n) v xs q (q + 4) (record v { values = between })
+            (record v { values = behind }) most 8 comes
+            (λ w. (let a = assigns (map_of c) c.layout.program u xs (untagged true r) refl q
+            (record v { values = between; work = w }) has in
+            record { steps = a.steps; work = a.work; few = a.few; comes = a.comes })),
+        record {
+          gives = z.others r (inl (omega arith)) ∙ is.gives;
+          entry = λ e. record { entry = z.entry; others = λ y out. refl };
+          others = λ y lt out. z.others y (wider y out) ∙ is.others y lt (λ e. beside y e out);
+        },
+      )
     where
       beside : (y : ℕ) → y ≡ r → (y < r) ⊎ (r + 5 ≤ y) → ⊥
       beside y e (inl below) = absurd (omega arith)

@@ -1,9 +1,9 @@
 -- Registers hold on what they held: while objects go on and keys are added, and where one of them gets a value.
-use Rattle.std.proofs.Common.{◌≡◌, ◌≢◌, ◌⊎◌, ⊎_elim, inl, inr, ℕ, zero, suc, ◌+◌, ◌*◌, ◌<◌, ◌≤◌, Bool, true, false, List, []}
-use Rattle.std.proofs.Common.{◌∷◌, length, length-set, set, Option, Some, None, refl, sym, ap, ap₂, ◌∙◌, subst, arith, get_or}
+use Rattle.std.proofs.Common.{◌≡◌, ◌≢◌, ◌⊎◌, ⊎_elim, inl, inr, ℕ, suc, ◌+◌, ◌<◌, ◌≤◌, Bool, true, false, List}
+use Rattle.std.proofs.Common.{length, length-set, set, Option, Some, None, refl, sym, ap, ap₂, ◌∙◌, subst, arith, get_or}
 use Rattle.std.proofs.lemmas.List.{get_or-set_same, get_or-set_other}
 use Rattle.std.proofs.lemmas.Option.{same_Some}
-use Rattle.std.specs.Prelude.{slice_get, ◌==◌, if◌then◌else◌}
+use Rattle.std.specs.Prelude.{◌==◌, if◌then◌else◌}
 use Rattle.std.proofs.lemmas.Bool.{eqb-true, eqb-false}
 use Rattle.addr_map.specs.declared.region.Region.TheVariants.{StructureValues}
 use Rattle.addr_map.specs.Places.{MapSizes, region_start}
@@ -18,7 +18,6 @@ use Rattle.obj_memory.proofs.Continuing.{continues_same}
 use Rattle.obj_memory.proofs.Soundness.{sound_tag_continues, sound_object_continues}
 use Rattle.source_meaning.specs.State.{Rvalue, Home, NoObject, InObject}
 use Rattle.source_meaning.specs.Actions.{integer}
-use Rattle.source_meaning.specs.Keeping.{LivesOn}
 use Rattle.source_meaning.specs.Good.{plain_type}
 use Rattle.source_meaning.proofs.Holding.{live_made}
 use Rattle.tac_ir.specs.declared.function.CodeFunction.{CodeFunction}
@@ -36,11 +35,11 @@ use Rattle.area_routines.proofs.Areas.{area_stays}
 use Rattle.runtime_functions.specs.Library.{held_from}
 use Rattle.metadata_plan.specs.Registers.{all_variables, most_temporaries}
 use Rattle.metadata_plan.specs.Objects.Registers.{entry_from, variable_register, variables_end, home_register, homes_end}
-use Rattle.metadata_plan.specs.Objects.Registers.{tops_end, temporary_register, first_free}
-use Rattle.metadata_plan.specs.Objects.Holding.{World, IsHeldAt, area_of, IsContentsAt, IsRvalueAt, IsTemporary}
+use Rattle.metadata_plan.specs.Objects.Registers.{temporary_register, first_free}
+use Rattle.metadata_plan.specs.Objects.Holding.{World, GoesOn, world_of, IsHeldAt, area_of, IsContentsAt, IsRvalueAt, IsTemporary}
 use Rattle.metadata_plan.specs.Objects.Holding.{is_pointer_type, IsPlain, IsHome, HasHomes, Activation, Holds}
 use Rattle.metadata_plan.proofs.Objects.Registers.{count_of, count_in, few_in, some_in, variable_low, variables_apart}
-use Rattle.metadata_plan.proofs.Objects.Registers.{home_low, temporary_free, temporaries_apart}
+use Rattle.metadata_plan.proofs.Objects.Registers.{home_low, temporaries_apart}
 
 -- ---- registers that stay
 
@@ -66,21 +65,12 @@ home_stays r values after same =
 
 -- ---- what goes on
 
--- objects go on and keep their keys, and the memory behind the table of blocks stays
-pub record GoesOn (g : Views) (k k' : Keys) (old new : Objects) (m m' : Bytes) : Type 0 where
-  pub held : KeepsHeld old k k'
-  pub continues : Continues old new
-  pub behind : (b : ℕ) → region_start g.sizes StructureValues ≤ b → m' b ≡ m b
-
 pub same_world : (g : Views) (k : Keys) (objects : Objects) (m : Bytes) → GoesOn g k k objects objects m m
 same_world g k objects m = record {
   held = keeps_same objects k;
   continues = continues_same objects;
   behind = λ b le. refl;
 }
-
-abbrev pub world_of : Views → Keys → Objects → Bytes → World
-world_of g k objects m = record { views = g; keys = k; objects = objects; memory = m }
 
 -- a sound tag has the same entry, where objects keep their keys
 pub spell_kept : (g : Views) (k k' : Keys) (objects : Objects) → KeepsHeld objects k k' → (t : Tag)
@@ -168,8 +158,13 @@ module _ (g : Views) (k k' : Keys) (old new : Objects) (m m' : Bytes) (on : Goes
       → spell g k (pointer_to o old).tag ≡ spell g k' (pointer_to o old).tag
   unfolding pointer_to
   pointer_spelled o lt =
-      ap (λ (e : Holding). record { base = (object_at old o).address; bound = (object_at old o).address
-      + (object_at old o).size; key = e.key; lock = e.lock }) (sym (on.held.held o lt))
+      ap (λ (e : Holding). record {
+        base = (object_at old o).address;
+        bound = (object_at old o).address
+            + (object_at old o).size;
+        key = e.key;
+        lock = e.lock;
+      }) (sym (on.held.held o lt))
 
   -- an object that lives on keeps its home
   pub home_on : (o r : ℕ) (values after : flat.Values) → Stay r 4 values after

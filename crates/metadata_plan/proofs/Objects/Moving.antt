@@ -1,18 +1,16 @@
 -- Instructions that move values: reads of plain variables, zeros, and conversions.
-use Rattle.std.proofs.Common.{◌≡◌, ◌≢◌, ◌⊎◌, inl, inr, ℕ, ◌+◌, ◌-◌, ◌*◌, ◌^◌, ◌<◌, ◌≤◌, Bool, true, false, List, [], ◌∷◌, ◌++◌}
+use Rattle.std.proofs.Common.{◌≡◌, ◌≢◌, ◌⊎◌, inl, inr, ℕ, ◌+◌, ◌-◌, ◌*◌, ◌<◌, ◌≤◌, Bool, true, false, List, ◌∷◌}
 use Rattle.std.proofs.Common.{length, Option, Some, None, refl, sym, ap, ◌∙◌, subst, arith, get_or}
 use Rattle.std.specs.Prelude.{slice_get, ◌==◌}
 use Rattle.std.proofs.lemmas.Bool.{eq-eqb, eqb-true, eqb-false}
 use Rattle.obj_memory.specs.declared.int_type.IntType.{IntType}
-use Rattle.obj_memory.specs.declared.value.Tag.{Tag}
 use Rattle.obj_memory.specs.declared.value.Tag.TheVariants.{Untagged}
 use Rattle.obj_memory.specs.declared.value.Value.{Value}
 use Rattle.obj_memory.specs.declared.value.Scalar.{Scalar}
 use Rattle.obj_memory.specs.declared.value.Scalar.TheVariants.{Integer, Pointer}
 use Rattle.obj_memory.specs.Integers.{fit}
 use Rattle.obj_memory.specs.Objects.{ObjectState}
-use Rattle.c_tree.specs.declared.expression.Kind.{Kind}
-use Rattle.c_tree.specs.declared.expression.Kind.TheVariants.{Void, Scalar as OfScalar, Structure, Array}
+use Rattle.c_tree.specs.declared.expression.Kind.TheVariants.{Void, Scalar as OfScalar}
 use Rattle.source_meaning.specs.State.{State, Rvalue}
 use Rattle.source_meaning.specs.Actions.{integer}
 use Rattle.source_meaning.specs.Structures.{rvalue}
@@ -40,11 +38,12 @@ use Rattle.metadata_plan.specs.Objects.Registers.{variable_register, temporary_r
 use Rattle.metadata_plan.specs.Objects.Blocks.{move_value, untagged, get_code}
 use Rattle.metadata_plan.specs.Objects.Holding.{World, IsHeldAt, IsTemporary, IsRvalueAt}
 use Rattle.metadata_plan.specs.Objects.Stages.{factor, Compiled, map_of, world, expansion_of, IsAt}
+use Rattle.metadata_plan.specs.Objects.Steps.{IsCompiled}
 use Rattle.metadata_plan.proofs.Flat.{Comes, constant_comes, move_comes}
 use Rattle.metadata_plan.proofs.Holding.{set_by_put}
 use Rattle.metadata_plan.proofs.Objects.Assigning.{assigned, assigns, AreApart, moved}
 use Rattle.metadata_plan.proofs.Objects.Registers.{variable_low, temporary_free, temporaries_apart}
-use Rattle.metadata_plan.proofs.Objects.Standing.{IsRight, IsNode, node, leads_on, Result}
+use Rattle.metadata_plan.proofs.Objects.Standing.{IsNode, node, leads_on, Result}
 use Rattle.metadata_plan.proofs.Objects.Giving.{gives_value, gives_integer}
 use Rattle.metadata_plan.proofs.Objects.Simple.{taken, computes_integer}
 
@@ -71,7 +70,7 @@ temporary_apart d a r q other same = by (d == a) refl
     by true e = inl (same (eqb-true d a e))
     by false e = inr (other (eqb-false d a e))
 
-module _ (c : Compiled) (IsGood : Bytes → Type 0) (right : IsRight c IsGood) (u n : ℕ) (temps : Temps)
+module _ (c : Compiled) (IsGood : Bytes → Type 0) (right : IsCompiled c IsGood) (u n : ℕ) (temps : Temps)
     (ws : List Frame) (s : State) (v : flat.State) (xs : List flat.Frame)
     (h : IsAt c IsGood u n temps ws s u (c.layout.address u n) v xs) (words : IsOfWords v) where
   abbrev pc : ℕ

@@ -1,6 +1,6 @@
 -- Where the registers of variables, homes and temporaries stand: in this order, and apart from each other.
-use Rattle.std.proofs.Common.{◌≡◌, ◌≢◌, ◌⊎◌, ⊎_elim, inl, inr, ℕ, zero, suc, ◌+◌, ◌*◌, ◌<◌, ◌≤◌, Bool, true, false, List, []}
-use Rattle.std.proofs.Common.{◌∷◌, ◌++◌, length, Option, Some, None, refl, sym, ap, ◌∙◌, subst, arith}
+use Rattle.std.proofs.Common.{◌≡◌, ◌≢◌, ◌⊎◌, ⊎_elim, inl, inr, ℕ, zero, suc, ◌+◌, ◌<◌, ◌≤◌, Bool, true, false, List, []}
+use Rattle.std.proofs.Common.{◌∷◌, ◌++◌, Some, None, ap, arith}
 use Rattle.std.specs.Prelude.{if◌then◌else◌}
 use Rattle.std.proofs.lemmas.Bool.{cases_lt}
 use Rattle.obj_memory.specs.declared.value.Scalar.{Scalar}
@@ -14,7 +14,7 @@ use Rattle.runtime_functions.specs.Library.{register_count}
 use Rattle.metadata_plan.specs.Registers.{words_of, all_variables, most_temporaries}
 use Rattle.metadata_plan.specs.Objects.Registers.{passed_as, parameter_words, variable_words, home_words, total, before}
 use Rattle.metadata_plan.specs.Objects.Registers.{register_in, variable_register, variables_end, home_register, homes_end}
-use Rattle.metadata_plan.specs.Objects.Registers.{tops_end, temporary_register, first_free, parameters_end}
+use Rattle.metadata_plan.specs.Objects.Registers.{temporary_register, first_free}
 use Rattle.metadata_plan.specs.Objects.Holding.{is_object_in, is_pointer_type}
 
 -- how many registers a value has: with its entry five

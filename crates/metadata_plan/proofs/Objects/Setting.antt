@@ -1,6 +1,6 @@
 -- Plain variables that are set.
 use Rattle.std.proofs.Common.{◌≡◌, ◌≢◌, ◌⊎◌, inl, inr, ℕ, zero, suc, ◌+◌, ◌*◌, ◌^◌, ◌<◌, ◌≤◌, Bool, true, false, List, [], ◌∷◌}
-use Rattle.std.proofs.Common.{◌++◌, map, length, length-set, set, Option, Some, None, refl, sym, ap, ◌∙◌, subst, arith, get_or, ltb-true}
+use Rattle.std.proofs.Common.{length, length-set, set, Option, Some, None, refl, sym, ap, ◌∙◌, subst, arith, get_or, ltb-true}
 use Rattle.std.specs.Prelude.{slice_get, ◌==◌, ◌&&◌}
 use Rattle.std.proofs.lemmas.Bool.{and_parts, eq-eqb, eqb-true, eqb-false}
 use Rattle.std.proofs.lemmas.List.{get_or-set_same, get_or-set_other, length-map}
@@ -13,19 +13,18 @@ use Rattle.obj_memory.specs.declared.value.Scalar.TheVariants.{Integer, Pointer}
 use Rattle.obj_memory.specs.Integers.{fit}
 use Rattle.obj_memory.specs.Objects.{ObjectState}
 use Rattle.obj_memory.specs.Sound.{IsSoundTag}
-use Rattle.addr_map.specs.Places.{function_address}
 use Rattle.c_tree.specs.declared.program.Variable.{Variable}
-use Rattle.c_tree.specs.Programs.{Function, Program}
-use Rattle.source_meaning.specs.State.{State, Rvalue}
+use Rattle.c_tree.specs.Programs.{Function}
+use Rattle.source_meaning.specs.State.{State}
 use Rattle.source_meaning.specs.Actions.{integer}
 use Rattle.source_meaning.specs.Calls.{header_of}
-use Rattle.source_meaning.specs.Good.{Context, function_count, IsGood, IsOfType, plain_type, scalar_if}
+use Rattle.source_meaning.specs.Good.{function_count, IsOfType, plain_type}
 use Rattle.tac_ir.specs.declared.instruction.Instruction.{Instruction}
 use Rattle.tac_ir.specs.declared.instruction.Instruction.TheVariants as tac
 use Rattle.tac_ir.specs.Edges.{LeadsTo}
-use Rattle.tac_ir.specs.Fitting.{has_no_tag, is_of_type, is_scalar_of, is_held}
+use Rattle.tac_ir.specs.Fitting.{has_no_tag, is_of_type, is_held}
 use Rattle.tac_ir.specs.Accesses.{is_place}
-use Rattle.tac_ir.specs.Stage.{Temps, Frame, Stage, Stands}
+use Rattle.tac_ir.specs.Stage.{Temps, Frame, Stands}
 use Rattle.tac_ir.specs.Costs.{spent}
 use Rattle.tac_ir.specs.Meaning.{effect, function_in as code_in, variables_in}
 use Rattle.flat_meaning.specs.declared.instruction.FlatInstruction.{FlatInstruction}
@@ -38,16 +37,17 @@ use Rattle.flat_routines.specs.Routine.{HasAt}
 use Rattle.metadata_plan.specs.Registers.{all_variables, most_temporaries}
 use Rattle.metadata_plan.specs.Entries.{given, is_pointer_type as is_pointer}
 use Rattle.metadata_plan.specs.Expanded.{Leads}
-use Rattle.metadata_plan.specs.Objects.Registers.{variable_register, temporary_register, first_free, variables_end, tops_end}
+use Rattle.metadata_plan.specs.Objects.Registers.{variable_register, temporary_register, first_free}
 use Rattle.metadata_plan.specs.Objects.Blocks.{move_value, set_code}
-use Rattle.metadata_plan.specs.Objects.Holding.{World, IsHeldAt, IsTemporary, IsRvalueAt, IsPlain, HasNoTag, is_pointer_type}
+use Rattle.metadata_plan.specs.Objects.Holding.{World, IsHeldAt, IsRvalueAt, HasNoTag, is_pointer_type}
 use Rattle.metadata_plan.specs.Objects.Scopes.{Names, scope_of, base_of, context_at, AreGood}
 use Rattle.metadata_plan.specs.Objects.Stages.{factor, Compiled, map_of, views, names, world, activation, expansion_of, IsAt}
+use Rattle.metadata_plan.specs.Objects.Steps.{IsCompiled}
 use Rattle.metadata_plan.proofs.Flat.{Comes, move_comes}
 use Rattle.metadata_plan.proofs.Objects.Assigning.{assigned, assigns, moved}
 use Rattle.metadata_plan.proofs.Objects.Registers.{count_in, variable_low}
 use Rattle.metadata_plan.proofs.Objects.Holding.{same_world, gives_variable}
-use Rattle.metadata_plan.proofs.Objects.Standing.{leaves_same, good_then, good_now, counted_as, IsRight, IsNode, node, none_more}
+use Rattle.metadata_plan.proofs.Objects.Standing.{leaves_same, good_then, good_now, counted_as, IsNode, node, none_more}
 use Rattle.metadata_plan.proofs.Objects.Standing.{none_less, arrives, leads_on, Result}
 
 -- ---- values of types
@@ -154,7 +154,7 @@ rvalue_held : (w : World) (b : Bool) (value : Value) (o : Option ObjectState) (g
 rvalue_held w b value None greatest area r values e q = q
 rvalue_held w b value (Some z) greatest area r values e q = cc
 
-module _ (c : Compiled) (IsGood : Bytes → Type 0) (right : IsRight c IsGood) (u n : ℕ) (temps : Temps)
+module _ (c : Compiled) (IsGood : Bytes → Type 0) (right : IsCompiled c IsGood) (u n : ℕ) (temps : Temps)
     (ws : List Frame) (s : State) (v : flat.State) (xs : List flat.Frame)
     (h : IsAt c IsGood u n temps ws s u (c.layout.address u n) v xs) where
   abbrev pc : ℕ

@@ -1,5 +1,5 @@
 -- Instructions on integers whose blocks change registers, go one of two ways, or begin a turn.
-use Rattle.std.proofs.Common.{◌≡◌, ◌≢◌, ◌⊎◌, inl, inr, ℕ, ◌+◌, ◌-◌, ◌*◌, ◌^◌, ◌<◌, ◌≤◌, Bool, true, false, not, cond, List, []}
+use Rattle.std.proofs.Common.{◌≡◌, inl, inr, ℕ, ◌+◌, ◌*◌, ◌^◌, ◌<◌, ◌≤◌, Bool, true, false, not, cond, List, []}
 use Rattle.std.proofs.Common.{◌∷◌, ◌++◌, length, length-append, Option, Some, None, refl, sym, ap, ap₂, ◌∙◌, subst, arith, ltb-true}
 use Rattle.std.specs.Prelude.{slice_get, ◌==◌, ◌||◌}
 use Rattle.std.proofs.lemmas.Bool.{eq-eqb}
@@ -8,7 +8,6 @@ use Rattle.sb_base.specs.Endings.{code_of, report_of}
 use Rattle.obj_memory.specs.declared.int_type.IntType.{IntType}
 use Rattle.obj_memory.specs.declared.operator.UnaryOperator.{UnaryOperator}
 use Rattle.obj_memory.specs.declared.operator.BinaryOperator.{BinaryOperator}
-use Rattle.obj_memory.specs.declared.value.Value.{Value}
 use Rattle.obj_memory.specs.Objects.{ObjectState}
 use Rattle.obj_memory.specs.Operators.{unary_value, binary_value}
 use Rattle.source_meaning.specs.State.{State, Rvalue}
@@ -17,9 +16,9 @@ use Rattle.source_meaning.specs.Structures.{rvalue, as_rvalue}
 use Rattle.tac_ir.specs.declared.instruction.Instruction.{Instruction}
 use Rattle.tac_ir.specs.declared.instruction.Instruction.TheVariants as tac
 use Rattle.tac_ir.specs.Edges.{LeadsTo}
-use Rattle.tac_ir.specs.Stage.{Temps, with_temp, Frame, Stage, Stands, Over, came}
+use Rattle.tac_ir.specs.Stage.{Temps, with_temp, Frame, Stage, Stands, came}
 use Rattle.tac_ir.specs.Costs.{spent}
-use Rattle.tac_ir.specs.Meaning.{effect, given_in, begun}
+use Rattle.tac_ir.specs.Meaning.{effect, given_in}
 use Rattle.tac_ir.specs.Fitting.{is_word}
 use Rattle.rv_isa.specs.declared.instruction.BranchOp.TheVariants.{Beq, Bne}
 use Rattle.rv_isa.specs.Results.{branch_taken}
@@ -38,18 +37,19 @@ use Rattle.metadata_plan.specs.Entries.{given}
 use Rattle.metadata_plan.specs.Expanded.{Leads}
 use Rattle.metadata_plan.specs.Operators.{Position, Computes, binary_most, IsHere}
 use Rattle.metadata_plan.specs.Objects.Contents.{takes_word}
-use Rattle.metadata_plan.specs.Objects.Registers.{temporary_register, first_free, variables_end, tops_end}
+use Rattle.metadata_plan.specs.Objects.Registers.{temporary_register, first_free}
 use Rattle.metadata_plan.specs.Objects.Blocks.{untagged}
-use Rattle.metadata_plan.specs.Objects.Holding.{World, IsTemporary, IsRvalueAt, area_of}
-use Rattle.metadata_plan.specs.Objects.Stages.{factor, Compiled, map_of, views, names, world, activation, expansion_of, IsAt}
+use Rattle.metadata_plan.specs.Objects.Holding.{World, IsTemporary, IsRvalueAt}
+use Rattle.metadata_plan.specs.Objects.Stages.{Compiled, map_of, views, names, world, activation, expansion_of, IsAt}
 use Rattle.metadata_plan.proofs.Numbers.{scaled}
+use Rattle.metadata_plan.specs.Objects.Steps.{IsCompiled}
 use Rattle.metadata_plan.proofs.Flat.{weight_small, Comes, then_comes, turn_comes, branch_taken_comes, branch_passed_comes}
 use Rattle.metadata_plan.proofs.Flat.{leads_comes}
 use Rattle.metadata_plan.proofs.Holding.{IsSet}
 use Rattle.metadata_plan.proofs.Simple.{most_small}
 use Rattle.metadata_plan.proofs.Objects.Holding.{same_world, holds_on}
 use Rattle.metadata_plan.proofs.Objects.Registers.{temporary_free}
-use Rattle.metadata_plan.proofs.Objects.Standing.{good_counted, IsRight, IsNode, node, none_more, none_less, arrives, leads_on, ends}
+use Rattle.metadata_plan.proofs.Objects.Standing.{good_counted, IsNode, node, none_more, none_less, arrives, leads_on, ends}
 use Rattle.metadata_plan.proofs.Objects.Standing.{Result}
 use Rattle.metadata_plan.proofs.Objects.Giving.{gives_integer}
 
@@ -76,7 +76,7 @@ word_of w b v greatest area r values h = by v.contents (h.none refl) h.by
     by None e q = sym q.word
     by (Some c) e q = cc
 
-module _ (c : Compiled) (IsGood : Bytes → Type 0) (right : IsRight c IsGood) (u n : ℕ) (temps : Temps)
+module _ (c : Compiled) (IsGood : Bytes → Type 0) (right : IsCompiled c IsGood) (u n : ℕ) (temps : Temps)
     (ws : List Frame) (s : State) (v : flat.State) (xs : List flat.Frame)
     (h : IsAt c IsGood u n temps ws s u (c.layout.address u n) v xs) (words : IsOfWords v) where
   abbrev pc : ℕ

@@ -1,22 +1,18 @@
 -- Functions and their expansions, and what comes of a step that stays in its function and leaves objects and memory.
-use Rattle.std.proofs.Common.{◌≡◌, ◌≢◌, ℕ, suc, ◌+◌, ◌*◌, ◌<◌, ◌≤◌, Bool, true, false, List, [], ◌∷◌, map, Option, Some, None, length, refl}
+use Rattle.std.proofs.Common.{◌≡◌, ℕ, ◌+◌, ◌*◌, ◌<◌, ◌≤◌, true, false, List, [], ◌∷◌, Option, Some, None, length, refl}
 use Rattle.std.proofs.Common.{sym, ap, ◌∙◌, subst, arith}
 use Rattle.std.specs.Prelude.{slice_get, if◌then◌else◌}
 use Rattle.behaviours.specs.Steps.{run}
-use Rattle.addr_map.specs.Places.{MapSizes, AreMapped, region_start}
 use Rattle.obj_memory.specs.declared.value.Value.{Value}
 use Rattle.sb_base.specs.declared.ending.Ending.{Ending}
 use Rattle.sb_base.specs.Endings.{code_of, report_of}
-use Rattle.source_meaning.specs.State.{State, Home}
-use Rattle.source_meaning.specs.Calls.{header_of}
+use Rattle.source_meaning.specs.State.{State}
 use Rattle.source_meaning.specs.Places.{stack_first}
-use Rattle.source_meaning.specs.Keeping.{LivesOn}
 use Rattle.source_meaning.specs.Good.{Context, IsGood, Leaves}
 use Rattle.source_meaning.proofs.Holding.{lives_same, lives_then}
 use Rattle.source_meaning.proofs.Separating.{ends_same, ends_then}
 use Rattle.tac_ir.specs.declared.instruction.Instruction.{Instruction}
 use Rattle.tac_ir.specs.declared.function.CodeFunction.{CodeFunction}
-use Rattle.tac_ir.specs.declared.function.Tac.{Tac}
 use Rattle.tac_ir.specs.Edges.{LeadsTo}
 use Rattle.tac_ir.specs.Temporaries.{temporaries}
 use Rattle.tac_ir.specs.Stage.{Temps, Frame, Waits, Entered, Stage, Stands, Over}
@@ -26,21 +22,20 @@ use Rattle.flat_meaning.specs.Memory.{Bytes}
 use Rattle.flat_meaning.specs.State as flat
 use Rattle.flat_meaning.specs.Calls.{function_in, room_if}
 use Rattle.flat_meaning.specs.Meaning.{body_of, parameters_of, results_of, step}
-use Rattle.flat_meaning.specs.Words.{IsOfWords}
 use Rattle.flat_routines.specs.Routine.{HasAt}
 use Rattle.flat_actions.specs.Actions.{IsShown}
 use Rattle.metadata_plan.specs.Registers.{most_temporaries}
 use Rattle.metadata_plan.specs.Entries.{IsOther, given, AreClosed}
 use Rattle.metadata_plan.specs.Expanded.{Leads}
 use Rattle.metadata_plan.specs.Objects.Contents.{AreKept}
-use Rattle.metadata_plan.specs.Objects.InlineCode.{IsInlineCode}
+use Rattle.metadata_plan.specs.Objects.Steps.{IsCompiled}
 use Rattle.metadata_plan.specs.Objects.Registers.{parameters_end, result_words, variables_end, tops_end}
 use Rattle.metadata_plan.specs.Objects.Blocks.{Expansion, prologue, result_of}
 use Rattle.metadata_plan.specs.Objects.Holding.{Holds}
 use Rattle.metadata_plan.specs.Objects.Scopes.{Names, context_at, AreGoodBy, AreGood}
 use Rattle.metadata_plan.specs.Objects.Stages.{factor, Compiled, map_of, views, names, world, activation, level, IsAt}
 use Rattle.metadata_plan.specs.Objects.Stages.{MatchesBy}
-use Rattle.metadata_plan.specs.Objects.Expanded.{IsPut, ExpandsAt, IsExpanded}
+use Rattle.metadata_plan.specs.Objects.Expanded.{IsPut, ExpandsAt}
 use Rattle.metadata_plan.proofs.Numbers.{most_at}
 use Rattle.metadata_plan.proofs.Flat.{Comes, then_comes, leads_comes}
 use Rattle.metadata_plan.proofs.Objects.Holding.{AreFewer}
@@ -97,21 +92,25 @@ good_then n u ws s s' l h = record { by = by ws l h.by }
   where
     by : (ws : List Frame) → Leaves (context_at n u ws) s s' → AreGoodBy n u ws s → AreGoodBy n u ws s'
     by [] l h = record { behind = h.behind; since = leaves_then (context_at n u []) h.behind s s' h.since l }
-    by (Waits w ∷ ws) l h =
-        (record {
-          before = h.0.before;
-          behind = h.0.behind;
-          caller_is = h.0.caller_is;
-          set_up = h.0.set_up;
-          since = leaves_then (context_at n u []) h.0.behind s s' h.0.since l;
-        }, h.1)
-    by (Entered b block ∷ ws) l h =
-        (record {
-          before = h.0.before;
-          behind = h.0.behind;
-          entered = h.0.entered;
-          since = leaves_then (context_at n u (Entered b block ∷ ws)) h.0.behind s s' h.0.since l;
-        }, h.1)
+    by (Waits w ∷ ws) l h = (
+      record {
+        before = h.0.before;
+        behind = h.0.behind;
+        caller_is = h.0.caller_is;
+        set_up = h.0.set_up;
+        since = leaves_then (context_at n u []) h.0.behind s s' h.0.since l;
+      },
+      h.1,
+    )
+    by (Entered b block ∷ ws) l h = (
+      record {
+        before = h.0.before;
+        behind = h.0.behind;
+        entered = h.0.entered;
+        since = leaves_then (context_at n u (Entered b block ∷ ws)) h.0.behind s s' h.0.since l;
+      },
+      h.1,
+    )
 
 -- the run's own state is good in the scope in which it stands
 pub good_now : (n : Names) (u : ℕ) (ws : List Frame) (s : State) → AreGood n u ws s → IsGood (context_at n u ws) s
@@ -135,14 +134,6 @@ good_counted n u ws s i o tk tn w h =
     (record { good = good; lives = l.lives; frame = l.frame; ended = l.ended }) h
 
 -- ---- steps
-
--- what the steps of instructions rest on
-pub record IsRight (c : Compiled) (IsGood : Bytes → Type 0) : Type 0 where
-  pub inline : IsInlineCode (map_of c) c.entry IsGood c.layout.expansion.inline
-  pub expanded : IsExpanded c.layout c.entry IsGood
-  pub mapped : AreMapped (map_of c)
-  pub sizes : c.setting.sizes ≡ map_of c
-  pub functions : map header_of c.typed.functions ≡ c.setting.functions
 
 -- what is known of a node and its block
 pub record IsNode (c : Compiled) (u n : ℕ) (code : CodeFunction) (i : Instruction) : Type 0 where
@@ -175,7 +166,7 @@ module _ (c : Compiled) (IsGood : Bytes → Type 0) where
         });
   }
 
-module _ (c : Compiled) (IsGood : Bytes → Type 0) (right : IsRight c IsGood) (u n : ℕ) (temps : Temps)
+module _ (c : Compiled) (IsGood : Bytes → Type 0) (right : IsCompiled c IsGood) (u n : ℕ) (temps : Temps)
     (ws : List Frame) (s : State) (v : flat.State) (xs : List flat.Frame)
     (h : IsAt c IsGood u n temps ws s u (c.layout.address u n) v xs) where
   abbrev pub place : ℕ

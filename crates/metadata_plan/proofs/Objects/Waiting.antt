@@ -1,13 +1,12 @@
 -- What waits goes on waiting: while an action is done, and where a block is left.
-use Rattle.std.proofs.Common.{◌≡◌, ◌⊎◌, inl, inr, ℕ, ◌+◌, ◌<◌, ◌≤◌, Bool, true, false, List, [], ◌∷◌, length, refl, sym, ap}
-use Rattle.std.proofs.Common.{◌∙◌, subst, arith, get_or, Some}
+use Rattle.std.proofs.Common.{◌≡◌, inl, ℕ, ◌<◌, ◌≤◌, Bool, true, false, List, [], ◌∷◌, length, refl, sym, ap}
+use Rattle.std.proofs.Common.{◌∙◌, subst, arith, Some}
 use Rattle.std.specs.Prelude.{◌==◌}
 use Rattle.obj_memory.specs.declared.object.Storage.{Storage}
 use Rattle.obj_memory.specs.declared.object.Storage.TheVariants.{Static, Automatic, Allocated}
 use Rattle.obj_memory.specs.Heap.{is_allocated}
-use Rattle.obj_memory.specs.Objects.{Objects, ObjectState, object_at}
-use Rattle.obj_memory.specs.Sound.{Continues}
-use Rattle.source_meaning.specs.State.{State, Home, NoObject, InObject}
+use Rattle.obj_memory.specs.Objects.{ObjectState, object_at}
+use Rattle.source_meaning.specs.State.{State, Home}
 use Rattle.source_meaning.specs.Blocks.{Block, leave_block, has_objects}
 use Rattle.source_meaning.specs.Keeping.{LivesOn}
 use Rattle.source_meaning.specs.Good.{EndsMade}
@@ -17,9 +16,8 @@ use Rattle.tac_ir.specs.Stage.{Frame, Waits, Entered}
 use Rattle.flat_meaning.specs.Memory.{Bytes}
 use Rattle.flat_meaning.specs.State as flat
 use Rattle.flat_routines.specs.Objects.StandsFor.{Views, Keys, StandsFor}
-use Rattle.flat_actions.specs.Actions.{KeepsHeld}
 use Rattle.flat_actions.proofs.Standing.{keeps_same}
-use Rattle.object_routines.specs.AllocatingRoutines.Entering.{IsHomeOf, AreOfLock, AreNewlyKeyed}
+use Rattle.object_routines.specs.AllocatingRoutines.Entering.{IsHomeOf, AreOfLock}
 use Rattle.object_routines.proofs.AllocatingRoutines.OuterBlocks.{still_of_lock}
 use Rattle.object_routines.proofs.AllocatingRoutines.BlockDeaths.{without_other, count_without}
 use Rattle.c_tree.specs.declared.program.Variable.{Variable}
@@ -28,9 +26,10 @@ use Rattle.metadata_plan.specs.Objects.Registers.{variables_end, tops_end, lock_
 use Rattle.metadata_plan.specs.Objects.Registers.{block_top_register}
 use Rattle.metadata_plan.specs.Objects.Holding.{World}
 use Rattle.metadata_plan.specs.Objects.Blocks.{objects_of_body}
-use Rattle.metadata_plan.specs.Objects.Waiting.{AreBetween, AreHomesBelow, IsEnteredAs, BodyBy, IsBodyAs, Layout}
+use Rattle.metadata_plan.specs.Objects.Waiting.{AreBetween, IsEnteredAs, BodyBy, IsBodyAs, Layout}
 use Rattle.metadata_plan.specs.Objects.Waiting.{IsBlockAt, IsWaitingAs, Level, AllWait}
-use Rattle.metadata_plan.proofs.Objects.Holding.{GoesOn, world_of, homes_on, holds_on, same_world}
+use Rattle.metadata_plan.specs.Objects.Holding.{GoesOn, world_of}
+use Rattle.metadata_plan.proofs.Objects.Holding.{homes_on, holds_on, same_world}
 
 -- ---- whatever happens, as long as objects below a number live on and locks of theirs stay their own
 
@@ -117,24 +116,26 @@ module _ (g : Views) (k k' : Keys) (s s' : State) (m m' : Bytes) (l : Layout) (f
   waits_by v (Entered n b ∷ ws) xs le h =
       let e = h.0 in
       let some = e.own e.block.of_lock.some e.block.of_lock.some_home in
-      let above = some.0 in let below = some.1 in
-      (entered_by v.code v.bound n b v.values le e,
-      waits_by (record v { stacked = b.stacked; frame = b.frame; bound = e.mark }) ws xs (omega arith) h.1)
+      let above = some.0 in let below = some.1 in (
+        entered_by v.code v.bound n b v.values le e,
+        waits_by (record v { stacked = b.stacked; frame = b.frame; bound = e.mark }) ws xs (omega arith) h.1,
+      )
   waits_by v (Waits a ∷ ws) [] le h = h
   waits_by v (Waits a ∷ ws) (x ∷ xs) le h =
       let b = h.0 in
       let e = h.1 in
       let within = b.within in
-      let low : b.mark ≤ number = omega arith in
-      (body_by v.code v.stacked a.caller.stacked v.bound v.frame v.values le b,
-      waiting_by v.code b.mark a x xs low e,
-      waits_by (record {
-        code = e.code;
-        values = x.values;
-        stacked = a.caller.stacked;
-        frame = a.caller.frame;
-        bound = b.mark;
-      }) ws xs low h.2)
+      let low : b.mark ≤ number = omega arith in (
+        body_by v.code v.stacked a.caller.stacked v.bound v.frame v.values le b,
+        waiting_by v.code b.mark a x xs low e,
+        waits_by (record {
+          code = e.code;
+          values = x.values;
+          stacked = a.caller.stacked;
+          frame = a.caller.frame;
+          bound = b.mark;
+        }) ws xs low h.2,
+      )
 
 -- what waits knows nothing of a state but its objects
 lock_same : (k : Keys) (s s' : State) → s'.objects ≡ s.objects → (homes : List Home) (lock : ℕ)
@@ -146,7 +147,7 @@ lock_same k s s' e homes lock of = record {
   under = λ n h. (let u = of.under n h in let count = ap length e in (
     omega (arith, u.0, count),
     ap (λ o. (object_at o n).storage) e ∙ u.1,
-    u.2
+    u.2,
   ));
   home = λ n live is. of.home n (ap (λ o. (object_at o n).is_live) (sym e) ∙ live) is;
 }

@@ -10,7 +10,7 @@ use Rattle.obj_memory.specs.declared.value.Scalar.{Scalar}
 use Rattle.obj_memory.specs.declared.value.Scalar.TheVariants.{Integer, Pointer}
 use Rattle.obj_memory.specs.Heap.{is_allocated}
 use Rattle.obj_memory.specs.Objects.{ObjectState, Objects, object_at, pointer_to}
-use Rattle.obj_memory.specs.Sound.{IsSoundTag, IsSoundObject}
+use Rattle.obj_memory.specs.Sound.{Continues, IsSoundTag, IsSoundObject}
 use Rattle.c_tree.specs.declared.program.Variable.{Variable}
 use Rattle.source_meaning.specs.State.{Rvalue, Home, NoObject, InObject}
 use Rattle.source_meaning.specs.Actions.{integer}
@@ -23,6 +23,7 @@ use Rattle.flat_meaning.specs.Memory.{Bytes}
 use Rattle.flat_meaning.specs.State.{Values}
 use Rattle.flat_routines.specs.Metadata.{metadata_in}
 use Rattle.flat_routines.specs.Objects.StandsFor.{Views, Keys, Spells, spell}
+use Rattle.flat_actions.specs.Actions.{KeepsHeld}
 use Rattle.area_routines.specs.Areas.{IsArea, IsAreaPlace, HoldsPart}
 use Rattle.runtime_functions.specs.Library.{held_from}
 use Rattle.metadata_plan.specs.Registers.{all_variables, most_temporaries}
@@ -34,6 +35,15 @@ pub record World : Type 0 where
   pub keys : Keys
   pub objects : Objects
   pub memory : Bytes
+
+abbrev pub world_of : Views → Keys → Objects → Bytes → World
+world_of g k objects m = record { views = g; keys = k; objects = objects; memory = m }
+
+-- objects go on and keep their keys, and the memory behind the table of blocks stays
+pub record GoesOn (g : Views) (k k' : Keys) (old new : Objects) (m m' : Bytes) : Type 0 where
+  pub held : KeepsHeld old k k'
+  pub continues : Continues old new
+  pub behind : (b : ℕ) → region_start g.sizes StructureValues ≤ b → m' b ≡ m b
 
 -- ---- values
 

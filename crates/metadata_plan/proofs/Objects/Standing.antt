@@ -29,7 +29,7 @@ use Rattle.metadata_plan.specs.Entries.{IsOther, given, AreClosed}
 use Rattle.metadata_plan.specs.Expanded.{Leads}
 use Rattle.metadata_plan.specs.Objects.Contents.{AreKept}
 use Rattle.metadata_plan.specs.Objects.Steps.{IsCompiled}
-use Rattle.metadata_plan.specs.Objects.Registers.{parameters_end, result_words, variables_end, tops_end}
+use Rattle.metadata_plan.specs.Objects.Registers.{parameters_end, result_words, area_words, variables_end, tops_end}
 use Rattle.metadata_plan.specs.Objects.Blocks.{Expansion, prologue, result_of}
 use Rattle.metadata_plan.specs.Objects.Holding.{Holds}
 use Rattle.metadata_plan.specs.Objects.Scopes.{Names, context_at, AreGoodBy, AreGood}
@@ -54,7 +54,7 @@ pub record IsThere (e : Expansion) (u : ℕ) (c : CodeFunction) (address : ℕ �
     pub begins : Leads (body_of q) (length (prologue e c)) (address c.entry)
     pub room : room_if false q ≡ c.room
     pub no_room : room_if true q ≡ 0
-    pub parameters : parameters_of q ≡ parameters_end c
+    pub parameters : parameters_of q ≡ parameters_end c + area_words (result_of e.code c)
     pub results : results_of q ≡ result_words (result_of e.code c)
 
 pub there_by : (e : Expansion) (u : ℕ) (c : CodeFunction) (address : ℕ → ℕ) (q : Option FlatFunction)

@@ -16,7 +16,7 @@ use Rattle.runtime_functions.specs.Runtime.{runtime_list, IsOfRuntime}
 use Rattle.metadata_plan.specs.Entries.{AreAllClosed}
 use Rattle.metadata_plan.specs.Expanded.{Leads, LeadOn}
 use Rattle.metadata_plan.specs.Objects.Contents.{AreKept}
-use Rattle.metadata_plan.specs.Objects.Registers.{parameters_end, result_words}
+use Rattle.metadata_plan.specs.Objects.Registers.{parameters_end, result_words, area_words}
 use Rattle.metadata_plan.specs.Objects.Blocks.{Expansion, block, prologue, entry_code, result_of, runtime_number}
 use Rattle.metadata_plan.specs.Objects.Waiting.{Layout}
 
@@ -29,7 +29,7 @@ pub record IsPut (e : Expansion) (function : ℕ) (c : CodeFunction) (body : Lis
 -- a function and its expansion, with the place of each node's block
 pub record IsExpandedFunction (e : Expansion) (function : ℕ) (c : CodeFunction) (address : ℕ → ℕ) (f : FlatFunction)
     : Type 0 where
-  pub parameters : f.parameters ≡ parameters_end c
+  pub parameters : f.parameters ≡ parameters_end c + area_words (result_of e.code c)
   pub results : f.results ≡ result_words (result_of e.code c)
   pub room : f.room ≡ c.room
   pub of_program : f.is_runtime ≡ false

@@ -31,6 +31,11 @@ abbrev pub result_words : Kind → ℕ
 result_words (Structure n) = 0
 result_words k = register_count (passed_as k)
 
+-- for which the caller hands over where it begins, behind all arguments
+abbrev pub area_words : Kind → ℕ
+area_words (Structure n) = 1
+area_words k = 0
+
 -- a parameter stands where its argument comes, also one that is an object
 abbrev pub parameter_words : Variable → ℕ
 parameter_words v = register_count (passed_as v.kind)

@@ -11,5 +11,7 @@ pub mod Entering
 pub mod Stepping
 pub mod Following
 pub mod Laying
+pub mod Entries
 mod Example
 pub mod OperatorLists
+pub mod Objects

@@ -300,10 +300,10 @@ module _ (o : OperatorCode) (views : Views) (g : Setting) (t : Tac) (address : (
       (temporary_free c k.integers a from) (record { has = k.put.has; words = words }) in
       subst (λ z. Gives (Stands u next (with_temp temps d (rvalue (integer (unary_value op ty z)))) ws (spent 1 s)))
       (sym (held_word a from))
-      (sets_temporary i k d w next 14 (inl refl) r.after
-      (leads_on place (address u next) (record v { values = r.after }) 12
-      (computed o views g t address p ops ex part u pc v xs place x w f 6 r (omega arith)) k.put.leads)
-      (computed_set o views g t address p ops ex part position place x w f f 6 r (omega arith)) (omega arith))
+      (sets_temporary i k d w next 12 (inl refl) r.after
+      (leads_on place (address u next) (record v { values = r.after }) 10
+      (computed o views g t address p ops ex part u pc v xs place x w f 5 r (omega arith)) k.put.leads)
+      (computed_set o views g t address p ops ex part position place x w f f 5 r (omega arith)) (omega arith))
 
   pub binary : (op : BinaryOperator) (ty : IntType) (line d a b next : ℕ)
       → slice_get h.code.code n ≡ Some (tac.Binary op ty line d a b next)

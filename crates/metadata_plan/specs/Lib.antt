@@ -2,7 +2,9 @@ pub mod Registers
 pub mod Operators
 pub mod Blocks
 pub mod Expanded
+pub mod Entries
 pub mod Part
 pub mod Laid
 pub mod Matching
 pub mod OperatorLists
+pub mod Objects

@@ -81,7 +81,7 @@ pub record AreOperators (operators : OperatorCode) : Type 0 where
   pub unary : (map : MapSizes) (p : FlatProgram) (x : Position) (op : UnaryOperator) (t : IntType)
       (into from scratch : ℕ) → into < scratch → from < scratch → IsHere p x (operators.unary op t into from scratch)
       → Computes map p x (x.place + length (operators.unary op t into from scratch)) into
-      (unary_value op t (x.state.values from)) scratch 6
+      (unary_value op t (x.state.values from)) scratch 5
   pub binary : (map : MapSizes) (p : FlatProgram) (x : Position) (op : BinaryOperator) (t : IntType)
       (into left right scratch line value : ℕ) → into < scratch → left < scratch → right < scratch
       → IsHere p x (operators.binary op t into left right scratch line)

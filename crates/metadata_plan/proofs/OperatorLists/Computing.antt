@@ -252,7 +252,7 @@ computing = record {
       (constant_gives (context m p x.function x.frames) d n x.state v low)
       (plain_constant d v) (length_constant d v);
   unary = λ m p x o t d y n into from here.
-      straight m p x (unary_code o t d y n) d _ n 6 here.has
+      straight m p x (unary_code o t d y n) d _ n 5 here.has
       (unary_gives (context m p x.function x.frames) d n x.state here.words o t y from) (plain_unary o t d y n)
       (omega (arith, length_unary o t d y n));
   binary = λ m p x o t d a b n line v into left right here e.

@@ -1,0 +1,10 @@
+pub mod Assigning
+pub mod Following
+pub mod Giving
+pub mod Holding
+pub mod Moving
+pub mod Registers
+pub mod Setting
+pub mod Simple
+pub mod Standing
+pub mod Waiting

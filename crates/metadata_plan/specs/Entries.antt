@@ -1,0 +1,173 @@
+-- Which temporaries have entries: beside the word of a pointer the base, bound, key and lock that SoftBound and CETS keep
+-- with it. A temporary needs one at a node where the pointer that it holds may be read as a pointer later.
+use Rattle.std.specs.Prelude.{◌≡◌, ◌≢◌, ℕ, ◌+◌, ◌-◌, Bool, true, false, not, ◌&&◌, ◌==◌, nat_le, nat_lt, List, []}
+use Rattle.std.specs.Prelude.{map, Option, Some, None, get_or, slice_get}
+use Rattle.obj_memory.specs.declared.value.Scalar.{Scalar}
+use Rattle.obj_memory.specs.declared.value.Scalar.TheVariants.{Integer, Pointer}
+use Rattle.c_tree.specs.declared.expression.Kind.{Kind}
+use Rattle.c_tree.specs.declared.expression.Kind.TheVariants.{Void, Scalar as OfScalar, Structure}
+use Rattle.c_tree.specs.declared.expression.OffsetForm.{OffsetForm}
+use Rattle.c_tree.specs.declared.expression.OffsetForm.TheVariants as form
+use Rattle.c_tree.specs.Kinds.{routine_signature}
+use Rattle.source_meaning.specs.Good.{plain_type}
+use Rattle.tac_ir.specs.declared.instruction.Instruction.{Instruction}
+use Rattle.tac_ir.specs.declared.instruction.Instruction.TheVariants as tac
+use Rattle.tac_ir.specs.declared.key.Base.{Base}
+use Rattle.tac_ir.specs.declared.key.Base.TheVariants.{Plain, Automatic, Static}
+use Rattle.tac_ir.specs.declared.key.Key.{Key}
+use Rattle.tac_ir.specs.declared.function.CodeFunction.{CodeFunction}
+use Rattle.tac_ir.specs.declared.function.Tac.{Tac}
+use Rattle.tac_ir.specs.Edges.{LeadsTo}
+use Rattle.tac_ir.specs.Meaning.{function_in}
+use Rattle.metadata_plan.specs.Registers.{all_variables}
+
+-- the temporaries of a function that have entries at a node
+abbrev pub Entries : Type 0
+Entries = (node temporary : ℕ) → Bool
+
+-- what an instruction gives
+
+-- the temporary that gets a value
+abbrev pub given : Instruction → Option ℕ
+given (tac.Constant d w m) = Some d
+given (tac.FunctionPointer d f m) = Some d
+given (tac.GetPlain d x m) = Some d
+given (tac.UpdatePlain w k f line d x right m) = Some d
+given (tac.HomePointer d x m) = Some d
+given (tac.StaticPointer d n m) = Some d
+given (tac.ZeroOf kind d m) = Some d
+given (tac.Convert kind d a m) = Some d
+given (tac.Unary op ty d a m) = Some d
+given (tac.Binary op ty line d a b m) = Some d
+given (tac.Offset form size d a b m) = Some d
+given (tac.Difference size d a b m) = Some d
+given (tac.Narrow offset size d a m) = Some d
+given (tac.Member offset size d a m) = Some d
+given (tac.Take kind line d a m) = Some d
+given (tac.Read kind mode line key d a m) = Some d
+given (tac.Write kind mode line key d a b m) = Some d
+given (tac.Update w k f mode line at key d a right m) = Some d
+given (tac.Library r line d n m) = Some d
+given (tac.Print x line d n m) = Some d
+given (tac.Call f line d n m) = Some d
+given (tac.CallThrough type_number line d n m) = Some d
+given _ = None
+
+-- it is another than this
+abbrev pub IsOther : Option ℕ → (temporary : ℕ) → Type 0
+IsOther None y = Unit {0}
+IsOther (Some d) y = y ≢ d
+
+-- a pointer and an index in the order of their form (C99 6.5.6)
+abbrev pub pointer_of : OffsetForm → (left right : ℕ) → ℕ
+pointer_of form.PointerPlusIndex a b = a
+pointer_of form.IndexPlusPointer a b = b
+pointer_of form.PointerMinusIndex a b = a
+
+-- a conversion to void leaves no value, and one to an integer no tag
+abbrev pub converted_from : Kind → (from : ℕ) → Option ℕ
+converted_from Void a = None
+converted_from (OfScalar (Integer t)) a = None
+converted_from _ a = Some a
+
+-- a scalar is loaded; what else is read is where it lies
+abbrev pub read_from : Kind → (from : ℕ) → Option ℕ
+read_from (OfScalar k) a = None
+read_from _ a = Some a
+
+-- an assignment gives the value, and of a structure its place (6.5.16)
+abbrev pub written_from : Kind → (pointer value : ℕ) → Option ℕ
+written_from (OfScalar (Integer t)) a b = None
+written_from (Structure n) a b = Some a
+written_from _ a b = Some b
+
+-- the temporary from whose entry that of the result is made
+abbrev pub entry_source : Instruction → Option ℕ
+entry_source (tac.Convert kind d a m) = converted_from kind a
+entry_source (tac.Offset form size d a b m) = Some (pointer_of form a b)
+entry_source (tac.Narrow offset size d a m) = Some a
+entry_source (tac.Member offset size d a m) = Some a
+entry_source (tac.Take kind line d a m) = Some a
+entry_source (tac.Read kind mode line key d a m) = read_from kind a
+entry_source (tac.Write kind mode line key d a b m) = written_from kind a b
+entry_source _ = None
+
+-- what an instruction reads
+
+abbrev pub is_pointer : Kind → Bool
+is_pointer (OfScalar Pointer) = true
+is_pointer _ = false
+
+-- what is moved with an entry: of a structure the entry tells where it is
+abbrev pub is_moved_with_entry : Kind → Bool
+is_moved_with_entry (OfScalar Pointer) = true
+is_moved_with_entry (Structure n) = true
+is_moved_with_entry _ = false
+
+abbrev pub is_structure : Kind → Bool
+is_structure (Structure n) = true
+is_structure _ = false
+
+abbrev pub is_pointer_type : Option Scalar → Bool
+is_pointer_type (Some Pointer) = true
+is_pointer_type _ = false
+
+-- one of so many temporaries from one on
+abbrev pub is_among : (first count temporary : ℕ) → Bool
+is_among d n y = nat_le d y && nat_lt y (d + n)
+
+-- an argument from a temporary on, where the kinds of arguments are known
+abbrev pub is_pointer_argument : List Kind → (first count temporary : ℕ) → Bool
+is_pointer_argument kinds d n y = is_among d n y && is_pointer (get_or kinds (y - d) Void)
+
+abbrev pub parameter_kinds : Option CodeFunction → List Kind
+parameter_kinds None = []
+parameter_kinds (Some c) = map (λ v. v.kind) c.parameters
+
+-- A key that begins with an object's name: the object is there and lives, so its check compares places alone.
+abbrev pub is_name : Base → Bool
+is_name (Plain x) = false
+is_name (Automatic x) = true
+is_name (Static n) = true
+
+abbrev pub is_named_key : Option Key → Bool
+is_named_key None = false
+is_named_key (Some key) = is_name key.base
+
+abbrev pub has_named_key : CodeFunction → Option ℕ → Bool
+has_named_key c None = false
+has_named_key c (Some n) = is_named_key (slice_get c.keys n)
+
+-- Whether an instruction of a function reads a temporary as a pointer, with its entry. Any argument of `printf` may be a
+-- string, and any of a call through a pointer may be one.
+abbrev pub reads_entry : Tac → CodeFunction → Instruction → (temporary : ℕ) → Bool
+reads_entry t c (tac.SetPlain x a m) y = y == a && is_pointer_type (plain_type (all_variables c) x)
+reads_entry t c (tac.Take kind line d a m) y = y == a && is_structure kind
+reads_entry t c (tac.Write kind mode line key d a b m) y = y == b && is_moved_with_entry kind
+reads_entry t c (tac.StorePart kind line x offset a m) y = y == a && is_moved_with_entry kind
+reads_entry t c (tac.Judge test size line key a m) y = y == a && not (has_named_key c key)
+reads_entry t c (tac.Library r line d n m) y = is_pointer_argument (routine_signature r).parameters d n y
+reads_entry t c (tac.Print x line d n m) y = is_among d n y
+reads_entry t c (tac.Call f line d n m) y = is_pointer_argument (parameter_kinds (function_in t f)) d n y
+reads_entry t c (tac.CallThrough type_number line d n m) y = is_among d (n + 1) y
+reads_entry t c (tac.Return a) y = y == a && is_pointer (get_or t.results c.type_number Void)
+reads_entry t c _ y = false
+
+-- A set of temporaries with entries is closed: what is read as a pointer has one; what has one behind an instruction
+-- that gives it no value has one before it; and so has the temporary from whose entry that of the result is made, where
+-- the result has one.
+pub record AreClosed (code : Tac) (function : CodeFunction) (entries : Entries) : Type 0 where
+  pub read : (n y : ℕ) (i : Instruction) → slice_get function.code n ≡ Some i → reads_entry code function i y ≡ true
+      → entries n y ≡ true
+  pub kept : (n m y : ℕ) (i : Instruction) → slice_get function.code n ≡ Some i → LeadsTo i m → IsOther (given i) y
+      → entries m y ≡ true → entries n y ≡ true
+  pub made : (n m d a : ℕ) (i : Instruction) → slice_get function.code n ≡ Some i → LeadsTo i m → given i ≡ Some d
+      → entry_source i ≡ Some a → entries m d ≡ true → entries n a ≡ true
+
+-- the same of each function of a program
+pub record AreAllClosed (code : Tac) (entries : (function : ℕ) → Entries) : Type 0 where
+  pub by : (u : ℕ) (c : CodeFunction) → function_in code u ≡ Some c → AreClosed code c (entries u)
+
+-- every temporary has one
+abbrev pub every : Entries
+every = λ n y. true

@@ -1,0 +1,10 @@
+pub mod Blocks
+pub mod Contents
+pub mod Expanded
+pub mod Holding
+pub mod InlineCode
+pub mod Registers
+pub mod Scopes
+pub mod Stages
+pub mod Steps
+pub mod Waiting

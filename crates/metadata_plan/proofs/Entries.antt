@@ -2,7 +2,7 @@
 use Rattle.std.specs.Prelude.{refl}
 use Rattle.tac_ir.specs.declared.function.CodeFunction.{CodeFunction}
 use Rattle.tac_ir.specs.declared.function.Tac.{Tac}
-use Rattle.metadata_plan.specs.Entries.{AreClosed, AreAllClosed, every}
+use Rattle.metadata_plan.specs.Entries.{AreClosed, every}
 
 pub every_is_closed : (t : Tac) (c : CodeFunction) → AreClosed t c every
 every_is_closed t c = record {

@@ -12,5 +12,6 @@ pub mod Stepping
 pub mod Following
 pub mod Laying
 pub mod Entries
+pub mod StartData
 mod Example
 pub mod OperatorLists

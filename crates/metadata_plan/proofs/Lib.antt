@@ -13,5 +13,6 @@ pub mod Following
 pub mod Laying
 pub mod Entries
 pub mod StartData
+pub mod StartFile
 mod Example
 pub mod OperatorLists

@@ -1,13 +1,13 @@
 -- The entries with which a run begins are entries of words of static objects, just of those that hold tags.
-use Rattle.std.proofs.Common.{◌≡◌, ◌≢◌, ℕ, zero, suc, ◌+◌, ◌-◌, ◌*◌, ◌/◌, ◌%◌, ◌^◌, ◌<◌, ◌≤◌, List, [], ◌∷◌, ◌++◌, length}
-use Rattle.std.proofs.Common.{refl, sym, ap, ◌∙◌, subst, arith, get_or}
+use Rattle.std.proofs.Common.{◌≡◌, ◌≢◌, ℕ, zero, suc, ◌+◌, ◌*◌, ◌/◌, ◌%◌, ◌^◌, ◌<◌, ◌≤◌, List, [], ◌∷◌, ◌++◌, length}
+use Rattle.std.proofs.Common.{refl, sym, subst, arith, get_or}
 use Rattle.addr_map.specs.declared.region.Region.TheVariants.{Globals}
 use Rattle.addr_map.specs.Places.{MapSizes, objects_begin, function_address, region_end}
 use Rattle.obj_memory.specs.declared.value.Tag.{Tag}
 use Rattle.obj_memory.specs.declared.value.Tag.TheVariants.{Untagged, OfFunction, OfObject}
-use Rattle.obj_memory.specs.Objects.{ObjectState, Objects, object_at}
+use Rattle.obj_memory.specs.Objects.{Objects, object_at}
 use Rattle.obj_memory.specs.Heap.{rounded_up}
-use Rattle.obj_memory.specs.Sound.{IsSoundTag, IsSoundObject, IsSound}
+use Rattle.obj_memory.specs.Sound.{IsSoundTag, IsSoundObject}
 use Rattle.tac_ir.specs.declared.function.StaticData.{StaticData}
 use Rattle.tac_ir.specs.Meaning.{placed_data}
 use Rattle.flat_routines.specs.Registers.{IsNoneOf}
@@ -45,16 +45,18 @@ ascend_append a b z (e ∷ es) fs h k = (h.0, ascend_append (e.at + 8) b z es fs
 none_below : (a z x : ℕ) (es : List StartEntry) → Ascend a z es → x < a → IsNoneOf x (words_of es)
 none_below a z x [] h low = tt
 none_below a z x (e ∷ es) h low =
-    let first = h.0 in
-    ((λ same. let p : x < x = omega (arith, first, low, same) in omega (arith, p)),
-    none_below (e.at + 8) z x es h.1 (omega (arith, first, low)))
+    let first = h.0 in (
+      (λ same. let p : x < x = omega (arith, first, low, same) in omega (arith, p)),
+      none_below (e.at + 8) z x es h.1 (omega (arith, first, low)),
+    )
 
 none_behind : (a z x : ℕ) (es : List StartEntry) → Ascend a z es → z ≤ x → IsNoneOf x (words_of es)
 none_behind a z x [] h past = tt
 none_behind a z x (e ∷ es) h past =
-    let rest = ascend_to (e.at + 8) z es h.1 in
-    ((λ same. let p : x < x = omega (arith, rest, past, same) in omega (arith, p)),
-    none_behind (e.at + 8) z x es h.1 past)
+    let rest = ascend_to (e.at + 8) z es h.1 in (
+      (λ same. let p : x < x = omega (arith, rest, past, same) in omega (arith, p)),
+      none_behind (e.at + 8) z x es h.1 past,
+    )
 
 none_append : (x : ℕ) (es fs : List StartEntry) → IsNoneOf x (words_of es) → IsNoneOf x (words_of fs)
     → IsNoneOf x (words_of (es ++ fs))
@@ -93,6 +95,15 @@ has_before es fs a m h = at es h.index h.below h.word h.is
     at [] i low word is = absurd (omega (arith, low))
     at (e ∷ es) zero low word is = record { index = 0; below = omega arith; word = word; is = is }
     at (e ∷ es) (suc i) low word is = has_more e (es ++ fs) a m (at es i (omega (arith, low)) word is)
+
+-- objects begin behind those before them
+pub behind_offset : (first : ℕ) (ds : List StaticData) (offset n : ℕ) → n < length (placed_data first ds offset)
+    → first + offset ≤ (object_at (placed_data first ds offset) n).address
+behind_offset first [] offset n low = absurd (omega (arith, low))
+behind_offset first (d ∷ ds) offset zero low = omega arith
+behind_offset first (d ∷ ds) offset (suc n) low =
+    let rest = behind_offset first ds (rounded_up 16 offset + d.size) n (omega (arith, low)) in
+    omega (arith, rest)
 
 module _ (map : MapSizes) (functions : ℕ) (types : ℕ → ℕ) (entry : View) where
   abbrev lock : ℕ
@@ -143,14 +154,6 @@ module _ (map : MapSizes) (functions : ℕ) (types : ℕ → ℕ) (entry : View)
 
   -- ---- all objects
 
-  behind_offset : (first : ℕ) (ds : List StaticData) (offset n : ℕ) → n < length (placed_data first ds offset)
-      → first + offset ≤ (object_at (placed_data first ds offset) n).address
-  behind_offset first [] offset n low = absurd (omega (arith, low))
-  behind_offset first (d ∷ ds) offset zero low = omega arith
-  behind_offset first (d ∷ ds) offset (suc n) low =
-      let rest = behind_offset first ds (rounded_up 16 offset + d.size) n (omega (arith, low)) in
-      omega (arith, rest)
-
   module _ (types_small : (f : ℕ) → types f < 2 ^ 63) (few : functions ≤ 2 ^ 32) (lock_word : lock < 2 ^ 64)
       (all : Objects) where
     each_tag : (a : ℕ) (ts : List Tag) → ((k : ℕ) → IsSoundTag functions all (get_or ts k Untagged))
@@ -162,25 +165,27 @@ module _ (map : MapSizes) (functions : ℕ) (types : ℕ → ℕ) (entry : View)
         each_tag (a + 8) ts (λ k. sound (suc k)) (omega (arith, first)) (omega (arith, aligned)) (omega (arith, last))
     each_tag a (OfFunction f ∷ ts) sound first aligned last =
         let there : f < functions = sound 0 in
-        let small = types_small f in
-        (record {
-          word = record { first = first; last = omega (arith, last); aligned = aligned };
-          base = omega (arith, there, few);
-          bound = omega (arith, there, few);
-          key = omega (arith, small);
-          lock = omega arith;
-        },
-        each_tag (a + 8) ts (λ k. sound (suc k)) (omega (arith, first)) (omega (arith, aligned)) (omega (arith, last)))
+        let small = types_small f in (
+          record {
+            word = record { first = first; last = omega (arith, last); aligned = aligned };
+            base = omega (arith, there, few);
+            bound = omega (arith, there, few);
+            key = omega (arith, small);
+            lock = omega arith;
+          },
+          each_tag (a + 8) ts (λ k. sound (suc k)) (omega (arith, first)) (omega (arith, aligned)) (omega (arith, last)),
+        )
     each_tag a (OfObject o b ∷ ts) sound first aligned last =
-        let of = sound 0 in
-        (record {
-          word = record { first = first; last = omega (arith, last); aligned = aligned };
-          base = of.base_word;
-          bound = of.bound_word;
-          key = omega arith;
-          lock = lock_word;
-        },
-        each_tag (a + 8) ts (λ k. sound (suc k)) (omega (arith, first)) (omega (arith, aligned)) (omega (arith, last)))
+        let of = sound 0 in (
+          record {
+            word = record { first = first; last = omega (arith, last); aligned = aligned };
+            base = of.base_word;
+            bound = of.bound_word;
+            key = omega arith;
+            lock = lock_word;
+          },
+          each_tag (a + 8) ts (λ k. sound (suc k)) (omega (arith, first)) (omega (arith, aligned)) (omega (arith, last)),
+        )
 
     abbrev AreSoundFrom : List StaticData → (offset : ℕ) → Type 0
     AreSoundFrom ds offset = (n : ℕ) → IsSoundObject functions all (object_at (placed_data objects_begin ds offset) n)

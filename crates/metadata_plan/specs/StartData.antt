@@ -1,11 +1,15 @@
 -- What a file has of the static objects: the entries of the pointers that they hold, and their bytes.
-use Rattle.std.specs.Prelude.{◌≡◌, ℕ, ◌+◌, ◌-◌, ◌*◌, ◌^◌, ◌<◌, ◌≤◌, List, [], ◌∷◌, ◌++◌, replicate, length}
-use Rattle.addr_map.specs.Places.{function_address}
+use Rattle.std.specs.Prelude.{◌≡◌, ℕ, ◌+◌, ◌-◌, ◌^◌, ◌<◌, ◌≤◌, List, [], ◌∷◌, ◌++◌, replicate, get_or}
+use Rattle.addr_map.specs.declared.region.Region.TheVariants.{Locks, StructureValues}
+use Rattle.addr_map.specs.Places.{MapSizes, objects_begin, region_start, function_address}
 use Rattle.obj_memory.specs.declared.value.Tag.{Tag}
 use Rattle.obj_memory.specs.declared.value.Tag.TheVariants.{Untagged, OfFunction, OfObject}
 use Rattle.obj_memory.specs.Heap.{rounded_up}
 use Rattle.tac_ir.specs.declared.function.StaticData.{StaticData}
+use Rattle.flat_meaning.specs.Memory.{Bytes}
+use Rattle.flat_routines.specs.Metadata.{View}
 use Rattle.shadow_space.specs.declared.start.StartEntry.{StartEntry}
+use Rattle.shadow_space.specs.Start.{IsStarted}
 
 -- The entry of a word that holds a tag. The key of a function's pointer has the highest bit, and a number for its type;
 -- every static object has key 1 and the global lock word.
@@ -45,3 +49,15 @@ bytes_of_statics (d ∷ ds) offset =
 abbrev pub statics_end : List StaticData → (offset : ℕ) → ℕ
 statics_end [] offset = offset
 statics_end (d ∷ ds) offset = statics_end ds (rounded_up 16 offset + d.size)
+
+-- the region of static objects begins with their bytes
+pub record HoldsStatics (statics : List StaticData) (memory : Bytes) : Type 0 where
+  pub by : (i : ℕ) → i < statics_end statics 0
+      → memory (objects_begin + i) ≡ get_or (bytes_of_statics statics 0) i 0
+
+-- what a file has of the runtime's spaces: the shadow space as its form begins it, and behind it zeros up to the areas of
+-- structures
+pub record AreSpacesInFile (map : MapSizes) (entry : View) (IsGood : Bytes → Type 0) (es : List StartEntry)
+    (memory : Bytes) : Type 0 where
+  pub shadow : IsStarted map entry IsGood es memory
+  pub zeros : (a : ℕ) → region_start map Locks ≤ a → a < region_start map StructureValues → memory a ≡ 0

@@ -2,3 +2,5 @@ pub mod Lists
 pub mod Laid
 pub mod Small
 pub mod Counting
+pub mod TemporaryWords
+pub mod EntryTables

@@ -6,3 +6,5 @@ pub mod Tables
 pub mod Numbering
 pub mod Layout
 pub mod Contexts
+pub mod TemporarySets
+pub mod EntryTables

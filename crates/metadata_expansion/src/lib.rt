@@ -8,6 +8,7 @@ pub mod blocks;
 pub mod body;
 pub mod calls;
 pub mod context;
+pub mod entries;
 pub mod homes;
 pub mod joins;
 pub mod jumps;
@@ -16,7 +17,9 @@ mod list;
 pub mod numbers;
 pub mod program;
 pub mod registers;
+pub mod temporary_set;
 pub mod updates;
 
+pub use crate::entries::{EntryTable, entry_table};
 pub use crate::numbers::fits;
 pub use crate::program::expand;

@@ -94,10 +94,6 @@ entry_source _ = None
 
 -- what an instruction reads
 
-abbrev pub is_pointer : Kind → Bool
-is_pointer (OfScalar Pointer) = true
-is_pointer _ = false
-
 -- what is moved with an entry: of a structure the entry tells where it is
 abbrev pub is_moved_with_entry : Kind → Bool
 is_moved_with_entry (OfScalar Pointer) = true
@@ -116,9 +112,9 @@ is_pointer_type _ = false
 abbrev pub is_among : (first count temporary : ℕ) → Bool
 is_among d n y = nat_le d y && nat_lt y (d + n)
 
--- an argument from a temporary on, where the kinds of arguments are known
-abbrev pub is_pointer_argument : List Kind → (first count temporary : ℕ) → Bool
-is_pointer_argument kinds d n y = is_among d n y && is_pointer (get_or kinds (y - d) Void)
+-- an argument from a temporary on that is moved with an entry, where the kinds of arguments are known
+abbrev pub is_argument_with_entry : List Kind → (first count temporary : ℕ) → Bool
+is_argument_with_entry kinds d n y = is_among d n y && is_moved_with_entry (get_or kinds (y - d) Void)
 
 abbrev pub parameter_kinds : Option CodeFunction → List Kind
 parameter_kinds None = []
@@ -146,11 +142,11 @@ reads_entry t c (tac.Take kind line d a m) y = y == a && is_structure kind
 reads_entry t c (tac.Write kind mode line key d a b m) y = y == b && is_moved_with_entry kind
 reads_entry t c (tac.StorePart kind line x offset a m) y = y == a && is_moved_with_entry kind
 reads_entry t c (tac.Judge test size line key a m) y = y == a && not (has_named_key c key)
-reads_entry t c (tac.Library r line d n m) y = is_pointer_argument (routine_signature r).parameters d n y
+reads_entry t c (tac.Library r line d n m) y = is_argument_with_entry (routine_signature r).parameters d n y
 reads_entry t c (tac.Print x line d n m) y = is_among d n y
-reads_entry t c (tac.Call f line d n m) y = is_pointer_argument (parameter_kinds (function_in t f)) d n y
+reads_entry t c (tac.Call f line d n m) y = is_argument_with_entry (parameter_kinds (function_in t f)) d n y
 reads_entry t c (tac.CallThrough type_number line d n m) y = is_among d (n + 1) y
-reads_entry t c (tac.Return a) y = y == a && is_pointer (get_or t.results c.type_number Void)
+reads_entry t c (tac.Return a) y = y == a && is_moved_with_entry (get_or t.results c.type_number Void)
 reads_entry t c _ y = false
 
 -- A set of temporaries with entries is closed: what is read as a pointer has one; what has one behind an instruction

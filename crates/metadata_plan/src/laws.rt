@@ -22,6 +22,7 @@ ghost use Rattle.metadata_plan.specs.Laid.{address_of, program_of};
 
 pub mod entries;
 pub mod operator_lists;
+pub mod start_data;
 pub mod steps;
 pub mod waiting;
 

@@ -1,0 +1,12 @@
+use Rattle.std.proofs.Common.{◌≡◌, ℕ, ◌||◌}
+use Rattle.std.specs.Prelude.{map}
+use Rattle.metadata_plan.specs.Entries.{is_argument_with_entry}
+use Rattle.metadata_expansion.specs.TemporarySets.{is_in, room}
+use Rattle.metadata_expansion.proofs.entries.insert_arguments.Given as goal
+
+abbrev pub invariant-loop-i : goal.invariant-loop-i
+invariant-loop-i l = record {
+  size : room l.set ≡ room l.fn.set;
+  more : (y : ℕ) → is_in l.set y
+      ≡ (is_in l.fn.set y || is_argument_with_entry (map (λ v. v.kind) l.parameters) l.first l.i y);
+}

@@ -1,0 +1,525 @@
+//! Which temporaries of a function have entries, found in one pass over its nodes.
+
+ghost use Rattle.std.specs.Prelude.{◌≡◌, ℕ, ◌+◌, ◌*◌, ◌<◌, ◌≤◌, ◌&&◌, ◌||◌, ◌==◌, ◌^◌, ◌∷◌, [], length, map, min, get_or, true, false, IfOk};
+ghost use Rattle.std.specs.Prelude.{Some, slice_get};
+ghost use Rattle.c_tree.specs.declared.expression.Kind.TheVariants.{Void};
+ghost use Rattle.c_tree.specs.Kinds.{routine_signature};
+ghost use Rattle.source_meaning.specs.Good.{plain_type};
+ghost use Rattle.tac_ir.specs.Meaning.{function_in};
+ghost use Rattle.tac_ir.specs.Temporaries.{temporaries};
+ghost use Rattle.metadata_plan.specs.Registers.{all_variables, most_temporaries};
+ghost use Rattle.metadata_plan.specs.Entries.{AreClosed, converted_from, entry_source, given, has_named_key};
+ghost use Rattle.metadata_plan.specs.Entries.{is_among, is_argument_with_entry, is_moved_with_entry, is_pointer_type};
+ghost use Rattle.metadata_plan.specs.Entries.{is_structure, parameter_kinds, pointer_of, read_from, reads_entry};
+ghost use Rattle.metadata_plan.specs.Entries.{written_from};
+ghost use Rattle.metadata_expansion.specs.TemporarySets.{is_in, room};
+ghost use Rattle.metadata_expansion.specs.EntryTables.{AreNone, HaveRoom, ReadsNoEntry, entries_in, entries_of, has_at};
+ghost use Rattle.metadata_expansion.specs.EntryTables.{is_passed_on, needs};
+ghost use Rattle.metadata_expansion.specs.Numbers.{register_count};
+ghost use Rattle.metadata_expansion.specs.Ways.{nodes_of};
+
+use crate::jumps::{Ways, ways_of};
+use crate::layout::instruction_at;
+use crate::registers::most_temporaries;
+use crate::temporary_set::TemporarySet;
+use c_tree::{Kind, OffsetForm, Routine, Variable};
+use obj_memory::Scalar;
+use std::alloc::{AllocError, Global};
+use tac_ir::{Base, CodeFunction, Instruction, Tac};
+
+/// The temporaries of a function that have entries at each of its nodes.
+#[derive(Drop)]
+pub enum EntryTable {
+    /// All of them.
+    Every,
+    /// A set for each node.
+    Sets(Vec<TemporarySet>),
+}
+
+impl EntryTable {
+    /// Whether a temporary has an entry at a node.
+    pub fn has(&self, node: usize, temporary: usize) -> bool
+        ensures { result ≡ entries_in self.now node temporary }
+    {
+        match self {
+            EntryTable::Every => true,
+            EntryTable::Sets(sets) => match sets.get(node) {
+                Some(set) => set.contains(temporary),
+                None => false,
+            },
+        }
+    }
+}
+
+// The temporary that gets a value.
+fn given(instruction: &Instruction) -> Option<usize>
+    ensures { result ≡ given instruction.now }
+{
+    match instruction {
+        Instruction::Constant { to, .. }
+        | Instruction::FunctionPointer { to, .. }
+        | Instruction::GetPlain { to, .. }
+        | Instruction::UpdatePlain { to, .. }
+        | Instruction::HomePointer { to, .. }
+        | Instruction::StaticPointer { to, .. }
+        | Instruction::ZeroOf { to, .. }
+        | Instruction::Convert { to, .. }
+        | Instruction::Unary { to, .. }
+        | Instruction::Binary { to, .. }
+        | Instruction::Offset { to, .. }
+        | Instruction::Difference { to, .. }
+        | Instruction::Narrow { to, .. }
+        | Instruction::Member { to, .. }
+        | Instruction::Take { to, .. }
+        | Instruction::Read { to, .. }
+        | Instruction::Write { to, .. }
+        | Instruction::Update { to, .. } => Some(*to),
+        Instruction::Library { first, .. }
+        | Instruction::Print { first, .. }
+        | Instruction::Call { first, .. }
+        | Instruction::CallThrough { first, .. } => Some(*first),
+        Instruction::Reserved
+        | Instruction::Skip { .. }
+        | Instruction::SetPlain { .. }
+        | Instruction::Judge { .. }
+        | Instruction::Zero { .. }
+        | Instruction::StorePart { .. }
+        | Instruction::StoreText { .. }
+        | Instruction::Branch { .. }
+        | Instruction::Case { .. }
+        | Instruction::Turn { .. }
+        | Instruction::EnterBlock { .. }
+        | Instruction::LeaveBlock { .. }
+        | Instruction::Return { .. } => None,
+    }
+}
+
+// The pointer of a sum of a pointer and an index.
+fn pointer_of(form: OffsetForm, left: usize, right: usize) -> usize
+    ensures { result ≡ pointer_of form left right }
+{
+    match form {
+        OffsetForm::PointerPlusIndex | OffsetForm::PointerMinusIndex => left,
+        OffsetForm::IndexPlusPointer => right,
+    }
+}
+
+// The temporary from whose entry that of what is converted is made.
+fn converted_from(kind: Kind, from: usize) -> Option<usize>
+    ensures { result ≡ converted_from kind from }
+{
+    match kind {
+        Kind::Void | Kind::Scalar(Scalar::Integer(_)) => None,
+        Kind::Scalar(Scalar::Pointer) | Kind::Structure(_) | Kind::Array(_) => Some(from),
+    }
+}
+
+// The same of what is read.
+fn read_from(kind: Kind, from: usize) -> Option<usize>
+    ensures { result ≡ read_from kind from }
+{
+    match kind {
+        Kind::Scalar(_) => None,
+        Kind::Void | Kind::Structure(_) | Kind::Array(_) => Some(from),
+    }
+}
+
+// The same of what an assignment gives.
+fn written_from(kind: Kind, pointer: usize, value: usize) -> Option<usize>
+    ensures { result ≡ written_from kind pointer value }
+{
+    match kind {
+        Kind::Scalar(Scalar::Integer(_)) => None,
+        Kind::Structure(_) => Some(pointer),
+        Kind::Void | Kind::Scalar(Scalar::Pointer) | Kind::Array(_) => Some(value),
+    }
+}
+
+// The temporary from whose entry that of the result is made.
+fn entry_source(instruction: &Instruction) -> Option<usize>
+    ensures { result ≡ entry_source instruction.now }
+{
+    match instruction {
+        Instruction::Convert { kind, from, .. } => converted_from(*kind, *from),
+        Instruction::Offset {
+            form,
+            left,
+            right,
+            ..
+        } => Some(pointer_of(*form, *left, *right)),
+        Instruction::Narrow { from, .. }
+        | Instruction::Member { from, .. }
+        | Instruction::Take { from, .. } => Some(*from),
+        Instruction::Read { kind, from, .. } => read_from(*kind, *from),
+        Instruction::Write {
+            kind,
+            pointer,
+            value,
+            ..
+        } => written_from(*kind, *pointer, *value),
+        _ => None,
+    }
+}
+
+// Whether a value of a kind is moved with an entry.
+fn is_moved_with_entry(kind: Kind) -> bool
+    ensures { result ≡ is_moved_with_entry kind }
+{
+    matches!(kind, Kind::Scalar(Scalar::Pointer) | Kind::Structure(_))
+}
+
+// Whether a plain variable is a pointer.
+fn is_pointer(variable: &Variable) -> bool
+    ensures { result ≡ is_pointer_type (plain_type (variable.now ∷ []) 0) }
+{
+    !variable.is_object && matches!(variable.kind, Kind::Scalar(Scalar::Pointer))
+}
+
+// One of some variables, by its number.
+fn variable_at(variables: &[Variable], number: usize) -> &Variable
+    requires { number < length variables.now }
+    ensures { slice_get variables.now number ≡ Some result.now }
+{
+    &variables[number]
+}
+
+// Whether one of some variables, by its number, is a plain variable that is a pointer.
+#[tactic(auto, using(crate::proofs::EntryTables::type_at, crate::proofs::EntryTables::type_past))]
+fn is_pointer_in(variables: &[Variable], number: usize) -> bool
+    ensures { result ≡ is_pointer_type (plain_type variables.now number) }
+{
+    if number >= variables.len() {
+        return false;
+    }
+    is_pointer(variable_at(variables, number))
+}
+
+// The same of those of a function.
+#[tactic(auto, using(crate::proofs::EntryTables::type_before, crate::proofs::EntryTables::type_behind))]
+fn is_pointer_variable(function: &CodeFunction, number: usize) -> bool
+    ensures { result ≡ is_pointer_type (plain_type (all_variables function.now) number) }
+{
+    let parameters = function.parameters.as_slice();
+    if number < parameters.len() {
+        return is_pointer_in(parameters, number);
+    }
+    is_pointer_in(function.variables.as_slice(), number - parameters.len())
+}
+
+// Whether a key begins with the name of an object.
+fn has_named_key(function: &CodeFunction, key: Option<usize>) -> bool
+    ensures { result ≡ has_named_key function.now key }
+{
+    let Some(number) = key else {
+        return false;
+    };
+    match function.keys.as_slice().get(number) {
+        Some(key) => match key.base {
+            Base::Plain(_) => false,
+            Base::Automatic(_) | Base::Static(_) => true,
+        },
+        None => false,
+    }
+}
+
+// Puts a temporary into a set where that is wanted.
+fn insert_if(set: &mut TemporarySet, temporary: usize, wanted: bool)
+    requires { temporary < room set.old }
+    ensures room { room set.new ≡ room set.old }
+    ensures more { (y : ℕ) → is_in set.new y ≡ (is_in set.old y || (y == temporary && wanted)) }
+{
+    if wanted {
+        set.insert(temporary);
+    }
+}
+
+// Puts so many temporaries from one on into a set.
+#[tactic(auto, using(crate::proofs::EntryTables::among_step))]
+fn insert_among(set: &mut TemporarySet, first: usize, count: usize)
+    requires inside { first + count ≤ room set.old }
+    requires small { room set.old < 2 ^ 64 }
+    ensures room { room set.new ≡ room set.old }
+    ensures more { (y : ℕ) → is_in set.new y ≡ (is_in set.old y || is_among first count y) }
+{
+    for i in 0..count {
+        insert_if(set, first + i, true);
+    }
+}
+
+// How many of the first arguments of a routine are pointers: no other is.
+fn pointer_count(routine: Routine) -> usize
+    ensures { (n d y : ℕ) → is_argument_with_entry (routine_signature routine).parameters d n y
+        ≡ is_among d (min n result) y }
+{
+    match routine {
+        Routine::Memcpy
+        | Routine::Memmove
+        | Routine::Memcmp
+        | Routine::Strcmp
+        | Routine::Strcpy
+        | Routine::Strncpy
+        | Routine::Strcat => 2,
+        Routine::Free
+        | Routine::Realloc
+        | Routine::Memset
+        | Routine::Strlen
+        | Routine::Strchr
+        | Routine::Puts => 1,
+        Routine::Malloc
+        | Routine::Calloc
+        | Routine::Putchar
+        | Routine::Getchar
+        | Routine::Exit
+        | Routine::Abort => 0,
+    }
+}
+
+// The parameters of a function, by its number; of one that is not there none.
+fn parameters_of(program: &Tac, function: usize) -> &[Variable]
+    ensures { map (λ v. v.kind) result.now ≡ parameter_kinds (function_in program.now function) }
+{
+    match program.functions.as_slice().get(function) {
+        Some(called) => called.parameters.as_slice(),
+        None => &[],
+    }
+}
+
+// Whether a parameter, by its index, is moved with an entry.
+fn is_moved_parameter(parameters: &[Variable], index: usize) -> bool
+    ensures { result ≡ is_moved_with_entry (get_or (map (λ v. v.kind) parameters.now) index Void) }
+{
+    match parameters.get(index) {
+        Some(parameter) => is_moved_with_entry(parameter.kind),
+        None => false,
+    }
+}
+
+// Puts those arguments into a set that are moved with an entry to some parameters.
+#[tactic(auto, using(crate::proofs::EntryTables::argument_step))]
+fn insert_arguments(set: &mut TemporarySet, parameters: &[Variable], first: usize, count: usize)
+    requires inside { first + count ≤ room set.old }
+    requires small { room set.old < 2 ^ 64 }
+    ensures room { room set.new ≡ room set.old }
+    ensures more { (y : ℕ) → is_in set.new y
+        ≡ (is_in set.old y || is_argument_with_entry (map (λ v. v.kind) parameters.now) first count y) }
+{
+    for i in 0..count {
+        insert_if(set, first + i, is_moved_parameter(parameters, i));
+    }
+}
+
+// The kind of what a function gives.
+fn result_kind(program: &Tac, function: &CodeFunction) -> Kind
+    ensures { result ≡ get_or program.now.results function.now.type_number Void }
+{
+    match program.results.as_slice().get(function.type_number) {
+        Some(kind) => *kind,
+        None => Kind::Void,
+    }
+}
+
+// Puts those temporaries into a set that an instruction of a function reads as pointers.
+fn insert_read(
+    set: &mut TemporarySet,
+    program: &Tac,
+    function: &CodeFunction,
+    instruction: &Instruction,
+)
+    requires inside { temporaries instruction.now ≤ room set.old }
+    requires small { room set.old < 2 ^ 64 }
+    ensures room { room set.new ≡ room set.old }
+    ensures more { (y : ℕ) → is_in set.new y
+        ≡ (is_in set.old y || reads_entry program.now function.now instruction.now y) }
+{
+    match instruction {
+        Instruction::SetPlain { variable, from, .. } => {
+            insert_if(set, *from, is_pointer_variable(function, *variable));
+        }
+        Instruction::Take { kind, from, .. } => {
+            insert_if(set, *from, matches!(kind, Kind::Structure(_)));
+        }
+        Instruction::Write { kind, value, .. } => {
+            insert_if(set, *value, is_moved_with_entry(*kind));
+        }
+        Instruction::StorePart { kind, from, .. } => {
+            insert_if(set, *from, is_moved_with_entry(*kind));
+        }
+        Instruction::Judge { key, pointer, .. } => {
+            insert_if(set, *pointer, !has_named_key(function, *key));
+        }
+        Instruction::Library {
+            routine,
+            first,
+            count,
+            ..
+        } => insert_among(set, *first, (*count).min(pointer_count(*routine))),
+        Instruction::Print { first, count, .. } => insert_among(set, *first, *count),
+        Instruction::Call {
+            function: called,
+            first,
+            count,
+            ..
+        } => insert_arguments(set, parameters_of(program, *called), *first, *count),
+        Instruction::CallThrough { first, count, .. } => {
+            insert_among(set, *first, *count + 1);
+        }
+        Instruction::Return { from } => {
+            insert_if(
+                set,
+                *from,
+                is_moved_with_entry(result_kind(program, function)),
+            );
+        }
+        _ => {}
+    }
+}
+
+// Puts those temporaries into a set that have entries at a node.
+fn insert_at(set: &mut TemporarySet, sets: &[TemporarySet], node: usize)
+    requires { HaveRoom (room set.old) sets.now }
+    ensures room { room set.new ≡ room set.old }
+    ensures more { (y : ℕ) → is_in set.new y ≡ (is_in set.old y || entries_of sets.now node y) }
+{
+    if let Some(other) = sets.get(node) {
+        set.insert_all(other);
+    }
+}
+
+// Puts those into a set that have entries where an instruction leads.
+fn insert_behind(set: &mut TemporarySet, sets: &[TemporarySet], ways: Ways)
+    requires { HaveRoom (room set.old) sets.now }
+    ensures room { room set.new ≡ room set.old }
+    ensures more { (y : ℕ) → is_in set.new y ≡ (is_in set.old y || has_at (entries_of sets.now) (nodes_of ways) y) }
+{
+    match ways {
+        Ways::Nowhere => {}
+        Ways::To(next) => insert_at(set, sets, next),
+        Ways::Either(first, second) => {
+            insert_at(set, sets, first);
+            insert_at(set, sets, second);
+        }
+    }
+}
+
+// What needs entries behind an instruction becomes what needs them before it, by what it gives and what of.
+fn pass_on(set: &mut TemporarySet, to: Option<usize>, source: Option<usize>)
+    requires to { (d : ℕ) → to ≡ Some d → d < room set.old }
+    requires source { (a : ℕ) → source ≡ Some a → a < room set.old }
+    ensures room { room set.new ≡ room set.old }
+    ensures passed { (y : ℕ) → is_in set.new y ≡ is_passed_on (is_in set.old) to source y }
+{
+    let Some(to) = to else {
+        return;
+    };
+    let wanted = set.contains(to);
+    set.remove(to);
+    if let Some(source) = source {
+        insert_if(set, source, wanted);
+    }
+}
+
+// The temporaries that need entries before an instruction, where those of other nodes are known.
+fn needed(
+    alloc: Global,
+    words: usize,
+    sets: &[TemporarySet],
+    program: &Tac,
+    function: &CodeFunction,
+    instruction: &Instruction,
+) -> Result<TemporarySet, AllocError>
+    requires few { words < 2 ^ 32 }
+    requires sets { HaveRoom (64 * words) sets.now }
+    requires among { temporaries instruction.now ≤ 64 * words }
+    ensures room { IfOk result (λ set. room set ≡ 64 * words) }
+    ensures needed { IfOk result (λ set. (y : ℕ) → is_in set y
+        ≡ needs program.now function.now (entries_of sets.now) instruction.now y) }
+{
+    let mut set = TemporarySet::new(alloc, words)?;
+    insert_behind(&mut set, sets, ways_of(instruction));
+    pass_on(&mut set, given(instruction), entry_source(instruction));
+    insert_read(&mut set, program, function, instruction);
+    Ok(set)
+}
+
+// A set for each node. Code that comes later has lower nodes: so those to which an instruction leads are known before it,
+// but for the ends of loops, where no temporary is in use.
+fn found(
+    alloc: Global,
+    words: usize,
+    program: &Tac,
+    function: &CodeFunction,
+) -> Result<Vec<TemporarySet>, AllocError>
+    requires few { words < 2 ^ 32 }
+    requires inside { most_temporaries function.now.code ≤ 64 * words }
+    ensures size { IfOk result (λ sets. length sets.items ≡ length function.now.code) }
+    ensures room { IfOk result (λ sets. HaveRoom (64 * words) sets.items) }
+    ensures none { IfOk result (λ sets. ReadsNoEntry program.now function.now → AreNone (entries_of sets.items)) }
+{
+    let mut sets = Vec::new(alloc);
+    for node in 0..function.code.as_slice().len() {
+        let instruction = instruction_at(function, node);
+        let set = needed(
+            alloc,
+            words,
+            sets.as_slice(),
+            program,
+            function,
+            instruction,
+        )?;
+        sets.push(set)?;
+    }
+    Ok(sets)
+}
+
+// The set of a node.
+fn set_at(sets: &[TemporarySet], node: usize) -> &TemporarySet
+    requires { node < length sets.now }
+    ensures { slice_get sets.now node ≡ Some result.now }
+{
+    &sets[node]
+}
+
+// Whether a set for each node is closed.
+fn is_closed(
+    alloc: Global,
+    words: usize,
+    sets: &[TemporarySet],
+    program: &Tac,
+    function: &CodeFunction,
+) -> Result<bool, AllocError>
+    requires few { words < 2 ^ 32 }
+    requires inside { most_temporaries function.now.code ≤ 64 * words }
+    requires size { length sets.now ≡ length function.now.code }
+    requires room { HaveRoom (64 * words) sets.now }
+    ensures closed { IfOk result (λ b. b ≡ true → AreClosed program.now function.now (entries_of sets.now)) }
+    ensures none { IfOk result (λ b. ReadsNoEntry program.now function.now → AreNone (entries_of sets.now) → b ≡ true) }
+{
+    for node in 0..function.code.as_slice().len() {
+        let instruction = instruction_at(function, node);
+        let set = needed(alloc, words, sets, program, function, instruction)?;
+        let found = set_at(sets, node);
+        if !set.is_within(found) {
+            return Ok(false);
+        }
+    }
+    Ok(true)
+}
+
+/// The temporaries of a function that have entries: a closed set of them, and none where no instruction reads a temporary
+/// as a pointer. It takes time and memory for each node and each 64 temporaries, and fails only for want of memory.
+pub fn entry_table(
+    alloc: Global,
+    program: &Tac,
+    function: &CodeFunction,
+) -> Result<EntryTable, AllocError>
+    requires { register_count function.now < 2 ^ 32 }
+    ensures closed { IfOk result (λ table. AreClosed program.now function.now (entries_in table)) }
+    ensures none { IfOk result (λ table. ReadsNoEntry program.now function.now → AreNone (entries_in table)) }
+{
+    let words = (most_temporaries(function.code.as_slice()) / 64) as usize + 1;
+    let sets = found(alloc, words, program, function)?;
+    if is_closed(alloc, words, sets.as_slice(), program, function)? {
+        return Ok(EntryTable::Sets(sets));
+    }
+    Ok(EntryTable::Every)
+}

@@ -12,8 +12,5 @@ pub mod Stepping
 pub mod Following
 pub mod Laying
 pub mod Entries
-pub mod StartData
-pub mod StartFile
 mod Example
 pub mod OperatorLists
-pub mod Objects

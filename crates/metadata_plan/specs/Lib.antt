@@ -3,9 +3,7 @@ pub mod Operators
 pub mod Blocks
 pub mod Expanded
 pub mod Entries
-pub mod StartData
 pub mod Part
 pub mod Laid
 pub mod Matching
 pub mod OperatorLists
-pub mod Objects

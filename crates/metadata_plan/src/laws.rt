@@ -22,9 +22,6 @@ ghost use Rattle.metadata_plan.specs.Laid.{address_of, program_of};
 
 pub mod entries;
 pub mod operator_lists;
-pub mod start_data;
-pub mod steps;
-pub mod waiting;
 
 /// The expansion of an integer program follows it: it shows what the program in three-address code shows, at each
 /// moment, for each budget and input, with at most 21 units of work for each of the program's. The code of the

@@ -1,7 +1,0 @@
-use Rattle.metadata_plan.specs.Objects.Stages.{map_of}
-use Rattle.metadata_plan.proofs.Objects.Following.{covered_step}
-use Rattle.metadata_plan.proofs.laws.steps.covered_instructions_are_followed.Goals as goal
-
-pub returns : goal.returns
-returns g c = λ compiled right u n temps ws s covered fine x h.
-    covered_step compiled (g.S.ShadowForm.IsGood (map_of compiled)) right u n temps ws s covered fine x h

@@ -1,0 +1,136 @@
+-- Flat code follows the instructions that are covered, from stage to stage.
+use Rattle.std.proofs.Common.{◌≡◌, ℕ, ◌^◌, true, false, List, Option, Some, None, refl, sym, ap, ◌∙◌, subst}
+use Rattle.std.specs.Prelude.{slice_get}
+use Rattle.std.proofs.lemmas.Bool.{ltb-true}
+use Rattle.std.proofs.lemmas.Option.{same_Some}
+use Rattle.obj_memory.specs.declared.value.Scalar.{Scalar}
+use Rattle.obj_memory.specs.declared.value.Scalar.TheVariants.{Integer, Pointer}
+use Rattle.c_tree.specs.declared.expression.Kind.{Kind}
+use Rattle.c_tree.specs.declared.expression.Kind.TheVariants.{Void, Scalar as OfScalar, Structure, Array}
+use Rattle.source_meaning.specs.State.{State}
+use Rattle.source_meaning.specs.Good.{plain_type}
+use Rattle.tac_ir.specs.declared.instruction.Instruction.{Instruction}
+use Rattle.tac_ir.specs.declared.instruction.Instruction.TheVariants as tac
+use Rattle.tac_ir.specs.Stage.{Temps, Frame, Stands, Stuck}
+use Rattle.tac_ir.specs.Costs.{cost, spent}
+use Rattle.tac_ir.specs.Meaning.{effect, fits, act_at, code_of, step}
+use Rattle.tac_ir.proofs.Fits.{act_fits}
+use Rattle.flat_meaning.specs.Memory.{Bytes}
+use Rattle.flat_meaning.specs.State as flat
+use Rattle.flat_meaning.specs.Words.{HasWords}
+use Rattle.metadata_plan.specs.Registers.{all_variables}
+use Rattle.metadata_relation.specs.Stages.{Compiled, map_of, expansion_of, IsAt, MatchesBy, Matches}
+use Rattle.metadata_relation.specs.Steps.{IsCompiled, covers, is_scalar_type, IsCovered, ComesToMatch}
+use Rattle.metadata_plan.proofs.Flat.{words_kept}
+use Rattle.metadata_relation.proofs.Standing.{Result}
+use Rattle.metadata_relation.proofs.Simple.{constant, unary, binary, skip_step, branch, turn, case}
+use Rattle.metadata_relation.proofs.Moving.{get_plain, zero_of_scalar, zero_of_void, convert_void, convert_integer}
+use Rattle.metadata_relation.proofs.Moving.{convert_pointer}
+use Rattle.metadata_relation.proofs.Setting.{set_plain_step}
+use Rattle.metadata_relation.proofs.Pointers.{home_pointer, offset}
+
+module _ (c : Compiled) (IsGood : Bytes → Type 0) (right : IsCompiled c IsGood) (u n : ℕ) (temps : Temps)
+    (ws : List Frame) (s : State) (v : flat.State) (xs : List flat.Frame)
+    (h : IsAt c IsGood u n temps ws s u (c.layout.address u n) v xs)
+    (words : HasWords (flat.Stands u (c.layout.address u n) v xs)) where
+  abbrev Does : Instruction → Type 0
+  Does i = slice_get h.code.code n ≡ Some i → covers h.code i ≡ true
+      → fits c.setting (expansion_of c).code i u temps (spent (cost i) s) ≡ true
+      → Result c IsGood (effect c.setting (expansion_of c).code i u temps ws (spent (cost i) s))
+      (flat.Stands u (c.layout.address u n) v xs)
+
+  zero : (kind : Kind) (d m : ℕ) → Does (tac.ZeroOf kind d m)
+  zero Void d m at e f = zero_of_void c IsGood right u n temps ws s v xs h words.0 d m at
+  zero (OfScalar k) d m at e f = zero_of_scalar c IsGood right u n temps ws s v xs h words.0 k d m at
+  zero (Structure size) d m at e f = cc
+  zero (Array size) d m at e f = cc
+
+  converts : (kind : Kind) (d a m : ℕ) → Does (tac.Convert kind d a m)
+  converts Void d a m at e f = convert_void c IsGood right u n temps ws s v xs h words.0 d a m at
+  converts (OfScalar (Integer t)) d a m at e f =
+      convert_integer c IsGood right u n temps ws s v xs h words.0 t d a m at
+  converts (OfScalar Pointer) d a m at e f = convert_pointer c IsGood right u n temps ws s v xs h words.0 d a m at
+  converts (Structure size) d a m at e f = cc
+  converts (Array size) d a m at e f = cc
+
+  reads : (d x m : ℕ) (o : Option Scalar) → plain_type (all_variables h.code) x ≡ o → Does (tac.GetPlain d x m)
+  reads d x m None typed at e f =
+      let no : false ≡ true = ap is_scalar_type (sym typed) ∙ e in cc
+  reads d x m (Some k) typed at e f = get_plain c IsGood right u n temps ws s v xs h words.0 d x m k at typed
+
+  instruction : (i : Instruction) → Does i
+  instruction (tac.Skip m) at e f = skip_step c IsGood right u n temps ws s v xs h words.0 m at
+  instruction (tac.Constant d w m) at e f = constant c IsGood right u n temps ws s v xs h words.0 d w m at f
+  instruction (tac.GetPlain d x m) at e f = reads d x m (plain_type (all_variables h.code) x) refl at e f
+  instruction (tac.SetPlain x a m) at e f = set_plain_step c IsGood right u n temps ws s v xs h x a m at f
+  instruction (tac.HomePointer d x m) at e f = home_pointer c IsGood right u n temps ws s v xs h words.0 d x m at f
+  instruction (tac.ZeroOf kind d m) at e f = zero kind d m at e f
+  instruction (tac.Convert kind d a m) at e f = converts kind d a m at e f
+  instruction (tac.Unary op ty d a m) at e f =
+      unary c IsGood right u n temps ws s v xs h words.0 op ty d a m at
+  instruction (tac.Binary op ty line d a b m) at e f =
+      binary c IsGood right u n temps ws s v xs h words.0 op ty line d a b m at
+  instruction (tac.Offset form size d a b m) at e f =
+      offset c IsGood right u n temps ws s v xs h words.0 form size d a b m (ltb-true size (2 ^ 64) e) at
+  instruction (tac.Branch a x y) at e f = branch c IsGood right u n temps ws s v xs h words.0 a x y at
+  instruction (tac.Case a w x y) at e f = case c IsGood right u n temps ws s v xs h words.0 a w x y at e
+  instruction (tac.Turn counted m) at e f = turn c IsGood right u n temps ws s v xs h words.0 counted m at
+  instruction i at e f = cc
+
+-- a step from a node whose instruction is covered
+module _ (c : Compiled) (IsGood : Bytes → Type 0) (right : IsCompiled c IsGood) (u n : ℕ) (temps : Temps)
+    (ws : List Frame) (s : State) (covered : IsCovered c u n)
+    (fine : step c.setting (expansion_of c).code (Stands u n temps ws s) ≡ Stuck → ⊥) where
+  stands : (v : flat.State) (xs : List flat.Frame)
+      → IsAt c IsGood u n temps ws s u (c.layout.address u n) v xs
+      → HasWords (flat.Stands u (c.layout.address u n) v xs)
+      → Result c IsGood (step c.setting (expansion_of c).code (Stands u n temps ws s))
+      (flat.Stands u (c.layout.address u n) v xs)
+  stands v xs h words = by (slice_get (code_of (slice_get (expansion_of c).code.functions u)) n) there fine
+    where
+      there : slice_get (code_of (slice_get (expansion_of c).code.functions u)) n ≡ Some covered.instruction
+      there = ap (λ o. slice_get (code_of o) n) covered.there ∙ covered.at
+
+      same_code : h.code ≡ covered.code
+      same_code = same_Some h.code covered.code (sym h.there ∙ covered.there)
+
+      by : (o : Option Instruction) → o ≡ Some covered.instruction
+          → (act_at c.setting (expansion_of c).code o u temps ws s ≡ Stuck → ⊥)
+          → Result c IsGood (act_at c.setting (expansion_of c).code o u temps ws s)
+          (flat.Stands u (c.layout.address u n) v xs)
+      by None e not_stuck = absurd (not_stuck refl)
+      by (Some i) e not_stuck =
+          let same : i ≡ covered.instruction = same_Some i covered.instruction e in
+          let f = act_fits c.setting (expansion_of c).code i u temps ws (spent (cost i) s) not_stuck in
+          subst (λ z. Result c IsGood z (flat.Stands u (c.layout.address u n) v xs)) (sym f.1)
+          (instruction c IsGood right u n temps ws s v xs h words i
+          (ap (λ z. slice_get z.code n) same_code ∙ covered.at ∙ ap Some (sym same))
+          (ap (λ z. covers z i) same_code ∙ ap (covers covered.code) same ∙ covered.covered) f.0)
+
+  pub covered_step : (x : flat.Stage) → Matches c IsGood (Stands u n temps ws s) x
+      → ComesToMatch c IsGood (step c.setting (expansion_of c).code (Stands u n temps ws s)) x
+  covered_step x h = by x h.matches h.words
+    where
+      moved : (f : ℕ) → u ≡ f → (pc : ℕ) → c.layout.address u n ≡ pc → (v : flat.State) (xs : List flat.Frame)
+          → IsAt c IsGood u n temps ws s f pc v xs → HasWords (flat.Stands f pc v xs)
+          → Result c IsGood (step c.setting (expansion_of c).code (Stands u n temps ws s)) (flat.Stands f pc v xs)
+      moved f e pc k v xs =
+          subst (λ z. IsAt c IsGood u n temps ws s z pc v xs → HasWords (flat.Stands z pc v xs)
+          → Result c IsGood (step c.setting (expansion_of c).code (Stands u n temps ws s)) (flat.Stands z pc v xs)) e
+          (subst (λ z. IsAt c IsGood u n temps ws s u z v xs → HasWords (flat.Stands u z v xs)
+          → Result c IsGood (step c.setting (expansion_of c).code (Stands u n temps ws s)) (flat.Stands u z v xs)) k
+          (stands v xs))
+
+      by : (x : flat.Stage) → MatchesBy c IsGood (Stands u n temps ws s) x → HasWords x
+          → ComesToMatch c IsGood (step c.setting (expansion_of c).code (Stands u n temps ws s)) x
+      by (flat.Stands f pc v xs) m w =
+          let r = moved f (sym m.function) pc (sym m.place) v xs m w in
+          record {
+            steps = r.steps;
+            matches = record {
+              matches = r.matches;
+              words = words_kept (map_of c) c.layout.program r.steps (flat.Stands f pc v xs) w;
+            };
+          }
+      by (flat.Over status report v) m w = absurd m
+      by flat.Stuck m w = absurd m

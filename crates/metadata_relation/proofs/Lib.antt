@@ -1,0 +1,14 @@
+pub mod Assigning
+pub mod Following
+pub mod Giving
+pub mod Holding
+pub mod Inline
+pub mod Moving
+pub mod Pointers
+pub mod Registers
+pub mod Setting
+pub mod Simple
+pub mod Standing
+pub mod Waiting
+pub mod StartData
+pub mod StartFile

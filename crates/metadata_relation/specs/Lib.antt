@@ -1,0 +1,12 @@
+pub mod Blocks
+pub mod Contents
+pub mod Expanded
+pub mod Holding
+pub mod InlineCode
+pub mod InlineLists
+pub mod Registers
+pub mod Scopes
+pub mod Stages
+pub mod Steps
+pub mod Waiting
+pub mod StartData

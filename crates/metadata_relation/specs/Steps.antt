@@ -1,0 +1,71 @@
+-- What the steps of instructions rest on, and which of them are covered so far.
+use Rattle.std.specs.Prelude.{◌≡◌, ℕ, Bool, true, false, map, Option, Some, None, slice_get}
+use Rattle.behaviours.specs.Steps.{run}
+use Rattle.addr_map.specs.Places.{AreMapped}
+use Rattle.obj_memory.specs.declared.value.Scalar.{Scalar}
+use Rattle.c_tree.specs.declared.expression.Kind.{Kind}
+use Rattle.c_tree.specs.declared.expression.Kind.TheVariants.{Void, Scalar as OfScalar, Structure, Array}
+use Rattle.source_meaning.specs.Calls.{header_of}
+use Rattle.source_meaning.specs.Good.{plain_type}
+use Rattle.tac_ir.specs.declared.instruction.Instruction.{Instruction}
+use Rattle.tac_ir.specs.declared.instruction.Instruction.TheVariants as tac
+use Rattle.tac_ir.specs.declared.function.CodeFunction.{CodeFunction}
+use Rattle.tac_ir.specs.Fitting.{is_word}
+use Rattle.tac_ir.specs.Stage.{Stage}
+use Rattle.flat_meaning.specs.Memory.{Bytes}
+use Rattle.flat_meaning.specs.State as flat
+use Rattle.flat_meaning.specs.Meaning.{step}
+use Rattle.metadata_plan.specs.Registers.{all_variables}
+use Rattle.metadata_relation.specs.InlineCode.{IsInlineCode}
+use Rattle.metadata_relation.specs.Expanded.{IsExpanded}
+use Rattle.metadata_relation.specs.Stages.{Compiled, map_of, Matches}
+
+-- The lists that stand inline do what is asked of them, the flat program is the expansion of the code, the sizes are those
+-- of a map, and the functions of the setting are those of the typed program.
+pub record IsCompiled (c : Compiled) (IsGood : Bytes → Type 0) : Type 0 where
+  pub inline : IsInlineCode (map_of c) c.entry IsGood c.layout.expansion.inline
+  pub expanded : IsExpanded c.layout c.entry IsGood
+  pub mapped : AreMapped (map_of c)
+  pub sizes : c.setting.sizes ≡ map_of c
+  pub functions : map header_of c.typed.functions ≡ c.setting.functions
+
+abbrev pub is_scalar_type : Option Scalar → Bool
+is_scalar_type None = false
+is_scalar_type (Some k) = true
+
+-- a scalar, or no value
+abbrev pub is_no_aggregate : Kind → Bool
+is_no_aggregate Void = true
+is_no_aggregate (OfScalar k) = true
+is_no_aggregate (Structure n) = false
+is_no_aggregate (Array n) = false
+
+-- the instructions whose steps are known
+abbrev pub covers : CodeFunction → Instruction → Bool
+covers c (tac.Skip m) = true
+covers c (tac.Constant d w m) = true
+covers c (tac.GetPlain d x m) = is_scalar_type (plain_type (all_variables c) x)
+covers c (tac.SetPlain x a m) = true
+covers c (tac.ZeroOf kind d m) = is_no_aggregate kind
+covers c (tac.HomePointer d x m) = true
+covers c (tac.Convert kind d a m) = is_no_aggregate kind
+covers c (tac.Unary op ty d a m) = true
+covers c (tac.Binary op ty line d a b m) = true
+covers c (tac.Offset form size d a b m) = is_word size
+covers c (tac.Branch a x y) = true
+covers c (tac.Case a w x y) = is_word w
+covers c (tac.Turn counted m) = true
+covers c i = false
+
+-- at a node stands an instruction that is covered
+pub record IsCovered (c : Compiled) (function node : ℕ) : Type 0 where
+  pub code : CodeFunction
+  pub there : slice_get c.layout.expansion.code.functions function ≡ Some code
+  pub instruction : Instruction
+  pub at : slice_get code.code node ≡ Some instruction
+  pub covered : covers code instruction ≡ true
+
+-- the run of flat code comes to where it matches
+pub record ComesToMatch (c : Compiled) (IsGood : Bytes → Type 0) (stage : Stage) (x : flat.Stage) : Type 0 where
+  pub steps : ℕ
+  pub matches : Matches c IsGood stage (run (step (map_of c) c.layout.program) steps x)

@@ -1,0 +1,6 @@
+//! Laws of the relation, each as the contract of a function that does nothing.
+
+pub mod inline;
+pub mod start_data;
+pub mod steps;
+pub mod waiting;

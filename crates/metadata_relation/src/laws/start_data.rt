@@ -1,0 +1,59 @@
+//! Laws of what a file has of the static objects, each as the contract of a function that does nothing.
+
+ghost use Rattle.std.specs.Prelude.{◌≡◌, ℕ, ◌+◌, ◌^◌, ◌<◌, ◌≤◌, List};
+ghost use Rattle.addr_map.specs.declared.region.Region.TheVariants.{Globals};
+ghost use Rattle.addr_map.specs.Places.{AreMapped, MapSizes, objects_begin, region_end};
+ghost use Rattle.obj_memory.specs.Objects.{Objects};
+ghost use Rattle.obj_memory.specs.Sound.{IsSound};
+ghost use Rattle.tac_ir.specs.declared.function.StaticData.{StaticData};
+ghost use Rattle.tac_ir.specs.Meaning.{placed_data};
+ghost use Rattle.source_meaning.specs.State.{State as Source};
+ghost use Rattle.flat_meaning.specs.Memory.{Bytes, store};
+ghost use Rattle.flat_meaning.specs.State.{State};
+ghost use Rattle.flat_routines.specs.Metadata.{View};
+ghost use Rattle.flat_routines.specs.Objects.StandsFor.{global_lock};
+ghost use Rattle.flat_routines.specs.Objects.Start.{start_keys};
+ghost use Rattle.shadow_space.specs.declared.start.StartEntry.{StartEntry};
+ghost use Rattle.shadow_space.specs.Start.{AreStartEntries};
+ghost use Rattle.flat_actions.specs.Actions.{IsFor, IsShown, views_of};
+ghost use Rattle.flat_actions.specs.Start.{AreEntriesOf, AreStatics};
+ghost use Rattle.metadata_relation.specs.StartData.{AreSpacesInFile, HoldsStatics, entries_of_statics, statics_end};
+
+use shadow_space::ShadowForm;
+
+/// The entries of sound static objects that lie in their region are what a shadow space can begin with, and they are just
+/// those of the words that hold tags.
+pub fn static_entries_are_those_of_tags()
+    ensures start { (map : MapSizes) (functions : ℕ) (types : ℕ → ℕ) (ds : List StaticData)
+        → ((f : ℕ) → types f < 2 ^ 63) → functions ≤ 2 ^ 32 → global_lock map < 2 ^ 64
+        → IsSound functions (placed_data objects_begin ds 0)
+        → objects_begin + statics_end ds 0 ≤ region_end map Globals
+        → AreStartEntries map (entries_of_statics types (global_lock map) objects_begin ds 0) }
+    ensures tags { (map : MapSizes) (functions : ℕ) (types : ℕ → ℕ) (entry : View) (ds : List StaticData)
+        → ((f : ℕ) → types f < 2 ^ 63) → functions ≤ 2 ^ 32 → global_lock map < 2 ^ 64
+        → IsSound functions (placed_data objects_begin ds 0)
+        → AreEntriesOf (views_of map functions types entry) (placed_data objects_begin ds 0)
+        (entries_of_statics types (global_lock map) objects_begin ds 0) }
+{}
+
+/// Static objects whose bytes a memory has are all there, live, static and apart.
+pub fn static_bytes_are_the_objects()
+    ensures { (map : MapSizes) (functions : ℕ) (ds : List StaticData) (m : Bytes)
+        → IsSound functions (placed_data objects_begin ds 0)
+        → objects_begin + statics_end ds 0 ≤ region_end map Globals → HoldsStatics ds m
+        → AreStatics map functions (placed_data objects_begin ds 0) m }
+{}
+
+/// Once 1 is stored at the global lock word, which lies behind all that a file can hold, the memory of a file with static
+/// objects and their entries stands for the objects before the run.
+pub fn a_file_stands_for_the_source<S: ShadowForm>()
+    ensures { (map : MapSizes) → AreMapped map → (functions : ℕ) (types : ℕ → ℕ) (es : List StartEntry)
+        (objects : Objects) (m : Bytes) → AreStartEntries map es → AreStatics map functions objects m
+        → AreEntriesOf (views_of map functions types S.entry) objects es
+        → AreSpacesInFile map S.entry (S.IsGood map) es m → (x : Source) (f : State) → x.objects ≡ objects
+        → x.keys ≡ 0 → f.memory ≡ store 8 m (global_lock map) 1 → IsShown x f
+        → IsFor (views_of map functions types S.entry) (start_keys (views_of map functions types S.entry))
+        (S.IsGood map) x f }
+{
+    S::entries_are_local();
+}

@@ -20,7 +20,7 @@ use Rattle.flat_meaning.specs.State as flat
 use Rattle.flat_meaning.specs.Words.{HasWords}
 use Rattle.metadata_plan.specs.Registers.{all_variables}
 use Rattle.metadata_relation.specs.Stages.{Compiled, map_of, expansion_of, IsAt, MatchesBy, Matches}
-use Rattle.metadata_relation.specs.Steps.{IsCompiled, covers, is_scalar_type, IsCovered, ComesToMatch}
+use Rattle.metadata_relation.specs.Steps.{IsCompiled, covers, admits, is_scalar_type, IsCovered, ComesToMatch}
 use Rattle.metadata_plan.proofs.Flat.{words_kept}
 use Rattle.metadata_relation.proofs.Standing.{Result}
 use Rattle.metadata_relation.proofs.Simple.{constant, unary, binary, skip_step, branch, turn, case}
@@ -28,11 +28,23 @@ use Rattle.metadata_relation.proofs.Moving.{get_plain, zero_of_scalar, zero_of_v
 use Rattle.metadata_relation.proofs.Moving.{convert_pointer}
 use Rattle.metadata_relation.proofs.Setting.{set_plain_step}
 use Rattle.metadata_relation.proofs.Pointers.{home_pointer, offset}
+use Rattle.metadata_relation.proofs.Checking.{judge}
+use Rattle.metadata_relation.proofs.StoredParts.{store_part}
+use Rattle.metadata_relation.proofs.Reading.{read, read_at}
+use Rattle.metadata_relation.proofs.Writing.{write}
+use Rattle.std.proofs.lemmas.Bool.{and_parts, leb-true, not-true}
+use Rattle.std.specs.Prelude.{not, nat_le}
+use Rattle.metadata_plan.specs.Entries.{has_named_key}
+use Rattle.tac_ir.specs.declared.instruction.Mode.{Mode}
+use Rattle.tac_ir.specs.Fitting.{is_scalar_of, is_word}
 
 module _ (c : Compiled) (IsGood : Bytes → Type 0) (right : IsCompiled c IsGood) (u n : ℕ) (temps : Temps)
     (ws : List Frame) (s : State) (v : flat.State) (xs : List flat.Frame)
     (h : IsAt c IsGood u n temps ws s u (c.layout.address u n) v xs)
-    (words : HasWords (flat.Stands u (c.layout.address u n) v xs)) where
+    (words : HasWords (flat.Stands u (c.layout.address u n) v xs))
+    (admitted : (i : Instruction) → slice_get h.code.code n ≡ Some i → admits c u n i ≡ true)
+    (fine : (i : Instruction) → slice_get h.code.code n ≡ Some i
+    → (effect c.setting (expansion_of c).code i u temps ws (spent (cost i) s) ≡ Stuck → ⊥)) where
   abbrev Does : Instruction → Type 0
   Does i = slice_get h.code.code n ≡ Some i → covers h.code i ≡ true
       → fits c.setting (expansion_of c).code i u temps (spent (cost i) s) ≡ true
@@ -58,6 +70,46 @@ module _ (c : Compiled) (IsGood : Bytes → Type 0) (right : IsCompiled c IsGood
       let no : false ≡ true = ap is_scalar_type (sym typed) ∙ e in cc
   reads d x m (Some k) typed at e f = get_plain c IsGood right u n temps ws s v xs h words.0 d x m k at typed
 
+  plain : (a : ℕ) → not (c.layout.expansion.contents u n a) ≡ true → c.layout.expansion.contents u n a ≡ false
+  plain a e = not-true (c.layout.expansion.contents u n a) e
+
+  read_by : (kind : Kind) (mode : Mode) (line : ℕ) (key : Option ℕ) (d a m : ℕ)
+      → Does (tac.Read kind mode line key d a m)
+  read_by (OfScalar k) mode line key d a m at e f =
+      let i = tac.Read (OfScalar k) mode line key d a m in
+      read c IsGood right u n temps ws s v xs h words.0 k mode line key d a m e at (plain a (admitted i at))
+      (fine i at)
+  read_by Void mode line key d a m at e f =
+      let i = tac.Read Void mode line key d a m in
+      read_at c IsGood right u n temps ws s v xs h words.0 Void refl mode line key d a m e at
+      (plain a (admitted i at)) (fine i at)
+  read_by (Structure size) mode line key d a m at e f =
+      let i = tac.Read (Structure size) mode line key d a m in
+      read_at c IsGood right u n temps ws s v xs h words.0 (Structure size) refl mode line key d a m e at
+      (plain a (admitted i at)) (fine i at)
+  read_by (Array size) mode line key d a m at e f =
+      let i = tac.Read (Array size) mode line key d a m in
+      read_at c IsGood right u n temps ws s v xs h words.0 (Array size) refl mode line key d a m e at
+      (plain a (admitted i at)) (fine i at)
+
+  write_by : (kind : Kind) (mode : Mode) (line : ℕ) (key : Option ℕ) (d a b m : ℕ)
+      → Does (tac.Write kind mode line key d a b m)
+  write_by (OfScalar k) mode line key d a b m at e f =
+      let i = tac.Write (OfScalar k) mode line key d a b m in
+      write c IsGood right u n temps ws s v xs h words.0 k mode line key d a b m e at (plain a (admitted i at))
+      (and_parts (is_scalar_of k (temps b)) _ f).0 (fine i at)
+  write_by Void mode line key d a b m at e f = cc
+  write_by (Structure size) mode line key d a b m at e f = cc
+  write_by (Array size) mode line key d a b m at e f = cc
+
+  part_by : (kind : Kind) (line x offset a m : ℕ) → Does (tac.StorePart kind line x offset a m)
+  part_by (OfScalar k) line x offset a m at e f =
+      let i = tac.StorePart (OfScalar k) line x offset a m in
+      store_part c IsGood right u n temps ws s v xs h words k line x offset a m (ltb-true offset (2 ^ 64) e) at f (fine i at)
+  part_by Void line x offset a m at e f = cc
+  part_by (Structure size) line x offset a m at e f = cc
+  part_by (Array size) line x offset a m at e f = cc
+
   instruction : (i : Instruction) → Does i
   instruction (tac.Skip m) at e f = skip_step c IsGood right u n temps ws s v xs h words.0 m at
   instruction (tac.Constant d w m) at e f = constant c IsGood right u n temps ws s v xs h words.0 d w m at f
@@ -72,6 +124,14 @@ module _ (c : Compiled) (IsGood : Bytes → Type 0) (right : IsCompiled c IsGood
       binary c IsGood right u n temps ws s v xs h words.0 op ty line d a b m at
   instruction (tac.Offset form size d a b m) at e f =
       offset c IsGood right u n temps ws s v xs h words.0 form size d a b m (ltb-true size (2 ^ 64) e) at
+  instruction (tac.Read kind mode line key d a m) at e f = read_by kind mode line key d a m at e f
+  instruction (tac.Write kind mode line key d a b m) at e f = write_by kind mode line key d a b m at e f
+  instruction (tac.Judge test size line key a m) at e f =
+      let some = and_parts (nat_le 1 size) _ e in
+      let small = and_parts (is_word size) (not (has_named_key h.code key)) some.1 in
+      judge c IsGood right u n temps ws s v xs h words test size line key a m at small.1
+      (ltb-true size (2 ^ 64) small.0) (leb-true 1 size some.0) (fine (tac.Judge test size line key a m) at)
+  instruction (tac.StorePart kind line x offset a m) at e f = part_by kind line x offset a m at e f
   instruction (tac.Branch a x y) at e f = branch c IsGood right u n temps ws s v xs h words.0 a x y at
   instruction (tac.Case a w x y) at e f = case c IsGood right u n temps ws s v xs h words.0 a w x y at e
   instruction (tac.Turn counted m) at e f = turn c IsGood right u n temps ws s v xs h words.0 counted m at
@@ -102,9 +162,13 @@ module _ (c : Compiled) (IsGood : Bytes → Type 0) (right : IsCompiled c IsGood
       by (Some i) e not_stuck =
           let same : i ≡ covered.instruction = same_Some i covered.instruction e in
           let f = act_fits c.setting (expansion_of c).code i u temps ws (spent (cost i) s) not_stuck in
+          let at = ap (λ z. slice_get z.code n) same_code ∙ covered.at ∙ ap Some (sym same) in
           subst (λ z. Result c IsGood z (flat.Stands u (c.layout.address u n) v xs)) (sym f.1)
-          (instruction c IsGood right u n temps ws s v xs h words i
-          (ap (λ z. slice_get z.code n) same_code ∙ covered.at ∙ ap Some (sym same))
+          (instruction c IsGood right u n temps ws s v xs h words
+          (λ j at. ap (admits c u n) (same_Some j covered.instruction
+          (sym at ∙ ap (λ z. slice_get z.code n) same_code ∙ covered.at)) ∙ covered.admitted)
+          (λ j there. subst (λ z. effect c.setting (expansion_of c).code z u temps ws (spent (cost z) s) ≡ Stuck → ⊥)
+          (same_Some i j (sym at ∙ there)) (λ stuck. not_stuck (f.1 ∙ stuck))) i at
           (ap (λ z. covers z i) same_code ∙ ap (covers covered.code) same ∙ covered.covered) f.0)
 
   pub covered_step : (x : flat.Stage) → Matches c IsGood (Stands u n temps ws s) x

@@ -7,8 +7,17 @@ pub mod Moving
 pub mod Pointers
 pub mod Registers
 pub mod Setting
+pub mod StoredParts
 pub mod Simple
 pub mod Standing
 pub mod Waiting
 pub mod StartData
 pub mod StartFile
+pub mod Accesses
+pub mod Acting
+pub mod Checking
+pub mod Finishing
+pub mod FiveRegisters
+pub mod Reading
+pub mod Routines
+pub mod Writing

@@ -77,7 +77,7 @@ there_by e u c address (Some f) h = record {
 pub leaves_same : (sc : Context) (s : State) → IsGood sc s → Leaves sc s s
 leaves_same sc s h = record { good = h; lives = lives_same s.objects; frame = refl; ended = ends_same s.objects }
 
-leaves_then : (sc : Context) (s s1 s2 : State) → Leaves sc s s1 → Leaves sc s1 s2 → Leaves sc s s2
+pub leaves_then : (sc : Context) (s s1 s2 : State) → Leaves sc s s1 → Leaves sc s1 s2 → Leaves sc s s2
 leaves_then sc s s1 s2 p q = record {
   good = q.good;
   lives = lives_then s.objects s1.objects s2.objects p.lives q.lives;

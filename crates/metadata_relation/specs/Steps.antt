@@ -1,5 +1,5 @@
 -- What the steps of instructions rest on, and which of them are covered so far.
-use Rattle.std.specs.Prelude.{◌≡◌, ℕ, Bool, true, false, map, Option, Some, None, slice_get}
+use Rattle.std.specs.Prelude.{◌≡◌, ℕ, Bool, true, false, not, ◌&&◌, ◌==◌, nat_le, map, Option, Some, None, slice_get}
 use Rattle.behaviours.specs.Steps.{run}
 use Rattle.addr_map.specs.Places.{AreMapped}
 use Rattle.obj_memory.specs.declared.value.Scalar.{Scalar}
@@ -9,12 +9,15 @@ use Rattle.source_meaning.specs.Calls.{header_of}
 use Rattle.source_meaning.specs.Good.{plain_type}
 use Rattle.tac_ir.specs.declared.instruction.Instruction.{Instruction}
 use Rattle.tac_ir.specs.declared.instruction.Instruction.TheVariants as tac
+use Rattle.tac_ir.specs.declared.instruction.Mode.{Mode}
+use Rattle.tac_ir.specs.declared.instruction.Mode.TheVariants.{Named, Unchecked, Judged}
 use Rattle.tac_ir.specs.declared.function.CodeFunction.{CodeFunction}
 use Rattle.tac_ir.specs.Fitting.{is_word}
 use Rattle.tac_ir.specs.Stage.{Stage}
 use Rattle.flat_meaning.specs.Memory.{Bytes}
 use Rattle.flat_meaning.specs.State as flat
 use Rattle.flat_meaning.specs.Meaning.{step}
+use Rattle.metadata_plan.specs.Entries.{has_named_key}
 use Rattle.metadata_plan.specs.Registers.{all_variables}
 use Rattle.metadata_relation.specs.InlineCode.{IsInlineCode}
 use Rattle.metadata_relation.specs.Expanded.{IsExpanded}
@@ -40,6 +43,12 @@ is_no_aggregate (OfScalar k) = true
 is_no_aggregate (Structure n) = false
 is_no_aggregate (Array n) = false
 
+-- an access that names its object, or was judged
+abbrev pub is_settled : Mode → Bool
+is_settled Named = true
+is_settled Unchecked = false
+is_settled Judged = true
+
 -- the instructions whose steps are known
 abbrev pub covers : CodeFunction → Instruction → Bool
 covers c (tac.Skip m) = true
@@ -52,10 +61,21 @@ covers c (tac.Convert kind d a m) = is_no_aggregate kind
 covers c (tac.Unary op ty d a m) = true
 covers c (tac.Binary op ty line d a b m) = true
 covers c (tac.Offset form size d a b m) = is_word size
+covers c (tac.Read kind mode line key d a m) = is_settled mode
+covers c (tac.Write (OfScalar k) mode line key d a b m) = is_settled mode
+covers c (tac.Judge test size line key a m) = nat_le 1 size && (is_word size && not (has_named_key c key))
+covers c (tac.StorePart (OfScalar k) line x offset a m) = is_word offset
 covers c (tac.Branch a x y) = true
 covers c (tac.Case a w x y) = is_word w
 covers c (tac.Turn counted m) = true
 covers c i = false
+
+-- what is asked of the node besides: contents are read and written by other instructions
+abbrev pub admits : Compiled → (function node : ℕ) → Instruction → Bool
+admits c u n (tac.Read kind mode line key d a m) = not (c.layout.expansion.contents u n a)
+admits c u n (tac.Write kind mode line key d a b m) = not (c.layout.expansion.contents u n a)
+admits c u n (tac.Update w k f mode line at key d a right m) = not (c.layout.expansion.contents u n a)
+admits c u n i = true
 
 -- at a node stands an instruction that is covered
 pub record IsCovered (c : Compiled) (function node : ℕ) : Type 0 where
@@ -64,6 +84,7 @@ pub record IsCovered (c : Compiled) (function node : ℕ) : Type 0 where
   pub instruction : Instruction
   pub at : slice_get code.code node ≡ Some instruction
   pub covered : covers code instruction ≡ true
+  pub admitted : admits c function node instruction ≡ true
 
 -- the run of flat code comes to where it matches
 pub record ComesToMatch (c : Compiled) (IsGood : Bytes → Type 0) (stage : Stage) (x : flat.Stage) : Type 0 where

@@ -20,4 +20,5 @@ pub mod Finishing
 pub mod FiveRegisters
 pub mod Reading
 pub mod Routines
+pub mod UpdatedPlaces
 pub mod Writing

@@ -74,7 +74,7 @@ use Rattle.metadata_relation.proofs.Standing.{good_now, IsNode, node, Result}
 
 -- ---- what is read
 
-read_untagged : (t : IntType) (p : _) (objects : Objects) → (read_value (Integer t) p objects).tag ≡ Untagged
+pub read_untagged : (t : IntType) (p : _) (objects : Objects) → (read_value (Integer t) p objects).tag ≡ Untagged
 unfolding read_value
 read_untagged t p objects = refl
 

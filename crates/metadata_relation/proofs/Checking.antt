@@ -52,7 +52,6 @@ use Rattle.metadata_plan.specs.Entries.{given, has_named_key}
 use Rattle.metadata_plan.specs.Expanded.{Leads}
 use Rattle.metadata_plan.specs.Operators.{Position}
 use Rattle.metadata_plan.specs.Registers.{most_temporaries}
-use Rattle.metadata_plan.proofs.Flat.{words_kept}
 use Rattle.metadata_relation.specs.Blocks.{check_code, is_short, number_code, number_operand}
 use Rattle.metadata_relation.specs.Holding.{GoesOn, IsHeldAt}
 use Rattle.metadata_relation.specs.Registers.{first_free, temporary_register}
@@ -61,6 +60,7 @@ use Rattle.metadata_relation.specs.Stages.{Compiled, expansion_of, factor, IsAt,
 use Rattle.metadata_relation.specs.Steps.{IsCompiled}
 use Rattle.metadata_relation.proofs.Accesses.{keyed_opens}
 use Rattle.metadata_relation.proofs.Acting.{acts_alone, HasActed, Reached, reached_by, reached_here, reached_on, reached_then}
+use Rattle.metadata_relation.proofs.Acting.{reached_words}
 use Rattle.metadata_relation.proofs.Acting.{stands_on}
 use Rattle.metadata_relation.proofs.FiveRegisters.{below}
 use Rattle.metadata_relation.proofs.Holding.{same_world}
@@ -321,14 +321,14 @@ module _ (c : Compiled) (IsGood : Bytes → Type 0) (right : IsCompiled c IsGood
         (record { function = u; place = pc; state = v; frames = xs }) free size (free + 1) (omega arith) small
         (record { has = has_front body pc front list has; words = words.0 }) in
         let comes = computed c IsGood right u n temps ws s v xs h words.0 q free size (free + 1) 5 made in
+        let begun = reached_by (map_of c) c.layout.program u xs pc q v (record v { values = made.after }) 10 comes in
         let same = λ (y : ℕ) (lt : y < free). made.others y (omega arith) (λ e. omega arith) in
         let len : pc + length (front ++ list) ≡ q + length list = omega (arith, length-append front list) in
         let low = (good_now (names c) u ws s h.steady.good).low in
         let least = ltb-false size (2 ^ 31 - 2 ^ 11) is in
         tested (SpatialAt line) (is_within p.tag p.word size) q 10 5 (free + 1) list made.after (v.work + comes.work)
-        (reached_by (map_of c) c.layout.program u xs pc q v (record v { values = made.after }) 10 comes) same
-        (subst HasWords comes.comes
-        (words_kept (map_of c) c.layout.program comes.steps (flat.Stands u pc v xs) words)).0 (omega arith)
+        begun same (reached_words (map_of c) c.layout.program u xs pc q v (Begun made.after (v.work + comes.work)) 10 words
+        begun) (omega arith)
         (right.inline.computes.spatial_check (held_from (T a)) (Register free) line (free + 1))
         (has_back body pc front list has) (subst (λ z. Leads body z (c.layout.address u next)) len on)
         (λ z. IsToTest (views c) h.keys s.objects p (held_from (T a)) z

@@ -45,11 +45,11 @@ use Rattle.metadata_relation.proofs.Standing.{good_now, leaves_same, leaves_then
 abbrev pub StaysBeside : (register : ℕ) → (values after : flat.Values) → Type 0
 StaysBeside r values after = (y : ℕ) → (y < r) ⊎ (r + 5 ≤ y) → after y ≡ values y
 
-beside_ne : (y r : ℕ) → (y < r) ⊎ (r + 5 ≤ y) → y ≢ r
+pub beside_ne : (y r : ℕ) → (y < r) ⊎ (r + 5 ≤ y) → y ≢ r
 beside_ne y r (inl below) e = absurd (omega arith)
 beside_ne y r (inr above) e = absurd (omega arith)
 
-beside_wider : (y r : ℕ) → (y < r) ⊎ (r + 5 ≤ y) → (y < r + 1) ⊎ (r + 5 ≤ y)
+pub beside_wider : (y r : ℕ) → (y < r) ⊎ (r + 5 ≤ y) → (y < r + 1) ⊎ (r + 5 ≤ y)
 beside_wider y r (inl below) = inl (omega arith)
 beside_wider y r (inr above) = inr above
 

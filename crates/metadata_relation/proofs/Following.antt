@@ -20,7 +20,7 @@ use Rattle.flat_meaning.specs.State as flat
 use Rattle.flat_meaning.specs.Words.{HasWords}
 use Rattle.metadata_plan.specs.Registers.{all_variables}
 use Rattle.metadata_relation.specs.Stages.{Compiled, map_of, expansion_of, IsAt, MatchesBy, Matches}
-use Rattle.metadata_relation.specs.Steps.{IsCompiled, covers, admits, is_scalar_type, IsCovered, ComesToMatch}
+use Rattle.metadata_relation.specs.Steps.{IsCompiled, covers, admits, is_scalar_type, is_settled, is_update_by_word, IsCovered, ComesToMatch}
 use Rattle.metadata_plan.proofs.Flat.{words_kept}
 use Rattle.metadata_relation.proofs.Standing.{Result}
 use Rattle.metadata_relation.proofs.Simple.{constant, unary, binary, skip_step, branch, turn, case}
@@ -31,12 +31,13 @@ use Rattle.metadata_relation.proofs.Pointers.{home_pointer, offset}
 use Rattle.metadata_relation.proofs.Checking.{judge}
 use Rattle.metadata_relation.proofs.StoredParts.{store_part}
 use Rattle.metadata_relation.proofs.Reading.{read, read_at}
+use Rattle.metadata_relation.proofs.UpdateSteps.{update_place}
 use Rattle.metadata_relation.proofs.Writing.{write}
 use Rattle.std.proofs.lemmas.Bool.{and_parts, leb-true, not-true}
 use Rattle.std.specs.Prelude.{not, nat_le}
 use Rattle.metadata_plan.specs.Entries.{has_named_key}
 use Rattle.tac_ir.specs.declared.instruction.Mode.{Mode}
-use Rattle.tac_ir.specs.Fitting.{is_scalar_of, is_word}
+use Rattle.tac_ir.specs.Fitting.{is_scalar_of, is_update_of, is_word}
 
 module _ (c : Compiled) (IsGood : Bytes → Type 0) (right : IsCompiled c IsGood) (u n : ℕ) (temps : Temps)
     (ws : List Frame) (s : State) (v : flat.State) (xs : List flat.Frame)
@@ -126,6 +127,11 @@ module _ (c : Compiled) (IsGood : Bytes → Type 0) (right : IsCompiled c IsGood
       offset c IsGood right u n temps ws s v xs h words.0 form size d a b m (ltb-true size (2 ^ 64) e) at
   instruction (tac.Read kind mode line key d a m) at e f = read_by kind mode line key d a m at e f
   instruction (tac.Write kind mode line key d a b m) at e f = write_by kind mode line key d a b m at e f
+  instruction (tac.Update w k fixity mode line end_line key d a r m) at e f =
+      let i = tac.Update w k fixity mode line end_line key d a r m in
+      let p = and_parts (is_settled mode) (is_update_by_word w) e in
+      update_place c IsGood right u n temps ws s v xs h words w k fixity mode line end_line key d a r m p.0 at
+      (plain a (admitted i at)) (and_parts (is_update_of w k) _ f).0 p.1 (fine i at)
   instruction (tac.Judge test size line key a m) at e f =
       let some = and_parts (nat_le 1 size) _ e in
       let small = and_parts (is_word size) (not (has_named_key h.code key)) some.1 in

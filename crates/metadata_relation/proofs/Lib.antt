@@ -21,4 +21,5 @@ pub mod FiveRegisters
 pub mod Reading
 pub mod Routines
 pub mod UpdatedPlaces
+pub mod UpdateSteps
 pub mod Writing

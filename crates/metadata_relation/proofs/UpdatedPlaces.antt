@@ -20,6 +20,7 @@ use Rattle.obj_memory.specs.Judgement.{moved, place_in}
 use Rattle.obj_memory.specs.Operators.{binary_value}
 use Rattle.obj_memory.specs.Sound.{IsSoundTag}
 use Rattle.obj_memory.proofs.Reading.{sound_read}
+use Rattle.obj_memory.proofs.Soundness.{sound_tag_continues}
 use Rattle.c_tree.specs.declared.expression.Fixity.{Fixity}
 use Rattle.c_tree.specs.declared.expression.Fixity.TheVariants.{Prefix, Postfix}
 use Rattle.c_tree.specs.declared.expression.Update.{Update}
@@ -38,6 +39,7 @@ use Rattle.tac_ir.specs.declared.instruction.RightOperand.{RightOperand}
 use Rattle.tac_ir.specs.declared.instruction.RightOperand.TheVariants.{One, Temporary}
 use Rattle.tac_ir.specs.Accesses.{admitted, is_through}
 use Rattle.tac_ir.specs.Costs.{cost, spent}
+use Rattle.tac_ir.specs.Fitting.{is_update_of}
 use Rattle.tac_ir.specs.Temporaries.{right_count}
 use Rattle.tac_ir.specs.Meaning.{effect, function_in as code_in, given_in, keyed, keys_of, right_value}
 use Rattle.tac_ir.specs.Stage.{came, Frame, Over, Stage, Stands, Stuck, Temps, with_temp}
@@ -49,13 +51,15 @@ use Rattle.flat_meaning.specs.Memory.{Bytes, put}
 use Rattle.flat_meaning.specs.State as flat
 use Rattle.flat_meaning.specs.Words.{HasWords, IsOfWords}
 use Rattle.flat_meaning.proofs.Stored.{put_other, put_same}
-use Rattle.flat_routines.specs.Metadata.{held_registers, metadata_in}
+use Rattle.flat_routines.specs.declared.registers.Entry.{Entry}
+use Rattle.flat_routines.specs.InputOutput.{IsWithoutInputOutput}
+use Rattle.flat_routines.specs.Metadata.{entry_registers, held_registers, metadata_in}
 use Rattle.flat_routines.specs.Objects.StandsFor.{Keys, spell}
-use Rattle.flat_routines.specs.Registers.{AreBelow}
+use Rattle.flat_routines.specs.Registers.{AreBelow, AreDistinct, AreNoneOf}
 use Rattle.flat_routines.specs.Routine.{HasAt}
 use Rattle.flat_routines.proofs.Steps.{has_back, has_front}
 use Rattle.flat_routines.proofs.Words.{same_metadata}
-use Rattle.flat_actions.specs.Actions.{HasGiven, Nowhere, Word}
+use Rattle.flat_actions.specs.Actions.{HasGiven, Nowhere, Pointer as InPointer, Word}
 use Rattle.flat_actions.proofs.Standing.{for_worked}
 use Rattle.flat_operators.specs.Pointers.{address_back, address_forward}
 use Rattle.object_routines.specs.declared.accesses.held.HeldScalar.{HeldScalar}
@@ -69,18 +73,24 @@ use Rattle.metadata_plan.specs.Registers.{most_temporaries}
 use Rattle.metadata_plan.proofs.Flat.{constant_comes, weight_small}
 use Rattle.metadata_plan.proofs.Numbers.{scaled}
 use Rattle.metadata_plan.proofs.Simple.{most_small}
-use Rattle.metadata_relation.specs.Blocks.{given_register, new_integer, right_code, right_register, untagged, update_code}
+use Rattle.metadata_relation.specs.Blocks.{given_register, move_entry_if, right_code, right_register, untagged}
 use Rattle.metadata_relation.specs.Contents.{is_right, takes_word}
-use Rattle.metadata_relation.specs.Holding.{IsHeldAt}
+use Rattle.metadata_relation.specs.Holding.{IsHeldAt, World}
+use Rattle.metadata_relation.specs.InlineCode.{Leaves as LeavesAddress}
 use Rattle.metadata_relation.specs.Registers.{first_free, temporary_register}
 use Rattle.metadata_relation.specs.Scopes.{context_at}
 use Rattle.metadata_relation.specs.Stages.{Compiled, expansion_of, factor, IsAt, map_of, names, views, world}
-use Rattle.metadata_relation.specs.Steps.{IsCompiled, is_settled}
+use Rattle.metadata_relation.specs.Steps.{IsCompiled, is_settled, is_update_by_word}
 use Rattle.metadata_relation.proofs.Accesses.{behind_read, behind_write, found, keyed_opens, loaded}
 use Rattle.metadata_relation.proofs.Acting.{acts_giving, behind_action, HasActed, Reached, reached_computed, reached_next}
 use Rattle.metadata_relation.proofs.Acting.{reached_then, reached_words}
 use Rattle.metadata_relation.proofs.Assigning.{assigned}
-use Rattle.metadata_relation.proofs.Finishing.{acted_as, acted_then, ends_with, integer_few, integer_moved, nothing_done}
+use Rattle.metadata_relation.proofs.Finishing.{acted_as, acted_then, AreFew, beside_ne, beside_wider, ends_with}
+use Rattle.metadata_relation.proofs.Finishing.{integer_few, integer_moved, IsPlacedIn, nothing_done}
+use Rattle.metadata_relation.proofs.FiveRegisters.{below, distinct, none_of}
+use Rattle.metadata_relation.proofs.Holding.{spell_kept}
+use Rattle.metadata_relation.proofs.Inline.{inline_computes}
+use Rattle.metadata_relation.proofs.Pointers.{entry_moved, IsReadFirst}
 use Rattle.metadata_relation.proofs.Moving.{held_of}
 use Rattle.metadata_relation.proofs.Reading.{leaves_read, plain_operand, read_untagged}
 use Rattle.metadata_relation.proofs.Registers.{temporary_free}
@@ -88,6 +98,56 @@ use Rattle.metadata_relation.proofs.Routines.{action_passes, Passes}
 use Rattle.metadata_relation.proofs.Simple.{taken}
 use Rattle.metadata_relation.proofs.Standing.{ends, good_now, IsNode, node, Result}
 use Rattle.metadata_relation.proofs.Writing.{held_passes, leaves_write}
+
+-- ---- a pointer goes on from registers of the block's own
+
+-- its word from one of two, and its entry
+pointer_handed : (w : World) (b : Bool) (value : Value) (r from : ℕ) (e : Entry) (values : flat.Values) → IsReadFirst r e
+    → AreNoneOf (entry_registers e) (r ∷ []) → values from ≡ value.word
+    → metadata_in values e ≡ spell w.views w.keys value.tag → IsSoundTag w.views.functions w.objects value.tag
+    → IsPlacedIn w b value r values (assigned (flat_code.Move r from ∷ move_entry_if b (held_from r).tag e) values)
+pointer_handed w false value r from e values first apart word tag sound = record {
+  held = record { word = put_same values r (values from) ∙ word; entry = λ p. cc; sound = sound };
+  others = λ y out. put_other values r (values from) y (beside_ne y r out);
+}
+pointer_handed w true value r from e values first apart word tag sound =
+    let moved = put values r (values from) in
+    let z = entry_moved r e moved first in
+    let own = z.others r (inl (omega arith)) ∙ put_same values r (values from) ∙ word in
+    record {
+      held = record {
+        word = own;
+        entry = λ p. record {
+          word = own;
+          tag = z.entry refl
+              ∙ same_metadata (metadata_in moved e) (metadata_in values e) (put_other values r (values from) e.base apart.0.0)
+              (put_other values r (values from) e.bound apart.1.0.0) (put_other values r (values from) e.key apart.1.1.0.0)
+              (put_other values r (values from) e.lock apart.1.1.1.0.0)
+              ∙ tag;
+        };
+        sound = sound;
+      };
+      others = λ y out. z.others y (beside_wider y r out) ∙ put_other values r (values from) y (beside_ne y r out);
+    }
+
+handed_few : (b : Bool) (r from : ℕ) (e : Entry) → AreFew 5 (flat_code.Move r from ∷ move_entry_if b (held_from r).tag e)
+handed_few false r from e = record { assign = refl; few = omega arith }
+handed_few true r from e = record { assign = refl; few = omega arith }
+
+-- the entry of the first free registers can go to a temporary
+free_first : (r free : ℕ) → r + 5 ≤ free → IsReadFirst r (held_from free).tag
+free_first r free le = record {
+  bound = λ e. omega arith;
+  key_first = λ e. omega arith;
+  key_second = λ e. omega arith;
+  lock_first = λ e. omega arith;
+  lock_second = λ e. omega arith;
+  lock_third = λ e. omega arith;
+}
+
+free_apart : (r free : ℕ) → r + 5 ≤ free → AreNoneOf (entry_registers (held_from free).tag) (r ∷ [])
+free_apart r free le =
+    (((λ e. omega arith), tt), (((λ e. omega arith), tt), (((λ e. omega arith), tt), (((λ e. omega arith), tt), tt))))
 
 -- ---- which value is given
 
@@ -347,7 +407,7 @@ module _ (c : Compiled) (IsGood : Bytes → Type 0) (right : IsCompiled c IsGood
     right_below = operand.right_low
 
     -- a division by zero
-    divided : binary_value op t (fit t old.word) word ≡ None → Follows (Over (Divide end_line) behind)
+    pub divided : binary_value op t (fit t old.word) word ≡ None → Follows (Over (Divide end_line) behind)
     divided e =
         let m = map_of c in
         let p = c.layout.program in
@@ -449,7 +509,7 @@ module _ (c : Compiled) (IsGood : Bytes → Type 0) (right : IsCompiled c IsGood
       given_plain : given_is.tag ≡ Untagged
       given_plain = given_tag f old new (λ z. z.tag ≡ Untagged) (read_untagged kt place s.objects) refl
 
-      updates : Follows (Stands u next (with_temp temps d (rvalue given_is)) ws written)
+      pub updates : Follows (Stands u next (with_temp temps d (rvalue given_is)) ws written)
       updates =
           let room = temporary_free h.code d low in
           let l = store_passed.holds in
@@ -471,4 +531,239 @@ module _ (c : Compiled) (IsGood : Bytes → Type 0) (right : IsCompiled c IsGood
           (8 + binary_most op * 2 + 2 * 2 + 2 + 2 * 5 + 2) refl (inl refl) low e.1
           (acted_as c IsGood right u n temps ws s v xs h written l.keys y6 (assigned hand_list y6.values) e.0 store_done)
           (λ x lt out. placed.others x out ∙ l.others x (omega arith) tt ∙ stays x (omega arith) ∙ load_others x lt)
+          placed.held (omega arith)
+
+  -- ---- pointers
+
+  module _ (w : Update) (f : Fixity) (mode : Mode) (line end_line : ℕ) (key : Option ℕ) (d a : ℕ) (r : RightOperand)
+      (next : ℕ) (at : slice_get h.code.code n ≡ Some (tac.Update w Pointer f mode line end_line key d a r next)) (q : Value)
+      (held : IsHeldAt (world c h.keys s v) (c.layout.expansion.entries u n a) q (temporary_register h.code a) v.values)
+      (direct : IsDirect s.objects q 8) (size : ℕ) (small : size < 2 ^ 64)
+      (code : (size into left right scratch : ℕ) → List FlatInstruction) (value : (size left right : ℕ) → ℕ)
+      (leaves : LeavesAddress code value 0)
+      (alone : (size into left right scratch : ℕ) → IsWithoutInputOutput (code size into left right scratch)) where
+    abbrev pointer_label : Instruction
+    pointer_label = tac.Update w Pointer f mode line end_line key d a r next
+
+    pointer_node : IsNode c u n h.code (tac.Update w Pointer f mode line end_line key d a r next)
+    pointer_node = node c IsGood right u n temps ws s v xs h (tac.Update w Pointer f mode line end_line key d a r next) at
+
+    to_low : d < most_temporaries h.code.code
+    to_low = omega (arith, pointer_node.temporaries_low)
+
+    through_low : a < most_temporaries h.code.code
+    through_low = omega (arith, pointer_node.temporaries_low)
+
+    operand_low : right_count r ≤ most_temporaries h.code.code
+    operand_low = omega (arith, pointer_node.temporaries_low)
+
+    abbrev pointer_paid : State
+    pointer_paid = spent (cost (tac.Update w Pointer f mode line end_line key d a r next)) s
+
+    abbrev where_is : Place
+    where_is = place_in s.objects direct.object q.word
+
+    abbrev was : Value
+    was = read_value Pointer (place_in s.objects direct.object q.word) s.objects
+
+    abbrev right_word : ℕ
+    right_word = (right_value r temps).word
+
+    abbrev read_behind : State
+    read_behind = behind_read 8 q pointer_paid
+
+    -- the lists
+    abbrev into_pointer : HeldScalar
+    into_pointer = HeldPointer (held_from (first_free h.code))
+
+    abbrev from_pointer : HeldScalar
+    from_pointer = HeldPointer (record { value = first_free h.code + 5; tag = (held_from (first_free h.code)).tag })
+
+    abbrev loads : List FlatInstruction
+    loads = c.layout.expansion.inline.load (temporary_register h.code a) (HeldPointer (held_from (first_free h.code)))
+        (first_free h.code + 5)
+
+    abbrev rights : List FlatInstruction
+    rights = right_code r (free + 6)
+
+    abbrev moves : List FlatInstruction
+    moves = code size (free + 5) free (right_register h.code r (free + 6)) (free + 6 + 1)
+
+    abbrev stores : List FlatInstruction
+    stores = c.layout.expansion.inline.store (temporary_register h.code a)
+        (HeldPointer (record { value = first_free h.code + 5; tag = (held_from (first_free h.code)).tag }))
+        (first_free h.code + 6)
+
+    abbrev hands : List FlatInstruction
+    hands = flat_code.Move (T d) (given_register f free (free + 5))
+        ∷ move_entry_if (E next d) (held_from (T d)).tag (held_from free).tag
+
+    abbrev at_rights : ℕ
+    at_rights = c.layout.address u n + length loads
+
+    abbrev at_moves : ℕ
+    at_moves = c.layout.address u n + length loads + length rights
+
+    abbrev at_stores : ℕ
+    at_stores = c.layout.address u n + length loads + length rights + length moves
+
+    module _ (has : HasAt body pc (loads ++ ((rights ++ moves) ++ (stores ++ hands))))
+        (leads : Leads body (pc + length (loads ++ ((rights ++ moves) ++ (stores ++ hands)))) (c.layout.address u next))
+        (new : Value) (new_word : new.word ≡ value size was.word right_word) (new_tag : new.tag ≡ was.tag) where
+      has_rights_on : HasAt body at_rights ((rights ++ moves) ++ (stores ++ hands))
+      has_rights_on = has_back body pc loads ((rights ++ moves) ++ (stores ++ hands)) has
+
+      has_address : HasAt body at_rights (rights ++ moves)
+      has_address = has_front body at_rights (rights ++ moves) (stores ++ hands) has_rights_on
+
+      has_stores_on : HasAt body at_stores (stores ++ hands)
+      has_stores_on = subst (λ z. HasAt body z (stores ++ hands)) (omega (arith, length-append rights moves))
+          (has_back body at_rights (rights ++ moves) (stores ++ hands) has_rights_on)
+
+      leads_on_behind : Leads body (at_stores + length stores + length hands) (c.layout.address u next)
+      leads_on_behind = subst (λ z. Leads body z (c.layout.address u next))
+          (omega (arith, length-append rights moves, length-append loads ((rights ++ moves) ++ (stores ++ hands)),
+          length-append (rights ++ moves) (stores ++ hands), length-append stores hands)) leads
+
+      -- the old value
+      pointer_loaded : Passes (map_of c) c.layout.program
+          (record { function = u; place = c.layout.address u n; state = v; frames = xs }) at_rights 42
+          (λ y. HasGiven (views c) h.keys IsGood (InPointer (held_from free)) (free + 5) pointer_paid v was read_behind y)
+      pointer_loaded =
+          let room = temporary_free h.code a through_low in
+          let under : AreBelow (free + 5) (T a ∷ held_registers (held_from free)) = (omega arith, below free (free + 5) (omega arith)) in
+          let apart : AreDistinct (T a ∷ held_registers (held_from free)) =
+          (none_of (T a) free (inl (omega arith)), distinct free) in
+          action_passes c IsGood right u h.code h.there xs (IsToAccess into_pointer)
+          (λ vs. load Pointer false (argument 0 vs) line) (Word (T a) ∷ []) (InPointer (held_from free)) (free + 5) 21 loads
+          (right.inline.load (T a) into_pointer (free + 5) under apart line)
+          (right.inline.computes.load (T a) into_pointer (free + 5) under apart) pc v
+          (record { has = has_front body pc loads ((rights ++ moves) ++ (stores ++ hands)) has; words = words.0 }) h.keys
+          pointer_paid (q ∷ []) (for_worked (views c) h.keys IsGood s pointer_paid.work v h.stands.for) (held.word, tt) direct
+          was read_behind (loaded Pointer q line pointer_paid direct)
+
+      loaded_others : (x : ℕ) → x < first_free h.code → pointer_loaded.after.values x ≡ v.values x
+      loaded_others x lt = pointer_loaded.holds.others x (omega arith) (none_of x free (inl lt))
+
+      loaded_done : Done (behind_action s read_behind) pointer_loaded.holds.keys pointer_loaded.after
+      loaded_done =
+          acted_then c IsGood right u n temps ws s v xs h (InPointer (held_from free)) (free + 5) pointer_paid.work was s
+          read_behind h.keys v pointer_loaded.after (nothing_done c IsGood right u n temps ws s v xs h) pointer_loaded.holds
+          (leaves_read c IsGood right u n temps ws s v xs h words.0 (cost pointer_label) Pointer q direct held.sound)
+          h.steady.keys
+
+      pointer_operand : Operand pointer_loaded.after at_moves 44 (free + 6) right_word r
+      pointer_operand = operand_made pointer_label pointer_node r pointer_loaded.after at_rights 42 (free + 6) (λ b e. e)
+          operand_low (omega arith) pointer_loaded.reached loaded_others (has_front body at_rights rights moves has_address)
+
+      abbrev with_operand : flat.State
+      with_operand = record pointer_loaded.after { values = pointer_operand.values; work = pointer_operand.work }
+
+      address_made : Computes (map_of c) c.layout.program
+          (record { function = u; place = at_moves; state = with_operand; frames = xs }) at_stores (free + 5)
+          (value size (pointer_operand.values free) (pointer_operand.values (right_register h.code r (free + 6))))
+          (free + 6 + 1) 7
+      address_made =
+          let low = pointer_operand.right_low in
+          inline_computes (map_of c) c.layout.program
+          (record { function = u; place = at_moves; state = with_operand; frames = xs }) moves 1 (free + 5) (free + 6 + 1) 7
+          (λ z. value size (z.values free) (z.values (right_register h.code r (free + 6))))
+          (alone size (free + 5) free (right_register h.code r (free + 6)) (free + 6 + 1))
+          (leaves (context (map_of c) c.layout.program u xs) 1 size (free + 5) free (right_register h.code r (free + 6))
+          (free + 6 + 1) (omega arith) small
+          (record { into_below = omega arith; left_below = omega arith; right_below = low }))
+          (record {
+            has = has_back body at_rights rights moves has_address;
+            words = reached_words (map_of c) c.layout.program u xs pc at_moves v with_operand 44 words pointer_operand.reached;
+          })
+
+      abbrev with_new : flat.State
+      with_new = record pointer_loaded.after { values = address_made.after; work = pointer_operand.work + address_made.work }
+
+      address_reached : Come at_stores with_new 58
+      address_reached = reached_computed (map_of c) c.layout.program u xs pc at_moves at_stores (free + 5) _ (free + 6 + 1) v
+          with_operand 44 7 pointer_operand.reached address_made
+
+      new_there : address_made.after (free + 5) ≡ new.word
+      new_there = address_made.gives
+          ∙ ap₂ (value size) (pointer_operand.others free (omega arith) ∙ pointer_loaded.holds.given.word)
+          pointer_operand.right_is ∙ sym new_word
+
+      old_stays : (x : ℕ) → x < free + 5 → address_made.after x ≡ pointer_loaded.after.values x
+      old_stays x lt =
+          address_made.others x (omega arith) (λ e. omega arith) ∙ pointer_operand.others x (omega arith)
+
+      old_sound : IsSoundTag (views c).functions s.objects was.tag
+      old_sound = sound_read Pointer where_is s.objects h.stands.for.objects.sound
+
+      new_sound : IsSoundTag (views c).functions s.objects new.tag
+      new_sound = subst (IsSoundTag (views c).functions s.objects) (sym new_tag) old_sound
+
+      entry_there : metadata_in address_made.after (held_from free).tag ≡ spell (views c) pointer_loaded.holds.keys was.tag
+      entry_there =
+          same_metadata (metadata_in address_made.after (held_from free).tag)
+          (metadata_in pointer_loaded.after.values (held_from free).tag) (old_stays (free + 1) (omega arith))
+          (old_stays (free + 2) (omega arith)) (old_stays (free + 3) (omega arith)) (old_stays (free + 4) (omega arith))
+          ∙ pointer_loaded.holds.given.tag
+
+      new_now : Done (behind_action s read_behind) pointer_loaded.holds.keys with_new
+      new_now = acted_as c IsGood right u n temps ws s v xs h read_behind pointer_loaded.holds.keys pointer_loaded.after
+          with_new.values with_new.work loaded_done
+
+      pointer_stored : Passes (map_of c) c.layout.program
+          (record { function = u; place = at_stores; state = with_new; frames = xs }) (at_stores + length stores) 54
+          (λ y. HasGiven (views c) pointer_loaded.holds.keys IsGood Nowhere (free + 6) read_behind with_new (integer 0)
+          (behind_write Pointer q where_is new read_behind) y)
+      pointer_stored =
+          let room = temporary_free h.code a through_low in
+          held_passes c IsGood right u h.code h.there xs from_pointer (T a) (free + 6)
+          (omega arith, (omega arith, (omega arith, (omega arith, (omega arith, (omega arith, tt)))))) at_stores with_new
+          (has_front body at_stores stores hands has_stores_on)
+          (reached_words (map_of c) c.layout.program u xs pc at_stores v with_new 58 words address_reached)
+          pointer_loaded.holds.keys read_behind q new new_now.stands.for
+          (old_stays (T a) (omega arith) ∙ loaded_others (T a) (omega arith) ∙ held.word)
+          (record {
+            word = new_there;
+            tag = entry_there ∙ ap (spell (views c) pointer_loaded.holds.keys) (sym new_tag);
+          }, new_sound) direct
+
+      pointer_done : Done (behind_action s (behind_write Pointer q where_is new read_behind)) pointer_stored.holds.keys
+          pointer_stored.after
+      pointer_done =
+          acted_then c IsGood right u n temps ws s v xs h Nowhere (free + 6) read_behind.work (integer 0) read_behind
+          (behind_write Pointer q where_is new read_behind) pointer_loaded.holds.keys with_new pointer_stored.after new_now
+          pointer_stored.holds
+          (leaves_write c IsGood right u n temps ws s v xs h read_behind 0 read_behind.work Pointer q new direct
+          loaded_done.leaves.good held.sound new_sound) h.steady.keys
+
+      pub pointer_updated : Follows (Stands u next (with_temp temps d (rvalue (given_value f was new))) ws
+          (behind_write Pointer q where_is new read_behind))
+      pointer_updated =
+          let room = temporary_free h.code d to_low in
+          let l = pointer_stored.holds in
+          let y = pointer_stored.after in
+          let z = behind_write Pointer q where_is new read_behind in
+          let gives = given_value f was new in
+          let tag_is = given_tag f was new (λ x. x.tag ≡ was.tag) refl new_tag in
+          let there = given_word f free (free + 5) y.values was new
+          (l.others free (omega arith) tt ∙ old_stays free (omega arith) ∙ pointer_loaded.holds.given.word)
+          (l.others (free + 5) (omega arith) tt ∙ new_there) in
+          let spelled = same_metadata (metadata_in y.values (held_from free).tag)
+          (metadata_in address_made.after (held_from free).tag) (l.others (free + 1) (omega arith) tt)
+          (l.others (free + 2) (omega arith) tt) (l.others (free + 3) (omega arith) tt) (l.others (free + 4) (omega arith) tt)
+          ∙ entry_there ∙ sym (spell_kept (views c) pointer_loaded.holds.keys l.keys s.objects l.held was.tag old_sound)
+          ∙ ap (spell (views c) l.keys) (sym tag_is) in
+          let placed = pointer_handed (world c l.keys z y) (E next d) gives (T d) (given_register f free (free + 5))
+          (held_from free).tag y.values (free_first (T d) free room) (free_apart (T d) free room) there spelled
+          (subst (IsSoundTag (views c).functions z.objects) (sym tag_is)
+          (sound_tag_continues (views c).functions s.objects z.objects pointer_done.goes.continues was.tag old_sound)) in
+          let all = reached_then (map_of c) c.layout.program u xs pc at_stores (at_stores + length stores) v with_new y 58 54
+          address_reached pointer_stored.reached in
+          let e = ends_with c IsGood right u n temps ws s v xs h (at_stores + length stores) 112 5 next y hands all
+          (handed_few (E next d) (T d) (given_register f free (free + 5)) (held_from free).tag)
+          (has_back body at_stores stores hands has_stores_on) leads_on_behind in
+          acts_giving c IsGood right u n temps ws s v xs h pointer_label pointer_node d next gives z l.keys
+          (record y { values = assigned hands y.values; work = e.0 }) 124 refl (inl refl) to_low e.1
+          (acted_as c IsGood right u n temps ws s v xs h z l.keys y (assigned hands y.values) e.0 pointer_done)
+          (λ x lt out. placed.others x out ∙ l.others x (omega arith) tt ∙ old_stays x (omega arith) ∙ loaded_others x lt)
           placed.held (omega arith)

@@ -5,6 +5,8 @@ use Rattle.addr_map.specs.Places.{AreMapped}
 use Rattle.obj_memory.specs.declared.value.Scalar.{Scalar}
 use Rattle.c_tree.specs.declared.expression.Kind.{Kind}
 use Rattle.c_tree.specs.declared.expression.Kind.TheVariants.{Void, Scalar as OfScalar, Structure, Array}
+use Rattle.c_tree.specs.declared.expression.Update.{Update}
+use Rattle.c_tree.specs.declared.expression.Update.TheVariants.{Arithmetic, Forward, Back}
 use Rattle.source_meaning.specs.Calls.{header_of}
 use Rattle.source_meaning.specs.Good.{plain_type}
 use Rattle.tac_ir.specs.declared.instruction.Instruction.{Instruction}
@@ -43,6 +45,12 @@ is_no_aggregate (OfScalar k) = true
 is_no_aggregate (Structure n) = false
 is_no_aggregate (Array n) = false
 
+-- an update by elements of a size that is a word
+abbrev pub is_update_by_word : Update → Bool
+is_update_by_word (Arithmetic op t) = true
+is_update_by_word (Forward size) = is_word size
+is_update_by_word (Back size) = is_word size
+
 -- an access that names its object, or was judged
 abbrev pub is_settled : Mode → Bool
 is_settled Named = true
@@ -63,6 +71,7 @@ covers c (tac.Binary op ty line d a b m) = true
 covers c (tac.Offset form size d a b m) = is_word size
 covers c (tac.Read kind mode line key d a m) = is_settled mode
 covers c (tac.Write (OfScalar k) mode line key d a b m) = is_settled mode
+covers c (tac.Update w k f mode line at key d a right m) = is_settled mode && is_update_by_word w
 covers c (tac.Judge test size line key a m) = nat_le 1 size && (is_word size && not (has_named_key c key))
 covers c (tac.StorePart (OfScalar k) line x offset a m) = is_word offset
 covers c (tac.Branch a x y) = true

@@ -25,6 +25,7 @@ use Rattle.flat_routines.specs.Metadata.{metadata_in, no_metadata}
 use Rattle.flat_routines.specs.Objects.StandsFor.{Keys, spell}
 use Rattle.flat_routines.specs.Routine.{HasAt}
 use Rattle.flat_actions.specs.Actions.{Holder, HasGiven}
+use Rattle.flat_actions.proofs.Standing.{for_worked}
 use Rattle.metadata_plan.specs.Expanded.{Leads}
 use Rattle.runtime_functions.specs.Library.{held_from}
 use Rattle.metadata_relation.specs.Blocks.{move_value, untagged}
@@ -186,6 +187,17 @@ module _ (c : Compiled) (IsGood : Bytes → Type 0) (right : IsCompiled c IsGood
     stands = stands_as c IsGood keys z y values work a.stands;
     goes = a.goes;
     leaves = a.leaves;
+    keys_few = a.keys_few;
+  }
+
+  -- nor does the work of the source
+  pub acted_worked : (z : State) (keys : Keys) (y : flat.State) (work : ℕ)
+      → HasActed c IsGood right u n temps ws s v xs h z keys y
+      → HasActed c IsGood right u n temps ws s v xs h (record z { work = work }) keys y
+  acted_worked z keys y work a = record {
+    stands = record { for = for_worked (views c) keys IsGood z work y a.stands.for; top = a.stands.top; turns = a.stands.turns };
+    goes = a.goes;
+    leaves = record { good = a.leaves.good; lives = a.leaves.lives; frame = a.leaves.frame; ended = a.leaves.ended };
     keys_few = a.keys_few;
   }
 

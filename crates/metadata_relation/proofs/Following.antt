@@ -30,6 +30,7 @@ use Rattle.metadata_relation.proofs.Setting.{set_plain_step}
 use Rattle.metadata_relation.proofs.Pointers.{home_pointer, offset}
 use Rattle.metadata_relation.proofs.Checking.{judge}
 use Rattle.metadata_relation.proofs.StoredParts.{store_part}
+use Rattle.metadata_relation.proofs.StoredTexts.{store_text}
 use Rattle.metadata_relation.proofs.Reading.{read, read_at}
 use Rattle.metadata_relation.proofs.UpdateSteps.{update_place}
 use Rattle.metadata_relation.proofs.Writing.{write}
@@ -138,6 +139,8 @@ module _ (c : Compiled) (IsGood : Bytes → Type 0) (right : IsCompiled c IsGood
       judge c IsGood right u n temps ws s v xs h words test size line key a m at small.1
       (ltb-true size (2 ^ 64) small.0) (leb-true 1 size some.0) (fine (tac.Judge test size line key a m) at)
   instruction (tac.StorePart kind line x offset a m) at e f = part_by kind line x offset a m at e f
+  instruction (tac.StoreText t x offset m) at e f =
+      store_text c IsGood right u n temps ws s v xs h words t x offset m at (fine (tac.StoreText t x offset m) at)
   instruction (tac.Branch a x y) at e f = branch c IsGood right u n temps ws s v xs h words.0 a x y at
   instruction (tac.Case a w x y) at e f = case c IsGood right u n temps ws s v xs h words.0 a w x y at e
   instruction (tac.Turn counted m) at e f = turn c IsGood right u n temps ws s v xs h words.0 counted m at

@@ -8,6 +8,7 @@ pub mod Pointers
 pub mod Registers
 pub mod Setting
 pub mod StoredParts
+pub mod StoredTexts
 pub mod Simple
 pub mod Standing
 pub mod Waiting

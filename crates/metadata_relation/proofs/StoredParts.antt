@@ -89,12 +89,12 @@ sum_is a n small = omega arith
 
 -- ---- a part of an object
 
-part_word : (offset size o : ℕ) (objects : Objects)
+pub part_word : (offset size o : ℕ) (objects : Objects)
     → (narrowed offset size (pointer_to o objects)).word ≡ ((object_at objects o).address + offset) % 2 ^ 64
 unfolding narrowed pointer_to
 part_word offset size o objects = refl
 
-abbrev part_bounds : (offset size o : ℕ) → Objects → Bounds
+abbrev pub part_bounds : (offset size o : ℕ) → Objects → Bounds
 part_bounds offset size o objects =
     let address = ((object_at objects o).address + offset) % 2 ^ 64 in
     record {
@@ -102,7 +102,7 @@ part_bounds offset size o objects =
       bound = min ((object_at objects o).address + (object_at objects o).size) (address + size);
     }
 
-part_tag : (offset size o : ℕ) (objects : Objects)
+pub part_tag : (offset size o : ℕ) (objects : Objects)
     → (narrowed offset size (pointer_to o objects)).tag ≡ OfObject o (part_bounds offset size o objects)
 unfolding narrowed pointer_to
 part_tag offset size o objects = refl
@@ -114,7 +114,7 @@ unfolding narrowed
 no_part offset size objects e = cc
 
 -- the base in a home is the address of its object
-home_address : (w : World) (o r : ℕ) (values : flat.Values) → IsHome w o r values
+pub home_address : (w : World) (o r : ℕ) (values : flat.Values) → IsHome w o r values
     → values r ≡ (object_at w.objects o).address
 unfolding pointer_to
 home_address w o r values home = ap (λ m. m.base) home.entry

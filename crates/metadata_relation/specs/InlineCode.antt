@@ -1,9 +1,11 @@
 -- The lists of instructions that stand inline in the code of a program, by their registers, and what is asked of them,
 -- whatever form the shadow space has.
-use Rattle.std.specs.Prelude.{ℕ, ◌^◌, ◌<◌, ◌≤◌, List, ◌∷◌, Some}
+use Rattle.std.specs.Prelude.{ℕ, ◌^◌, ◌<◌, ◌≤◌, List, [], ◌∷◌, Some}
+use Rattle.rv_isa.specs.declared.instruction.StoreOp.TheVariants.{Sb}
 use Rattle.addr_map.specs.Places.{MapSizes}
 use Rattle.flat_meaning.specs.declared.instruction.RightOperand.{RightOperand}
 use Rattle.flat_meaning.specs.declared.instruction.FlatInstruction.{FlatInstruction}
+use Rattle.flat_meaning.specs.declared.instruction.FlatInstruction.TheVariants.{Store}
 use Rattle.flat_meaning.specs.Meaning.{Context}
 use Rattle.flat_meaning.specs.Memory.{Bytes}
 use Rattle.flat_routines.specs.declared.registers.Held.{Held}
@@ -16,7 +18,9 @@ use Rattle.flat_operators.specs.Pointers.{address_forward, address_back, element
 use Rattle.flat_actions.specs.Actions.{registers_of, program_basis}
 use Rattle.flat_actions.specs.Judgement.Testing.{IsBelow, IsSpatialRoutine, IsTemporalRoutine}
 use Rattle.flat_actions.specs.Narrowing.{CanNarrow, IsNarrowRoutine, IsMoveOnRoutine}
+use Rattle.obj_memory.specs.declared.int_type.IntType.TheVariants.{Char}
 use Rattle.object_routines.specs.declared.accesses.held.HeldScalar.{HeldScalar}
+use Rattle.object_routines.specs.declared.accesses.held.HeldScalar.TheVariants.{Integer}
 use Rattle.object_routines.specs.AccessRoutines.Holding.{holder_in, IsApartFrom}
 use Rattle.object_routines.specs.AccessRoutines.Accessing.{IsLoadRoutine, IsStoreRoutine}
 use Rattle.object_routines.specs.AllocatingRoutines.Entering.{IsLeaveRoutine}
@@ -64,7 +68,8 @@ pub record ComputeAlone (code : InlineCode) : Type 0 where
       → IsWithoutInputOutput (code.narrow h offset size scratch)
   pub leave : (lock scratch : ℕ) → lock < scratch → IsWithoutInputOutput (code.leave lock scratch)
 
--- What is asked of them, in functions of the program. An element has a byte at least where its size divides.
+-- What is asked of them, in functions of the program, and of the instruction that stores a byte. An element has a byte at
+-- least where its size divides.
 pub record IsInlineCode (map : MapSizes) (entry : View) (IsGood : Bytes → Type 0) (code : InlineCode) : Type 0 where
   pub operators : AreOperators code.operators
   pub forward : Leaves code.forward address_forward 0
@@ -76,6 +81,8 @@ pub record IsInlineCode (map : MapSizes) (entry : View) (IsGood : Bytes → Type
   pub store : (address : ℕ) (from : HeldScalar) (scratch : ℕ)
       → AreBelow scratch (address ∷ registers_of (holder_in from))
       → IsStoreRoutine (program_basis map entry IsGood) address from scratch (code.store address from scratch)
+  pub byte : (address from scratch : ℕ) → AreBelow scratch (address ∷ from ∷ [])
+      → IsStoreRoutine (program_basis map entry IsGood) address (Integer Char from) scratch (Store Sb address 0 from ∷ [])
   pub spatial_check : (h : Held) (size : RightOperand) (line scratch : ℕ) → AreBelow scratch (held_registers h)
       → IsBelow scratch size → IsSpatialRoutine h size line scratch (code.spatial_check h size line scratch)
   pub temporal_check : (h : Held) (line scratch : ℕ) → AreBelow scratch (held_registers h)

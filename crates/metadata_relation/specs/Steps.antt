@@ -74,6 +74,7 @@ covers c (tac.Write (OfScalar k) mode line key d a b m) = is_settled mode
 covers c (tac.Update w k f mode line at key d a right m) = is_settled mode && is_update_by_word w
 covers c (tac.Judge test size line key a m) = nat_le 1 size && (is_word size && not (has_named_key c key))
 covers c (tac.StorePart (OfScalar k) line x offset a m) = is_word offset
+covers c (tac.StoreText n x offset m) = true
 covers c (tac.Branch a x y) = true
 covers c (tac.Case a w x y) = is_word w
 covers c (tac.Turn counted m) = true

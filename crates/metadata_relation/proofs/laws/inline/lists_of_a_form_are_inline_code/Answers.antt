@@ -1,6 +1,10 @@
+use Rattle.obj_memory.specs.declared.int_type.IntType.TheVariants.{Char}
+use Rattle.object_routines.specs.declared.accesses.held.HeldScalar.TheVariants.{Integer}
+use Rattle.object_routines.specs.AccessRoutines.Accessing.{store_op}
 use Rattle.metadata_relation.proofs.laws.inline.lists_of_a_form_are_inline_code.Goals as goal
 
 pub returns : goal.returns
+unfolding store_op
 returns g c = λ map mapped. record {
   operators = c.operators_compute.ensures;
   forward = λ x line size d a i s some low operands.
@@ -11,6 +15,7 @@ returns g c = λ map mapped. record {
       c.differences_are_in_elements.ensures x line d a b s size low some operands;
   load = λ a into s below apart. c.loads_are_exact.ensures.does map a into s mapped below apart;
   store = λ a from s below. c.stores_are_exact.ensures.does map a from s mapped below;
+  byte = λ a r s below. c.stores_are_exact.ensures.does map a (Integer Char r) s mapped below;
   spatial_check = λ h size line s below is. c.the_tests_of_an_access_are_exact.ensures.spatial h size line s below is;
   temporal_check = λ h line s below. c.the_tests_of_an_access_are_exact.ensures.temporal h line s below;
   narrow = λ h offset size s can. c.pointers_are_narrowed_exactly.ensures.narrows h offset size s can;

@@ -12,3 +12,6 @@ pub mod Standing
 pub mod Waiting
 pub mod StartData
 pub mod StartFile
+pub mod Ranges
+pub mod Comparing
+pub mod NamedChecks

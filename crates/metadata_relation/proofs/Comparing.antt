@@ -1,11 +1,10 @@
 -- A check of a pointer whose key begins with an object's name compares its address with that of the object.
-use Rattle.std.proofs.Common.{◌≡◌, ◌≢◌, ◌⊎◌, inl, inr, ℕ, ◌+◌, ◌-◌, ◌*◌, ◌%◌, ◌^◌, ◌<◌, ◌≤◌, Bool, true, false, List, []}
-use Rattle.std.proofs.Common.{◌∷◌, ◌++◌, length, length-append, get_or, Option, Some, None, refl, sym, ap, ap₂, ◌∙◌}
+use Rattle.std.proofs.Common.{◌≡◌, inl, inr, ℕ, ◌+◌, ◌-◌, ◌*◌, ◌%◌, ◌^◌, ◌<◌, ◌≤◌, Bool, true, false, List, []}
+use Rattle.std.proofs.Common.{◌∷◌, ◌++◌, length, length-append, Some, None, refl, sym, ap, ap₂, ◌∙◌}
 use Rattle.std.proofs.Common.{subst, arith}
-use Rattle.std.specs.Prelude.{slice_get, ◌==◌, ◌&&◌, nat_le, nat_lt, max, min, if◌then◌else◌}
-use Rattle.std.specs.List.{list_all}
-use Rattle.std.proofs.Math.Nat.{max-le_iff, mod-eq_of_lt, mul-le-mul_right}
-use Rattle.std.proofs.lemmas.Bool.{eq-eqb, eqb-true, false≢true, ltb-true, lt-ltb, leb-true}
+use Rattle.std.specs.Prelude.{nat_lt, if◌then◌else◌}
+use Rattle.std.proofs.Math.Nat.{mod-eq_of_lt, mul-le-mul_right}
+use Rattle.std.proofs.lemmas.Bool.{lt-ltb}
 use Rattle.std.proofs.lemmas.Bool.Decides.{leb_tells}
 use Rattle.behaviours.specs.Steps.{run}
 use Rattle.behaviours.proofs.Running.{run_add}
@@ -13,24 +12,14 @@ use Rattle.sb_base.specs.declared.ending.Ending.{Ending}
 use Rattle.sb_base.specs.declared.ending.Ending.TheVariants.{Spatial as SpatialAt}
 use Rattle.sb_base.specs.Endings.{code_of, report_of}
 use Rattle.words.specs.Operations.{difference}
-use Rattle.obj_memory.specs.declared.value.Tag.{Tag}
-use Rattle.obj_memory.specs.declared.value.Tag.TheVariants.{Untagged, OfFunction, OfObject}
-use Rattle.obj_memory.specs.declared.value.Value.{Value}
 use Rattle.obj_memory.specs.Judgement.{are_within}
-use Rattle.obj_memory.specs.Objects.{Objects, object_at, pointer_to}
-use Rattle.c_tree.specs.Valid.{at_number}
-use Rattle.c_tree.specs.Kinds.{size_of_kind}
-use Rattle.source_meaning.specs.State.{State, Home, NoObject, InObject}
-use Rattle.source_meaning.specs.Actions.{home_value}
+use Rattle.source_meaning.specs.State.{State}
 use Rattle.source_meaning.specs.Blocks.{pass_or_stop}
-use Rattle.source_meaning.specs.Judging.{is_within}
-use Rattle.source_meaning.proofs.ValidNames.{both}
 use Rattle.tac_ir.specs.declared.instruction.Instruction.{Instruction}
-use Rattle.tac_ir.specs.declared.instruction.Instruction.TheVariants as tac
 use Rattle.tac_ir.specs.Edges.{LeadsTo}
 use Rattle.tac_ir.specs.Stage.{Temps, Frame, Stage, Stands, came}
 use Rattle.tac_ir.specs.Costs.{spent}
-use Rattle.rv_isa.specs.declared.instruction.RegOp.TheVariants.{Add, Sub}
+use Rattle.rv_isa.specs.declared.instruction.RegOp.TheVariants.{Sub}
 use Rattle.rv_isa.specs.declared.instruction.BranchOp.TheVariants.{Bltu}
 use Rattle.rv_isa.specs.Results.{branch_taken, reg_result}
 use Rattle.flat_meaning.specs.declared.instruction.RightOperand.TheVariants.{Register, Number}
@@ -52,9 +41,9 @@ use Rattle.metadata_plan.proofs.Flat.{weight_small, Comes, next_comes, then_come
 use Rattle.metadata_plan.proofs.Flat.{branch_taken_comes, branch_passed_comes, end_step}
 use Rattle.metadata_relation.specs.Registers.{temporary_register, first_free}
 use Rattle.metadata_relation.specs.Blocks.{is_short, number_code, number_operand, Range, range_code}
-use Rattle.metadata_relation.specs.Stages.{factor, Compiled, map_of, IsAt}
+use Rattle.metadata_relation.specs.Stages.{Compiled, map_of, IsAt}
 use Rattle.metadata_relation.specs.Steps.{IsCompiled}
-use Rattle.metadata_relation.proofs.Ranges.{behind, compared, too_small}
+use Rattle.metadata_relation.proofs.Ranges.{behind, compared, too_small, Told}
 use Rattle.metadata_relation.proofs.Registers.{temporary_free}
 use Rattle.metadata_relation.proofs.Simple.{goes_on, led}
 use Rattle.metadata_relation.proofs.Standing.{IsNode, ends, Result}
@@ -75,10 +64,6 @@ pub short_operand : (x r : ℕ) → is_short x ≡ true → number_operand x r �
 short_operand x r e = ap (λ b. if b then Number x else Register r) e
 
 -- the list of a range that has room, and of one that has none
-abbrev Fits : Range → (size : ℕ) → Type 0
-Fits r size = (nat_le (r.start + size) r.end ≡ true × (r.start + size ≤ r.end))
-    ⊎ (nat_le (r.start + size) r.end ≡ false × (r.end < r.start + size))
-
 abbrev behind_range : OperatorCode → Range → (size line pointer scratch : ℕ) → List FlatInstruction
 behind_range o r size line p s =
     Operate Sub s p (Register s)
@@ -93,7 +78,7 @@ with_room : (o : OperatorCode) (list : List FlatInstruction) (r : Range) (size l
     → range_code o list r size line p s ≡ list ++ behind_range o r size line p s
 with_room o list r size line p s fits = by (leb_tells (r.start + size) r.end)
   where
-    by : Fits r size → range_code o list r size line p s ≡ list ++ behind_range o r size line p s
+    by : Told (r.start + size) r.end → range_code o list r size line p s ≡ list ++ behind_range o r size line p s
     by (inl e) = ap (λ b. chosen b o list r size line p s) e.0
     by (inr e) = absurd (omega (arith, fits, e.1))
 
@@ -101,15 +86,15 @@ without_room : (o : OperatorCode) (list : List FlatInstruction) (r : Range) (siz
     → r.end < r.start + size → range_code o list r size line p s ≡ End (SpatialAt line) ∷ []
 without_room o list r size line p s fits = by (leb_tells (r.start + size) r.end)
   where
-    by : Fits r size → range_code o list r size line p s ≡ End (SpatialAt line) ∷ []
+    by : Told (r.start + size) r.end → range_code o list r size line p s ≡ End (SpatialAt line) ∷ []
     by (inl e) = absurd (omega (arith, fits, e.1))
     by (inr e) = ap (λ b. chosen b o list r size line p s) e.0
 
 -- the address comes first
 pub range_front : (o : OperatorCode) (list : List FlatInstruction) (r : Range) (size line p s : ℕ)
-    → r.start + size ≤ r.end → {body : List FlatInstruction} {q : ℕ} → HasAt body q (range_code o list r size line p s)
+    → r.start + size ≤ r.end → (body : List FlatInstruction) (q : ℕ) → HasAt body q (range_code o list r size line p s)
     → HasAt body q list
-range_front o list r size line p s fits {body = body} {q = q} has =
+range_front o list r size line p s fits body q has =
     has_front body q list (behind_range o r size line p s)
     (subst (HasAt body q) (with_room o list r size line p s fits) has)
 
@@ -256,8 +241,9 @@ module _ (c : Compiled) (IsGood : Bytes → Type 0) (right : IsCompiled c IsGood
           let last : flat.State = record v { values = far } in
           let past = next_comes (map_of c) c.layout.program u pc v xs (behind_address + 1) (behind_address + 1 + 1 + 1) last
           last 12 2 comes_far
-          (λ w. branch_taken_comes (map_of c) c.layout.program u (behind_address + 1) (record last { work = w }) xs Bltu free
-          (Number limit) 1 has_test.1.0 (taken true e)) in
+          (λ w. (let b = branch_taken_comes (map_of c) c.layout.program u (behind_address + 1) (record last { work = w }) xs
+          Bltu free (Number limit) 1 has_test.1.0 (taken true e) in
+          record { steps = b.steps; work = b.work; few = b.few; comes = b.comes })) in
           let place : behind_address + 1 + 1 + 1 ≡ pc + length (list ++ test) = omega (arith, ended) in
           goes_on c IsGood right u n temps ws s v xs h words i k next s.turns v.turns 16 far none leads stays
           (led c IsGood right u n temps ws s v xs h words (pc + length (list ++ test)) next 14 last
@@ -268,8 +254,9 @@ module _ (c : Compiled) (IsGood : Bytes → Type 0) (right : IsCompiled c IsGood
           let last : flat.State = record v { values = far } in
           let past = next_comes (map_of c) c.layout.program u pc v xs (behind_address + 1) (behind_address + 1 + 1) last
           last 12 2 comes_far
-          (λ w. branch_passed_comes (map_of c) c.layout.program u (behind_address + 1) (record last { work = w }) xs Bltu
-          free (Number limit) 1 has_test.1.0 (taken false e)) in
+          (λ w. (let b = branch_passed_comes (map_of c) c.layout.program u (behind_address + 1) (record last { work = w }) xs
+          Bltu free (Number limit) 1 has_test.1.0 (taken false e) in
+          record { steps = b.steps; work = b.work; few = b.few; comes = b.comes })) in
           stops (SpatialAt line) next (behind_address + 1 + 1) 14 far past has_test.1.1.0 (omega arith)
 
     -- where it has none the run ends
@@ -291,7 +278,7 @@ module _ (c : Compiled) (IsGood : Bytes → Type 0) (right : IsCompiled c IsGood
     pub ranged : Goal
     ranged = by (leb_tells (r.start + size) r.end)
       where
-        by : Fits r size → Goal
+        by : Told (r.start + size) r.end → Goal
         by (inl p) =
             subst (λ b. Gives (came (pass_or_stop b (SpatialAt line) (spent 1 s)) (λ _ z. Stands u next temps ws z)))
             (sym (compared address r word size (words.values (temporary_register h.code a)) (omega (arith, last)) p.1))

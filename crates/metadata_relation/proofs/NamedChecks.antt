@@ -1,11 +1,10 @@
 -- The checks of pointers whose keys begin with the names of objects.
-use Rattle.std.proofs.Common.{◌≡◌, inl, inr, ℕ, zero, suc, ◌+◌, ◌%◌, ◌^◌, ◌<◌, ◌≤◌, Bool, true, false, List, [], ◌∷◌, ◌++◌}
+use Rattle.std.proofs.Common.{◌≡◌, inl, ℕ, suc, ◌+◌, ◌-◌, ◌%◌, ◌^◌, ◌<◌, ◌≤◌, true, List, [], ◌∷◌, ◌++◌}
 use Rattle.std.proofs.Common.{length, get_or, Option, Some, None, refl, sym, ap, ap₂, ◌∙◌, subst, arith}
-use Rattle.std.specs.Prelude.{slice_get, ◌==◌, ◌&&◌, nat_le, nat_lt, min, max}
-use Rattle.std.specs.List.{list_all}
+use Rattle.std.specs.Prelude.{slice_get, ◌==◌, ◌&&◌, nat_le, if◌then◌else◌}
 use Rattle.std.proofs.lemmas.Bool.{eq-eqb, eqb-true, false≢true, lt-ltb}
 use Rattle.std.proofs.lemmas.Option.{slice_get_within}
-use Rattle.std.proofs.Math.Nat.{min-le_left, mod-eq_of_lt}
+use Rattle.std.proofs.Math.Nat.{min-le_left}
 use Rattle.sb_base.specs.declared.ending.Ending.TheVariants.{Spatial as SpatialAt, Temporal as TemporalAt}
 use Rattle.addr_map.specs.declared.region.Region.TheVariants.{Globals}
 use Rattle.addr_map.specs.Places.{region_start}
@@ -33,7 +32,7 @@ use Rattle.tac_ir.specs.Costs.{spent}
 use Rattle.tac_ir.specs.Fitting.{is_whole, is_home_of, is_static_of, is_base_there}
 use Rattle.tac_ir.specs.Keys.{base_value, scaled_value, path_tag, key_tag, key_word, same_tag, gives}
 use Rattle.tac_ir.proofs.KeyWork.{base_work}
-use Rattle.tac_ir.specs.Meaning.{check, objects_before, placed_data}
+use Rattle.tac_ir.specs.Meaning.{check, placed_data}
 use Rattle.tac_ir.specs.Stage.{Temps, Frame, Stage, Stands, came}
 use Rattle.rv_isa.specs.declared.instruction.RegOp.TheVariants.{Add}
 use Rattle.rv_isa.specs.Results.{reg_result}
@@ -48,13 +47,12 @@ use Rattle.flat_meaning.specs.Words.{IsOfWords}
 use Rattle.flat_meaning.proofs.Stored.{put_same, put_other}
 use Rattle.flat_routines.specs.Routine.{HasAt}
 use Rattle.flat_routines.proofs.Regions.{laid_out}
-use Rattle.flat_routines.proofs.Steps.{has_front}
 use Rattle.metadata_plan.specs.Registers.{all_variables, most_temporaries}
 use Rattle.metadata_plan.specs.Entries.{is_name, has_fixed_path, can_compare}
 use Rattle.metadata_plan.specs.Expanded.{Leads}
 use Rattle.metadata_plan.proofs.Flat.{leads_comes, operate_comes}
 use Rattle.metadata_relation.specs.Registers.{temporary_register, first_free, home_register}
-use Rattle.metadata_relation.specs.Blocks.{is_short, number_code, number_operand, Range, path_range, static_object}
+use Rattle.metadata_relation.specs.Blocks.{is_short, Range, path_range, static_object}
 use Rattle.metadata_relation.specs.Blocks.{named_size, named_address, range_code, compare_code, judge_code}
 use Rattle.metadata_relation.specs.Blocks.{check_code}
 use Rattle.metadata_relation.specs.Holding.{IsHome}
@@ -63,7 +61,6 @@ use Rattle.metadata_relation.specs.Steps.{IsCompiled}
 use Rattle.metadata_relation.proofs.Comparing.{short_code, short_operand, range_front, HasAddress, ranged}
 use Rattle.metadata_relation.proofs.Pointers.{home_word}
 use Rattle.metadata_relation.proofs.Ranges.{behind, fixed_path}
-use Rattle.metadata_relation.proofs.Registers.{home_low, temporary_free}
 use Rattle.metadata_relation.proofs.Simple.{position, computed, taken, goes_on}
 use Rattle.metadata_relation.proofs.Standing.{IsNode, node, Result}
 
@@ -378,7 +375,7 @@ module _ (c : Compiled) (IsGood : Bytes → Type 0) (right : IsCompiled c IsGood
         range size line has_range (subst (λ z. Leads body (pc + length z) (c.layout.address u next)) is on) low
         (λ fits. object.addressed range.start (omega (arith, placed, ends, fits))
         (range_front c.layout.expansion.inline.operators (list_of key.base range.start) range size line
-        (temporary_register h.code a) (first_free h.code) fits has_range))
+        (temporary_register h.code a) (first_free h.code) fits body pc has_range))
         (omega (arith, placed, ends)))
 
   pub judge_named : (of : Test) (size line q a next : ℕ) (key : Key)

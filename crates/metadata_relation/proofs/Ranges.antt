@@ -1,5 +1,5 @@
 -- The bounds of a pointer whose key begins with an object's name and whose path is fixed, and the comparison that judges it.
-use Rattle.std.proofs.Common.{◌≡◌, ◌⊎◌, inl, inr, ℕ, suc, ◌+◌, ◌-◌, ◌%◌, ◌^◌, ◌<◌, ◌≤◌, Bool, true, false, List, []}
+use Rattle.std.proofs.Common.{◌≡◌, ◌⊎◌, inl, inr, ℕ, suc, ◌+◌, ◌-◌, ◌%◌, ◌^◌, ◌<◌, ◌≤◌, true, false, List, []}
 use Rattle.std.proofs.Common.{◌∷◌, Option, Some, None, refl, sym, ap, ap₂, ◌∙◌, arith}
 use Rattle.std.specs.Prelude.{min, max, nat_le, nat_lt, ◌&&◌}
 use Rattle.std.specs.List.{list_all}
@@ -8,7 +8,6 @@ use Rattle.std.proofs.lemmas.Bool.{ltb-true, lt-ltb}
 use Rattle.std.proofs.lemmas.Bool.Decides.{leb_tells}
 use Rattle.words.specs.Operations.{difference}
 use Rattle.obj_memory.specs.declared.value.Bounds.{Bounds}
-use Rattle.obj_memory.specs.declared.value.Tag.{Tag}
 use Rattle.obj_memory.specs.declared.value.Tag.TheVariants.{OfObject}
 use Rattle.obj_memory.specs.declared.value.Value.{Value}
 use Rattle.obj_memory.specs.Judgement.{are_within, narrowed_tag}
@@ -18,7 +17,7 @@ use Rattle.tac_ir.specs.declared.key.Scaled.{Scaled}
 use Rattle.tac_ir.specs.declared.key.Member.{Member}
 use Rattle.tac_ir.specs.Keys.{path_tag, scaled_value}
 use Rattle.metadata_plan.specs.Entries.{is_fixed, is_unscaled}
-use Rattle.metadata_relation.specs.Blocks.{Range, meet, path_range}
+use Rattle.metadata_relation.specs.Blocks.{Range, path_range}
 
 -- ---- bounds
 
@@ -68,13 +67,17 @@ fixed_path o a size b small word tag (m ∷ ms) e s =
 
 -- ---- the comparison
 
+-- what a test of two numbers tells
+abbrev pub Told : (x y : ℕ) → Type 0
+Told x y = (nat_le x y ≡ true × (x ≤ y)) ⊎ (nat_le x y ≡ false × (y < x))
+
 less : (x y : ℕ) → x < y → nat_lt x y ≡ true
 less x y h = lt-ltb x y h
 
 not_less : (x y : ℕ) → y ≤ x → nat_lt x y ≡ false
 not_less x y h = by (leb_tells (suc x) y)
   where
-    by : (nat_le (suc x) y ≡ true × (suc x ≤ y)) ⊎ (nat_le (suc x) y ≡ false × (y < suc x)) → nat_lt x y ≡ false
+    by : Told (suc x) y → nat_lt x y ≡ false
     by (inl p) = absurd (omega (arith, h, p.1))
     by (inr p) = p.0
 
@@ -83,9 +86,6 @@ pub compared : (a : ℕ) (r : Range) (w n : ℕ) → w < 2 ^ 64 → a + r.end < 
     → are_within (behind a r) w n ≡ nat_lt (difference 64 w (a + r.start)) (r.end - (r.start + n) + 1)
 compared a r w n small last room = by (leb_tells (a + r.start) w) (leb_tells (w + n) (a + r.end))
   where
-    abbrev Told : (x y : ℕ) → Type 0
-    Told x y = (nat_le x y ≡ true × (x ≤ y)) ⊎ (nat_le x y ≡ false × (y < x))
-
     by : Told (a + r.start) w → Told (w + n) (a + r.end)
         → are_within (behind a r) w n ≡ nat_lt (difference 64 w (a + r.start)) (r.end - (r.start + n) + 1)
     by (inl p) (inl q) =
@@ -103,9 +103,6 @@ compared a r w n small last room = by (leb_tells (a + r.start) w) (leb_tells (w 
 pub too_small : (a : ℕ) (r : Range) (w n : ℕ) → r.end < r.start + n → are_within (behind a r) w n ≡ false
 too_small a r w n room = by (leb_tells (a + r.start) w) (leb_tells (w + n) (a + r.end))
   where
-    abbrev Told : (x y : ℕ) → Type 0
-    Told x y = (nat_le x y ≡ true × (x ≤ y)) ⊎ (nat_le x y ≡ false × (y < x))
-
     by : Told (a + r.start) w → Told (w + n) (a + r.end) → are_within (behind a r) w n ≡ false
     by (inl p) (inl q) = absurd (omega (arith, room, p.1, q.1))
     by (inl p) (inr q) = ap₂ (λ x y. x && y) p.0 q.0

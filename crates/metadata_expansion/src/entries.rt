@@ -1,17 +1,17 @@
 //! Which temporaries of a function have entries, found in one pass over its nodes.
 
-ghost use Rattle.std.specs.Prelude.{◌≡◌, ℕ, ◌+◌, ◌*◌, ◌<◌, ◌≤◌, ◌&&◌, ◌||◌, ◌==◌, ◌^◌, ◌∷◌, [], length, map, min, get_or, true, false, IfOk};
-ghost use Rattle.std.specs.Prelude.{Some, slice_get};
+ghost use Rattle.std.specs.Prelude.{◌≡◌, ℕ, ◌+◌, ◌*◌, ◌<◌, ◌≤◌, ◌&&◌, ◌||◌, ◌==◌, ◌^◌, ◌∷◌, [], length, map, min};
+ghost use Rattle.std.specs.Prelude.{get_or, true, IfOk, Some, slice_get};
 ghost use Rattle.c_tree.specs.declared.expression.Kind.TheVariants.{Void};
 ghost use Rattle.c_tree.specs.Kinds.{routine_signature};
 ghost use Rattle.source_meaning.specs.Good.{plain_type};
 ghost use Rattle.tac_ir.specs.Meaning.{function_in};
 ghost use Rattle.tac_ir.specs.Temporaries.{temporaries};
 ghost use Rattle.metadata_plan.specs.Registers.{all_variables, most_temporaries};
-ghost use Rattle.metadata_plan.specs.Entries.{AreClosed, converted_from, entry_source, given, has_named_key};
-ghost use Rattle.metadata_plan.specs.Entries.{is_among, is_argument_with_entry, is_moved_with_entry, is_pointer_type};
-ghost use Rattle.metadata_plan.specs.Entries.{is_structure, parameter_kinds, pointer_of, read_from, reads_entry};
-ghost use Rattle.metadata_plan.specs.Entries.{written_from};
+ghost use Rattle.metadata_plan.specs.Entries.{AreClosed, can_compare, converted_from, entry_source, given};
+ghost use Rattle.metadata_plan.specs.Entries.{has_fixed_path, is_among, is_argument_with_entry, is_fixed};
+ghost use Rattle.metadata_plan.specs.Entries.{is_moved_with_entry, is_name, is_pointer_type, key_in, parameter_kinds};
+ghost use Rattle.metadata_plan.specs.Entries.{pointer_of, read_from, reads_entry, reads_for, written_from};
 ghost use Rattle.metadata_expansion.specs.TemporarySets.{is_in, room};
 ghost use Rattle.metadata_expansion.specs.EntryTables.{AreNone, HaveRoom, ReadsNoEntry, entries_in, entries_of, has_at};
 ghost use Rattle.metadata_expansion.specs.EntryTables.{is_passed_on, needs};
@@ -25,7 +25,7 @@ use crate::temporary_set::TemporarySet;
 use c_tree::{Kind, OffsetForm, Routine, Variable};
 use obj_memory::Scalar;
 use std::alloc::{AllocError, Global};
-use tac_ir::{Base, CodeFunction, Instruction, Tac};
+use tac_ir::{Base, CodeFunction, Instruction, Key, Member, Tac, Test};
 
 /// The temporaries of a function that have entries at each of its nodes.
 #[derive(Drop)]
@@ -207,18 +207,54 @@ fn is_pointer_variable(function: &CodeFunction, number: usize) -> bool
 }
 
 // Whether a key begins with the name of an object.
-fn has_named_key(function: &CodeFunction, key: Option<usize>) -> bool
-    ensures { result ≡ has_named_key function.now key }
+fn is_named(base: Base) -> bool
+    ensures { result ≡ is_name base }
+{
+    match base {
+        Base::Plain(_) => false,
+        Base::Automatic(_) | Base::Static(_) => true,
+    }
+}
+
+// Whether a member stands so many bytes behind the base, whatever the variables hold.
+fn is_fixed(member: &Member) -> bool
+    ensures { result ≡ is_fixed member.now }
+{
+    member.scaled.is_none() && member.constant < 1 << 32
+}
+
+// Whether all members of a key do.
+fn has_fixed_path(key: &Key) -> bool
+    ensures { result ≡ has_fixed_path key.now }
+{
+    for member in key.path.as_slice() {
+        if !is_fixed(member) {
+            return false;
+        }
+    }
+    true
+}
+
+// Whether a check of a pointer with a key compares its address with that of a named object.
+fn can_compare(test: Test, key: &Key) -> bool
+    ensures { result ≡ can_compare test key.now }
+{
+    match test {
+        Test::Spatial => is_named(key.base) && has_fixed_path(key),
+        Test::Temporal => is_named(key.base),
+    }
+}
+
+// Whether a check reads the entry of its pointer.
+fn reads_for(function: &CodeFunction, test: Test, key: Option<usize>) -> bool
+    ensures { result ≡ reads_for test (key_in function.now key) }
 {
     let Some(number) = key else {
-        return false;
+        return true;
     };
     match function.keys.as_slice().get(number) {
-        Some(key) => match key.base {
-            Base::Plain(_) => false,
-            Base::Automatic(_) | Base::Static(_) => true,
-        },
-        None => false,
+        Some(key) => !can_compare(test, key),
+        None => true,
     }
 }
 
@@ -344,8 +380,10 @@ fn insert_read(
         Instruction::StorePart { kind, from, .. } => {
             insert_if(set, *from, is_moved_with_entry(*kind));
         }
-        Instruction::Judge { key, pointer, .. } => {
-            insert_if(set, *pointer, !has_named_key(function, *key));
+        Instruction::Judge {
+            test, key, pointer, ..
+        } => {
+            insert_if(set, *pointer, reads_for(function, *test, *key));
         }
         Instruction::Library {
             routine,

@@ -9,7 +9,8 @@ use Rattle.addr_map.specs.Places.{MapSizes}
 use Rattle.sb_base.specs.declared.ending.Ending.{Ending}
 use Rattle.sb_base.specs.Endings.{code_of, report_of}
 use Rattle.rv_isa.specs.declared.instruction.BranchOp.{BranchOp}
-use Rattle.rv_isa.specs.Results.{wrap, branch_taken}
+use Rattle.rv_isa.specs.declared.instruction.RegOp.{RegOp}
+use Rattle.rv_isa.specs.Results.{wrap, branch_taken, reg_result}
 use Rattle.flat_meaning.specs.declared.instruction.RightOperand.{RightOperand}
 use Rattle.flat_meaning.specs.declared.instruction.FlatInstruction.{FlatInstruction}
 use Rattle.flat_meaning.specs.declared.instruction.FlatInstruction.TheVariants as flat
@@ -90,6 +91,12 @@ module _ (m : MapSizes) (p : FlatProgram) where
     pub move_comes : (x y : ℕ) → instruction_at p u pc ≡ Some (flat.Move x y)
         → Comes u pc v xs (pc + 1) (record v { values = put v.values x (v.values y) }) 2
     move_comes x y e = record { steps = 1; work = weight; few = few; comes = one (flat.Move x y) e }
+
+    pub operate_comes : (op : RegOp) (x y : ℕ) (z : RightOperand) → instruction_at p u pc ≡ Some (flat.Operate op x y z)
+        → Comes u pc v xs (pc + 1)
+        (record v { values = put v.values x (reg_result op (v.values y) (right_value z v.values)) }) 2
+    operate_comes op x y z e =
+        record { steps = 1; work = weight; few = few; comes = one (flat.Operate op x y z) e }
 
     pub turn_comes : instruction_at p u pc ≡ Some flat.Turn
         → Comes u pc v xs (pc + 1) (record v { turns = v.turns + 1 }) 2

@@ -1,7 +1,8 @@
 -- Which temporaries have entries: beside the word of a pointer the base, bound, key and lock that SoftBound and CETS keep
 -- with it. A temporary needs one at a node where the pointer that it holds may be read as a pointer later.
-use Rattle.std.specs.Prelude.{◌≡◌, ◌≢◌, ℕ, ◌+◌, ◌-◌, Bool, true, false, not, ◌&&◌, ◌==◌, nat_le, nat_lt, List, []}
-use Rattle.std.specs.Prelude.{map, Option, Some, None, get_or, slice_get}
+use Rattle.std.specs.Prelude.{◌≡◌, ◌≢◌, ℕ, ◌+◌, ◌-◌, ◌^◌, Bool, true, false, not, ◌&&◌, ◌==◌, nat_le, nat_lt, List}
+use Rattle.std.specs.Prelude.{[], map, Option, Some, None, get_or, slice_get}
+use Rattle.std.specs.List.{list_all}
 use Rattle.obj_memory.specs.declared.value.Scalar.{Scalar}
 use Rattle.obj_memory.specs.declared.value.Scalar.TheVariants.{Integer, Pointer}
 use Rattle.c_tree.specs.declared.expression.Kind.{Kind}
@@ -10,10 +11,14 @@ use Rattle.c_tree.specs.declared.expression.OffsetForm.{OffsetForm}
 use Rattle.c_tree.specs.declared.expression.OffsetForm.TheVariants as form
 use Rattle.c_tree.specs.Kinds.{routine_signature}
 use Rattle.source_meaning.specs.Good.{plain_type}
+use Rattle.tac_ir.specs.declared.instruction.Test.{Test}
+use Rattle.tac_ir.specs.declared.instruction.Test.TheVariants.{Spatial, Temporal}
 use Rattle.tac_ir.specs.declared.instruction.Instruction.{Instruction}
 use Rattle.tac_ir.specs.declared.instruction.Instruction.TheVariants as tac
 use Rattle.tac_ir.specs.declared.key.Base.{Base}
 use Rattle.tac_ir.specs.declared.key.Base.TheVariants.{Plain, Automatic, Static}
+use Rattle.tac_ir.specs.declared.key.Scaled.{Scaled}
+use Rattle.tac_ir.specs.declared.key.Member.{Member}
 use Rattle.tac_ir.specs.declared.key.Key.{Key}
 use Rattle.tac_ir.specs.declared.function.CodeFunction.{CodeFunction}
 use Rattle.tac_ir.specs.declared.function.Tac.{Tac}
@@ -120,19 +125,38 @@ abbrev pub parameter_kinds : Option CodeFunction → List Kind
 parameter_kinds None = []
 parameter_kinds (Some c) = map (λ v. v.kind) c.parameters
 
--- A key that begins with an object's name: the object is there and lives, so its check compares places alone.
+-- what a key begins with is the name of an object
 abbrev pub is_name : Base → Bool
 is_name (Plain x) = false
 is_name (Automatic x) = true
 is_name (Static n) = true
 
-abbrev pub is_named_key : Option Key → Bool
-is_named_key None = false
-is_named_key (Some key) = is_name key.base
+-- a member that stands so many bytes behind the base, whatever the variables hold
+abbrev pub is_unscaled : Option Scaled → Bool
+is_unscaled None = true
+is_unscaled (Some v) = false
 
-abbrev pub has_named_key : CodeFunction → Option ℕ → Bool
-has_named_key c None = false
-has_named_key c (Some n) = is_named_key (slice_get c.keys n)
+abbrev pub is_fixed : Member → Bool
+is_fixed m = is_unscaled m.scaled && nat_lt m.constant (2 ^ 32)
+
+abbrev pub has_fixed_path : Key → Bool
+has_fixed_path key = list_all is_fixed key.path
+
+-- the key of a number in a function
+abbrev pub key_in : CodeFunction → Option ℕ → Option Key
+key_in c None = None
+key_in c (Some n) = slice_get c.keys n
+
+-- Whether a check reads the entry of its pointer. Where the key begins with an object's name, the object is there and
+-- lives, so nothing is to be tested of its life; and where all members of the path are fixed, the bounds are so many bytes
+-- behind its address.
+abbrev pub can_compare : Test → Key → Bool
+can_compare Spatial key = is_name key.base && has_fixed_path key
+can_compare Temporal key = is_name key.base
+
+abbrev pub reads_for : Test → Option Key → Bool
+reads_for test None = true
+reads_for test (Some key) = not (can_compare test key)
 
 -- Whether an instruction of a function reads a temporary as a pointer, with its entry. Any argument of `printf` may be a
 -- string, and any of a call through a pointer may be one.
@@ -141,7 +165,7 @@ reads_entry t c (tac.SetPlain x a m) y = y == a && is_pointer_type (plain_type (
 reads_entry t c (tac.Take kind line d a m) y = y == a && is_structure kind
 reads_entry t c (tac.Write kind mode line key d a b m) y = y == b && is_moved_with_entry kind
 reads_entry t c (tac.StorePart kind line x offset a m) y = y == a && is_moved_with_entry kind
-reads_entry t c (tac.Judge test size line key a m) y = y == a && not (has_named_key c key)
+reads_entry t c (tac.Judge test size line key a m) y = y == a && reads_for test (key_in c key)
 reads_entry t c (tac.Library r line d n m) y = is_argument_with_entry (routine_signature r).parameters d n y
 reads_entry t c (tac.Print x line d n m) y = is_among d n y
 reads_entry t c (tac.Call f line d n m) y = is_argument_with_entry (parameter_kinds (function_in t f)) d n y

@@ -26,7 +26,14 @@ use Rattle.tac_ir.specs.declared.instruction.Test.TheVariants.{Spatial, Temporal
 use Rattle.tac_ir.specs.Accesses.{can_check, only_if}
 use Rattle.tac_ir.specs.Costs.{spent}
 use Rattle.tac_ir.specs.Edges.{LeadsTo}
-use Rattle.tac_ir.specs.Meaning.{check, effect, function_in as code_in, keyed, keys_of}
+use Rattle.tac_ir.specs.declared.function.StaticData.{StaticData}
+use Rattle.tac_ir.specs.declared.key.Base.{Base}
+use Rattle.tac_ir.specs.declared.key.Base.TheVariants.{Automatic, Plain, Static}
+use Rattle.tac_ir.specs.declared.key.Key.{Key}
+use Rattle.tac_ir.specs.Fitting.{is_base_there, is_of_key, is_word}
+use Rattle.tac_ir.specs.Keys.{gives}
+use Rattle.tac_ir.specs.Meaning.{check, effect, fits, keyed_by, keys_of, variables_in}
+use Rattle.c_tree.specs.declared.program.Variable.{Variable}
 use Rattle.tac_ir.specs.Stage.{came, Frame, Over, Stage, Stands, Stuck, Temps}
 use Rattle.tac_ir.proofs.Fits.{only_true}
 use Rattle.flat_meaning.specs.declared.instruction.FlatInstruction.{FlatInstruction}
@@ -48,22 +55,22 @@ use Rattle.flat_actions.specs.Judgement.Judging.{EndsWith, IsSameBut}
 use Rattle.flat_actions.specs.Judgement.Testing.{IsTested, IsToTest}
 use Rattle.flat_actions.proofs.Standing.{for_still, for_worked, shown_still}
 use Rattle.runtime_functions.specs.Library.{held_from}
-use Rattle.metadata_plan.specs.Entries.{given, has_named_key}
+use Rattle.metadata_plan.specs.Entries.{can_compare, given, key_in, reads_for}
 use Rattle.metadata_plan.specs.Expanded.{Leads}
 use Rattle.metadata_plan.specs.Operators.{Position}
-use Rattle.metadata_plan.specs.Registers.{most_temporaries}
-use Rattle.metadata_relation.specs.Blocks.{check_code, is_short, number_code, number_operand}
+use Rattle.metadata_plan.specs.Registers.{all_variables, most_temporaries}
+use Rattle.metadata_relation.specs.Blocks.{check_code, compare_code, is_short, judge_code}
 use Rattle.metadata_relation.specs.Holding.{GoesOn, IsHeldAt}
 use Rattle.metadata_relation.specs.Registers.{first_free, temporary_register}
 use Rattle.metadata_relation.specs.Scopes.{context_at}
 use Rattle.metadata_relation.specs.Stages.{Compiled, expansion_of, factor, IsAt, map_of, names, views, world}
 use Rattle.metadata_relation.specs.Steps.{IsCompiled}
-use Rattle.metadata_relation.proofs.Accesses.{keyed_opens}
 use Rattle.metadata_relation.proofs.Acting.{acts_alone, HasActed, Reached, reached_by, reached_here, reached_on, reached_then}
 use Rattle.metadata_relation.proofs.Acting.{reached_words}
 use Rattle.metadata_relation.proofs.Acting.{stands_on}
 use Rattle.metadata_relation.proofs.FiveRegisters.{below}
 use Rattle.metadata_relation.proofs.Holding.{same_world}
+use Rattle.metadata_relation.proofs.NamedChecks.{judge_named}
 use Rattle.metadata_relation.proofs.Pointers.{operand}
 use Rattle.metadata_relation.proofs.Registers.{temporary_free}
 use Rattle.metadata_relation.proofs.Routines.{passes, Passes, stops, Stops}
@@ -210,8 +217,7 @@ module _ (c : Compiled) (IsGood : Bytes → Type 0) (right : IsCompiled c IsGood
   -- ---- of the bounds
 
   module _ (test : Test) (size line : ℕ) (key : Option ℕ) (a next : ℕ)
-      (at : slice_get h.code.code n ≡ Some (tac.Judge test size line key a next))
-      (unnamed : not (has_named_key h.code key) ≡ true) where
+      (at : slice_get h.code.code n ≡ Some (tac.Judge test size line key a next)) where
     nd : IsNode c u n h.code (tac.Judge test size line key a next)
     nd = node c IsGood right u n temps ws s v xs h (tac.Judge test size line key a next) at
 
@@ -223,10 +229,6 @@ module _ (c : Compiled) (IsGood : Bytes → Type 0) (right : IsCompiled c IsGood
     held = operand c IsGood right u n temps ws s v xs h words.0 (tac.Judge test size line key a next) nd a (eq-eqb a a refl)
         from
 
-    spells : Spells (views c) h.keys (temps a).value (held_from (temporary_register h.code a)) v.values
-    spells = held.entry (nd.closed.read n a (tac.Judge test size line key a next) at
-        (and_from (a == a) (not (has_named_key h.code key)) (eq-eqb a a refl) unnamed))
-
     abbrev p : Value
     p = (temps a).value
 
@@ -237,19 +239,28 @@ module _ (c : Compiled) (IsGood : Bytes → Type 0) (right : IsCompiled c IsGood
     under : (t : ℕ) → free ≤ t → AreBelow t (held_registers (held_from (temporary_register h.code a)))
     under t le = let room = temporary_free h.code a from in below (T a) t (omega arith)
 
-    to_test : (values : flat.Values) (work : ℕ) → ((y : ℕ) → y < first_free h.code → values y ≡ v.values y)
+    -- where it reads the entry of its pointer
+    abbrev Reads : Type 0
+    Reads = reads_for test (key_in h.code key) ≡ true
+
+    spells : Reads
+        → Spells (views c) h.keys (temps a).value (held_from (temporary_register h.code a)) v.values
+    spells reads = held.entry (nd.closed.read n a (tac.Judge test size line key a next) at
+        (and_from (a == a) (reads_for test (key_in h.code key)) (eq-eqb a a refl) reads))
+
+    to_test : Reads → (values : flat.Values) (work : ℕ) → ((y : ℕ) → y < first_free h.code → values y ≡ v.values y)
         → IsToTest (views c) h.keys s.objects (temps a).value (held_from (temporary_register h.code a))
         (record v { values = values; work = work })
-    to_test values work same =
+    to_test reads values work same =
         let room = temporary_free h.code a from in
         record {
           stands = h.stands.for.objects;
           sound = held.sound;
           spells = record {
-            word = same (T a) (omega arith) ∙ spells.word;
+            word = same (T a) (omega arith) ∙ (spells reads).word;
             tag = same_metadata (metadata_in values (held_from (T a)).tag) (metadata_in v.values (held_from (T a)).tag)
                 (same (T a + 1) (omega arith)) (same (T a + 2) (omega arith)) (same (T a + 3) (omega arith))
-                (same (T a + 4) (omega arith)) ∙ spells.tag;
+                (same (T a + 4) (omega arith)) ∙ (spells reads).tag;
           };
         }
 
@@ -288,32 +299,32 @@ module _ (c : Compiled) (IsGood : Bytes → Type 0) (right : IsCompiled c IsGood
     weight = weight_of (function_in c.layout.program u)
 
     -- the size is a number of the instruction
-    short : size < 2 ^ 64 → 1 ≤ size
+    short : Reads → size < 2 ^ 64 → 1 ≤ size
         → HasAt body pc (c.layout.expansion.inline.spatial_check (held_from (T a)) (Number size) line (free + 1))
         → Leads body (pc + length (c.layout.expansion.inline.spatial_check (held_from (T a)) (Number size) line (free + 1)))
         (c.layout.address u next)
         → Follows (Tested (SpatialAt line) (is_within p.tag p.word size))
-    short small some has on =
+    short reads small some has on =
         let list = c.layout.expansion.inline.spatial_check (held_from (T a)) (Number size) line (free + 1) in
         tested (SpatialAt line) (is_within p.tag p.word size) pc 0 5 (free + 1) list v.values v.work
         (reached_here (map_of c) c.layout.program u xs pc v) (λ y lt. refl) words.0 (omega arith)
         (right.inline.computes.spatial_check (held_from (T a)) (Number size) line (free + 1)) has on
         (λ z. IsToTest (views c) h.keys s.objects p (held_from (T a)) z
         × (right_value (Number size) z.values ≡ size) × (1 ≤ size))
-        (to_test v.values v.work (λ y lt. refl), mod-eq_of_lt small, some)
+        (to_test reads v.values v.work (λ y lt. refl), mod-eq_of_lt small, some)
         (right.inline.spatial_check (held_from (T a)) (Number size) line (free + 1) (under (free + 1) (omega arith)) tt
         (views c) h.keys (spent 1 s) p size runtime charge weight)
         (omega arith) (λ e. omega arith)
 
     -- the size goes to a register first
-    long : size < 2 ^ 64 → 1 ≤ size → is_short size ≡ false
+    long : Reads → size < 2 ^ 64 → 1 ≤ size → is_short size ≡ false
         → HasAt body pc (c.layout.expansion.inline.operators.constant free size (free + 1)
         ++ c.layout.expansion.inline.spatial_check (held_from (T a)) (Register free) line (free + 1))
         → Leads body (pc + length (c.layout.expansion.inline.operators.constant free size (free + 1)
         ++ c.layout.expansion.inline.spatial_check (held_from (T a)) (Register free) line (free + 1)))
         (c.layout.address u next)
         → Follows (Tested (SpatialAt line) (is_within p.tag p.word size))
-    long small some is has on =
+    long reads small some is has on =
         let front = c.layout.expansion.inline.operators.constant free size (free + 1) in
         let list = c.layout.expansion.inline.spatial_check (held_from (T a)) (Register free) line (free + 1) in
         let q = pc + length front in
@@ -333,14 +344,14 @@ module _ (c : Compiled) (IsGood : Bytes → Type 0) (right : IsCompiled c IsGood
         (has_back body pc front list has) (subst (λ z. Leads body z (c.layout.address u next)) len on)
         (λ z. IsToTest (views c) h.keys s.objects p (held_from (T a)) z
         × (right_value (Register free) z.values ≡ size) × (1 ≤ size))
-        (to_test made.after (v.work + comes.work) same, made.gives, some)
+        (to_test reads made.after (v.work + comes.work) same, made.gives, some)
         (right.inline.spatial_check (held_from (T a)) (Register free) line (free + 1) (under (free + 1) (omega arith))
         (omega arith) (views c) h.keys (spent 1 s) p size runtime charge weight)
         (omega arith)
         (λ e. (let most = within_small (views c).functions s.objects p.tag p.word size low held.sound e in
         absurd (omega arith)))
 
-    spatial : (b : Bool) → is_short size ≡ b → size < 2 ^ 64 → 1 ≤ size
+    spatial : Reads → (b : Bool) → is_short size ≡ b → size < 2 ^ 64 → 1 ≤ size
         → HasAt body pc ((if b then [] else c.layout.expansion.inline.operators.constant free size (free + 1))
         ++ c.layout.expansion.inline.spatial_check (held_from (T a)) (if b then Number size else Register free) line
         (free + 1))
@@ -348,42 +359,121 @@ module _ (c : Compiled) (IsGood : Bytes → Type 0) (right : IsCompiled c IsGood
         ++ c.layout.expansion.inline.spatial_check (held_from (T a)) (if b then Number size else Register free) line
         (free + 1))) (c.layout.address u next)
         → Follows (Tested (SpatialAt line) (is_within p.tag p.word size))
-    spatial true is small some has on = short small some has on
-    spatial false is small some has on = long small some is has on
+    spatial reads true is small some has on = short reads small some has on
+    spatial reads false is small some has on = long reads small some is has on
 
-    temporal : is_within p.tag p.word size ≡ true
+    temporal : Reads → is_within p.tag p.word size ≡ true
         → HasAt body pc (c.layout.expansion.inline.temporal_check (held_from (T a)) line free)
         → Leads body (pc + length (c.layout.expansion.inline.temporal_check (held_from (T a)) line free))
         (c.layout.address u next)
         → Follows (Tested (TemporalAt line) (is_live_tag p.tag s.objects))
-    temporal within has on =
+    temporal reads within has on =
         let list = c.layout.expansion.inline.temporal_check (held_from (T a)) line free in
         tested (TemporalAt line) (is_live_tag p.tag s.objects) pc 0 3 free list v.values v.work
         (reached_here (map_of c) c.layout.program u xs pc v) (λ y lt. refl) words.0 (omega arith)
         (right.inline.computes.temporal_check (held_from (T a)) line free) has on
         (λ z. IsToTest (views c) h.keys s.objects p (held_from (T a)) z × (is_within p.tag p.word size ≡ true))
-        (to_test v.values v.work (λ y lt. refl), within)
+        (to_test reads v.values v.work (λ y lt. refl), within)
         (right.inline.temporal_check (held_from (T a)) line free (under free (omega arith)) (views c) h.keys (spent 1 s) p
         p.word size runtime charge weight right.mapped)
         (omega arith) (λ e. omega arith)
 
-    checked : (of : Test) → size < 2 ^ 64 → 1 ≤ size
+    checked : Reads → (of : Test) → size < 2 ^ 64 → 1 ≤ size
         → HasAt body pc (check_code c.layout.expansion.inline of size line (T a) free)
         → Leads body (pc + length (check_code c.layout.expansion.inline of size line (T a) free)) (c.layout.address u next)
         → can_check of size p ≡ true
         → Follows (came (check of size p line (spent 1 s)) (λ _ z. Stands u next temps ws z))
-    checked Spatial small some has on can = spatial (is_short size) refl small some has on
-    checked Temporal small some has on can = temporal can has on
+    checked reads Spatial small some has on can = spatial reads (is_short size) refl small some has on
+    checked reads Temporal small some has on can = temporal reads can has on
 
-    -- ---- the step
+    -- by its entry, or where the key begins with a name by the address
+    abbrev Checked : Stage
+    Checked = came (check test size p line (spent 1 s)) (λ _ z. Stands u next temps ws z)
 
-    pub judge : size < 2 ^ 64 → 1 ≤ size
-        → (effect c.setting (expansion_of c).code (tac.Judge test size line key a next) u temps ws (spent 1 s) ≡ Stuck
-        → ⊥)
-        → Follows (effect c.setting (expansion_of c).code (tac.Judge test size line key a next) u temps ws (spent 1 s))
-    judge small some fine =
-        let behind = came (check test size p line (spent 1 s)) (λ _ z. Stands u next temps ws z) in
-        let opened = keyed_opens (keys_of (code_in c.layout.expansion.code u)) key (spent 1 s) p
-        (only_if (can_check test size p) behind) fine in
-        let can = only_true (can_check test size p) behind (λ stuck. fine (opened ∙ stuck)) in
-        subst Follows (sym (opened ∙ can.1)) (checked test small some nd.put.has nd.put.leads can.0)
+    by_entry : (o : Option Key) → key_in h.code key ≡ o → reads_for test o ≡ true → size < 2 ^ 64 → 1 ≤ size
+        → HasAt body pc (check_code c.layout.expansion.inline test size line (T a) free)
+        → Leads body (pc + length (check_code c.layout.expansion.inline test size line (T a) free))
+        (c.layout.address u next)
+        → can_check test size p ≡ true → Follows Checked
+    by_entry o is reads small some has on can =
+        checked (ap (reads_for test) is ∙ reads) test small some has on can
+
+  -- the base of a key does not look at work
+  base_still : (vs : List Variable) (ds : List StaticData) (b : Base) (z : State) (w : ℕ)
+      → is_base_there vs ds b (spent w z) ≡ is_base_there vs ds b z
+  base_still vs ds (Plain x) z w = refl
+  base_still vs ds (Automatic x) z w = refl
+  base_still vs ds (Static k) z w = refl
+
+  -- ---- the step
+
+  module _ (test : Test) (size line q a next : ℕ)
+      (at : slice_get h.code.code n ≡ Some (tac.Judge test size line (Some q) a next)) (small : size < 2 ^ 64)
+      (some : 1 ≤ size) where
+    abbrev value : Value
+    value = (temps a).value
+
+    abbrev Behind : Stage
+    Behind = came (check test size value line (spent 1 s)) (λ _ z. Stands u next temps ws z)
+
+    abbrev code : Option Key → List FlatInstruction
+    code o = judge_code c.layout.expansion h.code test o size line (temporary_register h.code a) (first_free h.code)
+
+    -- of a key that is there
+    keyed_check : (key : Key) → slice_get h.code.keys q ≡ Some key → (b : Bool) → can_compare test key ≡ b
+        → HasAt body pc (code (Some key)) → Leads body (pc + length (code (Some key))) (c.layout.address u next)
+        → is_base_there (all_variables h.code) (expansion_of c).code.statics key.base s ≡ true
+        → gives key (spent 1 s) (temps a).value ≡ true → can_check test size (temps a).value ≡ true → Follows Behind
+    keyed_check key found true compares has on there given_by can =
+        judge_named c IsGood right u n temps ws s v xs h words.0 test size line q a next key at found compares there given_by
+    keyed_check key found false compares has on there given_by can =
+        let o = c.layout.expansion.inline.operators in
+        let is = ap (λ z. if z
+        then compare_code o (map_of c) (expansion_of c).code h.code test key size line (T a) free
+        else check_code c.layout.expansion.inline test size line (T a) free) compares in
+        by_entry test size line (Some q) a next at (Some key) found (ap not compares) small some
+        (subst (HasAt body pc) is has) (subst (λ z. Leads body (pc + length z) (c.layout.address u next)) is on) can
+
+    by_key : (o : Option Key) → slice_get h.code.keys q ≡ o
+        → (keyed_by o (spent 1 s) (temps a).value (only_if (can_check test size (temps a).value) Behind) ≡ Stuck → ⊥)
+        → is_of_key (all_variables h.code) (expansion_of c).code.statics o (spent 1 s) (temps a).value ≡ true
+        → HasAt body pc (code o) → Leads body (pc + length (code o)) (c.layout.address u next)
+        → Follows (keyed_by o (spent 1 s) (temps a).value (only_if (can_check test size (temps a).value) Behind))
+    by_key None found fine fits has on = absurd (fine refl)
+    by_key (Some key) found fine fits has on =
+        let vs = all_variables h.code in
+        let ds = (expansion_of c).code.statics in
+        let rest = only_if (can_check test size value) Behind in
+        let given_by = only_true (gives key (spent 1 s) value) rest fine in
+        let can = only_true (can_check test size value) Behind (λ stuck. fine (given_by.1 ∙ stuck)) in
+        let word = and_parts (is_word value.word) (is_base_there vs ds key.base (spent 1 s)) fits in
+        subst Follows (sym (given_by.1 ∙ can.1))
+        (keyed_check key found (can_compare test key) refl has on
+        (sym (base_still vs ds key.base s 1) ∙ word.1) given_by.0 can.0)
+
+    pub judge_keyed : fits c.setting (expansion_of c).code (tac.Judge test size line (Some q) a next) u temps (spent 1 s)
+        ≡ true
+        → (effect c.setting (expansion_of c).code (tac.Judge test size line (Some q) a next) u temps ws (spent 1 s)
+        ≡ Stuck → ⊥)
+        → Follows (effect c.setting (expansion_of c).code (tac.Judge test size line (Some q) a next) u temps ws
+        (spent 1 s))
+    judge_keyed fit fine =
+        let nd = node c IsGood right u n temps ws s v xs h (tac.Judge test size line (Some q) a next) at in
+        let rest = only_if (can_check test size value) Behind in
+        subst (λ z. (keyed_by (slice_get (keys_of z) q) (spent 1 s) value rest ≡ Stuck → ⊥)
+        → is_of_key (variables_in z) (expansion_of c).code.statics (slice_get (keys_of z) q) (spent 1 s) value ≡ true
+        → Follows (keyed_by (slice_get (keys_of z) q) (spent 1 s) value rest)) (sym h.there)
+        (λ fine fits. by_key (slice_get h.code.keys q) refl fine fits nd.put.has nd.put.leads) fine fit
+
+  pub judge : (test : Test) (size line : ℕ) (key : Option ℕ) (a next : ℕ)
+      → slice_get h.code.code n ≡ Some (tac.Judge test size line key a next) → size < 2 ^ 64 → 1 ≤ size
+      → fits c.setting (expansion_of c).code (tac.Judge test size line key a next) u temps (spent 1 s) ≡ true
+      → (effect c.setting (expansion_of c).code (tac.Judge test size line key a next) u temps ws (spent 1 s) ≡ Stuck → ⊥)
+      → Follows (effect c.setting (expansion_of c).code (tac.Judge test size line key a next) u temps ws (spent 1 s))
+  judge test size line None a next at small some fit fine =
+      let nd = node c IsGood right u n temps ws s v xs h (tac.Judge test size line None a next) at in
+      let behind = came (check test size (temps a).value line (spent 1 s)) (λ _ z. Stands u next temps ws z) in
+      let can = only_true (can_check test size (temps a).value) behind fine in
+      subst Follows (sym can.1)
+      (by_entry test size line None a next at None refl refl small some nd.put.has nd.put.leads can.0)
+  judge test size line (Some q) a next at small some fit fine = judge_keyed test size line q a next at small some fit fine

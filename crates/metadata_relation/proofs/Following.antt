@@ -36,7 +36,6 @@ use Rattle.metadata_relation.proofs.UpdateSteps.{update_place}
 use Rattle.metadata_relation.proofs.Writing.{write}
 use Rattle.std.proofs.lemmas.Bool.{and_parts, leb-true, not-true}
 use Rattle.std.specs.Prelude.{not, nat_le}
-use Rattle.metadata_plan.specs.Entries.{has_named_key}
 use Rattle.tac_ir.specs.declared.instruction.Mode.{Mode}
 use Rattle.tac_ir.specs.Fitting.{is_scalar_of, is_update_of, is_word}
 
@@ -134,10 +133,9 @@ module _ (c : Compiled) (IsGood : Bytes → Type 0) (right : IsCompiled c IsGood
       update_place c IsGood right u n temps ws s v xs h words w k fixity mode line end_line key d a r m p.0 at
       (plain a (admitted i at)) (and_parts (is_update_of w k) _ f).0 p.1 (fine i at)
   instruction (tac.Judge test size line key a m) at e f =
-      let some = and_parts (nat_le 1 size) _ e in
-      let small = and_parts (is_word size) (not (has_named_key h.code key)) some.1 in
-      judge c IsGood right u n temps ws s v xs h words test size line key a m at small.1
-      (ltb-true size (2 ^ 64) small.0) (leb-true 1 size some.0) (fine (tac.Judge test size line key a m) at)
+      let sized = and_parts (nat_le 1 size) (is_word size) e in
+      judge c IsGood right u n temps ws s v xs h words test size line key a m at (ltb-true size (2 ^ 64) sized.1)
+      (leb-true 1 size sized.0) f (fine (tac.Judge test size line key a m) at)
   instruction (tac.StorePart kind line x offset a m) at e f = part_by kind line x offset a m at e f
   instruction (tac.StoreText t x offset m) at e f =
       store_text c IsGood right u n temps ws s v xs h words t x offset m at (fine (tac.StoreText t x offset m) at)

@@ -104,7 +104,7 @@ entry_moved r e values h =
     }
 
 -- the base in a home is the address of its object
-home_word : (w : World) (o r : ℕ) (values : flat.Values) → IsHome w o r values
+pub home_word : (w : World) (o r : ℕ) (values : flat.Values) → IsHome w o r values
     → values r ≡ (pointer_to o w.objects).word
 unfolding pointer_to
 home_word w o r values home = ap (λ m. m.base) home.entry

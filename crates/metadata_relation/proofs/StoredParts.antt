@@ -4,11 +4,9 @@ use Rattle.std.proofs.Common.{List, [], ◌∷◌, ◌++◌, length, length-appe
 use Rattle.std.proofs.Common.{subst, arith, max, min}
 use Rattle.std.specs.Prelude.{slice_get, ◌==◌, ◌&&◌, nat_le}
 use Rattle.std.proofs.lemmas.Bool.{and_parts, eq-eqb, leb-true, lt-ltb}
-use Rattle.rv_isa.specs.declared.instruction.RegOp.{RegOp}
 use Rattle.rv_isa.specs.declared.instruction.RegOp.TheVariants.{Add}
 use Rattle.rv_isa.specs.Results.{reg_result}
 use Rattle.words.specs.TwosComplement.{low_bits}
-use Rattle.addr_map.specs.Places.{MapSizes}
 use Rattle.obj_memory.specs.declared.value.Bounds.{Bounds}
 use Rattle.obj_memory.specs.declared.value.Scalar.{Scalar}
 use Rattle.obj_memory.specs.declared.value.Scalar.TheVariants.{Integer, Pointer}
@@ -34,11 +32,9 @@ use Rattle.tac_ir.specs.Stage.{came, Frame, Stage, Stands, Stuck, Temps}
 use Rattle.tac_ir.proofs.Fits.{only_true}
 use Rattle.flat_meaning.specs.declared.instruction.FlatInstruction.{FlatInstruction}
 use Rattle.flat_meaning.specs.declared.instruction.FlatInstruction.TheVariants.{Operate}
-use Rattle.flat_meaning.specs.declared.instruction.RightOperand.{RightOperand}
 use Rattle.flat_meaning.specs.declared.instruction.RightOperand.TheVariants.{Number, Register}
-use Rattle.flat_meaning.specs.declared.function.FlatProgram.{FlatProgram}
 use Rattle.flat_meaning.specs.Calls.{function_in}
-use Rattle.flat_meaning.specs.Meaning.{at_instruction, body_of, instruction_at, right_value, weight_of}
+use Rattle.flat_meaning.specs.Meaning.{body_of}
 use Rattle.flat_meaning.specs.Memory.{Bytes, put}
 use Rattle.flat_meaning.specs.State as flat
 use Rattle.flat_meaning.specs.Words.{HasWords, IsOfWords}
@@ -54,7 +50,7 @@ use Rattle.metadata_plan.specs.Entries.{given, is_moved_with_entry}
 use Rattle.metadata_plan.specs.Expanded.{Leads}
 use Rattle.metadata_plan.specs.Operators.{OperatorCode}
 use Rattle.metadata_plan.specs.Registers.{all_variables, most_temporaries}
-use Rattle.metadata_plan.proofs.Flat.{Comes, weight_small, words_kept}
+use Rattle.metadata_plan.proofs.Flat.{operate_comes, words_kept}
 use Rattle.metadata_relation.specs.Blocks.{held_scalar, is_short, part_address}
 use Rattle.metadata_relation.specs.Holding.{is_object_in, is_pointer_type, IsHeldAt, IsHome, World}
 use Rattle.metadata_relation.specs.Registers.{first_free, home_register, temporary_register}
@@ -68,19 +64,6 @@ use Rattle.metadata_relation.proofs.Holding.{held_on, same_world}
 use Rattle.metadata_relation.proofs.Registers.{count_in, few_in, home_low, temporary_free}
 use Rattle.metadata_relation.proofs.Standing.{good_now, IsNode, node, Result}
 use Rattle.metadata_relation.proofs.Writing.{leaves_write, scalar_operand, store_passes}
-
--- ---- an operation
-
-pub operate_comes : (m : MapSizes) (p : FlatProgram) (u pc : ℕ) (v : flat.State) (xs : List flat.Frame) (op : RegOp)
-    (x y : ℕ) (z : RightOperand) → instruction_at p u pc ≡ Some (Operate op x y z)
-    → Comes m p u pc v xs (pc + 1)
-    (record v { values = put v.values x (reg_result op (v.values y) (right_value z v.values)) }) 2
-operate_comes m p u pc v xs op x y z e = record {
-  steps = 1;
-  work = weight_of (function_in p u);
-  few = weight_small (function_in p u);
-  comes = ap (λ o. at_instruction m p o u pc v xs) e;
-}
 
 -- a sum that is a word
 pub sum_is : (a n : ℕ) → a + n < 2 ^ 64 → reg_result Add a (low_bits 64 n) ≡ a + n

@@ -50,7 +50,7 @@ use Rattle.flat_actions.proofs.Standing.{for_worked}
 use Rattle.object_routines.specs.declared.accesses.held.HeldScalar.TheVariants.{Integer as HeldInteger}
 use Rattle.object_routines.specs.AccessRoutines.Accessing.{IsToAccess}
 use Rattle.metadata_plan.specs.Expanded.{Leads}
-use Rattle.metadata_plan.proofs.Flat.{Comes, constant_comes}
+use Rattle.metadata_plan.proofs.Flat.{Comes, constant_comes, operate_comes}
 use Rattle.metadata_relation.specs.Blocks.{is_short, store_bytes}
 use Rattle.metadata_relation.specs.Holding.{IsHome}
 use Rattle.metadata_relation.specs.Registers.{first_free, home_register}
@@ -63,7 +63,7 @@ use Rattle.metadata_relation.proofs.Acting.{reached_words}
 use Rattle.metadata_relation.proofs.Finishing.{acted_as, acted_then, acted_worked, ends_with, nothing_done}
 use Rattle.metadata_relation.proofs.Routines.{action_passes, Passes}
 use Rattle.metadata_relation.proofs.Standing.{good_now, IsNode, node, Result}
-use Rattle.metadata_relation.proofs.StoredParts.{home_address, operate_comes, part_bounds, part_code, part_tag, part_word, sum_is}
+use Rattle.metadata_relation.proofs.StoredParts.{home_address, part_bounds, part_code, part_tag, part_word, sum_is}
 use Rattle.metadata_relation.proofs.Writing.{leaves_write}
 
 -- ---- in the source

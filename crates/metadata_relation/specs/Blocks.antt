@@ -1,8 +1,9 @@
 -- The flat code of each instruction of three-address code.
-use Rattle.std.specs.Prelude.{ℕ, zero, suc, ◌+◌, ◌-◌, ◌*◌, ◌^◌, Bool, true, false, ◌==◌, nat_lt, if◌then◌else◌, List, []}
-use Rattle.std.specs.Prelude.{◌∷◌, ◌++◌, map, length, get_or, Option, Some, None}
+use Rattle.std.specs.Prelude.{ℕ, zero, suc, ◌+◌, ◌-◌, ◌*◌, ◌^◌, min, max, Bool, true, false, ◌==◌, nat_le, nat_lt}
+use Rattle.std.specs.Prelude.{if◌then◌else◌, List, [], ◌∷◌, ◌++◌, map, length, get_or, Option, Some, None}
 use Rattle.sb_base.specs.declared.ending.Ending.{Ending}
 use Rattle.sb_base.specs.declared.ending.Ending.TheVariants.{Stack, BadCall as BadCallAt, Abort as AbortAt}
+use Rattle.sb_base.specs.declared.ending.Ending.TheVariants.{Spatial as SpatialAt}
 use Rattle.addr_map.specs.declared.region.Region.TheVariants.{Globals, Stack as StackRegion, Locks, Cells}
 use Rattle.addr_map.specs.Places.{MapSizes, region_start, region_end, function_address}
 use Rattle.obj_memory.specs.declared.int_type.IntType.{IntType}
@@ -33,10 +34,14 @@ use Rattle.tac_ir.specs.declared.instruction.Test.{Test}
 use Rattle.tac_ir.specs.declared.instruction.Test.TheVariants.{Spatial, Temporal}
 use Rattle.tac_ir.specs.declared.instruction.Instruction.{Instruction}
 use Rattle.tac_ir.specs.declared.instruction.Instruction.TheVariants as tac
+use Rattle.tac_ir.specs.declared.key.Base.{Base}
+use Rattle.tac_ir.specs.declared.key.Base.TheVariants.{Plain, Automatic, Static}
+use Rattle.tac_ir.specs.declared.key.Member.{Member}
+use Rattle.tac_ir.specs.declared.key.Key.{Key}
 use Rattle.tac_ir.specs.declared.function.CodeFunction.{CodeFunction}
 use Rattle.tac_ir.specs.declared.function.Tac.{Tac}
 use Rattle.tac_ir.specs.Meaning.{function_in, text_in, header_of_code, objects_in, placed_data}
-use Rattle.rv_isa.specs.declared.instruction.RegOp.TheVariants.{Add}
+use Rattle.rv_isa.specs.declared.instruction.RegOp.TheVariants.{Add, Sub}
 use Rattle.rv_isa.specs.declared.instruction.LoadOp.TheVariants.{Ld}
 use Rattle.rv_isa.specs.declared.instruction.StoreOp.TheVariants.{Sb, Sd}
 use Rattle.rv_isa.specs.declared.instruction.BranchOp.TheVariants.{Beq, Bne, Bltu}
@@ -61,7 +66,7 @@ use Rattle.runtime_functions.specs.declared.status.ReturnStatus.TheVariants.{Key
 use Rattle.runtime_functions.specs.Library.{Passed, NoValue, OneWord, WithEntry, register_count, held_from, signature}
 use Rattle.runtime_functions.specs.Status.{status_number, ending_at}
 use Rattle.metadata_plan.specs.Blocks.{call_tests}
-use Rattle.metadata_plan.specs.Entries.{Entries, pointer_of}
+use Rattle.metadata_plan.specs.Entries.{Entries, pointer_of, key_in, can_compare}
 use Rattle.metadata_plan.specs.Registers.{all_variables}
 use Rattle.metadata_plan.specs.Operators.{OperatorCode}
 use Rattle.metadata_relation.specs.Contents.{Contents}
@@ -269,12 +274,64 @@ update_code i c w Pointer f line b d p right s =
     ++ (i.store p (HeldPointer (record { value = s + 5; tag = (held_from s).tag })) (s + 6)
     ++ (Move d (given_register f s (s + 5)) ∷ move_entry_if b (held_from d).tag (held_from s).tag)))
 
--- a check of a pointer
+-- a check of a pointer by its entry
 abbrev pub check_code : InlineCode → Test → (size line pointer scratch : ℕ) → List FlatInstruction
 check_code i Spatial size line r s =
     number_code i.operators size s (s + 1)
     ++ i.spatial_check (held_from r) (number_operand size s) line (s + 1)
 check_code i Temporal size line r s = i.temporal_check (held_from r) line s
+
+-- the bytes of a named object, and of the members of a path in it that are fixed, from its address on
+pub record Range : Type 0 where
+  pub start : ℕ
+  pub end : ℕ
+
+abbrev pub meet : Range → Range → Range
+meet r q = record { start = max r.start q.start; end = min r.end q.end }
+
+abbrev pub path_range : (size : ℕ) → List Member → Range
+path_range size [] = record { start = 0; end = size }
+path_range size (m ∷ ms) =
+    meet (path_range size ms) (record { start = m.constant; end = m.constant + m.size })
+
+abbrev pub named_size : MapSizes → Tac → CodeFunction → Base → ℕ
+named_size m t c (Plain x) = 0
+named_size m t c (Automatic x) = size_of_kind (at_number (all_variables c) x).kind
+named_size m t c (Static n) = (static_object m t n).size
+
+-- an address so many bytes behind that of a named object, in a register
+abbrev pub named_address : OperatorCode → MapSizes → Tac → CodeFunction → Base → (offset register : ℕ)
+    → List FlatInstruction
+named_address o m t c (Plain x) offset r = []
+named_address o m t c (Automatic x) offset r = part_address o c x offset r
+named_address o m t c (Static n) offset r = o.constant r ((static_object m t n).address + offset) (r + 1)
+
+-- The spatial check of an access of so many bytes in such a range: how far the pointer is behind the first of them, as a
+-- word, is at most what leaves room for the access. Where the range is too small no pointer passes.
+abbrev pub range_code : OperatorCode → (address : List FlatInstruction) → Range → (size line pointer scratch : ℕ)
+    → List FlatInstruction
+range_code o address r size line p s =
+    if nat_le (r.start + size) r.end
+    then address ++ (Operate Sub s p (Register s)
+    ∷ (number_code o (r.end - (r.start + size) + 1) (s + 1) (s + 2)
+    ++ (Branch Bltu s (number_operand (r.end - (r.start + size) + 1) (s + 1)) 1 ∷ End (SpatialAt line) ∷ [])))
+    else End (SpatialAt line) ∷ []
+
+-- the check of a pointer with a key that begins with an object's name: of its life nothing is tested
+abbrev pub compare_code : OperatorCode → MapSizes → Tac → CodeFunction → Test → Key → (size line pointer scratch : ℕ)
+    → List FlatInstruction
+compare_code o m t c Temporal key size line p s = []
+compare_code o m t c Spatial key size line p s =
+    let r = path_range (named_size m t c key.base) key.path in
+    range_code o (named_address o m t c key.base r.start s) r size line p s
+
+abbrev pub judge_code : Expansion → CodeFunction → Test → Option Key → (size line pointer scratch : ℕ)
+    → List FlatInstruction
+judge_code e c test None size line p s = check_code e.inline test size line p s
+judge_code e c test (Some key) size line p s =
+    if can_compare test key
+    then compare_code e.inline.operators e.map e.code c test key size line p s
+    else check_code e.inline test size line p s
 
 -- ---- the object stack
 
@@ -343,13 +400,16 @@ status_tests r line [] = []
 status_tests r line (k ∷ ks) =
     Branch Bne r (Number (status_number k)) 1 ∷ (end_code (ending_at k line) ++ status_tests r line ks)
 
--- a status of 0 tells that the function has done its work
+-- a status of 0 tells that the function has done its work; else it is one of some
+abbrev pub status_code : (register line : ℕ) → List ReturnStatus → List FlatInstruction
+status_code r line ks = Branch Beq r (Number 0) (length (status_tests r line ks)) ∷ status_tests r line ks
+
 abbrev pub all_statuses : List ReturnStatus
 all_statuses = SpatialStatus ∷ TemporalStatus ∷ BadCall ∷ BadFree ∷ Divide ∷ StackSpent ∷ KeysSpent ∷ Aborted ∷ []
 
-abbrev pub status_code : (register line : ℕ) → List FlatInstruction
-status_code r line =
-    Branch Beq r (Number 0) (length (status_tests r line all_statuses)) ∷ status_tests r line all_statuses
+-- those with which the objects of a block are not made
+abbrev pub enter_statuses : List ReturnStatus
+enter_statuses = StackSpent ∷ KeysSpent ∷ []
 
 -- values from a temporary on go to consecutive registers, one behind the other
 abbrev pub pack_value : Passed → (into from : ℕ) → List FlatInstruction
@@ -374,7 +434,7 @@ runtime_call t c f line d b =
     let s = first_free c in
     pack c (signature f).takes r d
     ++ (Call (runtime_number t (library_place f)) r s
-    ∷ (status_code s line ++ unpack (signature f).gives b (temporary_register c d) (s + 1)))
+    ∷ (status_code s line all_statuses ++ unpack (signature f).gives b (temporary_register c d) (s + 1)))
 
 -- a routine of the library: the argument of the first three stands in the register that gets the result
 abbrev pub library_code : InlineCode → Tac → CodeFunction → Routine → (line first : ℕ) → (with_entry : Bool)
@@ -438,7 +498,7 @@ enter_code o m t c vs line top =
     ++ (Move s top
     ∷ (o.constant (s + 1) (block_bytes vs) (s + 2)
     ++ (Call (runtime_number t enter_place) s (s + 2)
-    ∷ (status_code (s + 2) line
+    ∷ (status_code (s + 2) line enter_statuses
     ++ (place_homes o c 0 vs 0 (s + 3) (s + 5) (s + 6) (s + 7) ++ write_top m (s + 4) (s + 7))))))
 
 -- they die, and the object stack ends where it did
@@ -532,7 +592,7 @@ block e u c (tac.Update w k f mode line at key d a right m) =
     update_code e.inline c w k f at (e.entries u m d) (temporary_register c d) (temporary_register c a) right
     (first_free c)
 block e u c (tac.Judge test size line key a m) =
-    check_code e.inline test size line (temporary_register c a) (first_free c)
+    judge_code e c test (key_in c key) size line (temporary_register c a) (first_free c)
 block e u c (tac.Zero x m) =
     zero_code e.inline.operators e.code c x (size_of_kind (at_number (all_variables c) x).kind) (first_free c)
 block e u c (tac.StorePart (OfScalar k) line x offset a m) =

@@ -19,7 +19,6 @@ use Rattle.tac_ir.specs.Stage.{Stage}
 use Rattle.flat_meaning.specs.Memory.{Bytes}
 use Rattle.flat_meaning.specs.State as flat
 use Rattle.flat_meaning.specs.Meaning.{step}
-use Rattle.metadata_plan.specs.Entries.{has_named_key}
 use Rattle.metadata_plan.specs.Registers.{all_variables}
 use Rattle.metadata_relation.specs.InlineCode.{IsInlineCode}
 use Rattle.metadata_relation.specs.Expanded.{IsExpanded}
@@ -72,7 +71,7 @@ covers c (tac.Offset form size d a b m) = is_word size
 covers c (tac.Read kind mode line key d a m) = is_settled mode
 covers c (tac.Write (OfScalar k) mode line key d a b m) = is_settled mode
 covers c (tac.Update w k f mode line at key d a right m) = is_settled mode && is_update_by_word w
-covers c (tac.Judge test size line key a m) = nat_le 1 size && (is_word size && not (has_named_key c key))
+covers c (tac.Judge test size line key a m) = nat_le 1 size && is_word size
 covers c (tac.StorePart (OfScalar k) line x offset a m) = is_word offset
 covers c (tac.StoreText n x offset m) = true
 covers c (tac.Branch a x y) = true

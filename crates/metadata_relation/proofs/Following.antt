@@ -34,6 +34,7 @@ use Rattle.metadata_relation.proofs.StoredTexts.{store_text}
 use Rattle.metadata_relation.proofs.Reading.{read, read_at}
 use Rattle.metadata_relation.proofs.UpdateSteps.{update_place}
 use Rattle.metadata_relation.proofs.Writing.{write}
+use Rattle.metadata_relation.proofs.Zeroing.{zero_step}
 use Rattle.std.proofs.lemmas.Bool.{and_parts, leb-true, not-true}
 use Rattle.std.specs.Prelude.{not, nat_le}
 use Rattle.tac_ir.specs.declared.instruction.Mode.{Mode}
@@ -139,6 +140,8 @@ module _ (c : Compiled) (IsGood : Bytes → Type 0) (right : IsCompiled c IsGood
   instruction (tac.StorePart kind line x offset a m) at e f = part_by kind line x offset a m at e f
   instruction (tac.StoreText t x offset m) at e f =
       store_text c IsGood right u n temps ws s v xs h words t x offset m at (fine (tac.StoreText t x offset m) at)
+  instruction (tac.Zero x m) at e f =
+      zero_step c IsGood right u n temps ws s v xs h words x m at (fine (tac.Zero x m) at)
   instruction (tac.Branch a x y) at e f = branch c IsGood right u n temps ws s v xs h words.0 a x y at
   instruction (tac.Case a w x y) at e f = case c IsGood right u n temps ws s v xs h words.0 a w x y at e
   instruction (tac.Turn counted m) at e f = turn c IsGood right u n temps ws s v xs h words.0 counted m at

@@ -194,6 +194,8 @@ module _ (g : Views) (k k' : Keys) (old new : Objects) (m m' : Bytes) (on : Goes
         let home = h.homes x o is in
         home_on o (home_register c x) values after (λ j few. same (home_register c x + j) (omega arith) (omega arith))
         (lives x o is home.live home.held) home);
+    automatic = λ x o is. on.continues.storage o (live_made old o (h.homes x o is).live) ∙ h.automatic x o is;
+    sizes = λ x o is. on.continues.size o (live_made old o (h.homes x o is).live) ∙ h.sizes x o is;
   }
 
 -- where an area begins

@@ -16,6 +16,7 @@ pub mod Ranges
 pub mod Reading
 pub mod Registers
 pub mod Routines
+pub mod RuntimeCalls
 pub mod Setting
 pub mod Simple
 pub mod Standing
@@ -27,3 +28,4 @@ pub mod UpdateSteps
 pub mod UpdatedPlaces
 pub mod Waiting
 pub mod Writing
+pub mod Zeroing

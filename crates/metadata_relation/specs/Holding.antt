@@ -4,6 +4,7 @@ use Rattle.std.specs.Prelude.{◌≡◌, ℕ, ◌+◌, ◌-◌, ◌*◌, ◌<◌
 use Rattle.std.specs.Prelude.{zero, suc}
 use Rattle.addr_map.specs.declared.region.Region.TheVariants.{StructureValues}
 use Rattle.addr_map.specs.Places.{MapSizes, region_start}
+use Rattle.obj_memory.specs.declared.object.Storage.TheVariants.{Automatic}
 use Rattle.obj_memory.specs.declared.value.Tag.TheVariants.{Untagged}
 use Rattle.obj_memory.specs.declared.value.Value.{Value}
 use Rattle.obj_memory.specs.declared.value.Scalar.{Scalar}
@@ -12,6 +13,8 @@ use Rattle.obj_memory.specs.Heap.{is_allocated}
 use Rattle.obj_memory.specs.Objects.{ObjectState, Objects, object_at, pointer_to}
 use Rattle.obj_memory.specs.Sound.{Continues, IsSoundTag, IsSoundObject}
 use Rattle.c_tree.specs.declared.program.Variable.{Variable}
+use Rattle.c_tree.specs.Kinds.{size_of_kind}
+use Rattle.c_tree.specs.Valid.{at_number}
 use Rattle.source_meaning.specs.State.{Rvalue, Home, NoObject, InObject}
 use Rattle.source_meaning.specs.Actions.{integer}
 use Rattle.source_meaning.specs.Good.{plain_type}
@@ -110,10 +113,13 @@ pub record IsHome (w : World) (object register : ℕ) (values : Values) : Type 0
   pub held : is_allocated (object_at w.objects object).storage ≡ false
   pub entry : metadata_in values (entry_from register) ≡ spell w.views w.keys (pointer_to object w.objects).tag
 
--- the homes of variables
+-- the homes of variables: their objects are automatic, each as large as the kind of its variable
 pub record HasHomes (w : World) (c : CodeFunction) (frame : List Home) (values : Values) : Type 0 where
   pub declared : (x o : ℕ) → get_or frame x NoObject ≡ InObject o → is_object_in (all_variables c) x ≡ true
   pub homes : (x o : ℕ) → get_or frame x NoObject ≡ InObject o → IsHome w o (home_register c x) values
+  pub automatic : (x o : ℕ) → get_or frame x NoObject ≡ InObject o → (object_at w.objects o).storage ≡ Automatic
+  pub sizes : (x o : ℕ) → get_or frame x NoObject ≡ InObject o
+      → (object_at w.objects o).size ≡ size_of_kind (at_number (all_variables c) x).kind
 
 -- ---- a function
 

@@ -74,6 +74,7 @@ covers c (tac.Update w k f mode line at key d a right m) = is_settled mode && is
 covers c (tac.Judge test size line key a m) = nat_le 1 size && is_word size
 covers c (tac.StorePart (OfScalar k) line x offset a m) = is_word offset
 covers c (tac.StoreText n x offset m) = true
+covers c (tac.Zero x m) = true
 covers c (tac.Branch a x y) = true
 covers c (tac.Case a w x y) = is_word w
 covers c (tac.Turn counted m) = true

@@ -136,7 +136,7 @@ module _ (c : Compiled) (IsGood : Bytes → Type 0) (right : IsCompiled c IsGood
         goes = record {
           held = on.held;
           continues = on.continues;
-          behind = λ b le. ap (λ m. m b) same.memory;
+          behind = λ b le lt. ap (λ m. m b) same.memory;
         };
         leaves = record { good = good; lives = l.lives; frame = l.frame; ended = l.ended };
         keys_few = h.steady.keys;

@@ -173,7 +173,7 @@ module _ (c : Compiled) (IsGood : Bytes → Type 0) (right : IsCompiled c IsGood
             held = λ n lt. l.held.held n (omega arith) ∙ a.goes.held.held n lt;
           };
           continues = continues_then s.objects z.objects z'.objects a.goes.continues leaves.lives.continues;
-          behind = λ b le. l.elsewhere.behind b le ∙ a.goes.behind b le;
+          behind = λ b le lt. l.elsewhere.behind b le ∙ a.goes.behind b le lt;
         };
         leaves = leaves_then (context_at (names c) u ws) s (behind_action s z) (behind_action s z') a.leaves leaves;
         keys_few = few;

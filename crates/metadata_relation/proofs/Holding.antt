@@ -31,7 +31,7 @@ use Rattle.flat_routines.proofs.Words.{same_metadata}
 use Rattle.flat_actions.specs.Actions.{KeepsHeld}
 use Rattle.flat_actions.proofs.Standing.{keeps_same}
 use Rattle.area_routines.specs.Areas.{HoldsPart}
-use Rattle.area_routines.proofs.Areas.{area_stays}
+use Rattle.area_routines.proofs.Areas.{area_kept, area_same}
 use Rattle.runtime_functions.specs.Library.{held_from}
 use Rattle.metadata_plan.specs.Registers.{all_variables, most_temporaries}
 use Rattle.metadata_relation.specs.Registers.{entry_from, variable_register, variables_end, home_register, homes_end}
@@ -69,7 +69,7 @@ pub same_world : (g : Views) (k : Keys) (objects : Objects) (m : Bytes) → Goes
 same_world g k objects m = record {
   held = keeps_same objects k;
   continues = continues_same objects;
-  behind = λ b le. refl;
+  behind = λ b le lt. refl;
 }
 
 -- a sound tag has the same entry, where objects keep their keys
@@ -120,7 +120,10 @@ module _ (g : Views) (k k' : Keys) (old new : Objects) (m m' : Bytes) (on : Goes
     entry = λ e. by b e same h;
     place = h.place;
     small = h.small;
-    area_is = area_stays g.sizes g k k' old c a m m' first on.behind on.held h.sound h.area_is;
+    area_is =
+        let last = h.place.last in
+        area_kept g k k' old c a m' on.held h.sound
+        (area_same g k c a m m' (λ i lt. on.behind (a + i) (omega arith) (omega arith)) h.area_is);
     sound = sound_object_continues old new on.continues c h.sound;
   }
     where

@@ -3,7 +3,7 @@
 use Rattle.std.specs.Prelude.{◌≡◌, ℕ, ◌+◌, ◌-◌, ◌*◌, ◌<◌, ◌≤◌, Bool, true, false, List, [], ◌∷◌, length, get_or, Option, Some, None}
 use Rattle.std.specs.Prelude.{zero, suc}
 use Rattle.addr_map.specs.declared.region.Region.TheVariants.{StructureValues}
-use Rattle.addr_map.specs.Places.{MapSizes, region_start}
+use Rattle.addr_map.specs.Places.{MapSizes, region_end, region_start}
 use Rattle.obj_memory.specs.declared.object.Storage.TheVariants.{Automatic}
 use Rattle.obj_memory.specs.declared.value.Tag.TheVariants.{Untagged}
 use Rattle.obj_memory.specs.declared.value.Value.{Value}
@@ -42,11 +42,11 @@ pub record World : Type 0 where
 abbrev pub world_of : Views → Keys → Objects → Bytes → World
 world_of g k objects m = record { views = g; keys = k; objects = objects; memory = m }
 
--- objects go on and keep their keys, and the memory behind the table of blocks stays
+-- objects go on and keep their keys, and the space of structure values stays
 pub record GoesOn (g : Views) (k k' : Keys) (old new : Objects) (m m' : Bytes) : Type 0 where
   pub held : KeepsHeld old k k'
   pub continues : Continues old new
-  pub behind : (b : ℕ) → region_start g.sizes StructureValues ≤ b → m' b ≡ m b
+  pub behind : (b : ℕ) → region_start g.sizes StructureValues ≤ b → b < region_end g.sizes StructureValues → m' b ≡ m b
 
 -- ---- values
 

@@ -9,7 +9,7 @@ use Rattle.behaviours.specs.Steps.{run}
 use Rattle.behaviours.proofs.Running.{run_add}
 use Rattle.addr_map.specs.declared.region.Region.TheVariants.{StructureValues, Cells}
 use Rattle.addr_map.specs.Places.{MapSizes, region_size, region_start}
-use Rattle.obj_memory.specs.declared.object.Storage.TheVariants.{Automatic}
+use Rattle.obj_memory.specs.declared.object.Storage.TheVariants.{Automatic, Static}
 use Rattle.obj_memory.specs.declared.value.Value.{Value}
 use Rattle.obj_memory.specs.Heap.{rounded_up, is_allocated}
 use Rattle.obj_memory.specs.Objects.{Objects, object_at}
@@ -93,7 +93,7 @@ module _ (w : World) (s : State) (l : Layout) (first : ℕ) (c : CodeFunction) (
 -- ---- what holds of a state at every node
 
 -- an automatic object has bytes still, and what is made has a block of the heap
-bytes_on : (old new : Objects) → Continues old new → EndsMade old new → HaveBytes old → HaveBytes new
+pub bytes_on : (old new : Objects) → Continues old new → EndsMade old new → HaveBytes old → HaveBytes new
 bytes_on old new on ends h = record { some = λ n live is. by n live is (cases_lt n (length old)) }
   where
     alive : (n : ℕ) → n < length old → (object_at new n).is_live ≡ true → (b : Bool) → (object_at old n).is_live ≡ b
@@ -111,19 +111,19 @@ bytes_on old new on ends h = record { some = λ n live is. by n live is (cases_l
     by n live is (inr le) = absurd
         (let made = ends n le live in let both : true ≡ false = sym made ∙ ap is_allocated is in cc)
 
--- static objects are no blocks of the heap
+-- static objects are there, at the numbers of their data
 pub record IsPlacedStatic (n : ℕ) (objects : Objects) : Type 0 where
   pub made : n < length objects
-  pub held : is_allocated (object_at objects n).storage ≡ false
+  pub static : (object_at objects n).storage ≡ Static
 
 pub placed_static : (first : ℕ) (ds : List StaticData) (offset n : ℕ) → n < length ds
     → IsPlacedStatic n (placed_data first ds offset)
 placed_static first [] offset n lt = absurd (omega arith)
-placed_static first (d ∷ ds) offset zero lt = record { made = omega arith; held = refl }
+placed_static first (d ∷ ds) offset zero lt = record { made = omega arith; static = refl }
 placed_static first (d ∷ ds) offset (suc n) lt =
     let r = placed_static first ds (rounded_up 16 offset + d.size) n (omega arith) in
     let made = r.made in
-    record { made = omega arith; held = r.held }
+    record { made = omega arith; static = r.static }
 
 pub steady_on : (c : Compiled) (u : ℕ) (ws : List Frame) (s s' : State) → Leaves (context_at (names c) u ws) s s'
     → s'.keys ≤ (map_of c).budgets.keys → IsSteady c u ws s → IsSteady c u ws s'
@@ -137,7 +137,7 @@ steady_on c u ws s s' l keys h = record {
       (let is = placed_static (statics_first c.setting) (expansion_of c).code.statics 0 n lt in
       let made = is.made in
       let longer = h.statics.longer in
-      l.lives.live n (omega arith) (ap is_allocated (h.statics.storage n made) ∙ is.held) (h.statics_live n lt));
+      l.lives.live n (omega arith) (ap is_allocated (h.statics.storage n made ∙ is.static)) (h.statics_live n lt));
 }
 
 -- ---- the memory stands for other objects

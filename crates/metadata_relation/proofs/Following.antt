@@ -29,6 +29,7 @@ use Rattle.metadata_relation.proofs.Moving.{convert_pointer}
 use Rattle.metadata_relation.proofs.Setting.{set_plain_step}
 use Rattle.metadata_relation.proofs.Pointers.{home_pointer, offset}
 use Rattle.metadata_relation.proofs.Checking.{judge}
+use Rattle.metadata_relation.proofs.Leaving.{leave_step}
 use Rattle.metadata_relation.proofs.StoredParts.{store_part}
 use Rattle.metadata_relation.proofs.StoredTexts.{store_text}
 use Rattle.metadata_relation.proofs.Reading.{read, read_at}
@@ -142,6 +143,8 @@ module _ (c : Compiled) (IsGood : Bytes → Type 0) (right : IsCompiled c IsGood
       store_text c IsGood right u n temps ws s v xs h words t x offset m at (fine (tac.StoreText t x offset m) at)
   instruction (tac.Zero x m) at e f =
       zero_step c IsGood right u n temps ws s v xs h words x m at (fine (tac.Zero x m) at)
+  instruction (tac.LeaveBlock b m) at e f =
+      leave_step c IsGood right u n temps ws s v xs h words b m at (fine (tac.LeaveBlock b m) at)
   instruction (tac.Branch a x y) at e f = branch c IsGood right u n temps ws s v xs h words.0 a x y at
   instruction (tac.Case a w x y) at e f = case c IsGood right u n temps ws s v xs h words.0 a w x y at e
   instruction (tac.Turn counted m) at e f = turn c IsGood right u n temps ws s v xs h words.0 counted m at

@@ -1,6 +1,7 @@
 pub mod Accesses
 pub mod Acting
 pub mod Assigning
+pub mod Behind
 pub mod Checking
 pub mod Comparing
 pub mod Finishing
@@ -9,6 +10,7 @@ pub mod Following
 pub mod Giving
 pub mod Holding
 pub mod Inline
+pub mod Leaving
 pub mod Moving
 pub mod NamedChecks
 pub mod Pointers
@@ -24,6 +26,7 @@ pub mod StartData
 pub mod StartFile
 pub mod StoredParts
 pub mod StoredTexts
+pub mod TopCell
 pub mod UpdateSteps
 pub mod UpdatedPlaces
 pub mod Waiting

@@ -138,7 +138,7 @@ module _ (g : Views) (k k' : Keys) (s s' : State) (m m' : Bytes) (l : Layout) (f
       )
 
 -- what waits knows nothing of a state but its objects
-lock_same : (k : Keys) (s s' : State) → s'.objects ≡ s.objects → (homes : List Home) (lock : ℕ)
+pub lock_same : (k : Keys) (s s' : State) → s'.objects ≡ s.objects → (homes : List Home) (lock : ℕ)
     → AreOfLock k s homes lock → AreOfLock k s' homes lock
 lock_same k s s' e homes lock of = record {
   some = of.some;

@@ -18,17 +18,21 @@ use Rattle.tac_ir.specs.Fitting.{is_word}
 use Rattle.tac_ir.specs.Stage.{Stage}
 use Rattle.flat_meaning.specs.Memory.{Bytes}
 use Rattle.flat_meaning.specs.State as flat
+use Rattle.flat_routines.specs.Metadata.{IsObjectWord, KeepsShadow}
 use Rattle.flat_meaning.specs.Meaning.{step}
 use Rattle.metadata_plan.specs.Registers.{all_variables}
 use Rattle.metadata_relation.specs.InlineCode.{IsInlineCode}
 use Rattle.metadata_relation.specs.Expanded.{IsExpanded}
 use Rattle.metadata_relation.specs.Stages.{Compiled, map_of, Matches}
 
--- The lists that stand inline do what is asked of them, the flat program is the expansion of the code, the sizes are those
--- of a map, and the functions of the setting are those of the typed program.
+-- The lists that stand inline do what is asked of them, the flat program is the expansion of the code, entries depend on the
+-- bytes of the shadow space alone, the sizes are those of a map, and the functions of the setting are those of the typed
+-- program.
 pub record IsCompiled (c : Compiled) (IsGood : Bytes → Type 0) : Type 0 where
   pub inline : IsInlineCode (map_of c) c.entry IsGood c.layout.expansion.inline
   pub expanded : IsExpanded c.layout c.entry IsGood
+  pub local : (m m' : Bytes) → KeepsShadow (map_of c) m m' → IsGood m
+      → IsGood m' × ((a : ℕ) → IsObjectWord (map_of c) a → c.entry m' a ≡ c.entry m a)
   pub mapped : AreMapped (map_of c)
   pub sizes : c.setting.sizes ≡ map_of c
   pub functions : map header_of c.typed.functions ≡ c.setting.functions
@@ -75,6 +79,7 @@ covers c (tac.Judge test size line key a m) = nat_le 1 size && is_word size
 covers c (tac.StorePart (OfScalar k) line x offset a m) = is_word offset
 covers c (tac.StoreText n x offset m) = true
 covers c (tac.Zero x m) = true
+covers c (tac.LeaveBlock b m) = true
 covers c (tac.Branch a x y) = true
 covers c (tac.Case a w x y) = is_word w
 covers c (tac.Turn counted m) = true

@@ -1,0 +1,123 @@
+-- The cell that has the end of the object stack is written, and nothing else of memory.
+use Rattle.std.proofs.Common.{◌≡◌, ◌≢◌, ℕ, ◌+◌, ◌%◌, ◌^◌, ◌<◌, ◌≤◌, Bool, true, false, not, ◌&&◌, if◌then◌else◌, List, [], ◌∷◌, ◌++◌}
+use Rattle.std.proofs.Common.{Option, Some, None, refl, sym, ap, ◌∙◌, subst, arith}
+use Rattle.std.specs.Prelude.{nat_le}
+use Rattle.std.proofs.lemmas.Bool.{lt-leb}
+use Rattle.std.proofs.Math.Bool.{and-false}
+use Rattle.behaviours.specs.Shown.{Write}
+use Rattle.addr_map.specs.declared.region.Region.TheVariants.{Cells, Heap, StructureValues}
+use Rattle.addr_map.specs.Places.{AreMapped, MapSizes, objects_begin, region_end, region_size, region_start, spaces_begin}
+use Rattle.rv_isa.specs.declared.instruction.StoreOp.TheVariants.{Sd}
+use Rattle.flat_meaning.specs.declared.instruction.FlatInstruction.{FlatInstruction}
+use Rattle.flat_meaning.specs.declared.instruction.FlatInstruction.TheVariants.{Constant, Store}
+use Rattle.flat_meaning.specs.declared.function.FlatProgram.{FlatProgram}
+use Rattle.flat_meaning.specs.Calls.{function_in}
+use Rattle.flat_meaning.specs.Meaning.{address_in, at_instruction, body_of, context, Fails, Goes, goes_to, instruction_at}
+use Rattle.flat_meaning.specs.Meaning.{is_runtime_function, Local, weight_of, with_access}
+use Rattle.flat_meaning.specs.Memory.{Bytes, put, store}
+use Rattle.flat_meaning.specs.Spaces.{is_allowed, is_of_objects}
+use Rattle.flat_meaning.specs.State as flat
+use Rattle.flat_meaning.proofs.Stored.{put_other, put_same}
+use Rattle.flat_routines.specs.Routine.{HasAt}
+use Rattle.flat_routines.proofs.Regions.{laid_out}
+use Rattle.flat_routines.proofs.Spaces.Quiet.{space_allowed}
+use Rattle.heap_space.proofs.Regions.{table_laid_out}
+use Rattle.metadata_plan.proofs.Flat.{Comes, constant_comes, then_comes, weight_small}
+use Rattle.metadata_relation.specs.Blocks.{top_cell, write_top}
+
+-- where the cell lies
+pub record IsCellPlace (m : MapSizes) : Type 0 where
+  pub first : spaces_begin ≤ top_cell m
+  pub behind : region_end m StructureValues ≤ top_cell m
+  pub spaces : region_start m StructureValues ≤ top_cell m
+  pub last : top_cell m + 8 ≤ region_end m Cells
+  pub heap : region_end m Heap < top_cell m
+  pub small : top_cell m < 2 ^ 64
+
+pub cell_place : (m : MapSizes) → AreMapped m → IsCellPlace m
+unfolding region_size region_start
+cell_place m h = record {
+  first = omega arith;
+  behind = omega arith;
+  spaces = omega arith;
+  last = omega arith;
+  heap = omega (arith, h.globals, h.budgets.stack.greatest, h.budgets.heap.greatest);
+  small = (let small = (table_laid_out m h).small in omega arith);
+}
+
+module _ (m : MapSizes) (mapped : AreMapped m) (p : FlatProgram) (u : ℕ) (xs : List flat.Frame) where
+  -- it is no byte of an object, and may be used
+  not_of_objects : is_of_objects m (top_cell m) 8 ≡ false
+  not_of_objects =
+      let place = cell_place m mapped in
+      let heap = place.heap in
+      ap (λ b. nat_le objects_begin (top_cell m) && b) (lt-leb (top_cell m + 8) (region_end m Heap) (omega arith))
+      ∙ and-false (nat_le objects_begin (top_cell m))
+
+  pub cell_stored : (pc r x : ℕ) (v : flat.State) → instruction_at p u pc ≡ Some (Store Sd r 0 x)
+      → v.values r ≡ top_cell m
+      → Comes m p u pc v xs (pc + 1) (record v { memory = store 8 v.memory (top_cell m) (v.values x) }) 2
+  cell_stored pc r x v e is =
+      let place = cell_place m mapped in
+      let small = place.small in
+      let w = weight_of (function_in p u) in
+      let at : address_in v r 0 ≡ top_cell m = omega arith in
+      let c = context m p u xs in
+      let t : ℕ → flat.State = λ a. record v { memory = store 8 v.memory a (v.values x); work = v.work + w } in
+      record {
+        steps = 1;
+        work = w;
+        few = weight_small (function_in p u);
+        comes = ap (λ o. at_instruction m p o u pc v xs) e
+            ∙ ap (λ a. goes_to m p (Store Sd r 0 x) u pc (record v { work = v.work + w }) xs
+            (if is_allowed m a 8 then Goes (pc + 1) (with_access c a 8 Write (t a)) else Fails)) at
+            ∙ ap (λ b. goes_to m p (Store Sd r 0 x) u pc (record v { work = v.work + w }) xs
+            (if b then Goes (pc + 1) (with_access c (top_cell m) 8 Write (t (top_cell m))) else Fails))
+            (space_allowed m (top_cell m) 8 place.first place.last)
+            ∙ ap (λ b. flat.Stands u (pc + 1) (if not c.is_runtime && b
+            then record (t (top_cell m)) {
+              accesses = v.accesses ++ record { address = top_cell m; size = 8; kind = Write } ∷ [];
+            } else t (top_cell m)) xs) not_of_objects
+            ∙ ap (λ b. flat.Stands u (pc + 1) (if b
+            then record (t (top_cell m)) {
+              accesses = v.accesses ++ record { address = top_cell m; size = 8; kind = Write } ∷ [];
+            } else t (top_cell m)) xs) (and-false (not c.is_runtime));
+      }
+
+  -- the cell gets what a register has
+  pub top_written : (pc r x : ℕ) (v : flat.State) → HasAt (body_of (function_in p u)) pc (write_top m x r) → r ≢ x
+      → Comes m p u pc v xs (pc + 2) (record v {
+        values = put v.values r (top_cell m);
+        memory = store 8 v.memory (top_cell m) (v.values x);
+      }) 4
+  top_written pc r x v has other =
+      let place = cell_place m mapped in
+      let small = place.small in
+      let is : top_cell m % 2 ^ 64 ≡ top_cell m = omega arith in
+      let one = constant_comes m p u pc v xs r (top_cell m) has.0 in
+      let between : flat.State = record v { values = put v.values r (top_cell m % 2 ^ 64); work = v.work + one.work } in
+      let two = cell_stored (pc + 1) r x between has.1.0 (put_same v.values r (top_cell m % 2 ^ 64) ∙ is) in
+      let both = then_comes m p u pc v xs (pc + 1) (pc + 1 + 1) (record v { values = put v.values r (top_cell m % 2 ^ 64) })
+      (record between { memory = store 8 v.memory (top_cell m) (put v.values r (top_cell m % 2 ^ 64) x) }) 2 2 one two in
+      let place_is : pc + 1 + 1 ≡ pc + 2 = omega arith in
+      record {
+        steps = both.steps;
+        work = both.work;
+        few = both.few;
+        comes = both.comes
+            ∙ ap (λ z. flat.Stands u z (record v {
+          values = put v.values r (top_cell m % 2 ^ 64);
+          memory = store 8 v.memory (top_cell m) (put v.values r (top_cell m % 2 ^ 64) x);
+          work = v.work + both.work;
+        }) xs) place_is
+            ∙ ap (λ z. flat.Stands u (pc + 2) (record v {
+          values = put v.values r (top_cell m % 2 ^ 64);
+          memory = store 8 v.memory (top_cell m) z;
+          work = v.work + both.work;
+        }) xs) (put_other v.values r (top_cell m % 2 ^ 64) x (λ e. other (sym e)))
+            ∙ ap (λ z. flat.Stands u (pc + 2) (record v {
+          values = put v.values r z;
+          memory = store 8 v.memory (top_cell m) (v.values x);
+          work = v.work + both.work;
+        }) xs) is;
+      }

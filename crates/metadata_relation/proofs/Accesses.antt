@@ -1,7 +1,7 @@
 -- Accesses of three-address code that is not stuck: the object is there, so a judged access is one that names its object.
-use Rattle.std.proofs.Common.{◌≡◌, ℕ, ◌+◌, ◌-◌, ◌*◌, ◌^◌, ◌<◌, ◌≤◌, Bool, true, false, List, [], ◌∷◌, ◌++◌, Option, Some}
-use Rattle.std.proofs.Common.{None, length, refl, sym, ap, ◌∙◌, subst, arith}
-use Rattle.std.specs.Prelude.{slice_get, ◌&&◌, nat_le}
+use Rattle.std.proofs.Common.{◌≡◌, ℕ, ◌+◌, Bool, true, false, List, [], ◌∷◌, ◌++◌, Option, Some}
+use Rattle.std.proofs.Common.{None, refl, ap, ◌∙◌, arith}
+use Rattle.std.specs.Prelude.{slice_get, nat_le}
 use Rattle.std.proofs.lemmas.Bool.{and_parts, leb-true}
 use Rattle.behaviours.specs.Shown.{Read, Write}
 use Rattle.sb_base.specs.declared.ending.Ending.TheVariants.{Spatial, Temporal}
@@ -11,10 +11,10 @@ use Rattle.obj_memory.specs.declared.value.Tag.{Tag}
 use Rattle.obj_memory.specs.declared.value.Tag.TheVariants.{Untagged, OfFunction, OfObject}
 use Rattle.obj_memory.specs.declared.value.Value.{Value}
 use Rattle.obj_memory.specs.Access.{scalar_size, read_value, write_value}
-use Rattle.obj_memory.specs.Judgement.{named, place_in}
-use Rattle.obj_memory.specs.Objects.{ObjectState, Objects, object_at}
+use Rattle.obj_memory.specs.Judgement.{place_in}
+use Rattle.obj_memory.specs.Objects.{Objects}
 use Rattle.obj_memory.specs.Sound.{IsSoundTag}
-use Rattle.source_meaning.specs.State.{State, Rvalue, Outcome, Gives, on}
+use Rattle.source_meaning.specs.State.{State, Rvalue, Gives, on}
 use Rattle.source_meaning.specs.Actions.{load, located, place_or_stop, read_scalar, store, write_scalar}
 use Rattle.source_meaning.specs.Blocks.{pass_or_stop}
 use Rattle.source_meaning.specs.Judging.{is_within, is_live_tag}
@@ -24,7 +24,7 @@ use Rattle.source_meaning.proofs.JudgingTests.{two_tests}
 use Rattle.tac_ir.specs.declared.instruction.Mode.{Mode}
 use Rattle.tac_ir.specs.declared.instruction.Mode.TheVariants.{Named, Unchecked, Judged}
 use Rattle.tac_ir.specs.declared.key.Key.{Key}
-use Rattle.tac_ir.specs.Accesses.{admitted, is_inside, is_live_at, is_live_by, is_place, is_through, only_if}
+use Rattle.tac_ir.specs.Accesses.{admitted, is_inside, is_live_at, is_live_by, is_through}
 use Rattle.tac_ir.specs.Keys.{gives}
 use Rattle.tac_ir.specs.Meaning.{keyed, keyed_by}
 use Rattle.tac_ir.specs.Stage.{Stage, Stuck}

@@ -1,10 +1,8 @@
 -- What comes of a step that stays in its function and changes objects and memory: callers and blocks wait on, states stay
 -- good, and what is asked of a state at every node holds again.
 use Rattle.std.proofs.Common.{◌≡◌, ◌⊎◌, inl, inr, ℕ, zero, suc, ◌+◌, ◌*◌, ◌<◌, ◌≤◌, Bool, true, false, List, [], ◌∷◌}
-use Rattle.std.proofs.Common.{length, get_or, Option, Some, None, refl, sym, ap, ◌∙◌, subst, arith}
-use Rattle.std.specs.Prelude.{slice_get}
+use Rattle.std.proofs.Common.{length, Some, None, refl, sym, ap, ◌∙◌, subst, arith}
 use Rattle.std.proofs.lemmas.Bool.{cases_lt}
-use Rattle.behaviours.specs.Shown.{Access}
 use Rattle.behaviours.specs.Steps.{run}
 use Rattle.behaviours.proofs.Running.{run_add}
 use Rattle.addr_map.specs.declared.region.Region.TheVariants.{StructureValues, Cells}
@@ -28,15 +26,14 @@ use Rattle.tac_ir.specs.Edges.{LeadsTo}
 use Rattle.tac_ir.specs.Meaning.{objects_before, placed_data}
 use Rattle.tac_ir.specs.Stage.{Temps, with_temp, Frame, Waits, Entered, Stage, Stands}
 use Rattle.flat_meaning.specs.declared.function.FlatProgram.{FlatProgram}
-use Rattle.flat_meaning.specs.Memory.{Bytes, load}
+use Rattle.flat_meaning.specs.Memory.{Bytes}
 use Rattle.flat_meaning.specs.State as flat
 use Rattle.flat_meaning.specs.Calls.{function_in}
 use Rattle.flat_meaning.specs.Meaning.{body_of, step, weight_of}
 use Rattle.flat_meaning.specs.Words.{HasWords, IsOfWords}
 use Rattle.flat_meaning.proofs.Stored.{load_kept}
 use Rattle.flat_routines.specs.Objects.StandsFor.{Keys}
-use Rattle.flat_routines.specs.Routine.{HasAt}
-use Rattle.flat_actions.specs.Actions.{IsFor, KeepsHeld}
+use Rattle.flat_actions.specs.Actions.{IsFor}
 use Rattle.object_routines.specs.AllocatingRoutines.Premises.{HaveBytes}
 use Rattle.metadata_plan.specs.Registers.{most_temporaries}
 use Rattle.metadata_plan.specs.Entries.{given}
@@ -306,12 +303,12 @@ module _ (c : Compiled) (IsGood : Bytes → Type 0) (right : IsCompiled c IsGood
               bound = length s'.objects;
             }) ws xs) (sym same_top)
                 (subst (λ z. AllWait (world c keys s' v') s' c.layout (stack_first c.setting) (record {
-              code = h.code;
-              values = v'.values;
-              stacked = s.stacked;
-              frame = z;
-              bound = length s'.objects;
-            }) ws xs) (sym l.frame) below);
+                  code = h.code;
+                  values = v'.values;
+                  stacked = s.stacked;
+                  frame = z;
+                  bound = length s'.objects;
+                }) ws xs) (sym l.frame) below);
           };
         });
       }

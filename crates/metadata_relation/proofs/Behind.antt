@@ -1,7 +1,7 @@
 -- Memory that changes behind the runtime's spaces alone, as the cells do, stands for the same objects.
-use Rattle.std.proofs.Common.{◌≡◌, ℕ, ◌+◌, ◌*◌, ◌/◌, ◌<◌, ◌≤◌, true, false, sym, ap, ◌∙◌, subst, arith}
-use Rattle.addr_map.specs.declared.region.Region.TheVariants.{Heap, Locks, Blocks, StructureValues}
-use Rattle.addr_map.specs.Places.{AreMapped, MapSizes, region_end, region_start, spaces_begin}
+use Rattle.std.proofs.Common.{◌≡◌, ℕ, ◌+◌, ◌*◌, ◌<◌, sym, ◌∙◌, subst, arith}
+use Rattle.addr_map.specs.declared.region.Region.TheVariants.{Locks, Blocks, StructureValues}
+use Rattle.addr_map.specs.Places.{AreMapped, MapSizes, region_start, spaces_begin}
 use Rattle.obj_memory.specs.Objects.{Objects, object_at}
 use Rattle.source_meaning.specs.State.{State as Source}
 use Rattle.flat_meaning.specs.Memory.{Bytes, load}

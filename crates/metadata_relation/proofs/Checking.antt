@@ -1,15 +1,15 @@
 -- The two checks of a pointer: each passes, or ends the run at its line.
-use Rattle.std.proofs.Common.{◌≡◌, ◌⊎◌, inl, inr, ℕ, ◌+◌, ◌-◌, ◌*◌, ◌^◌, ◌<◌, ◌≤◌, Bool, true, false, not, if◌then◌else◌}
-use Rattle.std.proofs.Common.{List, [], ◌∷◌, ◌++◌, length, length-append, Option, Some, None, refl, sym, ap, ◌∙◌, subst}
+use Rattle.std.proofs.Common.{◌≡◌, inl, ℕ, ◌+◌, ◌-◌, ◌*◌, ◌^◌, ◌<◌, ◌≤◌, Bool, true, false, not, if◌then◌else◌}
+use Rattle.std.proofs.Common.{List, [], ◌++◌, length, length-append, Option, Some, None, refl, sym, ap, ◌∙◌, subst}
 use Rattle.std.proofs.Common.{arith}
 use Rattle.std.proofs.Math.Nat.{mod-eq_of_lt}
-use Rattle.std.specs.Prelude.{slice_get, ◌==◌, ◌&&◌, nat_le}
-use Rattle.std.proofs.lemmas.Bool.{and_parts, and_from, eq-eqb, leb-true, ltb-true, ltb-false}
+use Rattle.std.specs.Prelude.{slice_get, ◌==◌, nat_le}
+use Rattle.std.proofs.lemmas.Bool.{and_parts, and_from, eq-eqb, leb-true, ltb-false}
 use Rattle.behaviours.specs.Steps.{run}
 use Rattle.behaviours.proofs.Running.{run_add}
 use Rattle.sb_base.specs.declared.ending.Ending.{Ending}
 use Rattle.sb_base.specs.declared.ending.Ending.TheVariants.{Spatial as SpatialAt, Temporal as TemporalAt}
-use Rattle.sb_base.specs.Endings.{code_of, report_of}
+use Rattle.sb_base.specs.Endings.{report_of}
 use Rattle.obj_memory.specs.declared.value.Tag.{Tag}
 use Rattle.obj_memory.specs.declared.value.Tag.TheVariants.{Untagged, OfFunction, OfObject}
 use Rattle.obj_memory.specs.declared.value.Value.{Value}
@@ -18,7 +18,7 @@ use Rattle.obj_memory.specs.Sound.{IsSoundTag}
 use Rattle.source_meaning.specs.State.{State}
 use Rattle.source_meaning.specs.Blocks.{pass_or_stop}
 use Rattle.source_meaning.specs.Good.{AreLow}
-use Rattle.source_meaning.specs.Judging.{is_within, is_live_tag, test_bounds, test_life}
+use Rattle.source_meaning.specs.Judging.{is_within, is_live_tag}
 use Rattle.tac_ir.specs.declared.instruction.Instruction.{Instruction}
 use Rattle.tac_ir.specs.declared.instruction.Instruction.TheVariants as tac
 use Rattle.tac_ir.specs.declared.instruction.Test.{Test}
@@ -37,7 +37,6 @@ use Rattle.c_tree.specs.declared.program.Variable.{Variable}
 use Rattle.tac_ir.specs.Stage.{came, Frame, Over, Stage, Stands, Stuck, Temps}
 use Rattle.tac_ir.proofs.Fits.{only_true}
 use Rattle.flat_meaning.specs.declared.instruction.FlatInstruction.{FlatInstruction}
-use Rattle.flat_meaning.specs.declared.instruction.RightOperand.{RightOperand}
 use Rattle.flat_meaning.specs.declared.instruction.RightOperand.TheVariants.{Register, Number}
 use Rattle.flat_meaning.specs.Calls.{charged, function_in}
 use Rattle.flat_meaning.specs.Meaning.{body_of, context, is_runtime_function, right_value, step, weight_of}
@@ -48,10 +47,10 @@ use Rattle.flat_routines.specs.InputOutput.{IsWithoutInputOutput}
 use Rattle.flat_routines.specs.Metadata.{held_registers, metadata_in}
 use Rattle.flat_routines.specs.Objects.StandsFor.{Spells}
 use Rattle.flat_routines.specs.Registers.{AreBelow}
-use Rattle.flat_routines.specs.Routine.{Does, HasAt, Outcome}
+use Rattle.flat_routines.specs.Routine.{Does, HasAt}
 use Rattle.flat_routines.proofs.Steps.{has_back, has_front}
 use Rattle.flat_routines.proofs.Words.{same_metadata}
-use Rattle.flat_actions.specs.Judgement.Judging.{EndsWith, IsSameBut}
+use Rattle.flat_actions.specs.Judgement.Judging.{IsSameBut}
 use Rattle.flat_actions.specs.Judgement.Testing.{IsTested, IsToTest}
 use Rattle.flat_actions.proofs.Standing.{for_still, for_worked, shown_still}
 use Rattle.runtime_functions.specs.Library.{held_from}
@@ -60,7 +59,7 @@ use Rattle.metadata_plan.specs.Expanded.{Leads}
 use Rattle.metadata_plan.specs.Operators.{Position}
 use Rattle.metadata_plan.specs.Registers.{all_variables, most_temporaries}
 use Rattle.metadata_relation.specs.Blocks.{check_code, compare_code, is_short, judge_code}
-use Rattle.metadata_relation.specs.Holding.{GoesOn, IsHeldAt}
+use Rattle.metadata_relation.specs.Holding.{IsHeldAt}
 use Rattle.metadata_relation.specs.Registers.{first_free, temporary_register}
 use Rattle.metadata_relation.specs.Scopes.{context_at}
 use Rattle.metadata_relation.specs.Stages.{Compiled, expansion_of, factor, IsAt, map_of, names, views, world}
@@ -73,7 +72,7 @@ use Rattle.metadata_relation.proofs.Holding.{same_world}
 use Rattle.metadata_relation.proofs.NamedChecks.{judge_named}
 use Rattle.metadata_relation.proofs.Pointers.{operand}
 use Rattle.metadata_relation.proofs.Registers.{temporary_free}
-use Rattle.metadata_relation.proofs.Routines.{passes, Passes, stops, Stops}
+use Rattle.metadata_relation.proofs.Routines.{passes, stops}
 use Rattle.metadata_relation.proofs.Simple.{computed}
 use Rattle.metadata_relation.proofs.Standing.{ends, good_now, IsNode, leaves_same, node, Result}
 
@@ -127,12 +126,12 @@ module _ (c : Compiled) (IsGood : Bytes → Type 0) (right : IsCompiled c IsGood
         stands = stands_on c IsGood h.keys h.keys s (spent w s) v z h.stands
             (for_worked (views c) h.keys IsGood s (s.work + w) z
             (for_still (views c) h.keys IsGood s v z same.memory (record {
-          input = same.shows.input;
-          output = same.shows.output;
-          taken = same.shows.taken;
-          accesses = same.shows.accesses;
-          turns = same.shows.turns;
-        }) h.stands.for)) refl (λ b le. ap (λ m. m b) same.memory) (omega arith);
+              input = same.shows.input;
+              output = same.shows.output;
+              taken = same.shows.taken;
+              accesses = same.shows.accesses;
+              turns = same.shows.turns;
+            }) h.stands.for)) refl (λ b le. ap (λ m. m b) same.memory) (omega arith);
         goes = record {
           held = on.held;
           continues = on.continues;

@@ -1,14 +1,11 @@
 -- How a block ends: behind an action registers of a temporary get their values by assignments, and the code leads on.
-use Rattle.std.proofs.Common.{◌≡◌, ◌≢◌, ◌⊎◌, inl, inr, ℕ, ◌+◌, ◌*◌, ◌<◌, ◌≤◌, Bool, true, false, List, [], ◌∷◌, length}
+use Rattle.std.proofs.Common.{◌≡◌, ◌≢◌, ◌⊎◌, inl, inr, ℕ, ◌+◌, ◌*◌, ◌<◌, ◌≤◌, Bool, true, false, List, ◌∷◌, length}
 use Rattle.std.proofs.Common.{refl, sym, ap, ◌∙◌, subst, arith}
-use Rattle.addr_map.specs.declared.region.Region.TheVariants.{StructureValues}
-use Rattle.addr_map.specs.Places.{region_start}
 use Rattle.obj_memory.specs.declared.value.Tag.TheVariants.{Untagged}
 use Rattle.obj_memory.specs.declared.value.Value.{Value}
 use Rattle.obj_memory.specs.Objects.{Objects}
 use Rattle.obj_memory.specs.Sound.{IsSoundTag}
 use Rattle.obj_memory.proofs.Continuing.{continues_then}
-use Rattle.c_tree.specs.Programs.{Function}
 use Rattle.source_meaning.specs.State.{State}
 use Rattle.source_meaning.specs.Calls.{header_of}
 use Rattle.source_meaning.specs.Good.{Leaves, function_count}
@@ -21,15 +18,13 @@ use Rattle.flat_meaning.specs.State as flat
 use Rattle.flat_meaning.specs.Calls.{function_in}
 use Rattle.flat_meaning.specs.Meaning.{body_of}
 use Rattle.flat_meaning.proofs.Stored.{put_same, put_other}
-use Rattle.flat_routines.specs.Metadata.{metadata_in, no_metadata}
 use Rattle.flat_routines.specs.Objects.StandsFor.{Keys, spell}
 use Rattle.flat_routines.specs.Routine.{HasAt}
 use Rattle.flat_actions.specs.Actions.{Holder, HasGiven}
 use Rattle.flat_actions.proofs.Standing.{for_worked}
 use Rattle.metadata_plan.specs.Expanded.{Leads}
-use Rattle.runtime_functions.specs.Library.{held_from}
 use Rattle.metadata_relation.specs.Blocks.{move_value, untagged}
-use Rattle.metadata_relation.specs.Holding.{World, GoesOn, IsHeldAt}
+use Rattle.metadata_relation.specs.Holding.{World, IsHeldAt}
 use Rattle.metadata_relation.specs.Scopes.{context_at}
 use Rattle.metadata_relation.specs.Stages.{Compiled, map_of, views, names, IsAt}
 use Rattle.metadata_relation.specs.Steps.{IsCompiled}

@@ -1,5 +1,5 @@
 -- The five registers of a value: they differ, and all lie below what follows them.
-use Rattle.std.proofs.Common.{◌≡◌, ◌≢◌, ◌⊎◌, inl, inr, ℕ, ◌+◌, ◌*◌, ◌^◌, ◌<◌, ◌≤◌, Bool, true, false, List, [], ◌∷◌, arith, subst}
+use Rattle.std.proofs.Common.{◌≡◌, ◌≢◌, ◌⊎◌, inl, inr, ℕ, ◌+◌, ◌^◌, ◌<◌, ◌≤◌, Bool, true, false, List, [], ◌∷◌, arith}
 use Rattle.std.specs.Prelude.{nat_eq, if◌then◌else◌}
 use Rattle.words.specs.TwosComplement.{low_bits}
 use Rattle.flat_meaning.specs.declared.instruction.FlatInstruction.{FlatInstruction}
@@ -35,13 +35,31 @@ none_of x r out =
         by (inr above) same = absurd (omega arith)
 
 pub distinct : (r : ℕ) → AreDistinct (held_registers (held_from r))
-distinct r =
-    ((lower r (r + 1) (omega arith), (lower r (r + 2) (omega arith), (lower r (r + 3) (omega arith),
-    (lower r (r + 4) (omega arith), tt)))),
-    ((lower (r + 1) (r + 2) (omega arith), (lower (r + 1) (r + 3) (omega arith),
-    (lower (r + 1) (r + 4) (omega arith), tt))),
-    ((lower (r + 2) (r + 3) (omega arith), (lower (r + 2) (r + 4) (omega arith), tt)),
-    ((lower (r + 3) (r + 4) (omega arith), tt), (tt, tt)))))
+distinct r = (
+  (
+    lower r (r + 1) (omega arith),
+    (
+      lower r (r + 2) (omega arith),
+      (
+        lower r (r + 3) (omega arith),
+        (lower r (r + 4) (omega arith), tt),
+      ),
+    ),
+  ),
+  (
+    (
+      lower (r + 1) (r + 2) (omega arith),
+      (
+        lower (r + 1) (r + 3) (omega arith),
+        (lower (r + 1) (r + 4) (omega arith), tt),
+      ),
+    ),
+    (
+      (lower (r + 2) (r + 3) (omega arith), (lower (r + 2) (r + 4) (omega arith), tt)),
+      ((lower (r + 3) (r + 4) (omega arith), tt), (tt, tt)),
+    ),
+  ),
+)
 
 pub below : (r free : ℕ) → r + 5 ≤ free → AreBelow free (held_registers (held_from r))
 below r free le = (omega arith, (omega arith, (omega arith, (omega arith, (omega arith, tt)))))

@@ -1,56 +1,49 @@
 -- A block is left: its objects die, and the object stack ends where it did.
-use Rattle.std.proofs.Common.{◌≡◌, ◌≢◌, ◌⊎◌, inl, inr, ℕ, ◌+◌, ◌*◌, ◌^◌, ◌<◌, ◌≤◌, Bool, true, false, List, [], ◌∷◌, ◌++◌}
-use Rattle.std.proofs.Common.{length, length-append, get_or, Option, Some, None, refl, sym, ap, ◌∙◌, subst, arith}
+use Rattle.std.proofs.Common.{◌≡◌, ◌≢◌, inl, ℕ, ◌+◌, ◌<◌, ◌≤◌, List, [], ◌∷◌, ◌++◌}
+use Rattle.std.proofs.Common.{length, length-append, Some, refl, sym, ap, ◌∙◌, subst, arith}
 use Rattle.std.specs.Prelude.{slice_get, ◌==◌}
 use Rattle.std.proofs.lemmas.Bool.{eqb-true}
-use Rattle.addr_map.specs.declared.region.Region.TheVariants.{StructureValues}
-use Rattle.addr_map.specs.Places.{region_end, region_start}
 use Rattle.obj_memory.specs.declared.object.Storage.{Storage}
 use Rattle.obj_memory.specs.declared.object.Storage.TheVariants.{Automatic, Static}
 use Rattle.obj_memory.specs.Objects.{Objects, ObjectState, object_at}
-use Rattle.obj_memory.specs.Heap.{is_allocated}
 use Rattle.obj_memory.specs.Sound.{Continues}
 use Rattle.obj_memory.proofs.Continuing.{continues_then}
 use Rattle.c_tree.specs.declared.program.Variable.{Variable}
-use Rattle.source_meaning.specs.State.{State, Home, NoObject, InObject}
-use Rattle.source_meaning.specs.Blocks.{Block, has_objects, leave_block, without_homes}
+use Rattle.source_meaning.specs.State.{State, Home}
+use Rattle.source_meaning.specs.Blocks.{Block, leave_block, without_homes}
 use Rattle.source_meaning.specs.Good.{EndsMade, Leaves}
 use Rattle.source_meaning.specs.Places.{stack_first, statics_first}
 use Rattle.source_meaning.proofs.ActionsAct.{continues_without}
 use Rattle.source_meaning.proofs.Holding.{live_made}
 use Rattle.source_meaning.proofs.SureBlocks.{left_by}
-use Rattle.tac_ir.specs.declared.instruction.Instruction.{Instruction}
 use Rattle.tac_ir.specs.declared.instruction.Instruction.TheVariants as tac
-use Rattle.tac_ir.specs.Accesses.{only_if}
 use Rattle.tac_ir.specs.Costs.{spent}
 use Rattle.tac_ir.specs.Meaning.{effect, function_in as code_in, objects_before, objects_in, variables_in}
-use Rattle.tac_ir.specs.Stage.{Entered, Frame, Stage, Stands, Stuck, Temps, Waits}
+use Rattle.tac_ir.specs.Stage.{Entered, Frame, Stands, Stuck, Temps, Waits}
 use Rattle.tac_ir.proofs.Fits.{only_true}
 use Rattle.flat_meaning.specs.declared.instruction.FlatInstruction.{FlatInstruction}
 use Rattle.flat_meaning.specs.Calls.{charged, function_in}
 use Rattle.flat_meaning.specs.Meaning.{body_of, is_runtime_function, weight_of}
-use Rattle.flat_meaning.specs.Memory.{Bytes, load, put, store}
+use Rattle.flat_meaning.specs.Memory.{Bytes, put, store}
 use Rattle.flat_meaning.specs.State as flat
 use Rattle.flat_meaning.specs.Words.{HasWords}
 use Rattle.flat_meaning.proofs.Stored.{load_stored, put_other, store_beside}
-use Rattle.flat_routines.specs.Objects.StandsFor.{Keys}
-use Rattle.flat_routines.specs.Routine.{Either, HasAt, Never}
+use Rattle.flat_routines.specs.Routine.{Either, Never}
 use Rattle.flat_routines.proofs.Steps.{has_back, has_front}
 use Rattle.flat_actions.specs.Actions.{IsFor}
 use Rattle.flat_actions.proofs.Standing.{for_worked, keeps_same}
-use Rattle.object_routines.specs.AllocatingRoutines.Entering.{AreOfLock, HasLeft, IsHomeOf}
+use Rattle.object_routines.specs.AllocatingRoutines.Entering.{AreOfLock, HasLeft}
 use Rattle.object_routines.proofs.AllocatingRoutines.BlockDeaths.{count_without, without_other}
 use Rattle.metadata_plan.specs.Expanded.{Leads}
-use Rattle.metadata_plan.specs.Registers.{most_temporaries}
-use Rattle.metadata_relation.specs.Blocks.{leave_code, top_cell, write_top}
-use Rattle.metadata_relation.specs.Holding.{Activation, GoesOn, Holds, World, world_of}
-use Rattle.metadata_relation.specs.Registers.{block_top_register, first_free, lock_register, tops_end, variables_end}
+use Rattle.metadata_relation.specs.Blocks.{top_cell, write_top}
+use Rattle.metadata_relation.specs.Holding.{GoesOn, Holds}
+use Rattle.metadata_relation.specs.Registers.{block_top_register, first_free, lock_register}
 use Rattle.metadata_relation.specs.Scopes.{AreGood, base_of, context_at, numbers_in, variables_at}
-use Rattle.metadata_relation.specs.Stages.{activation, Compiled, expansion_of, factor, IsAt, IsSteady, level, map_of, MatchesBy}
+use Rattle.metadata_relation.specs.Stages.{activation, Compiled, expansion_of, IsAt, IsSteady, level, map_of, MatchesBy}
 use Rattle.metadata_relation.specs.Stages.{names, StandsIn, views, world}
 use Rattle.metadata_relation.specs.Steps.{IsCompiled}
 use Rattle.metadata_relation.specs.Waiting.{AllWait, IsEnteredAs}
-use Rattle.metadata_relation.proofs.Acting.{bytes_on, placed_static, Reached, reached_next, reached_on, waits_below}
+use Rattle.metadata_relation.proofs.Acting.{bytes_on, placed_static, reached_next, reached_on, waits_below}
 use Rattle.metadata_relation.proofs.Behind.{for_behind}
 use Rattle.metadata_relation.proofs.Holding.{holds_on}
 use Rattle.metadata_relation.proofs.Routines.{passes, Passes}
@@ -169,9 +162,10 @@ module _ (c : Compiled) (IsGood : Bytes → Type 0) (right : IsCompiled c IsGood
       (right.inline.leave lock free lock_low (is_runtime_function (function_in c.layout.program u))
       (length c.setting.functions) c.layout.expansion.types h.keys paid b (charged c.layout.program u xs)
       (weight_of (function_in c.layout.program u)))
-      (record { has = has_front body pc releases writes nd.put.has; words = words.0 })
-      (for_worked (views c) h.keys IsGood s paid.work v h.stands.for,
-      lock_same h.keys s paid refl b.homes (v.values lock) entered.block.of_lock) 11 (omega arith)
+      (record { has = has_front body pc releases writes nd.put.has; words = words.0 }) (
+        for_worked (views c) h.keys IsGood s paid.work v h.stands.for,
+        lock_same h.keys s paid refl b.homes (v.values lock) entered.block.of_lock,
+      ) 11 (omega arith)
       (λ status report z never. never)
 
   abbrev cell : ℕ

@@ -1,6 +1,6 @@
 -- Scalars that are read through the word of a temporary.
-use Rattle.std.proofs.Common.{◌≡◌, ◌≢◌, ◌⊎◌, inl, inr, ℕ, ◌+◌, ◌*◌, ◌%◌, ◌^◌, ◌<◌, ◌≤◌, Bool, true, false, List, [], ◌∷◌}
-use Rattle.std.proofs.Common.{◌++◌, length, length-append, Option, Some, None, refl, sym, ap, ◌∙◌, subst, arith}
+use Rattle.std.proofs.Common.{◌≡◌, ◌≢◌, ◌⊎◌, inl, inr, ℕ, ◌+◌, ◌^◌, ◌<◌, ◌≤◌, Bool, true, false, List, [], ◌∷◌}
+use Rattle.std.proofs.Common.{◌++◌, length, length-append, Option, Some, refl, sym, ap, ◌∙◌, subst, arith}
 use Rattle.std.proofs.Math.Nat.{mod-eq_of_lt}
 use Rattle.std.specs.Prelude.{slice_get}
 use Rattle.obj_memory.specs.declared.int_type.IntType.{IntType}
@@ -11,14 +11,14 @@ use Rattle.obj_memory.specs.declared.value.Tag.TheVariants.{Untagged}
 use Rattle.obj_memory.specs.declared.value.Value.{Value}
 use Rattle.obj_memory.specs.Access.{read_value, scalar_size}
 use Rattle.obj_memory.specs.Integers.{fit, size_of}
-use Rattle.obj_memory.specs.Judgement.{named, place_in}
+use Rattle.obj_memory.specs.Judgement.{place_in}
 use Rattle.obj_memory.specs.Objects.{Objects}
 use Rattle.obj_memory.specs.Sound.{IsSound, IsSoundTag}
 use Rattle.obj_memory.proofs.Reading.{read_below, sound_read}
 use Rattle.c_tree.specs.declared.expression.Kind.{Kind}
 use Rattle.c_tree.specs.declared.expression.Kind.TheVariants.{Array, Scalar as OfScalar, Structure, Void}
 use Rattle.c_tree.specs.Kinds.{size_of_kind}
-use Rattle.source_meaning.specs.State.{State, Rvalue, Outcome, Gives, on}
+use Rattle.source_meaning.specs.State.{State, Rvalue, Gives, on}
 use Rattle.source_meaning.specs.Actions.{integer, load, located, place_or_stop, read_scalar}
 use Rattle.source_meaning.specs.Good.{After, function_count, IsGiven, Leaves, OnValue}
 use Rattle.source_meaning.specs.Keeping.{IsDirect}
@@ -46,7 +46,7 @@ use Rattle.flat_routines.specs.Metadata.{held_registers}
 use Rattle.flat_routines.specs.Registers.{AreBelow, AreDistinct}
 use Rattle.flat_routines.specs.Routine.{HasAt}
 use Rattle.flat_routines.proofs.Steps.{has_back, has_front}
-use Rattle.flat_actions.specs.Actions.{HasGiven, Pointer as InPointer, Word}
+use Rattle.flat_actions.specs.Actions.{Pointer as InPointer, Word}
 use Rattle.flat_actions.proofs.Standing.{for_worked}
 use Rattle.object_routines.specs.declared.accesses.held.HeldScalar.TheVariants.{Integer as HeldInteger, Pointer as HeldPointer}
 use Rattle.object_routines.specs.AccessRoutines.Accessing.{IsToAccess}
@@ -59,10 +59,10 @@ use Rattle.metadata_relation.specs.Blocks.{load_code, move_value, read_code, unt
 use Rattle.metadata_relation.specs.Holding.{IsHeldAt}
 use Rattle.metadata_relation.specs.Registers.{first_free, temporary_register}
 use Rattle.metadata_relation.specs.Scopes.{context_at}
-use Rattle.metadata_relation.specs.Stages.{Compiled, expansion_of, factor, IsAt, map_of, names, views, world}
+use Rattle.metadata_relation.specs.Stages.{Compiled, expansion_of, IsAt, map_of, names, views, world}
 use Rattle.metadata_relation.specs.Steps.{IsCompiled, is_settled}
 use Rattle.metadata_relation.proofs.Accesses.{behind_read, found, keyed_opens, loaded}
-use Rattle.metadata_relation.proofs.Acting.{acts_giving, HasActed, Reached, reached_by, reached_then}
+use Rattle.metadata_relation.proofs.Acting.{acts_giving, reached_by, reached_then}
 use Rattle.metadata_relation.proofs.Finishing.{acted_as, acted_then, ends_with, integer_cleared, nothing_done, tagged_in}
 use Rattle.metadata_relation.proofs.Assigning.{assigned}
 use Rattle.metadata_relation.proofs.Finishing.{untagged_few}

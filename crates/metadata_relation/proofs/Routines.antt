@@ -1,6 +1,6 @@
 -- A list that is an action, or a test, where it stands inline in a function of the program: from what its contract says of
 -- any code to the program's own run.
-use Rattle.std.proofs.Common.{◌≡◌, ℕ, ◌+◌, ◌*◌, ◌≤◌, Bool, true, false, List, length, Option, Some, None, refl, sym, ap}
+use Rattle.std.proofs.Common.{◌≡◌, ℕ, ◌+◌, ◌*◌, ◌≤◌, Bool, false, List, length, Option, Some, None, sym}
 use Rattle.std.proofs.Common.{subst, arith, mul-le-mul_right}
 use Rattle.std.specs.Prelude.{slice_get}
 use Rattle.behaviours.specs.Steps.{run as steps_of}
@@ -21,11 +21,11 @@ use Rattle.flat_routines.specs.InputOutput.{IsWithoutInputOutput}
 use Rattle.flat_routines.specs.Laws.{work_of, report_length}
 use Rattle.flat_routines.specs.Local.{local_run}
 use Rattle.flat_routines.specs.Objects.StandsFor.{Keys}
-use Rattle.flat_routines.specs.Routine.{Outcome, Continues, Halts, left_at, HasAt, Does}
+use Rattle.flat_routines.specs.Routine.{Outcome, Continues, Halts, left_at, Does}
 use Rattle.flat_routines.proofs.Lifted.{lifted}
 use Rattle.flat_routines.proofs.Steps.{run_fits}
 use Rattle.flat_routines.proofs.Work.{does_its_weight}
-use Rattle.flat_actions.specs.Actions.{Holder, IsFor, AreHeldBy, Leaves, HasGiven, program_basis, context_in, IsActionIn}
+use Rattle.flat_actions.specs.Actions.{Holder, IsFor, AreHeldBy, Leaves, HasGiven, program_basis, IsActionIn}
 use Rattle.flat_actions.specs.Actions.{work_of as work_of_run}
 use Rattle.metadata_plan.specs.Operators.{Position, IsHere}
 use Rattle.metadata_plan.proofs.Flat.{weight_small}

@@ -1,7 +1,7 @@
 -- A function of the runtime is called from a block: there is room for its record, and what its routine does at the line of
 -- the call the run does, while registers below those of the results stay.
-use Rattle.std.proofs.Common.{◌≡◌, inl, ℕ, ◌+◌, ◌*◌, ◌^◌, ◌<◌, ◌≤◌, Bool, true, false, if◌then◌else◌, List, [], ◌∷◌, length}
-use Rattle.std.proofs.Common.{Option, Some, None, refl, sym, ap, ◌∙◌, subst, arith}
+use Rattle.std.proofs.Common.{◌≡◌, inl, ℕ, ◌+◌, ◌^◌, ◌≤◌, true, if◌then◌else◌, List, [], ◌∷◌}
+use Rattle.std.proofs.Common.{Option, Some, None, refl, ap, ◌∙◌, subst, arith}
 use Rattle.std.specs.Prelude.{slice_get}
 use Rattle.addr_map.specs.declared.region.Region.TheVariants.{RuntimeCalls}
 use Rattle.addr_map.specs.Places.{region_size}
@@ -12,20 +12,20 @@ use Rattle.tac_ir.specs.Stage.{Frame, Temps, Waits, Entered}
 use Rattle.flat_meaning.specs.declared.instruction.FlatInstruction.{FlatInstruction}
 use Rattle.flat_meaning.specs.declared.instruction.FlatInstruction.TheVariants.{Call}
 use Rattle.flat_meaning.specs.declared.function.FlatFunction.{FlatFunction}
-use Rattle.flat_meaning.specs.Calls.{charged, function_in, room_if, rooms}
+use Rattle.flat_meaning.specs.Calls.{function_in, room_if, rooms}
 use Rattle.flat_meaning.specs.Meaning.{body_of}
 use Rattle.flat_meaning.specs.Memory.{Bytes}
 use Rattle.flat_meaning.specs.State as flat
 use Rattle.flat_routines.specs.Objects.StandsFor.{Keys}
 use Rattle.flat_actions.specs.Actions.{HasGiven, Nowhere}
 use Rattle.runtime_functions.specs.declared.runtime.RuntimeFunction.{RuntimeFunction}
-use Rattle.runtime_functions.specs.Actions.{HasCompleted, Interface, IsServed, ServesCall, steps_of, work_of_call}
+use Rattle.runtime_functions.specs.Actions.{Interface, IsServed, ServesCall, steps_of, work_of_call}
 use Rattle.runtime_functions.specs.Calls.{CallSite, CallsFunction}
 use Rattle.runtime_functions.specs.Runtime.{IsOfRuntime, runtime_list}
 use Rattle.metadata_relation.specs.Blocks.{Expansion, runtime_number}
 use Rattle.metadata_relation.specs.Expanded.{EntersAt, IsRuntimeAt}
 use Rattle.metadata_relation.specs.Holding.{World}
-use Rattle.metadata_relation.specs.Stages.{Compiled, expansion_of, IsAt, level, map_of, views, world}
+use Rattle.metadata_relation.specs.Stages.{Compiled, IsAt, level, map_of, views, world}
 use Rattle.metadata_relation.specs.Steps.{IsCompiled}
 use Rattle.metadata_relation.specs.Waiting.{AllWait, Level}
 use Rattle.metadata_relation.proofs.Acting.{Reached}

@@ -1,8 +1,8 @@
 -- Parts of objects that initializers store: a scalar at an offset from the home of a variable.
-use Rattle.std.proofs.Common.{◌≡◌, ◌⊎◌, inl, inr, ℕ, suc, ◌+◌, ◌-◌, ◌*◌, ◌%◌, ◌^◌, ◌<◌, ◌≤◌, Bool, true, false, if◌then◌else◌}
-use Rattle.std.proofs.Common.{List, [], ◌∷◌, ◌++◌, length, length-append, get_or, Option, Some, None, refl, sym, ap, ◌∙◌}
+use Rattle.std.proofs.Common.{◌≡◌, inl, ℕ, suc, ◌+◌, ◌-◌, ◌*◌, ◌%◌, ◌^◌, ◌<◌, ◌≤◌, true, false, if◌then◌else◌}
+use Rattle.std.proofs.Common.{List, [], ◌∷◌, ◌++◌, length, get_or, Some, refl, sym, ap, ◌∙◌}
 use Rattle.std.proofs.Common.{subst, arith, max, min}
-use Rattle.std.specs.Prelude.{slice_get, ◌==◌, ◌&&◌, nat_le}
+use Rattle.std.specs.Prelude.{slice_get, ◌&&◌, nat_le}
 use Rattle.std.proofs.lemmas.Bool.{and_parts, eq-eqb, leb-true, lt-ltb}
 use Rattle.rv_isa.specs.declared.instruction.RegOp.TheVariants.{Add}
 use Rattle.rv_isa.specs.Results.{reg_result}
@@ -18,10 +18,10 @@ use Rattle.obj_memory.specs.Objects.{Objects, object_at, pointer_to}
 use Rattle.obj_memory.specs.Sound.{IsSoundTag}
 use Rattle.obj_memory.proofs.Judging.{sound_narrowed, sound_pointer}
 use Rattle.c_tree.specs.declared.expression.Kind.TheVariants.{Scalar as OfScalar}
-use Rattle.source_meaning.specs.State.{State, Home, NoObject, InObject, Gives, done, on}
-use Rattle.source_meaning.specs.Actions.{home_value, integer, store, write_scalar}
+use Rattle.source_meaning.specs.State.{State, Home, NoObject, InObject, done, on}
+use Rattle.source_meaning.specs.Actions.{home_value, integer}
 use Rattle.source_meaning.specs.Keeping.{IsDirect}
-use Rattle.source_meaning.specs.Structures.{give, rvalue, write_rvalue}
+use Rattle.source_meaning.specs.Structures.{give, write_rvalue}
 use Rattle.tac_ir.specs.declared.instruction.Instruction.{Instruction}
 use Rattle.tac_ir.specs.declared.instruction.Instruction.TheVariants as tac
 use Rattle.tac_ir.specs.Accesses.{is_live_at, is_live_by, only_if}
@@ -37,31 +37,28 @@ use Rattle.flat_meaning.specs.Calls.{function_in}
 use Rattle.flat_meaning.specs.Meaning.{body_of}
 use Rattle.flat_meaning.specs.Memory.{Bytes, put}
 use Rattle.flat_meaning.specs.State as flat
-use Rattle.flat_meaning.specs.Words.{HasWords, IsOfWords}
+use Rattle.flat_meaning.specs.Words.{HasWords}
 use Rattle.flat_meaning.proofs.Stored.{put_other, put_same}
 use Rattle.flat_routines.specs.Routine.{HasAt}
 use Rattle.flat_routines.proofs.Objects.Changing.{live_is_made}
-use Rattle.flat_routines.proofs.Regions.{laid_out}
-use Rattle.flat_routines.proofs.Steps.{has_back, has_front}
-use Rattle.flat_actions.specs.Actions.{HasGiven, Nowhere}
+use Rattle.flat_actions.specs.Actions.{Nowhere}
 use Rattle.flat_actions.proofs.Standing.{for_worked}
 use Rattle.object_routines.specs.AccessRoutines.Accessing.{store_steps}
-use Rattle.metadata_plan.specs.Entries.{given, is_moved_with_entry}
+use Rattle.metadata_plan.specs.Entries.{is_moved_with_entry}
 use Rattle.metadata_plan.specs.Expanded.{Leads}
 use Rattle.metadata_plan.specs.Operators.{OperatorCode}
-use Rattle.metadata_plan.specs.Registers.{all_variables, most_temporaries}
+use Rattle.metadata_plan.specs.Registers.{most_temporaries}
 use Rattle.metadata_plan.proofs.Flat.{operate_comes, words_kept}
-use Rattle.metadata_relation.specs.Blocks.{held_scalar, is_short, part_address}
-use Rattle.metadata_relation.specs.Holding.{is_object_in, is_pointer_type, IsHeldAt, IsHome, World}
+use Rattle.metadata_relation.specs.Blocks.{held_scalar, is_short}
+use Rattle.metadata_relation.specs.Holding.{is_pointer_type, IsHeldAt, IsHome, World}
 use Rattle.metadata_relation.specs.Registers.{first_free, home_register, temporary_register}
-use Rattle.metadata_relation.specs.Scopes.{context_at}
 use Rattle.metadata_relation.specs.Stages.{Compiled, expansion_of, factor, IsAt, map_of, names, views, world}
 use Rattle.metadata_relation.specs.Steps.{IsCompiled}
 use Rattle.metadata_relation.proofs.Accesses.{behind_write, live_direct, stored}
-use Rattle.metadata_relation.proofs.Acting.{acts_alone, Reached, reached_by, reached_then}
-use Rattle.metadata_relation.proofs.Finishing.{acted_as, acted_then, AreFew, ends_with, nothing_done}
+use Rattle.metadata_relation.proofs.Acting.{acts_alone, reached_by, reached_then}
+use Rattle.metadata_relation.proofs.Finishing.{acted_as, acted_then, ends_with, nothing_done}
 use Rattle.metadata_relation.proofs.Holding.{held_on, same_world}
-use Rattle.metadata_relation.proofs.Registers.{count_in, few_in, home_low, temporary_free}
+use Rattle.metadata_relation.proofs.Registers.{few_in, temporary_free}
 use Rattle.metadata_relation.proofs.Standing.{good_now, IsNode, node, Result}
 use Rattle.metadata_relation.proofs.Writing.{leaves_write, scalar_operand, store_passes}
 
@@ -208,8 +205,8 @@ module _ (c : Compiled) (IsGood : Bytes → Type 0) (right : IsCompiled c IsGood
       written = record (behind_write k (narrowed offset (scalar_size k) (pointer_to o s.objects))
           (place_in s.objects part.direct.object (narrowed offset (scalar_size k) (pointer_to o s.objects)).word)
           (temps a).value paid) {
-        work = paid.work + 3 * (paid.work - paid.work);
-      }
+            work = paid.work + 3 * (paid.work - paid.work);
+          }
 
       home_is : IsHome (world c h.keys s v) o (home_register h.code x) v.values
       home_is = h.holds.homes.homes x o home

@@ -1,6 +1,6 @@
 -- The bytes of a literal that an initializer stores: one by one from the home of a variable on, an access each.
-use Rattle.std.proofs.Common.{◌≡◌, ◌⊎◌, inl, inr, ℕ, suc, ◌+◌, ◌-◌, ◌*◌, ◌%◌, ◌^◌, ◌<◌, ◌≤◌, Bool, true, false, List, []}
-use Rattle.std.proofs.Common.{◌∷◌, ◌++◌, length, length-append, get_or, Option, Some, None, refl, sym, ap, ◌∙◌, subst, arith}
+use Rattle.std.proofs.Common.{◌≡◌, inl, ℕ, suc, ◌+◌, ◌-◌, ◌*◌, ◌^◌, ◌<◌, ◌≤◌, true, false, List, []}
+use Rattle.std.proofs.Common.{◌∷◌, ◌++◌, length, get_or, Some, refl, sym, ap, ◌∙◌, subst, arith}
 use Rattle.std.specs.Prelude.{slice_get, ◌&&◌, nat_le}
 use Rattle.std.proofs.lemmas.Bool.{and_parts, leb-true, lt-ltb}
 use Rattle.rv_isa.specs.declared.instruction.RegOp.TheVariants.{Add}
@@ -10,17 +10,15 @@ use Rattle.words.specs.TwosComplement.{low_bits}
 use Rattle.obj_memory.specs.declared.int_type.IntType.TheVariants.{Char}
 use Rattle.obj_memory.specs.declared.value.Place.{Place}
 use Rattle.obj_memory.specs.declared.value.Scalar.TheVariants.{Integer}
-use Rattle.obj_memory.specs.declared.value.Tag.TheVariants.{OfObject}
 use Rattle.obj_memory.specs.declared.value.Value.{Value}
 use Rattle.obj_memory.specs.Access.{scalar_size, write_bytes, write_value}
-use Rattle.obj_memory.specs.Heap.{is_allocated}
 use Rattle.obj_memory.specs.Integers.{size_of}
 use Rattle.obj_memory.specs.Judgement.{narrowed, place_in}
 use Rattle.obj_memory.specs.Objects.{Objects, object_at, pointer_to}
 use Rattle.obj_memory.specs.Sound.{IsSoundTag}
 use Rattle.obj_memory.proofs.Judging.{sound_narrowed, sound_pointer}
 use Rattle.obj_memory.proofs.Soundness.{sound_tag_continues}
-use Rattle.source_meaning.specs.State.{State, Home, NoObject, InObject, Outcome, Gives, done, on, tally, ◌>>◌}
+use Rattle.source_meaning.specs.State.{State, Home, NoObject, InObject, Gives, done, on, tally, ◌>>◌}
 use Rattle.source_meaning.specs.Actions.{home_value, integer, store}
 use Rattle.source_meaning.specs.Initializers.{store_bytes as stores_of_text}
 use Rattle.source_meaning.specs.Keeping.{IsDirect}
@@ -28,7 +26,7 @@ use Rattle.source_meaning.specs.Library.{argument}
 use Rattle.tac_ir.specs.declared.instruction.Instruction.{Instruction}
 use Rattle.tac_ir.specs.declared.instruction.Instruction.TheVariants as tac
 use Rattle.tac_ir.specs.Accesses.{is_live_at, only_if}
-use Rattle.tac_ir.specs.Costs.{cost, fourfold, heavier, spent}
+use Rattle.tac_ir.specs.Costs.{fourfold, heavier, spent}
 use Rattle.tac_ir.specs.Meaning.{effect, text_in}
 use Rattle.tac_ir.specs.Stage.{came, Frame, Stage, Stands, Stuck, Temps}
 use Rattle.tac_ir.proofs.Fits.{only_true}
@@ -46,7 +44,6 @@ use Rattle.flat_routines.specs.Registers.{AreBelow}
 use Rattle.flat_routines.specs.Routine.{HasAt}
 use Rattle.flat_routines.proofs.Objects.Changing.{live_is_made}
 use Rattle.flat_actions.specs.Actions.{HasGiven, Nowhere, Word}
-use Rattle.flat_actions.proofs.Standing.{for_worked}
 use Rattle.object_routines.specs.declared.accesses.held.HeldScalar.TheVariants.{Integer as HeldInteger}
 use Rattle.object_routines.specs.AccessRoutines.Accessing.{IsToAccess}
 use Rattle.metadata_plan.specs.Expanded.{Leads}
@@ -54,8 +51,7 @@ use Rattle.metadata_plan.proofs.Flat.{Comes, constant_comes, operate_comes}
 use Rattle.metadata_relation.specs.Blocks.{is_short, store_bytes}
 use Rattle.metadata_relation.specs.Holding.{IsHome}
 use Rattle.metadata_relation.specs.Registers.{first_free, home_register}
-use Rattle.metadata_relation.specs.Scopes.{context_at}
-use Rattle.metadata_relation.specs.Stages.{Compiled, expansion_of, factor, IsAt, map_of, names, views, world}
+use Rattle.metadata_relation.specs.Stages.{Compiled, expansion_of, IsAt, map_of, names, views, world}
 use Rattle.metadata_relation.specs.Steps.{IsCompiled}
 use Rattle.metadata_relation.proofs.Accesses.{behind_write, stored}
 use Rattle.metadata_relation.proofs.Acting.{acts_alone, behind_action, HasActed, Reached, reached_by, reached_next, reached_then}

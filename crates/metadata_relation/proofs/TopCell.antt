@@ -1,6 +1,6 @@
 -- The cell that has the end of the object stack is written, and nothing else of memory.
-use Rattle.std.proofs.Common.{◌≡◌, ◌≢◌, ℕ, ◌+◌, ◌%◌, ◌^◌, ◌<◌, ◌≤◌, Bool, true, false, not, ◌&&◌, if◌then◌else◌, List, [], ◌∷◌, ◌++◌}
-use Rattle.std.proofs.Common.{Option, Some, None, refl, sym, ap, ◌∙◌, subst, arith}
+use Rattle.std.proofs.Common.{◌≡◌, ◌≢◌, ℕ, ◌+◌, ◌%◌, ◌^◌, ◌<◌, ◌≤◌, false, not, ◌&&◌, if◌then◌else◌, List, [], ◌∷◌, ◌++◌}
+use Rattle.std.proofs.Common.{Some, sym, ap, ◌∙◌, arith}
 use Rattle.std.specs.Prelude.{nat_le}
 use Rattle.std.proofs.lemmas.Bool.{lt-leb}
 use Rattle.std.proofs.Math.Bool.{and-false}
@@ -8,18 +8,16 @@ use Rattle.behaviours.specs.Shown.{Write}
 use Rattle.addr_map.specs.declared.region.Region.TheVariants.{Cells, Heap, StructureValues}
 use Rattle.addr_map.specs.Places.{AreMapped, MapSizes, objects_begin, region_end, region_size, region_start, spaces_begin}
 use Rattle.rv_isa.specs.declared.instruction.StoreOp.TheVariants.{Sd}
-use Rattle.flat_meaning.specs.declared.instruction.FlatInstruction.{FlatInstruction}
-use Rattle.flat_meaning.specs.declared.instruction.FlatInstruction.TheVariants.{Constant, Store}
+use Rattle.flat_meaning.specs.declared.instruction.FlatInstruction.TheVariants.{Store}
 use Rattle.flat_meaning.specs.declared.function.FlatProgram.{FlatProgram}
 use Rattle.flat_meaning.specs.Calls.{function_in}
 use Rattle.flat_meaning.specs.Meaning.{address_in, at_instruction, body_of, context, Fails, Goes, goes_to, instruction_at}
-use Rattle.flat_meaning.specs.Meaning.{is_runtime_function, Local, weight_of, with_access}
-use Rattle.flat_meaning.specs.Memory.{Bytes, put, store}
+use Rattle.flat_meaning.specs.Meaning.{weight_of, with_access}
+use Rattle.flat_meaning.specs.Memory.{put, store}
 use Rattle.flat_meaning.specs.Spaces.{is_allowed, is_of_objects}
 use Rattle.flat_meaning.specs.State as flat
 use Rattle.flat_meaning.proofs.Stored.{put_other, put_same}
 use Rattle.flat_routines.specs.Routine.{HasAt}
-use Rattle.flat_routines.proofs.Regions.{laid_out}
 use Rattle.flat_routines.proofs.Spaces.Quiet.{space_allowed}
 use Rattle.heap_space.proofs.Regions.{table_laid_out}
 use Rattle.metadata_plan.proofs.Flat.{Comes, constant_comes, then_comes, weight_small}
@@ -106,18 +104,18 @@ module _ (m : MapSizes) (mapped : AreMapped m) (p : FlatProgram) (u : ℕ) (xs :
         few = both.few;
         comes = both.comes
             ∙ ap (λ z. flat.Stands u z (record v {
-          values = put v.values r (top_cell m % 2 ^ 64);
-          memory = store 8 v.memory (top_cell m) (put v.values r (top_cell m % 2 ^ 64) x);
-          work = v.work + both.work;
-        }) xs) place_is
+              values = put v.values r (top_cell m % 2 ^ 64);
+              memory = store 8 v.memory (top_cell m) (put v.values r (top_cell m % 2 ^ 64) x);
+              work = v.work + both.work;
+            }) xs) place_is
             ∙ ap (λ z. flat.Stands u (pc + 2) (record v {
-          values = put v.values r (top_cell m % 2 ^ 64);
-          memory = store 8 v.memory (top_cell m) z;
-          work = v.work + both.work;
-        }) xs) (put_other v.values r (top_cell m % 2 ^ 64) x (λ e. other (sym e)))
+              values = put v.values r (top_cell m % 2 ^ 64);
+              memory = store 8 v.memory (top_cell m) z;
+              work = v.work + both.work;
+            }) xs) (put_other v.values r (top_cell m % 2 ^ 64) x (λ e. other (sym e)))
             ∙ ap (λ z. flat.Stands u (pc + 2) (record v {
-          values = put v.values r z;
-          memory = store 8 v.memory (top_cell m) (v.values x);
-          work = v.work + both.work;
-        }) xs) is;
+              values = put v.values r z;
+              memory = store 8 v.memory (top_cell m) (v.values x);
+              work = v.work + both.work;
+            }) xs) is;
       }

@@ -1,10 +1,9 @@
 -- An update through the word of a temporary goes on as its parts do, or ends the run where it divides by zero.
-use Rattle.std.proofs.Common.{◌≡◌, ℕ, ◌*◌, ◌%◌, ◌-◌, ◌^◌, ◌<◌, true, false, List, ◌++◌, Option, Some, None, refl, sym, ap, ◌∙◌}
+use Rattle.std.proofs.Common.{◌≡◌, ℕ, ◌*◌, ◌^◌, true, false, List, Option, Some, None, refl, sym, ap, ◌∙◌}
 use Rattle.std.proofs.Common.{subst, arith, ltb-true}
 use Rattle.std.specs.Prelude.{slice_get}
 use Rattle.obj_memory.specs.declared.int_type.IntType.{IntType}
 use Rattle.obj_memory.specs.declared.operator.BinaryOperator.{BinaryOperator}
-use Rattle.obj_memory.specs.declared.value.Place.{Place}
 use Rattle.obj_memory.specs.declared.value.Scalar.{Scalar}
 use Rattle.obj_memory.specs.declared.value.Scalar.TheVariants.{Integer, Pointer}
 use Rattle.obj_memory.specs.declared.value.Value.{Value}
@@ -15,7 +14,7 @@ use Rattle.obj_memory.specs.Operators.{binary_value}
 use Rattle.c_tree.specs.declared.expression.Fixity.{Fixity}
 use Rattle.c_tree.specs.declared.expression.Update.{Update}
 use Rattle.c_tree.specs.declared.expression.Update.TheVariants.{Arithmetic, Forward, Back}
-use Rattle.source_meaning.specs.State.{State, Rvalue, Outcome, Gives, done, on}
+use Rattle.source_meaning.specs.State.{State, Rvalue, Outcome, done, on}
 use Rattle.source_meaning.specs.Actions.{converted_to, given as given_value, integer, located, moved_back, read_scalar, store}
 use Rattle.source_meaning.specs.Actions.{update, updated, value_or_divide, write_scalar}
 use Rattle.source_meaning.specs.Keeping.{IsDirect}
@@ -34,7 +33,6 @@ use Rattle.flat_meaning.specs.Memory.{Bytes}
 use Rattle.flat_meaning.specs.State as flat
 use Rattle.flat_meaning.specs.Words.{HasWords}
 use Rattle.flat_operators.specs.Pointers.{address_back, address_forward}
-use Rattle.metadata_plan.specs.Registers.{most_temporaries}
 use Rattle.metadata_relation.specs.Holding.{IsHeldAt}
 use Rattle.metadata_relation.specs.Registers.{temporary_register}
 use Rattle.metadata_relation.specs.Stages.{Compiled, expansion_of, IsAt, views, world}
@@ -156,60 +154,60 @@ module _ (c : Compiled) (IsGood : Bytes → Type 0) (right : IsCompiled c IsGood
   module _ (f : Fixity) (mode : Mode) (line end_line : ℕ) (key : Option ℕ) (d a : ℕ) (r : RightOperand) (next : ℕ)
       (p : Value)
       (held : IsHeldAt (world c h.keys s v) (c.layout.expansion.entries u n a) p (temporary_register h.code a) v.values)
-      where
-    abbrev Updated : (w : Update) (k : Scalar) → Type 0
-    Updated w k = (at : slice_get h.code.code n ≡ Some (tac.Update w k f mode line end_line key d a r next))
-        (direct : IsDirect s.objects p (scalar_size k))
-        → Follows (came (on (on (updated w k (right_value r temps) end_line
-        (read_value k (place_in s.objects direct.object p.word) s.objects)
-        (behind_read (scalar_size k) p (spent (cost (tac.Update w k f mode line end_line key d a r next)) s)))
-        (λ new z. on (store k false p line new z)
-        (λ _. done (given_value f (read_value k (place_in s.objects direct.object p.word) s.objects) new)))) give)
-        (given_in u next temps d ws))
+    where
+      abbrev Updated : (w : Update) (k : Scalar) → Type 0
+      Updated w k = (at : slice_get h.code.code n ≡ Some (tac.Update w k f mode line end_line key d a r next))
+          (direct : IsDirect s.objects p (scalar_size k))
+          → Follows (came (on (on (updated w k (right_value r temps) end_line
+          (read_value k (place_in s.objects direct.object p.word) s.objects)
+          (behind_read (scalar_size k) p (spent (cost (tac.Update w k f mode line end_line key d a r next)) s)))
+          (λ new z. on (store k false p line new z)
+          (λ _. done (given_value f (read_value k (place_in s.objects direct.object p.word) s.objects) new)))) give)
+          (given_in u next temps d ws))
 
-    abbrev loaded_pointer : (direct : IsDirect s.objects p 8) → Value
-    loaded_pointer direct = read_value Pointer (place_in s.objects direct.object p.word) s.objects
+      abbrev loaded_pointer : (direct : IsDirect s.objects p 8) → Value
+      loaded_pointer direct = read_value Pointer (place_in s.objects direct.object p.word) s.objects
 
-    -- an address that goes on is stored
-    goes_on : (w : Update) (at : slice_get h.code.code n ≡ Some (tac.Update w Pointer f mode line end_line key d a r next))
-        (direct : IsDirect s.objects p 8) (new : Value)
-        → Follows (Stands u next (with_temp temps d (rvalue (given_value f (loaded_pointer direct) new))) ws
-        (behind_write Pointer p (place_in s.objects direct.object p.word) new
-        (behind_read 8 p (spent (cost (tac.Update w Pointer f mode line end_line key d a r next)) s))))
-        → Follows (came (on (on (store Pointer false p line new
-        (behind_read 8 p (spent (cost (tac.Update w Pointer f mode line end_line key d a r next)) s)))
-        (λ _. done (given_value f (loaded_pointer direct) new))) give) (given_in u next temps d ws))
-    goes_on w at direct new follows =
-        subst Follows (sym (ap (λ o. came (on (on o (λ _. done (given_value f (loaded_pointer direct) new))) give)
-        (given_in u next temps d ws)) (stored Pointer p new line
-        (behind_read 8 p (spent (cost (tac.Update w Pointer f mode line end_line key d a r next)) s)) direct))) follows
+      -- an address that goes on is stored
+      goes_on : (w : Update) (at : slice_get h.code.code n ≡ Some (tac.Update w Pointer f mode line end_line key d a r next))
+          (direct : IsDirect s.objects p 8) (new : Value)
+          → Follows (Stands u next (with_temp temps d (rvalue (given_value f (loaded_pointer direct) new))) ws
+          (behind_write Pointer p (place_in s.objects direct.object p.word) new
+          (behind_read 8 p (spent (cost (tac.Update w Pointer f mode line end_line key d a r next)) s))))
+          → Follows (came (on (on (store Pointer false p line new
+          (behind_read 8 p (spent (cost (tac.Update w Pointer f mode line end_line key d a r next)) s)))
+          (λ _. done (given_value f (loaded_pointer direct) new))) give) (given_in u next temps d ws))
+      goes_on w at direct new follows =
+          subst Follows (sym (ap (λ o. came (on (on o (λ _. done (given_value f (loaded_pointer direct) new))) give)
+          (given_in u next temps d ws)) (stored Pointer p new line
+          (behind_read 8 p (spent (cost (tac.Update w Pointer f mode line end_line key d a r next)) s)) direct))) follows
 
-    by_update : (w : Update) (k : Scalar) → is_update_of w k ≡ true → is_update_by_word w ≡ true → Updated w k
-    by_update (Arithmetic op t) (Integer kt) allowed sized at direct =
-        integer_updated op t kt f mode line end_line key d a r next at p held direct
-        (binary_value op t (fit t (read_value (Integer kt) (place_in s.objects direct.object p.word) s.objects).word)
-        (right_value r temps).word) refl
-    by_update (Arithmetic op t) Pointer allowed sized at direct = cc
-    by_update (Forward size) (Integer kt) allowed sized at direct = cc
-    by_update (Forward size) Pointer allowed sized at direct =
-        let nd = node c IsGood right u n temps ws s v xs h
-        (tac.Update (Forward size) Pointer f mode line end_line key d a r next) at in
-        let new = moved ((right_value r temps).word * size) (loaded_pointer direct) in
-        goes_on (Forward size) at direct new
-        (pointer_updated c IsGood right u n temps ws s v xs h words (Forward size) f mode line end_line key d a r next at p
-        held direct size (ltb-true size (2 ^ 64) sized) c.layout.expansion.inline.forward address_forward
-        right.inline.forward right.inline.computes.forward nd.put.has nd.put.leads new
-        (forward_word size (right_value r temps).word (loaded_pointer direct)) (forward_tag size (right_value r temps).word (loaded_pointer direct)))
-    by_update (Back size) (Integer kt) allowed sized at direct = cc
-    by_update (Back size) Pointer allowed sized at direct =
-        let nd = node c IsGood right u n temps ws s v xs h
-        (tac.Update (Back size) Pointer f mode line end_line key d a r next) at in
-        let new = moved_back ((right_value r temps).word * size) (loaded_pointer direct) in
-        goes_on (Back size) at direct new
-        (pointer_updated c IsGood right u n temps ws s v xs h words (Back size) f mode line end_line key d a r next at p
-        held direct size (ltb-true size (2 ^ 64) sized) c.layout.expansion.inline.back address_back right.inline.back
-        right.inline.computes.back nd.put.has nd.put.leads new
-        (back_word size (right_value r temps).word (loaded_pointer direct)) (back_tag size (right_value r temps).word (loaded_pointer direct)))
+      by_update : (w : Update) (k : Scalar) → is_update_of w k ≡ true → is_update_by_word w ≡ true → Updated w k
+      by_update (Arithmetic op t) (Integer kt) allowed sized at direct =
+          integer_updated op t kt f mode line end_line key d a r next at p held direct
+          (binary_value op t (fit t (read_value (Integer kt) (place_in s.objects direct.object p.word) s.objects).word)
+          (right_value r temps).word) refl
+      by_update (Arithmetic op t) Pointer allowed sized at direct = cc
+      by_update (Forward size) (Integer kt) allowed sized at direct = cc
+      by_update (Forward size) Pointer allowed sized at direct =
+          let nd = node c IsGood right u n temps ws s v xs h
+          (tac.Update (Forward size) Pointer f mode line end_line key d a r next) at in
+          let new = moved ((right_value r temps).word * size) (loaded_pointer direct) in
+          goes_on (Forward size) at direct new
+          (pointer_updated c IsGood right u n temps ws s v xs h words (Forward size) f mode line end_line key d a r next at p
+          held direct size (ltb-true size (2 ^ 64) sized) c.layout.expansion.inline.forward address_forward
+          right.inline.forward right.inline.computes.forward nd.put.has nd.put.leads new
+          (forward_word size (right_value r temps).word (loaded_pointer direct)) (forward_tag size (right_value r temps).word (loaded_pointer direct)))
+      by_update (Back size) (Integer kt) allowed sized at direct = cc
+      by_update (Back size) Pointer allowed sized at direct =
+          let nd = node c IsGood right u n temps ws s v xs h
+          (tac.Update (Back size) Pointer f mode line end_line key d a r next) at in
+          let new = moved_back ((right_value r temps).word * size) (loaded_pointer direct) in
+          goes_on (Back size) at direct new
+          (pointer_updated c IsGood right u n temps ws s v xs h words (Back size) f mode line end_line key d a r next at p
+          held direct size (ltb-true size (2 ^ 64) sized) c.layout.expansion.inline.back address_back right.inline.back
+          right.inline.computes.back nd.put.has nd.put.leads new
+          (back_word size (right_value r temps).word (loaded_pointer direct)) (back_tag size (right_value r temps).word (loaded_pointer direct)))
 
   -- ---- the step
 

@@ -1,7 +1,7 @@
 -- Scalars that are updated through the word of a temporary: loaded, changed and stored through the same pointer.
-use Rattle.std.proofs.Common.{◌≡◌, ◌≢◌, ◌⊎◌, inl, inr, ℕ, ◌+◌, ◌-◌, ◌*◌, ◌%◌, ◌^◌, ◌<◌, ◌≤◌, Bool, true, false, List, []}
+use Rattle.std.proofs.Common.{◌≡◌, inl, ℕ, ◌+◌, ◌*◌, ◌^◌, ◌<◌, ◌≤◌, Bool, true, false, List, []}
 use Rattle.std.proofs.Common.{◌∷◌, ◌++◌, length, length-append, Option, Some, None, refl, sym, ap, ap₂, ◌∙◌, subst, arith}
-use Rattle.std.specs.Prelude.{slice_get, ◌==◌}
+use Rattle.std.specs.Prelude.{slice_get}
 use Rattle.std.proofs.lemmas.Bool.{eq-eqb}
 use Rattle.behaviours.specs.Steps.{run}
 use Rattle.behaviours.proofs.Running.{run_add}
@@ -10,13 +10,12 @@ use Rattle.sb_base.specs.Endings.{code_of, report_of}
 use Rattle.obj_memory.specs.declared.int_type.IntType.{IntType}
 use Rattle.obj_memory.specs.declared.operator.BinaryOperator.{BinaryOperator}
 use Rattle.obj_memory.specs.declared.value.Place.{Place}
-use Rattle.obj_memory.specs.declared.value.Scalar.{Scalar}
 use Rattle.obj_memory.specs.declared.value.Scalar.TheVariants.{Integer, Pointer}
 use Rattle.obj_memory.specs.declared.value.Tag.TheVariants.{Untagged}
 use Rattle.obj_memory.specs.declared.value.Value.{Value}
 use Rattle.obj_memory.specs.Access.{read_value, scalar_size}
 use Rattle.obj_memory.specs.Integers.{fit, size_of}
-use Rattle.obj_memory.specs.Judgement.{moved, place_in}
+use Rattle.obj_memory.specs.Judgement.{place_in}
 use Rattle.obj_memory.specs.Operators.{binary_value}
 use Rattle.obj_memory.specs.Sound.{IsSoundTag}
 use Rattle.obj_memory.proofs.Reading.{sound_read}
@@ -24,32 +23,28 @@ use Rattle.obj_memory.proofs.Soundness.{sound_tag_continues}
 use Rattle.c_tree.specs.declared.expression.Fixity.{Fixity}
 use Rattle.c_tree.specs.declared.expression.Fixity.TheVariants.{Prefix, Postfix}
 use Rattle.c_tree.specs.declared.expression.Update.{Update}
-use Rattle.c_tree.specs.declared.expression.Update.TheVariants.{Arithmetic, Forward, Back}
-use Rattle.source_meaning.specs.State.{State, Rvalue, Outcome, Gives, Ended, done, on, Run}
-use Rattle.source_meaning.specs.Actions.{converted_to, given as given_value, integer, load, read_scalar, store, update}
-use Rattle.source_meaning.specs.Actions.{update_in_parts, updated, value_or_divide, write_scalar}
+use Rattle.c_tree.specs.declared.expression.Update.TheVariants.{Arithmetic}
+use Rattle.source_meaning.specs.State.{State}
+use Rattle.source_meaning.specs.Actions.{given as given_value, integer, load}
 use Rattle.source_meaning.specs.Keeping.{IsDirect}
 use Rattle.source_meaning.specs.Library.{argument}
-use Rattle.source_meaning.specs.Structures.{as_rvalue, give, rvalue}
-use Rattle.source_meaning.proofs.Updating.{update_is_in_parts}
+use Rattle.source_meaning.specs.Structures.{rvalue}
 use Rattle.tac_ir.specs.declared.instruction.Instruction.{Instruction}
 use Rattle.tac_ir.specs.declared.instruction.Instruction.TheVariants as tac
 use Rattle.tac_ir.specs.declared.instruction.Mode.{Mode}
 use Rattle.tac_ir.specs.declared.instruction.RightOperand.{RightOperand}
 use Rattle.tac_ir.specs.declared.instruction.RightOperand.TheVariants.{One, Temporary}
-use Rattle.tac_ir.specs.Accesses.{admitted, is_through}
 use Rattle.tac_ir.specs.Costs.{cost, spent}
-use Rattle.tac_ir.specs.Fitting.{is_update_of}
 use Rattle.tac_ir.specs.Temporaries.{right_count}
-use Rattle.tac_ir.specs.Meaning.{effect, function_in as code_in, given_in, keyed, keys_of, right_value}
-use Rattle.tac_ir.specs.Stage.{came, Frame, Over, Stage, Stands, Stuck, Temps, with_temp}
+use Rattle.tac_ir.specs.Meaning.{right_value}
+use Rattle.tac_ir.specs.Stage.{Frame, Over, Stage, Stands, Temps, with_temp}
 use Rattle.flat_meaning.specs.declared.instruction.FlatInstruction.{FlatInstruction}
 use Rattle.flat_meaning.specs.declared.instruction.FlatInstruction.TheVariants as flat_code
 use Rattle.flat_meaning.specs.Calls.{function_in}
-use Rattle.flat_meaning.specs.Meaning.{body_of, context, step, weight_of}
+use Rattle.flat_meaning.specs.Meaning.{body_of, context, step}
 use Rattle.flat_meaning.specs.Memory.{Bytes, put}
 use Rattle.flat_meaning.specs.State as flat
-use Rattle.flat_meaning.specs.Words.{HasWords, IsOfWords}
+use Rattle.flat_meaning.specs.Words.{HasWords}
 use Rattle.flat_meaning.proofs.Stored.{put_other, put_same}
 use Rattle.flat_routines.specs.declared.registers.Entry.{Entry}
 use Rattle.flat_routines.specs.InputOutput.{IsWithoutInputOutput}
@@ -61,14 +56,12 @@ use Rattle.flat_routines.proofs.Steps.{has_back, has_front}
 use Rattle.flat_routines.proofs.Words.{same_metadata}
 use Rattle.flat_actions.specs.Actions.{HasGiven, Nowhere, Pointer as InPointer, Word}
 use Rattle.flat_actions.proofs.Standing.{for_worked}
-use Rattle.flat_operators.specs.Pointers.{address_back, address_forward}
 use Rattle.object_routines.specs.declared.accesses.held.HeldScalar.{HeldScalar}
 use Rattle.object_routines.specs.declared.accesses.held.HeldScalar.TheVariants.{Integer as HeldInteger, Pointer as HeldPointer}
-use Rattle.object_routines.specs.AccessRoutines.Accessing.{IsToAccess, store_steps}
+use Rattle.object_routines.specs.AccessRoutines.Accessing.{IsToAccess}
 use Rattle.runtime_functions.specs.Library.{held_from}
-use Rattle.metadata_plan.specs.Entries.{given}
 use Rattle.metadata_plan.specs.Expanded.{Leads}
-use Rattle.metadata_plan.specs.Operators.{binary_most, Computes, EndsBy, IsHere, OperatorCode}
+use Rattle.metadata_plan.specs.Operators.{binary_most, Computes, IsHere, OperatorCode}
 use Rattle.metadata_plan.specs.Registers.{most_temporaries}
 use Rattle.metadata_plan.proofs.Flat.{constant_comes, weight_small}
 use Rattle.metadata_plan.proofs.Numbers.{scaled}
@@ -78,10 +71,9 @@ use Rattle.metadata_relation.specs.Contents.{is_right, takes_word}
 use Rattle.metadata_relation.specs.Holding.{IsHeldAt, World}
 use Rattle.metadata_relation.specs.InlineCode.{Leaves as LeavesAddress}
 use Rattle.metadata_relation.specs.Registers.{first_free, temporary_register}
-use Rattle.metadata_relation.specs.Scopes.{context_at}
-use Rattle.metadata_relation.specs.Stages.{Compiled, expansion_of, factor, IsAt, map_of, names, views, world}
-use Rattle.metadata_relation.specs.Steps.{IsCompiled, is_settled, is_update_by_word}
-use Rattle.metadata_relation.proofs.Accesses.{behind_read, behind_write, found, keyed_opens, loaded}
+use Rattle.metadata_relation.specs.Stages.{Compiled, IsAt, map_of, views, world}
+use Rattle.metadata_relation.specs.Steps.{IsCompiled}
+use Rattle.metadata_relation.proofs.Accesses.{behind_read, behind_write, loaded}
 use Rattle.metadata_relation.proofs.Acting.{acts_giving, behind_action, HasActed, Reached, reached_computed, reached_next}
 use Rattle.metadata_relation.proofs.Acting.{reached_then, reached_words}
 use Rattle.metadata_relation.proofs.Assigning.{assigned}
@@ -91,12 +83,11 @@ use Rattle.metadata_relation.proofs.FiveRegisters.{below, distinct, none_of}
 use Rattle.metadata_relation.proofs.Holding.{spell_kept}
 use Rattle.metadata_relation.proofs.Inline.{inline_computes}
 use Rattle.metadata_relation.proofs.Pointers.{entry_moved, IsReadFirst}
-use Rattle.metadata_relation.proofs.Moving.{held_of}
-use Rattle.metadata_relation.proofs.Reading.{leaves_read, plain_operand, read_untagged}
+use Rattle.metadata_relation.proofs.Reading.{leaves_read, read_untagged}
 use Rattle.metadata_relation.proofs.Registers.{temporary_free}
 use Rattle.metadata_relation.proofs.Routines.{action_passes, Passes}
 use Rattle.metadata_relation.proofs.Simple.{taken}
-use Rattle.metadata_relation.proofs.Standing.{ends, good_now, IsNode, node, Result}
+use Rattle.metadata_relation.proofs.Standing.{ends, IsNode, node, Result}
 use Rattle.metadata_relation.proofs.Writing.{held_passes, leaves_write}
 
 -- ---- a pointer goes on from registers of the block's own
@@ -340,8 +331,13 @@ module _ (c : Compiled) (IsGood : Bytes → Type 0) (right : IsCompiled c IsGood
 
     leads_behind : Leads body (at_store + length store_list + length hand_list) (c.layout.address u next)
     leads_behind = subst (λ z. Leads body z (c.layout.address u next))
-        (omega (arith, new_length, length-append load_list (new_list ++ (store_list ++ hand_list)),
-        length-append new_list (store_list ++ hand_list), length-append store_list hand_list)) nd.put.leads
+        (omega (
+          arith,
+          new_length,
+          length-append load_list (new_list ++ (store_list ++ hand_list)),
+          length-append new_list (store_list ++ hand_list),
+          length-append store_list hand_list,
+        )) nd.put.leads
 
     -- the old value
     load_passed : Passes (map_of c) c.layout.program
@@ -622,8 +618,13 @@ module _ (c : Compiled) (IsGood : Bytes → Type 0) (right : IsCompiled c IsGood
 
       leads_on_behind : Leads body (at_stores + length stores + length hands) (c.layout.address u next)
       leads_on_behind = subst (λ z. Leads body z (c.layout.address u next))
-          (omega (arith, length-append rights moves, length-append loads ((rights ++ moves) ++ (stores ++ hands)),
-          length-append (rights ++ moves) (stores ++ hands), length-append stores hands)) leads
+          (omega (
+            arith,
+            length-append rights moves,
+            length-append loads ((rights ++ moves) ++ (stores ++ hands)),
+            length-append (rights ++ moves) (stores ++ hands),
+            length-append stores hands,
+          )) leads
 
       -- the old value
       pointer_loaded : Passes (map_of c) c.layout.program
@@ -721,11 +722,13 @@ module _ (c : Compiled) (IsGood : Bytes → Type 0) (right : IsCompiled c IsGood
           (has_front body at_stores stores hands has_stores_on)
           (reached_words (map_of c) c.layout.program u xs pc at_stores v with_new 58 words address_reached)
           pointer_loaded.holds.keys read_behind q new new_now.stands.for
-          (old_stays (T a) (omega arith) ∙ loaded_others (T a) (omega arith) ∙ held.word)
-          (record {
-            word = new_there;
-            tag = entry_there ∙ ap (spell (views c) pointer_loaded.holds.keys) (sym new_tag);
-          }, new_sound) direct
+          (old_stays (T a) (omega arith) ∙ loaded_others (T a) (omega arith) ∙ held.word) (
+            record {
+              word = new_there;
+              tag = entry_there ∙ ap (spell (views c) pointer_loaded.holds.keys) (sym new_tag);
+            },
+            new_sound,
+          ) direct
 
       pointer_done : Done (behind_action s (behind_write Pointer q where_is new read_behind)) pointer_stored.holds.keys
           pointer_stored.after

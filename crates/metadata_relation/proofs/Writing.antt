@@ -1,19 +1,16 @@
 -- Scalars that are written through the word of a temporary.
-use Rattle.std.proofs.Common.{◌≡◌, ◌⊎◌, inl, inr, ℕ, ◌+◌, ◌-◌, ◌*◌, ◌<◌, ◌≤◌, Bool, true, false, List, [], ◌∷◌, ◌++◌}
-use Rattle.std.proofs.Common.{length, length-append, Option, Some, None, refl, sym, ap, ◌∙◌, subst, arith}
-use Rattle.std.specs.Prelude.{slice_get, ◌==◌, ◌&&◌}
+use Rattle.std.proofs.Common.{◌≡◌, inl, ℕ, ◌+◌, ◌-◌, ◌*◌, ◌<◌, ◌≤◌, Bool, true, false, List, [], ◌∷◌, ◌++◌}
+use Rattle.std.proofs.Common.{length, length-append, Option, Some, refl, sym, ap, ◌∙◌, subst, arith}
+use Rattle.std.specs.Prelude.{slice_get, ◌&&◌}
 use Rattle.std.proofs.lemmas.Bool.{and_parts, eq-eqb}
 use Rattle.obj_memory.specs.declared.value.Scalar.{Scalar}
 use Rattle.obj_memory.specs.declared.value.Scalar.TheVariants.{Integer, Pointer}
-use Rattle.obj_memory.specs.declared.value.Tag.TheVariants.{Untagged}
 use Rattle.obj_memory.specs.declared.value.Value.{Value}
 use Rattle.obj_memory.specs.Access.{scalar_size}
-use Rattle.obj_memory.specs.Integers.{fit}
 use Rattle.obj_memory.specs.Judgement.{place_in}
-use Rattle.obj_memory.specs.Objects.{Objects}
 use Rattle.obj_memory.specs.Sound.{IsSoundTag}
 use Rattle.c_tree.specs.declared.expression.Kind.TheVariants.{Scalar as OfScalar}
-use Rattle.source_meaning.specs.State.{State, Rvalue, Outcome, Gives, done, on, ◌>>◌}
+use Rattle.source_meaning.specs.State.{State, Rvalue, done, on, ◌>>◌}
 use Rattle.source_meaning.specs.Actions.{integer, store, write_scalar}
 use Rattle.source_meaning.specs.Good.{After, Context, function_count, IsGood as IsGoodState, IsTagged, Leaves, OnValue}
 use Rattle.source_meaning.specs.Keeping.{IsDirect}
@@ -24,10 +21,9 @@ use Rattle.tac_ir.specs.declared.instruction.Instruction.{Instruction}
 use Rattle.tac_ir.specs.declared.instruction.Instruction.TheVariants as tac
 use Rattle.tac_ir.specs.declared.instruction.Mode.{Mode}
 use Rattle.tac_ir.specs.Accesses.{admitted, is_place, is_through}
-use Rattle.tac_ir.specs.Costs.{cost, fourfold, heavier, spent, stores_of}
-use Rattle.tac_ir.specs.Edges.{LeadsTo}
-use Rattle.tac_ir.specs.Fitting.{has_no_tag, is_of_type, is_scalar_of, is_written}
-use Rattle.tac_ir.specs.Meaning.{effect, fits_key, function_in as code_in, given_in, keyed, keys_of}
+use Rattle.tac_ir.specs.Costs.{cost, fourfold, heavier, spent}
+use Rattle.tac_ir.specs.Fitting.{is_of_type, is_scalar_of}
+use Rattle.tac_ir.specs.Meaning.{effect, function_in as code_in, given_in, keyed, keys_of}
 use Rattle.tac_ir.specs.Stage.{came, Frame, Stage, Stands, Stuck, Temps, with_temp}
 use Rattle.flat_meaning.specs.declared.instruction.FlatInstruction.{FlatInstruction}
 use Rattle.flat_meaning.specs.declared.instruction.FlatInstruction.TheVariants.{Move}
@@ -36,7 +32,7 @@ use Rattle.flat_meaning.specs.Meaning.{body_of}
 use Rattle.flat_meaning.specs.Memory.{Bytes}
 use Rattle.flat_meaning.specs.State as flat
 use Rattle.flat_meaning.specs.Words.{IsOfWords}
-use Rattle.flat_routines.specs.Objects.StandsFor.{Keys, Views}
+use Rattle.flat_routines.specs.Objects.StandsFor.{Keys}
 use Rattle.flat_routines.specs.Registers.{AreBelow}
 use Rattle.flat_routines.specs.Routine.{HasAt}
 use Rattle.flat_routines.proofs.Steps.{has_back, has_front}
@@ -47,7 +43,7 @@ use Rattle.object_routines.specs.declared.accesses.held.HeldScalar.TheVariants.{
 use Rattle.object_routines.specs.AccessRoutines.Accessing.{IsToAccess, store_steps}
 use Rattle.object_routines.specs.AccessRoutines.Holding.{holder_in, scalar_in}
 use Rattle.runtime_functions.specs.Library.{held_from}
-use Rattle.metadata_plan.specs.Entries.{given, is_moved_with_entry, reads_entry}
+use Rattle.metadata_plan.specs.Entries.{is_moved_with_entry, reads_entry}
 use Rattle.metadata_plan.specs.Expanded.{Leads}
 use Rattle.metadata_plan.specs.Registers.{most_temporaries}
 use Rattle.metadata_relation.specs.Blocks.{held_scalar, move_value, untagged, write_code}
@@ -57,16 +53,16 @@ use Rattle.metadata_relation.specs.Scopes.{context_at}
 use Rattle.metadata_relation.specs.Stages.{Compiled, expansion_of, factor, IsAt, map_of, names, views, world}
 use Rattle.metadata_relation.specs.Steps.{IsCompiled, is_settled}
 use Rattle.metadata_relation.proofs.Accesses.{behind_write, found, keyed_opens, stored}
-use Rattle.metadata_relation.proofs.Acting.{acts_giving, behind_action}
-use Rattle.metadata_relation.proofs.Assigning.{AreApart, assigned}
+use Rattle.metadata_relation.proofs.Acting.{acts_giving}
+use Rattle.metadata_relation.proofs.Assigning.{assigned}
 use Rattle.metadata_relation.proofs.Finishing.{acted_as, acted_then, AreFew, ends_with, integer_few, integer_moved}
 use Rattle.metadata_relation.proofs.Finishing.{IsPlacedIn, move_few, nothing_done, tagged_in, value_moved}
 use Rattle.metadata_relation.proofs.FiveRegisters.{below}
-use Rattle.metadata_relation.proofs.Holding.{held_on, Stay}
+use Rattle.metadata_relation.proofs.Holding.{held_on}
 use Rattle.metadata_relation.proofs.Moving.{held_of, temporary_apart}
 use Rattle.metadata_relation.proofs.Reading.{plain_operand}
-use Rattle.metadata_relation.proofs.Registers.{count_in, few_in, temporaries_apart, temporary_free}
-use Rattle.metadata_relation.proofs.Routines.{action_passes, Here, Passes}
+use Rattle.metadata_relation.proofs.Registers.{few_in, temporaries_apart, temporary_free}
+use Rattle.metadata_relation.proofs.Routines.{action_passes, Passes}
 use Rattle.metadata_relation.proofs.Setting.{no_tag_is, place_is}
 use Rattle.metadata_relation.proofs.Standing.{good_now, IsNode, node, Result}
 
@@ -228,87 +224,87 @@ module _ (c : Compiled) (IsGood : Bytes → Type 0) (right : IsCompiled c IsGood
 
     module _ (p : Value)
         (held : IsHeldAt (world c h.keys s v) (c.layout.expansion.entries u n a) p (temporary_register h.code a) v.values)
-        where
-      -- the state behind it
-      abbrev written : IsDirect s.objects p (scalar_size k) → State
-      written direct = record (behind_write k p (place_in s.objects direct.object p.word) (temps b).value paid) {
-        work = paid.work + 3 * (paid.work - paid.work);
-      }
+      where
+        -- the state behind it
+        abbrev written : IsDirect s.objects p (scalar_size k) → State
+        written direct = record (behind_write k p (place_in s.objects direct.object p.word) (temps b).value paid) {
+          work = paid.work + 3 * (paid.work - paid.work);
+        }
 
-      finish : (direct : IsDirect s.objects p (scalar_size k)) (rest : List FlatInstruction) → AreFew 5 rest
-          → HasAt body pc (c.layout.expansion.inline.store (T a) (held_scalar k (T b)) free ++ rest)
-          → Leads body (pc + length (c.layout.expansion.inline.store (T a) (held_scalar k (T b)) free ++ rest))
-          (c.layout.address u next)
-          → ((w : World) (values : flat.Values) → IsHeldAt w (is_pointer_type k) (temps b).value (T b) values
-          → IsPlacedIn w (E next d) (temps b).value (T d) values (assigned rest values))
-          → 2 * store_steps (held_scalar k (T b)) + 12 ≤ factor * cost label
-          → Follows (Stands u next (with_temp temps d (rvalue (temps b).value)) ws (written direct))
-      finish direct rest few has on placing cheap =
-          let list = c.layout.expansion.inline.store (T a) (held_scalar k (T b)) free in
-          let room = temporary_free h.code b from_low in
-          let room_to = temporary_free h.code a to_low in
-          let room_into = temporary_free h.code d low in
-          let ran = store_passes c IsGood right u h.code h.there xs k (T a) (T b) free (omega arith) room pc v
-          (has_front body pc list rest has) words h.keys paid p value
-          (for_worked (views c) h.keys IsGood s paid.work v h.stands.for) held.word
-          (record { word = operand.word; entry = operand.entry; sound = operand.sound }) direct in
-          let y = ran.after in
-          let l = ran.holds in
-          let z = written direct in
-          let acted = acted_then c IsGood right u n temps ws s v xs h Nowhere free paid.work (integer 0) s z h.keys v y
-          (nothing_done c IsGood right u n temps ws s v xs h)
-          (record {
-            keys = l.keys;
-            held = l.held;
-            stands = for_worked (views c) l.keys IsGood
-                (behind_write k p (place_in s.objects direct.object p.word) (temps b).value paid) z.work y l.stands;
-            given = tt;
-            turns = l.turns;
-            elsewhere = l.elsewhere;
-            others = l.others;
-          })
-          (leaves_write c IsGood right u n temps ws s v xs h s 0 z.work k p value direct
-          (good_now (names c) u ws s h.steady.good) held.sound operand.sound) h.steady.keys in
-          let still = held_on (views c) h.keys l.keys s.objects z.objects v.memory y.memory acted.goes (is_pointer_type k) value (T b)
-          v.values y.values (λ j lt. l.others (T b + j) (let few = few_in (is_pointer_type k) in omega arith) tt) operand in
-          let placed = placing (world c l.keys z y) y.values still in
-          let len : pc + length (list ++ rest) ≡ pc + length list + length rest = omega (arith, length-append list rest) in
-          let e = ends_with c IsGood right u n temps ws s v xs h (pc + length list) (2 * store_steps (held_scalar k (T b)))
-          5 next y rest ran.reached few (has_back body pc list rest has)
-          (subst (λ q. Leads body q (c.layout.address u next)) len on) in
-          acts_giving c IsGood right u n temps ws s v xs h label nd d next value z l.keys
-          (record y { values = assigned rest y.values; work = e.0 }) (2 * store_steps (held_scalar k (T b)) + 2 * 5 + 2)
-          refl (inl refl) low e.1
-          (acted_as c IsGood right u n temps ws s v xs h z l.keys y (assigned rest y.values) e.0 acted)
-          (λ q lt out. placed.others q out ∙ l.others q lt tt) placed.held (omega (arith, cheap))
+        finish : (direct : IsDirect s.objects p (scalar_size k)) (rest : List FlatInstruction) → AreFew 5 rest
+            → HasAt body pc (c.layout.expansion.inline.store (T a) (held_scalar k (T b)) free ++ rest)
+            → Leads body (pc + length (c.layout.expansion.inline.store (T a) (held_scalar k (T b)) free ++ rest))
+            (c.layout.address u next)
+            → ((w : World) (values : flat.Values) → IsHeldAt w (is_pointer_type k) (temps b).value (T b) values
+            → IsPlacedIn w (E next d) (temps b).value (T d) values (assigned rest values))
+            → 2 * store_steps (held_scalar k (T b)) + 12 ≤ factor * cost label
+            → Follows (Stands u next (with_temp temps d (rvalue (temps b).value)) ws (written direct))
+        finish direct rest few has on placing cheap =
+            let list = c.layout.expansion.inline.store (T a) (held_scalar k (T b)) free in
+            let room = temporary_free h.code b from_low in
+            let room_to = temporary_free h.code a to_low in
+            let room_into = temporary_free h.code d low in
+            let ran = store_passes c IsGood right u h.code h.there xs k (T a) (T b) free (omega arith) room pc v
+            (has_front body pc list rest has) words h.keys paid p value
+            (for_worked (views c) h.keys IsGood s paid.work v h.stands.for) held.word
+            (record { word = operand.word; entry = operand.entry; sound = operand.sound }) direct in
+            let y = ran.after in
+            let l = ran.holds in
+            let z = written direct in
+            let acted = acted_then c IsGood right u n temps ws s v xs h Nowhere free paid.work (integer 0) s z h.keys v y
+            (nothing_done c IsGood right u n temps ws s v xs h)
+            (record {
+              keys = l.keys;
+              held = l.held;
+              stands = for_worked (views c) l.keys IsGood
+                  (behind_write k p (place_in s.objects direct.object p.word) (temps b).value paid) z.work y l.stands;
+              given = tt;
+              turns = l.turns;
+              elsewhere = l.elsewhere;
+              others = l.others;
+            })
+            (leaves_write c IsGood right u n temps ws s v xs h s 0 z.work k p value direct
+            (good_now (names c) u ws s h.steady.good) held.sound operand.sound) h.steady.keys in
+            let still = held_on (views c) h.keys l.keys s.objects z.objects v.memory y.memory acted.goes (is_pointer_type k) value (T b)
+            v.values y.values (λ j lt. l.others (T b + j) (let few = few_in (is_pointer_type k) in omega arith) tt) operand in
+            let placed = placing (world c l.keys z y) y.values still in
+            let len : pc + length (list ++ rest) ≡ pc + length list + length rest = omega (arith, length-append list rest) in
+            let e = ends_with c IsGood right u n temps ws s v xs h (pc + length list) (2 * store_steps (held_scalar k (T b)))
+            5 next y rest ran.reached few (has_back body pc list rest has)
+            (subst (λ q. Leads body q (c.layout.address u next)) len on) in
+            acts_giving c IsGood right u n temps ws s v xs h label nd d next value z l.keys
+            (record y { values = assigned rest y.values; work = e.0 }) (2 * store_steps (held_scalar k (T b)) + 2 * 5 + 2)
+            refl (inl refl) low e.1
+            (acted_as c IsGood right u n temps ws s v xs h z l.keys y (assigned rest y.values) e.0 acted)
+            (λ q lt out. placed.others q out ∙ l.others q lt tt) placed.held (omega (arith, cheap))
 
-      writes : (k' : Scalar) → k ≡ k' → (direct : IsDirect s.objects p (scalar_size k))
-          → HasAt body pc (write_code c.layout.expansion.inline k' (E next d) (T d) (T a) (T b) free)
-          → Leads body (pc + length (write_code c.layout.expansion.inline k' (E next d) (T d) (T a) (T b) free))
-          (c.layout.address u next)
-          → Follows (Stands u next (with_temp temps d (rvalue (temps b).value)) ws (written direct))
-      writes (Integer t) is direct has on =
-          let rest = Move (T d) (T b) ∷ untagged (E next d) (T d) in
-          finish direct rest (integer_few (E next d) (T d) (T b))
-          (subst (λ z. HasAt body pc (c.layout.expansion.inline.store (T a) (held_scalar z (T b)) free ++ rest)) (sym is) has)
-          (subst (λ z. Leads body (pc + length (c.layout.expansion.inline.store (T a) (held_scalar z (T b)) free ++ rest))
-          (c.layout.address u next)) (sym is) on)
-          (λ w values q. integer_moved w (E next d) value (T d) (T b) values
-          (subst (λ z. HasNoTag z value) is (scalar_no_tag k b is_value)) q.word)
-          (subst (λ z. 2 * store_steps (held_scalar z (T b)) + 12 ≤ factor
-          * cost (tac.Write (OfScalar z) mode line key d a b next)) (sym is) (omega arith))
-      writes Pointer is direct has on =
-          let rest = move_value (E next d) (T d) (T b) in
-          finish direct rest (move_few (E next d) (T d) (T b))
-          (subst (λ z. HasAt body pc (c.layout.expansion.inline.store (T a) (held_scalar z (T b)) free ++ rest)) (sym is) has)
-          (subst (λ z. Leads body (pc + length (c.layout.expansion.inline.store (T a) (held_scalar z (T b)) free ++ rest))
-          (c.layout.address u next)) (sym is) on)
-          (λ w values q. value_moved w (E next d) (is_pointer_type k) value (T d) (T b) values q
-          (λ e. ap is_pointer_type is)
-          (temporary_apart d b (T d) (T b) (λ ne. temporaries_apart h.code d b ne)
-          (λ e. ap (λ z. temporary_register h.code z) e)))
-          (subst (λ z. 2 * store_steps (held_scalar z (T b)) + 12 ≤ factor
-          * cost (tac.Write (OfScalar z) mode line key d a b next)) (sym is) (omega arith))
+        writes : (k' : Scalar) → k ≡ k' → (direct : IsDirect s.objects p (scalar_size k))
+            → HasAt body pc (write_code c.layout.expansion.inline k' (E next d) (T d) (T a) (T b) free)
+            → Leads body (pc + length (write_code c.layout.expansion.inline k' (E next d) (T d) (T a) (T b) free))
+            (c.layout.address u next)
+            → Follows (Stands u next (with_temp temps d (rvalue (temps b).value)) ws (written direct))
+        writes (Integer t) is direct has on =
+            let rest = Move (T d) (T b) ∷ untagged (E next d) (T d) in
+            finish direct rest (integer_few (E next d) (T d) (T b))
+            (subst (λ z. HasAt body pc (c.layout.expansion.inline.store (T a) (held_scalar z (T b)) free ++ rest)) (sym is) has)
+            (subst (λ z. Leads body (pc + length (c.layout.expansion.inline.store (T a) (held_scalar z (T b)) free ++ rest))
+            (c.layout.address u next)) (sym is) on)
+            (λ w values q. integer_moved w (E next d) value (T d) (T b) values
+            (subst (λ z. HasNoTag z value) is (scalar_no_tag k b is_value)) q.word)
+            (subst (λ z. 2 * store_steps (held_scalar z (T b)) + 12 ≤ factor
+            * cost (tac.Write (OfScalar z) mode line key d a b next)) (sym is) (omega arith))
+        writes Pointer is direct has on =
+            let rest = move_value (E next d) (T d) (T b) in
+            finish direct rest (move_few (E next d) (T d) (T b))
+            (subst (λ z. HasAt body pc (c.layout.expansion.inline.store (T a) (held_scalar z (T b)) free ++ rest)) (sym is) has)
+            (subst (λ z. Leads body (pc + length (c.layout.expansion.inline.store (T a) (held_scalar z (T b)) free ++ rest))
+            (c.layout.address u next)) (sym is) on)
+            (λ w values q. value_moved w (E next d) (is_pointer_type k) value (T d) (T b) values q
+            (λ e. ap is_pointer_type is)
+            (temporary_apart d b (T d) (T b) (λ ne. temporaries_apart h.code d b ne)
+            (λ e. ap (λ z. temporary_register h.code z) e)))
+            (subst (λ z. 2 * store_steps (held_scalar z (T b)) + 12 ≤ factor
+            * cost (tac.Write (OfScalar z) mode line key d a b next)) (sym is) (omega arith))
 
     -- ---- the step
 

@@ -1,20 +1,19 @@
 -- The object of a variable that becomes zero where it has an initializer.
-use Rattle.std.proofs.Common.{◌≡◌, inl, inr, ℕ, suc, ◌+◌, ◌-◌, ◌*◌, ◌^◌, ◌<◌, ◌≤◌, true, false, List, [], ◌∷◌, ◌++◌, length}
-use Rattle.std.proofs.Common.{length-append, get_or, Option, Some, None, refl, sym, ap, ◌∙◌, subst, arith}
+use Rattle.std.proofs.Common.{◌≡◌, inl, ℕ, suc, ◌+◌, ◌-◌, ◌*◌, ◌<◌, ◌≤◌, true, List, [], ◌∷◌, ◌++◌, length}
+use Rattle.std.proofs.Common.{length-append, get_or, Some, refl, sym, ap, ◌∙◌, subst, arith}
 use Rattle.std.specs.Prelude.{slice_get}
-use Rattle.obj_memory.specs.declared.value.Value.{Value}
 use Rattle.obj_memory.specs.Objects.{object_at, with_zeroed}
 use Rattle.c_tree.specs.Kinds.{size_of_kind}
 use Rattle.c_tree.specs.Valid.{at_number}
-use Rattle.source_meaning.specs.State.{State, Home, NoObject, InObject, Gives, done, on, ◌>>◌}
+use Rattle.source_meaning.specs.State.{State, Home, NoObject, InObject, Gives, on}
 use Rattle.source_meaning.specs.Actions.{integer}
-use Rattle.source_meaning.specs.Initializers.{zero_home, zero_object, zero_variable}
+use Rattle.source_meaning.specs.Initializers.{zero_home, zero_variable}
 use Rattle.source_meaning.specs.Good.{After, Any, Leaves}
 use Rattle.source_meaning.proofs.SureActions.{sure_zero_variable}
 use Rattle.tac_ir.specs.declared.instruction.Instruction.{Instruction}
 use Rattle.tac_ir.specs.declared.instruction.Instruction.TheVariants as tac
 use Rattle.tac_ir.specs.Accesses.{is_home, only_if}
-use Rattle.tac_ir.specs.Costs.{cost, fourfold, heavier, spent}
+use Rattle.tac_ir.specs.Costs.{fourfold, heavier, spent}
 use Rattle.tac_ir.specs.Meaning.{effect}
 use Rattle.tac_ir.specs.Stage.{came, Frame, Stage, Stands, Stuck, Temps}
 use Rattle.tac_ir.proofs.Fits.{only_true}
@@ -29,7 +28,6 @@ use Rattle.flat_meaning.proofs.Stored.{put_other, put_same}
 use Rattle.flat_routines.specs.Routine.{HasAt}
 use Rattle.flat_routines.proofs.Steps.{has_back, has_front}
 use Rattle.flat_actions.specs.Actions.{Nowhere}
-use Rattle.flat_actions.proofs.Standing.{for_worked}
 use Rattle.runtime_functions.specs.declared.runtime.RuntimeFunction.TheVariants.{Zero}
 use Rattle.runtime_functions.specs.Actions.{steps_of, work_of_call}
 use Rattle.runtime_functions.specs.Zeroing.{zeroing, zeroing_interface}
@@ -37,11 +35,11 @@ use Rattle.runtime_functions.proofs.ZeroCalls.{zero_served}
 use Rattle.metadata_plan.specs.Expanded.{Leads}
 use Rattle.metadata_plan.specs.Registers.{all_variables}
 use Rattle.metadata_plan.proofs.Flat.{move_comes}
-use Rattle.metadata_relation.specs.Blocks.{runtime_number, zero_code, zero_place}
+use Rattle.metadata_relation.specs.Blocks.{runtime_number, zero_place}
 use Rattle.metadata_relation.specs.Holding.{IsHome}
 use Rattle.metadata_relation.specs.Registers.{first_free, home_register}
 use Rattle.metadata_relation.specs.Scopes.{context_at}
-use Rattle.metadata_relation.specs.Stages.{Compiled, expansion_of, factor, IsAt, map_of, names, views, world}
+use Rattle.metadata_relation.specs.Stages.{Compiled, expansion_of, IsAt, map_of, names, world}
 use Rattle.metadata_relation.specs.Steps.{IsCompiled}
 use Rattle.metadata_relation.proofs.Acting.{acts_alone, behind_action, reached_by, reached_computed, reached_then, reached_words}
 use Rattle.metadata_relation.proofs.Finishing.{acted_as, acted_then, acted_worked, ends_with, nothing_done}

@@ -1,5 +1,5 @@
 -- What the steps of instructions rest on, and which of them are covered so far.
-use Rattle.std.specs.Prelude.{◌≡◌, ℕ, Bool, true, false, not, ◌&&◌, ◌==◌, nat_le, map, Option, Some, None, slice_get}
+use Rattle.std.specs.Prelude.{◌≡◌, ℕ, Bool, true, false, not, ◌&&◌, nat_le, map, Option, Some, None, slice_get}
 use Rattle.behaviours.specs.Steps.{run}
 use Rattle.addr_map.specs.Places.{AreMapped}
 use Rattle.obj_memory.specs.declared.value.Scalar.{Scalar}

@@ -1,7 +1,7 @@
 -- Flat code follows the instructions that are covered, from stage to stage.
-use Rattle.std.proofs.Common.{◌≡◌, ℕ, ◌^◌, true, false, List, Option, Some, None, refl, sym, ap, ◌∙◌, subst}
+use Rattle.std.proofs.Common.{◌≡◌, ℕ, ◌^◌, ◌<◌, ◌&&◌, ◌||◌, true, false, List, Option, Some, None, refl, sym, ap, ◌∙◌, subst}
 use Rattle.std.specs.Prelude.{slice_get}
-use Rattle.std.proofs.lemmas.Bool.{ltb-true}
+use Rattle.std.proofs.lemmas.Bool.{ltb-true, and_parts, not-true}
 use Rattle.std.proofs.lemmas.Option.{same_Some}
 use Rattle.obj_memory.specs.declared.value.Scalar.{Scalar}
 use Rattle.obj_memory.specs.declared.value.Scalar.TheVariants.{Integer, Pointer}
@@ -11,6 +11,7 @@ use Rattle.source_meaning.specs.State.{State}
 use Rattle.source_meaning.specs.Good.{plain_type}
 use Rattle.tac_ir.specs.declared.instruction.Instruction.{Instruction}
 use Rattle.tac_ir.specs.declared.instruction.Instruction.TheVariants as tac
+use Rattle.tac_ir.specs.Fitting.{is_word}
 use Rattle.tac_ir.specs.Stage.{Temps, Frame, Stands, Stuck}
 use Rattle.tac_ir.specs.Costs.{cost, spent}
 use Rattle.tac_ir.specs.Meaning.{effect, fits, act_at, code_of, step}
@@ -19,8 +20,9 @@ use Rattle.flat_meaning.specs.Memory.{Bytes}
 use Rattle.flat_meaning.specs.State as flat
 use Rattle.flat_meaning.specs.Words.{HasWords}
 use Rattle.metadata_plan.specs.Registers.{all_variables}
+use Rattle.metadata_relation.specs.Blocks.{is_short}
 use Rattle.metadata_relation.specs.Stages.{Compiled, map_of, expansion_of, IsAt, MatchesBy, Matches}
-use Rattle.metadata_relation.specs.Steps.{IsCompiled, covers, is_scalar_type, IsCovered, ComesToMatch}
+use Rattle.metadata_relation.specs.Steps.{IsCompiled, covers, is_part, admits, is_scalar_type, IsCovered, ComesToMatch}
 use Rattle.metadata_plan.proofs.Flat.{words_kept}
 use Rattle.metadata_relation.proofs.Standing.{Result}
 use Rattle.metadata_relation.proofs.Simple.{constant, unary, binary, skip_step, branch, turn, case}
@@ -28,11 +30,23 @@ use Rattle.metadata_relation.proofs.Moving.{get_plain, zero_of_scalar, zero_of_v
 use Rattle.metadata_relation.proofs.Moving.{convert_pointer}
 use Rattle.metadata_relation.proofs.Setting.{set_plain_step}
 use Rattle.metadata_relation.proofs.Pointers.{home_pointer, offset}
+use Rattle.metadata_relation.proofs.Named.{function_pointer_step, static_pointer_step}
+use Rattle.metadata_relation.proofs.Members.{narrow_step, member_step}
+use Rattle.metadata_relation.proofs.Updating.{update_plain_step}
+use Rattle.metadata_relation.proofs.Library.{library_step}
+
+part_is : (offset size : ℕ) → is_part offset size ≡ true
+    → (offset < 2 ^ 64) × (size < 2 ^ 64) × ((is_short offset || is_short size) ≡ true)
+part_is offset size e =
+    let p = and_parts (is_word offset && is_word size) (is_short offset || is_short size) e in
+    let w = and_parts (is_word offset) (is_word size) p.0 in
+    (ltb-true offset (2 ^ 64) w.0, ltb-true size (2 ^ 64) w.1, p.1)
 
 module _ (c : Compiled) (IsGood : Bytes → Type 0) (right : IsCompiled c IsGood) (u n : ℕ) (temps : Temps)
     (ws : List Frame) (s : State) (v : flat.State) (xs : List flat.Frame)
     (h : IsAt c IsGood u n temps ws s u (c.layout.address u n) v xs)
-    (words : HasWords (flat.Stands u (c.layout.address u n) v xs)) where
+    (words : HasWords (flat.Stands u (c.layout.address u n) v xs))
+    (admitted : (i : Instruction) → slice_get h.code.code n ≡ Some i → admits c u n i ≡ true) where
   abbrev Does : Instruction → Type 0
   Does i = slice_get h.code.code n ≡ Some i → covers h.code i ≡ true
       → fits c.setting (expansion_of c).code i u temps (spent (cost i) s) ≡ true
@@ -75,6 +89,21 @@ module _ (c : Compiled) (IsGood : Bytes → Type 0) (right : IsCompiled c IsGood
   instruction (tac.Branch a x y) at e f = branch c IsGood right u n temps ws s v xs h words.0 a x y at
   instruction (tac.Case a w x y) at e f = case c IsGood right u n temps ws s v xs h words.0 a w x y at e
   instruction (tac.Turn counted m) at e f = turn c IsGood right u n temps ws s v xs h words.0 counted m at
+  instruction (tac.FunctionPointer d g m) at e f =
+      function_pointer_step c IsGood right u n temps ws s v xs h words d g m at f
+  instruction (tac.StaticPointer d x m) at e f =
+      static_pointer_step c IsGood right u n temps ws s v xs h words d x m at f
+  instruction (tac.UpdatePlain w k fixity line d x r m) at e f =
+      update_plain_step c IsGood right u n temps ws s v xs h words w k fixity line d x r m e at f
+  instruction (tac.Narrow offset size d a m) at e f =
+      let p = part_is offset size e in
+      narrow_step c IsGood right u n temps ws s v xs h words offset size d a m p.0 p.1 p.2 at
+  instruction (tac.Member offset size d a m) at e f =
+      let p = part_is offset size e in
+      member_step c IsGood right u n temps ws s v xs h words offset size d a m p.0 p.1 p.2
+      (not-true (c.layout.expansion.contents u n a) (admitted (tac.Member offset size d a m) at)) at
+  instruction (tac.Library r line d count m) at e f =
+      library_step c IsGood right u n temps ws s v xs h words r line d count m e at f
   instruction i at e f = cc
 
 -- a step from a node whose instruction is covered
@@ -103,7 +132,9 @@ module _ (c : Compiled) (IsGood : Bytes → Type 0) (right : IsCompiled c IsGood
           let same : i ≡ covered.instruction = same_Some i covered.instruction e in
           let f = act_fits c.setting (expansion_of c).code i u temps ws (spent (cost i) s) not_stuck in
           subst (λ z. Result c IsGood z (flat.Stands u (c.layout.address u n) v xs)) (sym f.1)
-          (instruction c IsGood right u n temps ws s v xs h words i
+          (instruction c IsGood right u n temps ws s v xs h words
+          (λ j at. ap (admits c u n) (same_Some j covered.instruction
+          (sym at ∙ ap (λ z. slice_get z.code n) same_code ∙ covered.at)) ∙ covered.admitted) i
           (ap (λ z. slice_get z.code n) same_code ∙ covered.at ∙ ap Some (sym same))
           (ap (λ z. covers z i) same_code ∙ ap (covers covered.code) same ∙ covered.covered) f.0)
 

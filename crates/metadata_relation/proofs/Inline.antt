@@ -30,7 +30,7 @@ use Rattle.metadata_plan.specs.Operators.{Position, Computes, IsHere}
 
 -- ---- the work of a run within a function does not get less
 
-abbrev AtLeast : (least : ℕ) → Local → Type 0
+abbrev pub AtLeast : (least : ℕ) → Local → Type 0
 AtLeast k (Goes pc s) = k ≤ s.work
 AtLeast k (Ends status report s) = k ≤ s.work
 AtLeast k Leaves = Unit {0}
@@ -95,7 +95,7 @@ module _ (c : Context) (k : ℕ) where
   step_least code Leaves h = tt
   step_least code Fails h = tt
 
-  run_least : (code : List FlatInstruction) (n : ℕ) (l : Local) → AtLeast k l → AtLeast k (local_run c code n l)
+  pub run_least : (code : List FlatInstruction) (n : ℕ) (l : Local) → AtLeast k l → AtLeast k (local_run c code n l)
   unfolding local_run
   run_least code zero l h = h
   run_least code (suc n) l h = run_least code n (local_step c code l) (step_least code l h)

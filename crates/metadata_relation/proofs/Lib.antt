@@ -1,9 +1,14 @@
+pub mod Altering
 pub mod Assigning
 pub mod Following
 pub mod Giving
 pub mod Holding
 pub mod Inline
+pub mod Library
+pub mod Members
 pub mod Moving
+pub mod Named
+pub mod Parts
 pub mod Pointers
 pub mod Registers
 pub mod Setting
@@ -12,3 +17,4 @@ pub mod Standing
 pub mod Waiting
 pub mod StartData
 pub mod StartFile
+pub mod Updating

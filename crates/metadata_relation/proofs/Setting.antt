@@ -63,15 +63,15 @@ type_is functions (Integer t) v e =
     (untagged_is v.tag p.0, eqb-true (fit t v.word) v.word p.1)
 type_is functions Pointer v e = λ low. ltb-true v.word (2 ^ 64) e
 
-no_tag_is : (k : Scalar) (v : Value) → is_of_type k v ≡ true → HasNoTag k v
+pub no_tag_is : (k : Scalar) (v : Value) → is_of_type k v ≡ true → HasNoTag k v
 no_tag_is (Integer t) v e = untagged_is v.tag (and_parts (has_no_tag v.tag) (fit t v.word == v.word) e).0
 no_tag_is Pointer v e = tt
 
-place_is : (o : Option ObjectState) → is_place o ≡ true → o ≡ None
+pub place_is : (o : Option ObjectState) → is_place o ≡ true → o ≡ None
 place_is None e = refl
 place_is (Some c) e = cc
 
-plain_inside : (vs : List Variable) (x : ℕ) (k : Scalar) → plain_type vs x ≡ Some k → x < length vs
+pub plain_inside : (vs : List Variable) (x : ℕ) (k : Scalar) → plain_type vs x ≡ Some k → x < length vs
 plain_inside [] x k e = cc
 plain_inside (v ∷ vs) zero k e = omega arith
 plain_inside (v ∷ vs) (suc x) k e = omega (arith, plain_inside vs x k e)

@@ -1,10 +1,14 @@
 -- What the steps of instructions rest on, and which of them are covered so far.
-use Rattle.std.specs.Prelude.{◌≡◌, ℕ, Bool, true, false, map, Option, Some, None, slice_get}
+use Rattle.std.specs.Prelude.{◌≡◌, ℕ, ◌^◌, ◌<◌, ◌≤◌, Bool, true, false, not, ◌&&◌, ◌||◌, length, map, Option, Some, None, slice_get}
 use Rattle.behaviours.specs.Steps.{run}
-use Rattle.addr_map.specs.Places.{AreMapped}
+use Rattle.addr_map.specs.Places.{AreMapped, code_begin, function_address}
 use Rattle.obj_memory.specs.declared.value.Scalar.{Scalar}
 use Rattle.c_tree.specs.declared.expression.Kind.{Kind}
 use Rattle.c_tree.specs.declared.expression.Kind.TheVariants.{Void, Scalar as OfScalar, Structure, Array}
+use Rattle.c_tree.specs.declared.expression.Routine.{Routine}
+use Rattle.c_tree.specs.declared.expression.Routine.TheVariants as routine
+use Rattle.c_tree.specs.declared.expression.Update.{Update}
+use Rattle.c_tree.specs.declared.expression.Update.TheVariants.{Arithmetic, Forward, Back}
 use Rattle.source_meaning.specs.Calls.{header_of}
 use Rattle.source_meaning.specs.Good.{plain_type}
 use Rattle.tac_ir.specs.declared.instruction.Instruction.{Instruction}
@@ -16,18 +20,22 @@ use Rattle.flat_meaning.specs.Memory.{Bytes}
 use Rattle.flat_meaning.specs.State as flat
 use Rattle.flat_meaning.specs.Meaning.{step}
 use Rattle.metadata_plan.specs.Registers.{all_variables}
+use Rattle.metadata_relation.specs.Blocks.{is_short}
 use Rattle.metadata_relation.specs.InlineCode.{IsInlineCode}
 use Rattle.metadata_relation.specs.Expanded.{IsExpanded}
 use Rattle.metadata_relation.specs.Stages.{Compiled, map_of, Matches}
 
 -- The lists that stand inline do what is asked of them, the flat program is the expansion of the code, the sizes are those
--- of a map, and the functions of the setting are those of the typed program.
+-- of a map, and the functions of the setting are those of the typed program. Each function has an entry in the jump table,
+-- and a number for its type that leaves the highest bit of a key free.
 pub record IsCompiled (c : Compiled) (IsGood : Bytes → Type 0) : Type 0 where
   pub inline : IsInlineCode (map_of c) c.entry IsGood c.layout.expansion.inline
   pub expanded : IsExpanded c.layout c.entry IsGood
   pub mapped : AreMapped (map_of c)
   pub sizes : c.setting.sizes ≡ map_of c
   pub functions : map header_of c.typed.functions ≡ c.setting.functions
+  pub few : function_address (length c.setting.functions) ≤ code_begin
+  pub types : (f : ℕ) → c.layout.expansion.types f < 2 ^ 63
 
 abbrev pub is_scalar_type : Option Scalar → Bool
 is_scalar_type None = false
@@ -39,6 +47,24 @@ is_no_aggregate Void = true
 is_no_aggregate (OfScalar k) = true
 is_no_aggregate (Structure n) = false
 is_no_aggregate (Array n) = false
+
+-- an update by elements of a size that is a word
+abbrev pub is_update_by_word : Update → Bool
+is_update_by_word (Arithmetic op t) = true
+is_update_by_word (Forward size) = is_word size
+is_update_by_word (Back size) = is_word size
+
+-- of the numbers of a member an instruction holds one at least
+abbrev pub is_part : (offset size : ℕ) → Bool
+is_part offset size = (is_word offset && is_word size) && (is_short offset || is_short size)
+
+-- a routine whose list stands inline
+abbrev pub is_inline_routine : Routine → Bool
+is_inline_routine routine.Putchar = true
+is_inline_routine routine.Getchar = true
+is_inline_routine routine.Exit = true
+is_inline_routine routine.Abort = true
+is_inline_routine r = false
 
 -- the instructions whose steps are known
 abbrev pub covers : CodeFunction → Instruction → Bool
@@ -55,7 +81,18 @@ covers c (tac.Offset form size d a b m) = is_word size
 covers c (tac.Branch a x y) = true
 covers c (tac.Case a w x y) = is_word w
 covers c (tac.Turn counted m) = true
+covers c (tac.FunctionPointer d f m) = true
+covers c (tac.StaticPointer d n m) = true
+covers c (tac.UpdatePlain w k f line d x right m) = is_update_by_word w
+covers c (tac.Narrow offset size d a m) = is_part offset size
+covers c (tac.Member offset size d a m) = is_part offset size
+covers c (tac.Library r line d n m) = is_inline_routine r
 covers c i = false
+
+-- what is asked of the node besides: a member of contents is another instruction
+abbrev pub admits : Compiled → (function node : ℕ) → Instruction → Bool
+admits c u n (tac.Member offset size d a m) = not (c.layout.expansion.contents u n a)
+admits c u n i = true
 
 -- at a node stands an instruction that is covered
 pub record IsCovered (c : Compiled) (function node : ℕ) : Type 0 where
@@ -64,6 +101,7 @@ pub record IsCovered (c : Compiled) (function node : ℕ) : Type 0 where
   pub instruction : Instruction
   pub at : slice_get code.code node ≡ Some instruction
   pub covered : covers code instruction ≡ true
+  pub admitted : admits c function node instruction ≡ true
 
 -- the run of flat code comes to where it matches
 pub record ComesToMatch (c : Compiled) (IsGood : Bytes → Type 0) (stage : Stage) (x : flat.Stage) : Type 0 where

@@ -8,6 +8,7 @@ pub mod Library
 pub mod Members
 pub mod Moving
 pub mod Named
+pub mod Packing
 pub mod Parts
 pub mod Pointers
 pub mod Registers

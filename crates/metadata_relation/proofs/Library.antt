@@ -7,10 +7,11 @@ use Rattle.std.proofs.lemmas.Bool.{and_parts, false≢true}
 use Rattle.addr_map.specs.Places.{MapSizes}
 use Rattle.sb_base.specs.declared.ending.Ending.TheVariants.{Exit as ExitWith, Abort as AbortAt}
 use Rattle.sb_base.specs.Endings.{code_of, report_of}
-use Rattle.obj_memory.specs.declared.int_type.IntType.TheVariants.{UnsignedChar}
-use Rattle.obj_memory.specs.declared.value.Value.{Value}
+use Rattle.obj_memory.specs.declared.int_type.IntType.TheVariants.{Int, UnsignedChar}
+use Rattle.obj_memory.specs.declared.value.Scalar.{Scalar}
+use Rattle.obj_memory.specs.declared.value.Scalar.TheVariants.{Integer}
 use Rattle.obj_memory.specs.Integers.{fit}
-use Rattle.c_tree.specs.declared.expression.Kind.{Kind}
+use Rattle.c_tree.specs.declared.expression.Kind.TheVariants.{Scalar as OfScalar}
 use Rattle.c_tree.specs.declared.expression.Routine.{Routine}
 use Rattle.c_tree.specs.declared.expression.Routine.TheVariants as routine
 use Rattle.c_tree.specs.Kinds.{routine_signature}
@@ -21,7 +22,7 @@ use Rattle.source_meaning.specs.Structures.{rvalue, give}
 use Rattle.tac_ir.specs.declared.instruction.Instruction.{Instruction}
 use Rattle.tac_ir.specs.declared.instruction.Instruction.TheVariants as tac
 use Rattle.tac_ir.specs.Edges.{LeadsTo}
-use Rattle.tac_ir.specs.Fitting.{is_passed, are_passed}
+use Rattle.tac_ir.specs.Fitting.{is_of_type, is_passed, are_passed}
 use Rattle.tac_ir.specs.Accesses.{is_place}
 use Rattle.tac_ir.specs.Stage.{Temps, with_temp, gathered, Frame, Stage, Stands, Over, came}
 use Rattle.tac_ir.specs.Costs.{spent, fourfold}
@@ -63,12 +64,15 @@ byte_of : (w : ℕ) → fit UnsignedChar w ≡ w % 256
 unfolding fit
 byte_of w = refl
 
--- one argument is handed over
-one_passed : (k : Kind) (temps : Temps) (d count : ℕ) → are_passed (k ∷ []) (gathered temps d count) ≡ true
-    → (count ≡ 1) × (is_passed k (temps d) ≡ true)
+-- one scalar is handed over
+one_passed : (k : Scalar) (temps : Temps) (d count : ℕ) → are_passed (OfScalar k ∷ []) (gathered temps d count) ≡ true
+    → (count ≡ 1) × ((temps d).contents ≡ None)
 one_passed k temps d zero e = absurd (false≢true e)
-one_passed k temps d (suc zero) e = (refl, (and_parts (is_passed k (temps d)) true e).0)
-one_passed k temps d (suc (suc n)) e = absurd (false≢true (and_parts (is_passed k (temps d)) false e).1)
+one_passed k temps d (suc zero) e =
+    let one = and_parts (is_passed (OfScalar k) (temps d)) true e in
+    let scalar = and_parts (is_place (temps d).contents) (is_of_type k (temps d).value) one.0 in
+    (refl, place_is (temps d).contents scalar.0)
+one_passed k temps d (suc (suc n)) e = absurd (false≢true (and_parts (is_passed (OfScalar k) (temps d)) false e).1)
 
 -- registers get constants and values of others, once the run has come to a place
 module _ (m : MapSizes) (p : FlatProgram) (u pc : ℕ) (v : flat.State) (xs : List flat.Frame) where
@@ -301,11 +305,9 @@ module _ (c : Compiled) (IsGood : Bytes → Type 0) (right : IsCompiled c IsGood
       → are_passed (routine_signature r).parameters (gathered temps d count) ≡ true
       → Gives (effect c.setting (expansion_of c).code (tac.Library r line d count next) u temps ws (spent 12 s))
   library_step routine.Putchar line d count next e at fits =
-      let one = one_passed _ temps d count fits in
-      putchar line d count next at one.0 (place_is (temps d).contents (and_parts (is_place (temps d).contents) _ one.1).0)
+      let one = one_passed (Integer Int) temps d count fits in putchar line d count next at one.0 one.1
   library_step routine.Getchar line d count next e at fits = getchar line d count next at
   library_step routine.Exit line d count next e at fits =
-      let one = one_passed _ temps d count fits in
-      exit line d count next at one.0 (place_is (temps d).contents (and_parts (is_place (temps d).contents) _ one.1).0)
+      let one = one_passed (Integer Int) temps d count fits in exit line d count next at one.0 one.1
   library_step routine.Abort line d count next e at fits = abort line d count next at
   library_step r line d count next e at fits = cc

@@ -339,7 +339,7 @@ module _ (c : Compiled) (IsGood : Bytes → Type 0) (right : IsCompiled c IsGood
       let lock : constant_most 0 ≡ 1 = short_constant 0 (omega arith) in
       let key = most_constant (2 ^ 63 + c.layout.expansion.types f) in
       gives_constants i k d next (function_address f) (function_address f) (function_address f)
-      (2 ^ 63 + c.layout.expansion.types f) 0 (function_pointer f) refl refl low (omega (arith, short))
+      (2 ^ 63 + c.layout.expansion.types f) 0 (function_pointer f) refl (inl refl) low (omega (arith, short))
       (record {
         base_low = omega (arith, short);
         bound_low = omega (arith, short);
@@ -387,7 +387,7 @@ module _ (c : Compiled) (IsGood : Bytes → Type 0) (right : IsCompiled c IsGood
       let spelled = pointer_is (views c) h.keys x 1 lock old keyed.0 keyed.1 in
       let same = pointer_kept old s.objects x on made in
       subst (λ z. Gives (Stands u next (with_temp temps d (rvalue z)) ws (spent 1 s))) (sym same)
-      (gives_constants i k d next address address bound 1 lock (pointer_to x old) refl refl low
+      (gives_constants i k d next address address bound 1 lock (pointer_to x old) refl (inl refl) low
       (omega (arith, short))
       (record {
         base_low = omega (arith, short);

@@ -278,17 +278,17 @@ module _ (c : Compiled) (IsGood : Bytes → Type 0) (right : IsCompiled c IsGood
   right_word (Temporary b) = v.values (temporary_register h.code b)
   right_word One = 1
 
-  record Operand (place most : ℕ) (right : RightOperand) (a : flat.Values) : Type 0 where
+  record Operand (place most : ℕ) (r : RightOperand) (a : flat.Values) : Type 0 where
     values : flat.Values
     comes : Far place values most
-    right_is : values (right_register h.code right (first_free h.code + 1)) ≡ right_word right
-    right_low : right_register h.code right (first_free h.code + 1) < first_free h.code + 1 + 1
+    right_is : values (right_register h.code r (first_free h.code + 1)) ≡ right_word r
+    right_low : right_register h.code r (first_free h.code + 1) < first_free h.code + 1 + 1
     others : (y : ℕ) → y < first_free h.code + 1 → values y ≡ a y
 
-  operand_made : (q : ℕ) (a : flat.Values) (k : ℕ) → Far q a k → (right : RightOperand)
-      → right_count right ≤ most_temporaries h.code.code → HasAt body q (right_code right (free + 1))
+  operand_made : (q : ℕ) (a : flat.Values) (k : ℕ) → Far q a k → (r : RightOperand)
+      → right_count r ≤ most_temporaries h.code.code → HasAt body q (right_code r (free + 1))
       → ((y : ℕ) → y < free → a y ≡ v.values y)
-      → Operand (q + length (right_code right (free + 1))) (k + right_most right) right a
+      → Operand (q + length (right_code r (free + 1))) (k + right_most r) r a
   operand_made q a k K (Temporary b) low has same =
       let room = temporary_free h.code b (omega (arith, low)) in
       let e : q ≡ q + 0 = omega arith in
@@ -688,6 +688,7 @@ module _ (c : Compiled) (IsGood : Bytes → Type 0) (right : IsCompiled c IsGood
       → slice_get h.code.code n ≡ Some (tac.UpdatePlain w k f line d x r next)
       → (is_type (plain_type (variables_in (code_in c.layout.expansion.code u)) x) k && is_update_of w k) ≡ true
       → Gives (effect c.setting (expansion_of c).code (tac.UpdatePlain w k f line d x r next) u temps ws (spent 2 s))
+  unfolding moved
   update_plain_step w k f line d x r next short at fits =
       let p = and_parts (is_type (plain_type (variables_in (code_in c.layout.expansion.code u)) x) k) (is_update_of w k)
       fits in
@@ -698,7 +699,6 @@ module _ (c : Compiled) (IsGood : Bytes → Type 0) (right : IsCompiled c IsGood
           → slice_get h.code.code n ≡ Some (tac.UpdatePlain w k f line d x r next)
           → plain_type (all_variables h.code) x ≡ Some k → is_update_of w k ≡ true
           → Gives (effect c.setting (expansion_of c).code (tac.UpdatePlain w k f line d x r next) u temps ws (spent 2 s))
-      unfolding moved
       by (Arithmetic op t) (Integer k) short at typed e = integer_updated op t k f line d x r next at typed
       by (Arithmetic op t) Pointer short at typed e = cc
       by (Forward size) (Integer k) short at typed e = cc

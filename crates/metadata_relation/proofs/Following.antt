@@ -8,6 +8,7 @@ use Rattle.obj_memory.specs.declared.value.Scalar.TheVariants.{Integer, Pointer}
 use Rattle.c_tree.specs.declared.expression.Kind.{Kind}
 use Rattle.c_tree.specs.declared.expression.Kind.TheVariants.{Void, Scalar as OfScalar, Structure, Array}
 use Rattle.source_meaning.specs.State.{State}
+use Rattle.source_meaning.specs.Blocks.{has_objects}
 use Rattle.source_meaning.specs.Good.{plain_type}
 use Rattle.tac_ir.specs.declared.instruction.Instruction.{Instruction}
 use Rattle.tac_ir.specs.declared.instruction.Instruction.TheVariants as tac
@@ -20,7 +21,7 @@ use Rattle.flat_meaning.specs.Memory.{Bytes}
 use Rattle.flat_meaning.specs.State as flat
 use Rattle.flat_meaning.specs.Words.{HasWords}
 use Rattle.metadata_plan.specs.Registers.{all_variables}
-use Rattle.metadata_relation.specs.Blocks.{is_short}
+use Rattle.metadata_relation.specs.Blocks.{is_short, objects_of_body}
 use Rattle.metadata_relation.specs.Stages.{Compiled, map_of, expansion_of, IsAt, MatchesBy, Matches}
 use Rattle.metadata_relation.specs.Steps.{IsCompiled, covers, is_part, admits, is_scalar_type, IsCovered, ComesToMatch}
 use Rattle.metadata_plan.proofs.Flat.{words_kept}
@@ -34,6 +35,8 @@ use Rattle.metadata_relation.proofs.Named.{function_pointer_step, static_pointer
 use Rattle.metadata_relation.proofs.Members.{narrow_step, member_step}
 use Rattle.metadata_relation.proofs.Updating.{update_plain_step}
 use Rattle.metadata_relation.proofs.Library.{library_step}
+use Rattle.metadata_relation.proofs.Calls.{call_step}
+use Rattle.metadata_relation.proofs.Returns.{return_step}
 
 part_is : (offset size : ℕ) → is_part offset size ≡ true
     → (offset < 2 ^ 64) × (size < 2 ^ 64) × ((is_short offset || is_short size) ≡ true)
@@ -46,7 +49,9 @@ module _ (c : Compiled) (IsGood : Bytes → Type 0) (right : IsCompiled c IsGood
     (ws : List Frame) (s : State) (v : flat.State) (xs : List flat.Frame)
     (h : IsAt c IsGood u n temps ws s u (c.layout.address u n) v xs)
     (words : HasWords (flat.Stands u (c.layout.address u n) v xs))
-    (admitted : (i : Instruction) → slice_get h.code.code n ≡ Some i → admits c u n i ≡ true) where
+    (admitted : (i : Instruction) → slice_get h.code.code n ≡ Some i → admits c u n i ≡ true)
+    (fine : (i : Instruction) → slice_get h.code.code n ≡ Some i
+    → effect c.setting (expansion_of c).code i u temps ws (spent (cost i) s) ≡ Stuck → ⊥) where
   abbrev Does : Instruction → Type 0
   Does i = slice_get h.code.code n ≡ Some i → covers h.code i ≡ true
       → fits c.setting (expansion_of c).code i u temps (spent (cost i) s) ≡ true
@@ -104,6 +109,11 @@ module _ (c : Compiled) (IsGood : Bytes → Type 0) (right : IsCompiled c IsGood
       (not-true (c.layout.expansion.contents u n a) (admitted (tac.Member offset size d a m) at)) at
   instruction (tac.Library r line d count m) at e f =
       library_step c IsGood right u n temps ws s v xs h words r line d count m e at f
+  instruction (tac.Call g line d count m) at e f =
+      call_step c IsGood right u n temps ws s v xs h g line d count m at f (admitted (tac.Call g line d count m) at)
+  instruction (tac.Return a) at e f =
+      return_step c IsGood right u n temps ws s v xs h a at (not-true (has_objects (objects_of_body h.code)) e) f
+      (admitted (tac.Return a) at) (fine (tac.Return a) at)
   instruction i at e f = cc
 
 -- a step from a node whose instruction is covered
@@ -134,7 +144,12 @@ module _ (c : Compiled) (IsGood : Bytes → Type 0) (right : IsCompiled c IsGood
           subst (λ z. Result c IsGood z (flat.Stands u (c.layout.address u n) v xs)) (sym f.1)
           (instruction c IsGood right u n temps ws s v xs h words
           (λ j at. ap (admits c u n) (same_Some j covered.instruction
-          (sym at ∙ ap (λ z. slice_get z.code n) same_code ∙ covered.at)) ∙ covered.admitted) i
+          (sym at ∙ ap (λ z. slice_get z.code n) same_code ∙ covered.at)) ∙ covered.admitted)
+          (λ j at q.
+          (let one : j ≡ i = same_Some j i (sym at ∙ ap (λ z. slice_get z.code n) same_code ∙ covered.at
+          ∙ ap Some (sym same)) in
+          not_stuck (f.1 ∙ sym (ap (λ z. effect c.setting (expansion_of c).code z u temps ws (spent (cost z) s)) one) ∙ q)))
+          i
           (ap (λ z. slice_get z.code n) same_code ∙ covered.at ∙ ap Some (sym same))
           (ap (λ z. covers z i) same_code ∙ ap (covers covered.code) same ∙ covered.covered) f.0)
 

@@ -1,5 +1,8 @@
 pub mod Altering
 pub mod Assigning
+pub mod CallHolds
+pub mod CallStates
+pub mod Calls
 pub mod Following
 pub mod Giving
 pub mod Holding
@@ -12,6 +15,7 @@ pub mod Packing
 pub mod Parts
 pub mod Pointers
 pub mod Registers
+pub mod Returns
 pub mod Setting
 pub mod Simple
 pub mod Standing

@@ -57,7 +57,7 @@ untagged_is Untagged e = refl
 untagged_is (OfFunction f) e = cc
 untagged_is (OfObject o b) e = cc
 
-type_is : (functions : ℕ) (k : Scalar) (v : Value) → is_of_type k v ≡ true → IsOfType functions k v
+pub type_is : (functions : ℕ) (k : Scalar) (v : Value) → is_of_type k v ≡ true → IsOfType functions k v
 type_is functions (Integer t) v e =
     let p = and_parts (has_no_tag v.tag) (fit t v.word == v.word) e in
     (untagged_is v.tag p.0, eqb-true (fit t v.word) v.word p.1)

@@ -14,11 +14,11 @@ use Rattle.source_meaning.specs.State.{State, Rvalue, Outcome, Gives, Setting}
 use Rattle.source_meaning.specs.Calls.{header_of, function_at, set_up, caller, back_to}
 use Rattle.source_meaning.specs.Good.{Context, context_of, file_scope, IsGood, Leaves, IsSetUp, SetsUpBy, ArgumentsAre}
 use Rattle.source_meaning.specs.Good.{program_context}
-use Rattle.source_meaning.specs.Meaning.{setting_of}
-use Rattle.source_meaning.proofs.SureMeaning.{call_set_up, call_left}
+use Rattle.source_meaning.specs.Meaning.{setting_of, fresh}
+use Rattle.source_meaning.proofs.SureMeaning.{call_set_up, call_left, start_good}
 use Rattle.source_meaning.proofs.ValidProgramNames.{valid_names}
 use Rattle.tac_ir.specs.declared.function.CodeFunction.{CodeFunction}
-use Rattle.tac_ir.specs.Meaning.{header_of_code, function_in, variables_in}
+use Rattle.tac_ir.specs.Meaning.{header_of_code, function_in, variables_in, objects_before}
 use Rattle.tac_ir.specs.Stage.{Frame}
 use Rattle.flat_meaning.specs.Memory.{Bytes}
 use Rattle.metadata_relation.specs.Scopes.{Names, scope_of, base_of, variables_at, context_at}
@@ -102,6 +102,37 @@ module _ (c : Compiled) (IsGoodForm : Bytes → Type 0) (right : IsCompiled c Is
         sizes = map_of c;
       }) base
 
+  -- a call from whatever scope of the program leaves a good state of the function
+  pub entered_from : (f : ℕ) (k : CodeFunction) → slice_get c.layout.expansion.code.functions f ≡ Some k
+      → (around : Scope) (vs : List Rvalue) (line : ℕ) (s s' : State)
+      → IsGood (program_context c.typed (setting_of c.typed (map_of c).budgets).sizes around) s
+      → ArgumentsAre (length (file_scope c.typed).functions) (map (λ v. v.kind) k.parameters) vs s.objects
+      → set_up c.setting (header_of_code k) vs line s ≡ Gives tt s'
+      → IsSetUp (context_at (names c) f []) s.objects s'
+  entered_from f k found around vs line s s' good args e =
+      let t = function_of f k found in
+      let kinds = ap (λ h. map (λ (v : Variable). v.kind) h.parameters) t.header in
+      let up = call_set_up p (map_of c).budgets mapped (valid_names p right.valid) f t.function t.at around vs line s good
+      (subst (λ ks. ArgumentsAre (length (file_scope c.typed).functions) ks vs s.objects) (sym kinds) args) in
+      let same : set_up (setting_of c.typed (map_of c).budgets) (header_of t.function) vs line s ≡ Gives tt s' =
+      ap₂ (λ x h. set_up x h vs line s) (sym right.setting_is) t.header ∙ e in
+      subst (λ z. IsSetUp z s.objects s') (context_is f k found)
+      (subst (λ z. IsSetUp (record { scope = function_scope c.typed t.function; sizes = z }) s.objects s') sizes_same
+      (subst (λ z. SetsUpBy (record {
+        scope = function_scope c.typed t.function;
+        sizes = (setting_of c.typed (map_of c).budgets).sizes;
+      }) s.objects z) same up))
+
+  -- the state at which nothing has been done is good
+  pub fresh_good : (input : List ℕ) → IsGood (program_context c.typed (setting_of c.typed (map_of c).budgets).sizes
+      (file_scope c.typed)) (fresh c.setting (objects_before c.layout.expansion.code c.setting) input)
+  fresh_good input =
+      let start = start_good p (map_of c).budgets mapped (valid_names p right.valid) input in
+      subst (λ z. IsGood (program_context c.typed (setting_of c.typed (map_of c).budgets).sizes (file_scope c.typed))
+      (fresh z (objects_before c.layout.expansion.code z) input)) (sym right.setting_is)
+      (subst (λ z. IsGood (program_context c.typed (setting_of c.typed (map_of c).budgets).sizes (file_scope c.typed))
+      (fresh (setting_of c.typed (map_of c).budgets) z input)) (sym right.before) start)
+
   module _ (f : ℕ) (k : CodeFunction) (found : slice_get c.layout.expansion.code.functions f ≡ Some k) (u : ℕ)
       (ws : List Frame) where
     abbrev around : Scope
@@ -121,19 +152,7 @@ module _ (c : Compiled) (IsGoodForm : Bytes → Type 0) (right : IsCompiled c Is
         → set_up c.setting (header_of_code k) vs line s ≡ Gives tt s'
         → IsSetUp (context_at (names c) f []) s.objects s'
     entered_good vs line s s' good args e =
-        let t = function_of f k found in
-        let kinds = ap (λ h. map (λ (v : Variable). v.kind) h.parameters) t.header in
-        let up = call_set_up p (map_of c).budgets mapped (valid_names p right.valid) f t.function t.at around vs line s
-        (good_around s good)
-        (subst (λ ks. ArgumentsAre (length (file_scope c.typed).functions) ks vs s.objects) (sym kinds) args) in
-        let same : set_up (setting_of c.typed (map_of c).budgets) (header_of t.function) vs line s ≡ Gives tt s' =
-        ap₂ (λ x h. set_up x h vs line s) (sym right.setting_is) t.header ∙ e in
-        subst (λ z. IsSetUp z s.objects s') (context_is f k found)
-        (subst (λ z. IsSetUp (record { scope = function_scope c.typed t.function; sizes = z }) s.objects s') sizes_same
-        (subst (λ z. SetsUpBy (record {
-          scope = function_scope c.typed t.function;
-          sizes = (setting_of c.typed (map_of c).budgets).sizes;
-        }) s.objects z) same up))
+        entered_from f k found around vs line s s' (good_around s good) args e
 
     -- and where it returns, of the caller
     pub left_good : (s s1 s2 : State) → IsGood (context_at (names c) u ws) s

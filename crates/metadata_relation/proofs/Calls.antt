@@ -194,7 +194,7 @@ module _ (c : Compiled) (IsGood : Bytes → Type 0) (right : IsCompiled c IsGood
       by true rest = omega (arith, rest)
       by false rest = omega (arith, rest, few_kind v.kind)
 
-  few_parameters : (ps : List Variable) → total parameter_words ps ≤ 5 * length ps
+  pub few_parameters : (ps : List Variable) → total parameter_words ps ≤ 5 * length ps
   few_parameters [] = omega arith
   few_parameters (v ∷ vs) = omega (arith, few_passed (passed_as v.kind), few_parameters vs)
     where

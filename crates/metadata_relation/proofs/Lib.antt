@@ -1,5 +1,6 @@
 pub mod Altering
 pub mod Assigning
+pub mod Begins
 pub mod CallHolds
 pub mod CallStates
 pub mod Calls

@@ -150,11 +150,11 @@ module _ (o : OperatorCode) (ops : AreOperators o) (m : MapSizes) (p : FlatProgr
 
 -- ---- static objects before the run
 
-placed_count : (first : ℕ) (ds : List StaticData) (offset : ℕ) → length (placed_data first ds offset) ≡ length ds
+pub placed_count : (first : ℕ) (ds : List StaticData) (offset : ℕ) → length (placed_data first ds offset) ≡ length ds
 placed_count first [] offset = refl
 placed_count first (d ∷ ds) offset = ap suc (placed_count first ds (rounded_up 16 offset + d.size))
 
-placed_static : (first : ℕ) (ds : List StaticData) (offset n : ℕ)
+pub placed_static : (first : ℕ) (ds : List StaticData) (offset n : ℕ)
     → (object_at (placed_data first ds offset) n).storage ≡ Static
 placed_static first [] offset n = refl
 placed_static first (d ∷ ds) offset zero = refl

@@ -488,12 +488,12 @@ module _ (c : Compiled) (IsGood : Bytes → Type 0) (right : IsCompiled c IsGood
           → AllWait (world c h.keys s v) s c.layout (stack_first c.setting) (level h.code s v) ws' xs'
           → AreGoodBy (names c) u ws' s → (given_to ws' (temps a) handed ≡ Stuck → ⊥)
           → Result c IsGood (given_to ws' (temps a) handed) (flat.Stands u (c.layout.address u n) v xs')
-      by [] [] wait good fine = absurd wait
-      by [] (x ∷ []) wait good fine = ended x wait.1.0 wait.1.1 wait.1.2
-      by [] (x ∷ y ∷ rest) wait good fine = absurd wait
-      by (Entered number b ∷ others) rest wait good fine = absurd (fine refl)
-      by (Waits w ∷ others) [] wait good fine = absurd wait
-      by (Waits w ∷ others) (x ∷ rest) wait good fine = backs w others x rest wait.0 wait.1 wait.2 good.0 good.1
+      by [] [] wait steady fine = absurd wait
+      by [] (x ∷ []) wait steady fine = ended x wait.1.0 wait.1.1 wait.1.2
+      by [] (x ∷ y ∷ rest) wait steady fine = absurd wait
+      by (Entered number b ∷ others) rest wait steady fine = absurd (fine refl)
+      by (Waits w ∷ others) [] wait steady fine = absurd wait
+      by (Waits w ∷ others) (x ∷ rest) wait steady fine = backs w others x rest wait.0 wait.1 wait.2 steady.0 steady.1
 
 pub return_step : (c : Compiled) (IsGood : Bytes → Type 0) (right : IsCompiled c IsGood) (u n : ℕ) (temps : Temps)
     (ws : List Frame) (s : State) (v : flat.State) (xs : List flat.Frame)

@@ -1,5 +1,5 @@
 -- What the steps of instructions rest on, and which of them are covered so far.
-use Rattle.std.specs.Prelude.{◌≡◌, ℕ, ◌^◌, ◌<◌, ◌≤◌, Bool, true, false, not, ◌&&◌, ◌||◌, List, [], ◌∷◌, length, map, Option, Some, None, slice_get}
+use Rattle.std.specs.Prelude.{◌≡◌, ℕ, ◌^◌, ◌<◌, ◌≤◌, Bool, true, false, not, ◌&&◌, ◌||◌, ◌==◌, List, [], ◌∷◌, length, map, Option, Some, None, slice_get}
 use Rattle.behaviours.specs.Steps.{run}
 use Rattle.addr_map.specs.Places.{AreMapped, code_begin, function_address}
 use Rattle.obj_memory.specs.declared.value.Scalar.{Scalar}
@@ -14,13 +14,13 @@ use Rattle.c_tree.specs.declared.expression.Update.TheVariants.{Arithmetic, Forw
 use Rattle.source_meaning.specs.Blocks.{has_objects}
 use Rattle.source_meaning.specs.Calls.{header_of}
 use Rattle.source_meaning.specs.Good.{plain_type}
-use Rattle.source_meaning.specs.Meaning.{setting_of}
+use Rattle.source_meaning.specs.Meaning.{setting_of, initial_objects}
 use Rattle.tac_ir.specs.declared.instruction.Instruction.{Instruction}
 use Rattle.tac_ir.specs.declared.instruction.Instruction.TheVariants as tac
 use Rattle.tac_ir.specs.declared.function.CodeFunction.{CodeFunction}
 use Rattle.tac_ir.specs.declared.function.Tac.{Tac}
 use Rattle.tac_ir.specs.Fitting.{is_word}
-use Rattle.tac_ir.specs.Meaning.{function_in, header_of_code}
+use Rattle.tac_ir.specs.Meaning.{function_in, header_of_code, objects_before}
 use Rattle.tac_ir.specs.Stage.{Stage}
 use Rattle.flat_meaning.specs.Memory.{Bytes}
 use Rattle.flat_meaning.specs.State as flat
@@ -35,7 +35,8 @@ use Rattle.metadata_relation.specs.Waiting.{has_value}
 -- The lists that stand inline do what is asked of them, the flat program is the expansion of the code, the sizes are those
 -- of a map, and the functions of the setting are those of the typed program. Each function has an entry in the jump table,
 -- and a number for its type that leaves the highest bit of a key free. The typed program is valid, the setting is its own,
--- its functions have the headers of those of the code, and each type gives what it gives there.
+-- its functions have the headers of those of the code, each type gives what it gives there, and the static objects are
+-- those that its initializers make.
 pub record IsCompiled (c : Compiled) (IsGood : Bytes → Type 0) : Type 0 where
   pub inline : IsInlineCode (map_of c) c.entry IsGood c.layout.expansion.inline
   pub expanded : IsExpanded c.layout c.entry IsGood
@@ -46,6 +47,8 @@ pub record IsCompiled (c : Compiled) (IsGood : Bytes → Type 0) : Type 0 where
   pub types : (f : ℕ) → c.layout.expansion.types f < 2 ^ 63
   pub valid : is_valid_program c.typed ≡ true
   pub setting_is : c.setting ≡ setting_of c.typed (map_of c).budgets
+  pub before : objects_before c.layout.expansion.code (setting_of c.typed (map_of c).budgets)
+      ≡ initial_objects c.typed (setting_of c.typed (map_of c).budgets)
   pub results : c.layout.expansion.code.results ≡ c.setting.results
   pub headers : map header_of_code c.layout.expansion.code.functions ≡ map header_of c.typed.functions
 
@@ -115,6 +118,11 @@ is_plain_call t (Some k) b =
     (not (has_objects (objects_of_body k)) && are_scalars k.parameters)
     && (is_no_aggregate (result_of t k) && (has_value (result_of t k) || not b))
 
+-- so is `main`, which takes nothing (C99 5.1.2.2.1)
+abbrev pub is_plain_main : Tac → Option CodeFunction → Bool
+is_plain_main t None = false
+is_plain_main t (Some k) = is_plain_call t (Some k) false && length k.parameters == 0
+
 abbrev pub gives_scalar : Tac → Option CodeFunction → Bool
 gives_scalar t None = true
 gives_scalar t (Some k) = is_no_aggregate (result_of t k)
@@ -135,6 +143,11 @@ pub record IsCovered (c : Compiled) (function node : ℕ) : Type 0 where
   pub at : slice_get code.code node ≡ Some instruction
   pub covered : covers code instruction ≡ true
   pub admitted : admits c function node instruction ≡ true
+
+-- the first call is covered
+pub record CoversMain (c : Compiled) : Type 0 where
+  pub main : is_plain_main c.layout.expansion.code (function_in c.layout.expansion.code c.layout.expansion.code.main)
+      ≡ true
 
 -- the run of flat code comes to where it matches
 pub record ComesToMatch (c : Compiled) (IsGood : Bytes → Type 0) (stage : Stage) (x : flat.Stage) : Type 0 where

@@ -19,6 +19,7 @@ pub mod Registers
 pub mod Returns
 pub mod Setting
 pub mod Simple
+pub mod Simulating
 pub mod Standing
 pub mod Waiting
 pub mod StartData

@@ -149,6 +149,12 @@ pub record CoversMain (c : Compiled) : Type 0 where
   pub main : is_plain_main c.layout.expansion.code (function_in c.layout.expansion.code c.layout.expansion.code.main)
       ≡ true
 
+-- all instructions are
+pub record AreAllCovered (c : Compiled) : Type 0 where
+  pub first : CoversMain c
+  pub each : (u n : ℕ) (k : CodeFunction) (i : Instruction) → slice_get c.layout.expansion.code.functions u ≡ Some k
+      → slice_get k.code n ≡ Some i → (covers k i ≡ true) × (admits c u n i ≡ true)
+
 -- the run of flat code comes to where it matches
 pub record ComesToMatch (c : Compiled) (IsGood : Bytes → Type 0) (stage : Stage) (x : flat.Stage) : Type 0 where
   pub steps : ℕ

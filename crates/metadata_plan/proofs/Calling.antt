@@ -333,7 +333,7 @@ counted [] = refl
 counted (q ∷ ps) = let e = counted ps in omega arith
 
 -- the registers of a call: its arguments, and all others 0
-argument_in : (first n y : ℕ) (values : flat.Values) → y < n → arguments first n values y ≡ values (first + y)
+pub argument_in : (first n y : ℕ) (values : flat.Values) → y < n → arguments first n values y ≡ values (first + y)
 argument_in first n y values lt = ap (λ b. if b then values (first + y) else 0) (lt-ltb y n lt)
 
 pub argument_out : (first n y : ℕ) (values : flat.Values) → n ≤ y → arguments first n values y ≡ 0

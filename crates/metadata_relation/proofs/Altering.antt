@@ -20,7 +20,7 @@ use Rattle.flat_routines.proofs.Work.{does_its_weight}
 use Rattle.metadata_plan.specs.Operators.{Position, IsHere}
 use Rattle.metadata_plan.proofs.Numbers.{scaled}
 use Rattle.metadata_plan.proofs.Flat.{weight_small, Comes, then_comes}
-use Rattle.metadata_relation.proofs.Inline.{AtLeast, run_least}
+use Rattle.metadata_relation.proofs.Inline.{AtLeast, run_least, same_but}
 use Rattle.metadata_relation.proofs.Parts.{SoFar, moment}
 
 -- the run has come to a place of its function, and nothing but registers has changed
@@ -34,22 +34,6 @@ pub record Alters (map : MapSizes) (program : FlatProgram) (position : Position)
       ≡ Stands position.function place (record position.state { values = after; work = position.state.work + work })
       position.frames
   pub holds : Q (record position.state { values = after; work = position.state.work + work })
-
--- where memory and what is shown stay, registers and work alone differ
-same_but : (s s' : State) → s'.memory ≡ s.memory → ShowsNothing s s' → s.work ≤ s'.work
-    → s' ≡ record s { values = s'.values; work = s.work + (s'.work - s.work) }
-same_but s s' memory shows le =
-    let e : s'.work ≡ s.work + (s'.work - s.work) = omega arith in
-    ap (λ z. record s' { memory = z }) memory
-    ∙ ap (λ z. record s' { memory = s.memory; input = z }) shows.input
-    ∙ ap (λ z. record s' { memory = s.memory; input = s.input; output = z }) shows.output
-    ∙ ap (λ z. record s' { memory = s.memory; input = s.input; output = s.output; taken = z }) shows.taken
-    ∙ ap (λ z. record s' { memory = s.memory; input = s.input; output = s.output; taken = s.taken; accesses = z })
-    shows.accesses
-    ∙ ap (λ z. record s'
-    { memory = s.memory; input = s.input; output = s.output; taken = s.taken; accesses = s.accesses; turns = z })
-    shows.turns
-    ∙ ap (λ z. record s { values = s'.values; work = z }) e
 
 module _ (map : MapSizes) (p : FlatProgram) (x : Position) where
   pub alters : (is : List FlatInstruction) (most : ℕ) (P : State → Type 0) (Q : State → State → Type 0)

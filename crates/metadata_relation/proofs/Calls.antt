@@ -56,6 +56,7 @@ use Rattle.metadata_plan.specs.Registers.{words_of, all_variables, most_temporar
 use Rattle.metadata_plan.specs.Entries.{given, is_among, is_moved_with_entry, is_argument_with_entry, parameter_kinds}
 use Rattle.metadata_plan.specs.Expanded.{Leads}
 use Rattle.metadata_plan.proofs.Calling.{tested, tests_pass, tests_end, gathered_at, counted}
+use Rattle.metadata_plan.proofs.Calling.{argument_in, argument_out}
 use Rattle.metadata_plan.proofs.Entering.{room_behind, no_rooms, enters_step}
 use Rattle.metadata_plan.proofs.Flat.{weight_small, Comes, then_comes, leads_comes, end_step}
 use Rattle.metadata_plan.proofs.SetUp.{laid_out, exhausted, set_up_gives, homes_of}
@@ -78,8 +79,8 @@ use Rattle.metadata_relation.proofs.Holding.{at_node, same_world, plain_on}
 use Rattle.metadata_relation.proofs.Library.{assigned_behind}
 use Rattle.metadata_relation.proofs.Moving.{held_of}
 use Rattle.metadata_relation.proofs.Packing.{words_at, ways_of, words_within, ArePacked, are_packed, pack_assigns}
-use Rattle.metadata_relation.proofs.Packing.{count_passed, passed_at, plain_parameter, held_moved, argument_in}
-use Rattle.metadata_relation.proofs.Packing.{argument_out, zeros_leave, zeros_assign}
+use Rattle.metadata_relation.proofs.Packing.{count_passed, passed_at, plain_parameter, held_moved}
+use Rattle.metadata_relation.proofs.Packing.{zeros_leave, zeros_assign}
 use Rattle.metadata_relation.proofs.Registers.{count_of, count_in, few_in}
 use Rattle.metadata_relation.proofs.Setting.{place_is, no_tag_is, type_is}
 use Rattle.metadata_relation.proofs.Standing.{there_by, IsThere, leaves_same, good_now, IsNode, node, fewer, ends, Result}

@@ -1,7 +1,7 @@
 -- Flat code follows the instructions that are covered, from stage to stage.
-use Rattle.std.proofs.Common.{◌≡◌, ℕ, ◌^◌, ◌<◌, ◌&&◌, ◌||◌, true, false, List, Option, Some, None, refl, sym, ap, ◌∙◌, subst}
-use Rattle.std.specs.Prelude.{slice_get}
-use Rattle.std.proofs.lemmas.Bool.{ltb-true, and_parts, not-true}
+use Rattle.std.proofs.Common.{◌≡◌, ℕ, ◌-◌, ◌^◌, ◌<◌, ◌&&◌, ◌||◌, true, false, List, Option, Some, None, refl, sym, ap, ◌∙◌, subst}
+use Rattle.std.specs.Prelude.{slice_get, nat_le}
+use Rattle.std.proofs.lemmas.Bool.{ltb-true, leb-true, and_parts, not-true}
 use Rattle.std.proofs.lemmas.Option.{same_Some}
 use Rattle.obj_memory.specs.declared.value.Scalar.{Scalar}
 use Rattle.obj_memory.specs.declared.value.Scalar.TheVariants.{Integer, Pointer}
@@ -32,6 +32,7 @@ use Rattle.metadata_relation.proofs.Moving.{convert_pointer}
 use Rattle.metadata_relation.proofs.Setting.{set_plain_step}
 use Rattle.metadata_relation.proofs.Pointers.{home_pointer, offset}
 use Rattle.metadata_relation.proofs.Named.{function_pointer_step, static_pointer_step}
+use Rattle.metadata_relation.proofs.Differences.{difference_step}
 use Rattle.metadata_relation.proofs.Members.{narrow_step, member_step}
 use Rattle.metadata_relation.proofs.Updating.{update_plain_step}
 use Rattle.metadata_relation.proofs.Library.{library_step}
@@ -100,6 +101,10 @@ module _ (c : Compiled) (IsGood : Bytes → Type 0) (right : IsCompiled c IsGood
       static_pointer_step c IsGood right u n temps ws s v xs h words d x m at f
   instruction (tac.UpdatePlain w k fixity line d x r m) at e f =
       update_plain_step c IsGood right u n temps ws s v xs h words w k fixity line d x r m e at f
+  instruction (tac.Difference size d a b m) at e f =
+      let p = and_parts (nat_le 1 size) (is_short size) e in
+      difference_step c IsGood right u n temps ws s v xs h words.0 size d a b m (leb-true 1 size p.0)
+      (ltb-true size (2 ^ 31 - 2 ^ 11) p.1) at
   instruction (tac.Narrow offset size d a m) at e f =
       let p = part_is offset size e in
       narrow_step c IsGood right u n temps ws s v xs h words offset size d a m p.0 p.1 p.2 at

@@ -51,7 +51,7 @@ first_stays r n values after some same =
     let e : r + 0 ≡ r = omega arith in
     subst (λ z. after z ≡ values z) e (same 0 (omega arith))
 
-entry_stays : (r : ℕ) (values after : flat.Values) → Stay r 5 values after
+pub entry_stays : (r : ℕ) (values after : flat.Values) → Stay r 5 values after
     → metadata_in after (held_from r).tag ≡ metadata_in values (held_from r).tag
 entry_stays r values after same =
     same_metadata (metadata_in after (held_from r).tag) (metadata_in values (held_from r).tag) (same 1 (omega arith))

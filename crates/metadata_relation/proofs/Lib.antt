@@ -4,6 +4,7 @@ pub mod Begins
 pub mod CallHolds
 pub mod CallStates
 pub mod Calls
+pub mod Differences
 pub mod Following
 pub mod Giving
 pub mod Holding
@@ -24,4 +25,5 @@ pub mod Standing
 pub mod Waiting
 pub mod StartData
 pub mod StartFile
+pub mod Straight
 pub mod Updating

@@ -50,14 +50,14 @@ use Rattle.metadata_relation.specs.Blocks.{untagged}
 use Rattle.metadata_relation.specs.Holding.{IsHeldAt}
 use Rattle.metadata_relation.specs.Stages.{factor, Compiled, map_of, views, names, world, activation, expansion_of, IsAt}
 use Rattle.metadata_relation.specs.Steps.{IsCompiled, is_inline_routine}
-use Rattle.metadata_relation.proofs.Assigning.{assigned, are_assignments, assigns}
+use Rattle.metadata_relation.proofs.Assigning.{assigned, are_assignments, assigns, wider, not_into}
 use Rattle.metadata_relation.proofs.Holding.{same_world, gives_temporary}
 use Rattle.metadata_relation.proofs.Moving.{held_of}
 use Rattle.metadata_relation.proofs.Parts.{SoFar, moment, at_first, stands_here, then_computed}
 use Rattle.metadata_relation.proofs.Registers.{temporary_free}
 use Rattle.metadata_relation.proofs.Setting.{place_is}
 use Rattle.metadata_relation.proofs.Standing.{good_counted, counted_as, IsNode, node, fewer, arrives, leads_on, ends, Result}
-use Rattle.metadata_relation.proofs.Updating.{untagged_are, untagged_leaves, wider, not_into}
+use Rattle.metadata_relation.proofs.Updating.{untagged_are, untagged_leaves}
 
 -- a number as an unsigned char
 byte_of : (w : ℕ) → fit UnsignedChar w ≡ w % 256

@@ -53,8 +53,9 @@ use Rattle.metadata_relation.specs.Holding.{IsHeldAt}
 use Rattle.metadata_relation.specs.Stages.{factor, Compiled, map_of, views, world, expansion_of, IsAt}
 use Rattle.metadata_relation.specs.Steps.{IsCompiled}
 use Rattle.metadata_relation.proofs.Altering.{Alters, alters, then_altered}
-use Rattle.metadata_relation.proofs.Assigning.{assigned, moved}
+use Rattle.metadata_relation.proofs.Assigning.{assigned, moved, not_into}
 use Rattle.metadata_relation.proofs.Giving.{gives_value}
+use Rattle.metadata_relation.proofs.Holding.{entry_stays}
 use Rattle.metadata_relation.proofs.Moving.{held_of, temporary_apart}
 use Rattle.metadata_relation.proofs.Parts.{SoFar, moment, at_first, stands_here, then_computed, then_assigned}
 use Rattle.metadata_relation.proofs.Registers.{temporary_free, temporaries_apart}
@@ -142,13 +143,6 @@ operand_kept n r a b same = by (is_short n)
         ≡ right_value (if short then Number n else Register r) a
     by true = refl
     by false = same
-
--- the entry behind a register stays where its registers do
-entry_kept : (r : ℕ) (a b : flat.Values) → ((j : ℕ) → j < 5 → b (r + j) ≡ a (r + j))
-    → metadata_in b (held_from r).tag ≡ metadata_in a (held_from r).tag
-entry_kept r a b same =
-    same_metadata (metadata_in b (held_from r).tag) (metadata_in a (held_from r).tag) (same 1 (omega arith))
-    (same 2 (omega arith)) (same 3 (omega arith)) (same 4 (omega arith))
 
 -- operands in the first two scratch registers are others than a pointer's
 can_narrow : (r s offset size : ℕ) → r + 5 ≤ s
@@ -267,17 +261,12 @@ module _ (c : Compiled) (IsGood : Bytes → Type 0) (right : IsCompiled c IsGood
             entry = λ e. cc;
             sound = sound_narrowed (views c).functions s.objects offset size (temps a).value held.sound;
           })
-          (λ y lt out. put_other made.values (T d) w y (outside y out)
+          (λ y lt out. put_other made.values (T d) w y (not_into y (T d) out)
           ∙ made.others y (omega arith) (λ e. omega arith))
           (leads_on c IsGood right u n temps ws s v xs h (q + 1) (c.layout.address u next)
           (record v { values = put made.values (T d) w }) (k1 + 2) K
           (subst (λ z. Leads body z (c.layout.address u next)) end on))
           (omega (arith, most))
-        where
-          outside : (y : ℕ) → (y < temporary_register h.code d) ⊎ (temporary_register h.code d + 5 ≤ y)
-              → y ≢ temporary_register h.code d
-          outside y (inl below) e = absurd (omega arith)
-          outside y (inr above) e = absurd (omega arith)
 
       -- with the entry, in place
       narrows : c.layout.expansion.entries u n a ≡ true
@@ -316,7 +305,7 @@ module _ (c : Compiled) (IsGood : Bytes → Type 0) (right : IsCompiled c IsGood
           let spells = held.entry with_entry in
           let there : Spells (views c) h.keys (temps a).value (held_from (T d)) m2.values = record {
             word = kept (T d) (omega (arith, d_room)) ∙ z.value ∙ spells.word;
-            tag = entry_kept (T d) a1 m2.values (λ j lt. kept (T d + j) (omega (arith, d_room))) ∙ z.entry ∙ spells.tag;
+            tag = entry_stays (T d) a1 m2.values (λ j lt. kept (T d + j) (omega (arith, d_room))) ∙ z.entry ∙ spells.tag;
           } in
           let can = can_narrow (T d) free offset size d_room in
           let r = alters map p (moment map p u pc v xs words q3 m2.values k3 m2.comes) list 8
@@ -352,7 +341,7 @@ module _ (c : Compiled) (IsGood : Bytes → Type 0) (right : IsCompiled c IsGood
             sound = sound_narrowed (views c).functions s.objects offset size (temps a).value held.sound;
           })
           (λ y lt out. r.holds.others y (omega arith) (
-            first_away y out,
+            not_into y (T d) out,
             (away y 1 out (omega arith), (away y 2 out (omega arith), tt)),
           )
           ∙ kept y lt ∙ z.others y out)
@@ -360,11 +349,6 @@ module _ (c : Compiled) (IsGood : Bytes → Type 0) (right : IsCompiled c IsGood
           (k3 + 8 * 2) K4 (subst (λ z. Leads body z (c.layout.address u next)) end on))
           (omega (arith, few))
         where
-          first_away : (y : ℕ) → (y < temporary_register h.code d) ⊎ (temporary_register h.code d + 5 ≤ y)
-              → y ≢ temporary_register h.code d
-          first_away y (inl below) e = absurd (omega arith)
-          first_away y (inr above) e = absurd (omega arith)
-
           away : (y j : ℕ) → (y < temporary_register h.code d) ⊎ (temporary_register h.code d + 5 ≤ y) → j < 5
               → y ≢ temporary_register h.code d + j
           away y j (inl below) few e = absurd (omega arith)

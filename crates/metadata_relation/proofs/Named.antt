@@ -45,6 +45,7 @@ use Rattle.metadata_relation.specs.Blocks.{entry_constants, entry_constants_if, 
 use Rattle.metadata_relation.specs.Holding.{IsHeldAt}
 use Rattle.metadata_relation.specs.Stages.{factor, Compiled, map_of, views, world, expansion_of, IsAt}
 use Rattle.metadata_relation.specs.Steps.{IsCompiled}
+use Rattle.metadata_relation.proofs.Assigning.{wider, not_into}
 use Rattle.metadata_relation.proofs.Giving.{gives_value}
 use Rattle.metadata_relation.proofs.Holding.{pointer_kept}
 use Rattle.metadata_relation.proofs.Parts.{SoFar, moment, at_first, stands_here, then_computed}
@@ -285,15 +286,10 @@ module _ (c : Compiled) (IsGood : Bytes → Type 0) (right : IsCompiled c IsGood
           behind false q a most K here others has on finish few =
               finish a (most + 2)
               (record { word = here; entry = λ e. cc; sound = sound })
-              (λ y lt out. others y lt (outside y out))
+              (λ y lt out. others y lt (not_into y (T d) out))
               (leads_on c IsGood right u n temps ws s v xs h q (c.layout.address u next) (record v { values = a }) most K
               (subst (λ z. Leads body z (c.layout.address u next)) (omega arith) on))
               (omega (arith, few))
-            where
-              outside : (y : ℕ) → (y < temporary_register h.code d) ⊎ (temporary_register h.code d + 5 ≤ y)
-                  → y ≢ temporary_register h.code d
-              outside y (inl below) e = absurd (omega arith)
-              outside y (inr above) e = absurd (omega arith)
           behind true q a most K here others has on finish few =
               let made = entry_made o right.inline.operators (map_of c) c.layout.program u pc v xs words q a most K (T d)
               base bound key lock free room fit has in
@@ -306,20 +302,10 @@ module _ (c : Compiled) (IsGood : Bytes → Type 0) (right : IsCompiled c IsGood
                 entry = λ e. record { word = own; tag = made.is.entry_is ∙ sym spelled };
                 sound = sound;
               })
-              (λ y lt out. made.is.others y lt (wider y out) ∙ others y lt (outside y out))
+              (λ y lt out. made.is.others y lt (wider y (T d) out) ∙ others y lt (not_into y (T d) out))
               (leads_on c IsGood right u n temps ws s v xs h end (c.layout.address u next)
               (record v { values = made.values }) (most + entry_most base bound key lock) made.comes on)
               (omega (arith, few))
-            where
-              outside : (y : ℕ) → (y < temporary_register h.code d) ⊎ (temporary_register h.code d + 5 ≤ y)
-                  → y ≢ temporary_register h.code d
-              outside y (inl below) e = absurd (omega arith)
-              outside y (inr above) e = absurd (omega arith)
-
-              wider : (y : ℕ) → (y < temporary_register h.code d) ⊎ (temporary_register h.code d + 5 ≤ y)
-                  → (y < temporary_register h.code d + 1) ⊎ (temporary_register h.code d + 5 ≤ y)
-              wider y (inl below) = inl (omega arith)
-              wider y (inr above) = inr above
 
   -- ---- functions
 

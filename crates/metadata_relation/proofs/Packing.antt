@@ -250,12 +250,6 @@ held_moved w b b' v r r' values values' more same h = record {
 
 -- ---- the registers of a call
 
-pub argument_in : (first n y : ℕ) (values : flat.Values) → y < n → arguments first n values y ≡ values (first + y)
-argument_in first n y values lt = ap (λ b. if b then values (first + y) else 0) (lt-ltb y n lt)
-
-pub argument_out : (first n y : ℕ) (values : flat.Values) → n ≤ y → arguments first n values y ≡ 0
-argument_out first n y values le = ap (λ b. if b then values (first + y) else 0) (le-ltb y n le)
-
 -- registers that are 0 become 0
 pub zeros_leave : (r n : ℕ) (values : flat.Values) → ((y : ℕ) → r ≤ y → values y ≡ 0) → (y : ℕ)
     → assigned (zeros r n) values y ≡ values y

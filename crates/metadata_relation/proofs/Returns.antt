@@ -55,7 +55,7 @@ use Rattle.metadata_relation.specs.Stages.{IsAt, MatchesBy}
 use Rattle.metadata_relation.specs.Steps.{IsCompiled, is_no_aggregate, gives_scalar}
 use Rattle.metadata_relation.specs.Waiting.{AreBetween, AreNoObjects, BodyBy, IsEnteredAs, IsBodyAs, IsWaitingAs, has_value}
 use Rattle.metadata_relation.specs.Waiting.{Level, AllWait}
-use Rattle.metadata_relation.proofs.Assigning.{assigned, are_assignments, assigns}
+use Rattle.metadata_relation.proofs.Assigning.{assigned, are_assignments, assigns, wider}
 use Rattle.metadata_relation.proofs.CallStates.{left_good}
 use Rattle.metadata_relation.proofs.Calls.{entry_there, there, scalar_place, held_at}
 use Rattle.metadata_relation.proofs.Holding.{same_world, at_node, AreFewer, gives_temporary}
@@ -63,7 +63,7 @@ use Rattle.metadata_relation.proofs.Packing.{held_moved}
 use Rattle.metadata_relation.proofs.Registers.{few_in}
 use Rattle.metadata_relation.proofs.Setting.{no_tag_is}
 use Rattle.metadata_relation.proofs.Standing.{good_now, good_then, good_counted, IsNode, node, ends, Result}
-use Rattle.metadata_relation.proofs.Updating.{untagged_are, untagged_leaves, wider}
+use Rattle.metadata_relation.proofs.Updating.{untagged_are, untagged_leaves}
 use Rattle.metadata_relation.proofs.Waiting.{waits_at, waits_same}
 
 -- ---- results in registers

@@ -63,7 +63,7 @@ equal : (x y : ℕ) (b : Bool) → (x == y) ≡ b → branch_taken Beq x y ≡ b
 unfolding branch_taken
 equal x y b e = e
 
-or_true : (x y : Bool) → y ≡ true → (x || y) ≡ true
+pub or_true : (x y : Bool) → y ≡ true → (x || y) ≡ true
 or_true true y e = refl
 or_true false y e = e
 

@@ -76,7 +76,7 @@ use Rattle.metadata_relation.specs.Blocks.{new_address, given_register, update_p
 use Rattle.metadata_relation.specs.Holding.{IsHeldAt, is_pointer_type, HasNoTag}
 use Rattle.metadata_relation.specs.Stages.{factor, Compiled, map_of, views, names, world, activation, expansion_of, IsAt}
 use Rattle.metadata_relation.specs.Steps.{IsCompiled, is_update_by_word}
-use Rattle.metadata_relation.proofs.Assigning.{assigned, are_assignments, cleared}
+use Rattle.metadata_relation.proofs.Assigning.{assigned, are_assignments, cleared, wider, not_into}
 use Rattle.metadata_relation.proofs.Holding.{same_world, gives_variable, gives_temporary}
 use Rattle.metadata_relation.proofs.Inline.{inline_computes}
 use Rattle.metadata_relation.proofs.Moving.{integer_is}
@@ -161,14 +161,6 @@ move_entry_leaves : (b : Bool) (r : ℕ) (e : Entry) (values : flat.Values) → 
     → IsEntryMoved r b e values (assigned (move_entry_if b (held_from r).tag e) values)
 move_entry_leaves true r e values first = entry_moved r e values first
 move_entry_leaves false r e values first = record { entry = λ q. cc; others = λ y out. refl }
-
-pub wider : (y r : ℕ) → (y < r) ⊎ (r + 5 ≤ y) → (y < r + 1) ⊎ (r + 5 ≤ y)
-wider y r (inl below) = inl (omega arith)
-wider y r (inr above) = inr above
-
-pub not_into : (y r : ℕ) → (y < r) ⊎ (r + 5 ≤ y) → y ≢ r
-not_into y r (inl below) e = absurd (omega arith)
-not_into y r (inr above) e = absurd (omega arith)
 
 -- ---- the right operand
 

@@ -1,5 +1,5 @@
 -- What the steps of instructions rest on, and which of them are covered so far.
-use Rattle.std.specs.Prelude.{◌≡◌, ℕ, ◌^◌, ◌<◌, ◌≤◌, Bool, true, false, not, ◌&&◌, ◌||◌, ◌==◌, List, [], ◌∷◌, length, map, Option, Some, None, slice_get}
+use Rattle.std.specs.Prelude.{◌≡◌, ℕ, ◌^◌, ◌<◌, ◌≤◌, Bool, true, false, not, ◌&&◌, ◌||◌, ◌==◌, List, [], ◌∷◌, length, map, Option, Some, None, slice_get, nat_le}
 use Rattle.behaviours.specs.Steps.{run}
 use Rattle.addr_map.specs.Places.{AreMapped, code_begin, function_address}
 use Rattle.obj_memory.specs.declared.value.Scalar.{Scalar}
@@ -99,6 +99,7 @@ covers c (tac.Turn counted m) = true
 covers c (tac.FunctionPointer d f m) = true
 covers c (tac.StaticPointer d n m) = true
 covers c (tac.UpdatePlain w k f line d x right m) = is_update_by_word w
+covers c (tac.Difference size d a b m) = nat_le 1 size && is_short size
 covers c (tac.Narrow offset size d a m) = is_part offset size
 covers c (tac.Member offset size d a m) = is_part offset size
 covers c (tac.Library r line d n m) = is_inline_routine r

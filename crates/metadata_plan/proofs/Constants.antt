@@ -1,5 +1,5 @@
 -- A constant of any word is made within five instructions' weight.
-use Rattle.std.proofs.Common.{◌≡◌, ℕ, ◌+◌, ◌-◌, ◌*◌, ◌^◌, ◌<◌, ◌≤◌, Bool, true, false, if◌then◌else◌, length, arith}
+use Rattle.std.proofs.Common.{◌≡◌, ℕ, ◌+◌, ◌-◌, ◌^◌, ◌<◌, ◌≤◌, Bool, true, false, if◌then◌else◌, length, arith}
 use Rattle.std.proofs.Common.{mul-le-mul_right, le_trans, ap, lt-ltb}
 use Rattle.std.specs.Prelude.{nat_lt}
 use Rattle.addr_map.specs.Places.{MapSizes}

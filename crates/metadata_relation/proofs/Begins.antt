@@ -1,15 +1,14 @@
 -- Where a run begins: the global lock word and the end of the object stack are stored, and `main` is called.
-use Rattle.std.proofs.Common.{◌≡◌, ◌≢◌, ◌⊎◌, ⊎_elim, inl, inr, ℕ, zero, suc, ◌+◌, ◌-◌, ◌*◌, ◌%◌, ◌^◌, ◌<◌, ◌≤◌, Bool, true, false}
-use Rattle.std.proofs.Common.{List, [], ◌∷◌, ◌++◌, length, map, Option, Some, None, refl, sym, ap, ap₂, ◌∙◌, subst, arith}
-use Rattle.std.proofs.Common.{get_or, le-leb, mod-eq_of_lt}
-use Rattle.std.specs.Prelude.{slice_get, nat_le, not, ◌&&◌, ◌==◌, if◌then◌else◌}
+use Rattle.std.proofs.Common.{◌≡◌, ⊎_elim, inl, ℕ, zero, suc, ◌+◌, ◌-◌, ◌*◌, ◌^◌, ◌<◌, ◌≤◌, Bool, true, false}
+use Rattle.std.proofs.Common.{List, [], ◌∷◌, ◌++◌, length, map, Option, Some, None, refl, sym, ap, ◌∙◌, subst, arith}
+use Rattle.std.proofs.Common.{le-leb, mod-eq_of_lt}
+use Rattle.std.specs.Prelude.{slice_get, not, ◌&&◌, ◌==◌, if◌then◌else◌}
 use Rattle.std.proofs.lemmas.Bool.{and_parts, cases_lt, eqb-true, lt-leb}
 use Rattle.words.specs.TwosComplement.{low_bits}
-use Rattle.behaviours.specs.Steps.{run}
-use Rattle.behaviours.specs.Shown.{Access, Write}
+use Rattle.behaviours.specs.Shown.{Write}
 use Rattle.addr_map.specs.declared.region.Region.TheVariants.{Globals, Locks, Cells, Stack as StackRegion, StructureValues}
 use Rattle.addr_map.specs.Places.{MapSizes, region_size, region_start, region_end, spaces_begin}
-use Rattle.addr_map.proofs.Order.{ends_low, in_order}
+use Rattle.addr_map.proofs.Order.{ends_low}
 use Rattle.sb_base.specs.declared.ending.Ending.TheVariants.{Stack}
 use Rattle.sb_base.specs.Endings.{code_of, report_of}
 use Rattle.obj_memory.specs.declared.object.Storage.TheVariants.{Static, Automatic}
@@ -18,8 +17,7 @@ use Rattle.obj_memory.specs.Objects.{Objects, object_at}
 use Rattle.obj_memory.proofs.Continuing.{continues_same}
 use Rattle.c_tree.specs.declared.program.Variable.{Variable}
 use Rattle.source_meaning.specs.State.{State}
-use Rattle.source_meaning.specs.Blocks.{has_objects}
-use Rattle.source_meaning.specs.Calls.{body_objects, set_up}
+use Rattle.source_meaning.specs.Calls.{body_objects}
 use Rattle.source_meaning.specs.Good.{IsGood as IsGoodState, IsSetUp, ArgumentsAre, file_scope, program_context}
 use Rattle.source_meaning.specs.Meaning.{setting_of, fresh}
 use Rattle.source_meaning.specs.Places.{stack_first, stack_end}
@@ -36,18 +34,18 @@ use Rattle.flat_meaning.specs.declared.instruction.FlatInstruction.{FlatInstruct
 use Rattle.flat_meaning.specs.declared.instruction.FlatInstruction.TheVariants as flat_code
 use Rattle.flat_meaning.specs.declared.function.FlatFunction.{FlatFunction}
 use Rattle.flat_meaning.specs.declared.function.FlatProgram.{FlatProgram}
-use Rattle.flat_meaning.specs.Memory.{Bytes, put, load, store}
+use Rattle.flat_meaning.specs.Memory.{Bytes, put, store}
 use Rattle.flat_meaning.specs.Spaces.{is_of_objects, is_allowed}
 use Rattle.flat_meaning.specs.State as flat
 use Rattle.flat_meaning.specs.Calls.{function_in, charged}
-use Rattle.flat_meaning.specs.Meaning.{Goes, Fails, body_of, context, step, started, weight_of, is_runtime_function, goes_to}
+use Rattle.flat_meaning.specs.Meaning.{Goes, Fails, body_of, started, weight_of, is_runtime_function, goes_to}
 use Rattle.flat_meaning.proofs.Stored.{put_same, put_other, store_beside, load_stored}
 use Rattle.flat_routines.specs.Objects.StandsFor.{StandsFor, global_lock}
 use Rattle.flat_routines.specs.Objects.Start.{start_keys}
 use Rattle.flat_routines.specs.Routine.{HasAt}
 use Rattle.flat_routines.proofs.Steps.{has_front, has_back}
 use Rattle.flat_routines.proofs.Words.{IsLocal}
-use Rattle.lock_space.proofs.Spaces.{locks_laid_out, allowed_at}
+use Rattle.lock_space.proofs.Spaces.{allowed_at}
 use Rattle.flat_actions.specs.Actions.{AreSpacesGood}
 use Rattle.area_routines.proofs.Behind.{spaces_kept, stands_kept}
 use Rattle.metadata_plan.specs.Blocks.{call_tests}
@@ -55,18 +53,18 @@ use Rattle.metadata_plan.proofs.Calling.{tested, tests_pass, tests_end}
 use Rattle.metadata_plan.proofs.Entering.{no_rooms}
 use Rattle.metadata_plan.proofs.Flat.{one, weight_small, Comes, next_comes, turn_comes, constant_comes}
 use Rattle.metadata_plan.proofs.SetUp.{laid_out, exhausted, set_up_gives, homes_of}
-use Rattle.metadata_relation.specs.Blocks.{objects_of_body, object_tests, start_code, main_tests, before_main, entry_code}
-use Rattle.metadata_relation.specs.Blocks.{space_test, top_cell}
-use Rattle.metadata_relation.specs.Expanded.{EntersAt, IsEntry}
-use Rattle.metadata_relation.specs.Scopes.{AreGood, context_at}
-use Rattle.metadata_relation.specs.Stages.{factor, Compiled, map_of, views, names, world, expansion_of, IsFirst, IsSteady}
+use Rattle.metadata_relation.specs.Blocks.{objects_of_body, start_code, main_tests, before_main}
+use Rattle.metadata_relation.specs.Blocks.{space_test}
+use Rattle.metadata_relation.specs.Expanded.{EntersAt}
+use Rattle.metadata_relation.specs.Scopes.{context_at}
+use Rattle.metadata_relation.specs.Stages.{Compiled, map_of, views, names, world, expansion_of, IsFirst}
 use Rattle.metadata_relation.specs.Steps.{IsCompiled, is_plain_call, is_plain_main, CoversMain}
-use Rattle.metadata_relation.specs.Waiting.{BodyBy, AllWait}
+use Rattle.metadata_relation.specs.Waiting.{BodyBy}
 use Rattle.metadata_relation.proofs.CallHolds.{none_has, no_homes, none_between}
 use Rattle.metadata_relation.proofs.CallStates.{entered_from, fresh_good}
 use Rattle.metadata_relation.proofs.Calls.{entry_there, EntryIsThere, IsPlainCall, plain_call, call_stage, callee_state, enters}
 use Rattle.metadata_relation.proofs.Calls.{earlier, few_parameters}
-use Rattle.metadata_relation.proofs.Named.{placed_count, placed_static}
+use Rattle.metadata_relation.proofs.Named.{placed_static}
 use Rattle.metadata_relation.proofs.Standing.{leaves_same, ends, Result}
 use Rattle.object_routines.specs.AllocatingRoutines.Allocating.{keys_code, key_test}
 use Rattle.object_routines.specs.AllocatingRoutines.Entering.{block_bytes}

@@ -1,8 +1,8 @@
 -- What the registers of a function that is called hold at its entry, and those of its caller while it waits.
-use Rattle.std.proofs.Common.{◌≡◌, ◌≢◌, ◌⊎◌, ℕ, zero, suc, ◌+◌, ◌-◌, ◌*◌, ◌<◌, ◌≤◌, Bool, true, false, List, [], ◌∷◌, ◌++◌}
-use Rattle.std.proofs.Common.{length, map, Option, Some, None, refl, sym, ap, ◌∙◌, subst, arith, get_or, ltb-true, ltb-false}
+use Rattle.std.proofs.Common.{◌≡◌, ℕ, zero, suc, ◌+◌, ◌<◌, ◌≤◌, Bool, true, false, List, [], ◌∷◌, ◌++◌}
+use Rattle.std.proofs.Common.{length, map, Some, None, refl, sym, ap, ◌∙◌, subst, arith, get_or, ltb-true, ltb-false}
 use Rattle.std.specs.Prelude.{nat_lt, ◌==◌, ◌||◌, ◌&&◌, not, if◌then◌else◌}
-use Rattle.std.proofs.lemmas.Bool.{eqb-true, eqb-false}
+use Rattle.std.proofs.lemmas.Bool.{eqb-false}
 use Rattle.obj_memory.specs.declared.value.Scalar.{Scalar}
 use Rattle.obj_memory.specs.declared.value.Scalar.TheVariants.{Integer, Pointer}
 use Rattle.obj_memory.specs.declared.value.Value.{Value}
@@ -17,7 +17,7 @@ use Rattle.source_meaning.specs.Structures.{rvalue}
 use Rattle.tac_ir.specs.declared.function.CodeFunction.{CodeFunction}
 use Rattle.tac_ir.specs.declared.function.Tac.{Tac}
 use Rattle.tac_ir.specs.Meaning.{header_of_code}
-use Rattle.tac_ir.specs.Stage.{Temps, no_temps, gathered}
+use Rattle.tac_ir.specs.Stage.{Temps, no_temps}
 use Rattle.flat_meaning.specs.Memory.{Bytes}
 use Rattle.flat_meaning.specs.State as flat
 use Rattle.flat_routines.specs.Metadata.{metadata_in, no_metadata}
@@ -26,13 +26,12 @@ use Rattle.flat_routines.proofs.Words.{same_metadata}
 use Rattle.object_routines.specs.AllocatingRoutines.Entering.{IsHomeOf}
 use Rattle.runtime_functions.specs.Library.{held_from}
 use Rattle.metadata_plan.specs.Part.{have_no_objects}
-use Rattle.metadata_plan.specs.Registers.{all_variables, most_temporaries}
+use Rattle.metadata_plan.specs.Registers.{all_variables}
 use Rattle.metadata_plan.proofs.Calling.{first_is, rest_at, others_at, values_length}
 use Rattle.metadata_plan.proofs.SetUp.{homes_of}
-use Rattle.metadata_relation.specs.Holding.{World, world_of, IsHeldAt, IsPlain, HasNoTag, is_pointer_type, HasHomes, Activation}
+use Rattle.metadata_relation.specs.Holding.{World, world_of, IsHeldAt, IsPlain, HasNoTag, is_pointer_type, Activation}
 use Rattle.metadata_relation.specs.Holding.{Holds}
 use Rattle.metadata_relation.specs.Registers.{parameters_end, variable_register, temporary_register, moved_register}
-use Rattle.metadata_relation.specs.Registers.{home_register}
 use Rattle.metadata_relation.specs.Waiting.{AreBetween, AreNoObjects}
 use Rattle.metadata_relation.proofs.Holding.{same_world, at_node, AreFewer, variables_on, temporaries_on, homes_on}
 use Rattle.metadata_relation.proofs.Packing.{behind_parameters}

@@ -1,18 +1,17 @@
 -- A call that is set up from a good state leaves a good one of the function that is called, and where it returns the
 -- caller's is good again.
-use Rattle.std.proofs.Common.{◌≡◌, ℕ, zero, suc, ◌+◌, ◌<◌, ◌≤◌, Bool, true, false, List, [], ◌∷◌, ◌++◌, length, map, drop}
-use Rattle.std.proofs.Common.{Option, Some, None, refl, sym, ap, ap₂, ◌∙◌, subst, arith, get_or}
+use Rattle.std.proofs.Common.{◌≡◌, ℕ, zero, suc, List, [], ◌∷◌, ◌++◌, length, map, drop}
+use Rattle.std.proofs.Common.{Option, Some, None, refl, sym, ap, ap₂, ◌∙◌, subst, get_or}
 use Rattle.std.specs.Prelude.{slice_get}
-use Rattle.addr_map.specs.Places.{MapSizes, AreMapped}
-use Rattle.c_tree.specs.declared.expression.Kind.{Kind}
+use Rattle.addr_map.specs.Places.{AreMapped}
 use Rattle.c_tree.specs.declared.program.Variable.{Variable}
 use Rattle.c_tree.specs.Blocks.{all_of}
 use Rattle.c_tree.specs.Programs.{Function, Program}
 use Rattle.c_tree.specs.Valid.{Scope}
 use Rattle.c_tree.specs.ValidProgram.{function_scope}
-use Rattle.source_meaning.specs.State.{State, Rvalue, Outcome, Gives, Setting}
+use Rattle.source_meaning.specs.State.{State, Rvalue, Gives, Setting}
 use Rattle.source_meaning.specs.Calls.{header_of, function_at, set_up, caller, back_to}
-use Rattle.source_meaning.specs.Good.{Context, context_of, file_scope, IsGood, Leaves, IsSetUp, SetsUpBy, ArgumentsAre}
+use Rattle.source_meaning.specs.Good.{file_scope, IsGood, Leaves, IsSetUp, SetsUpBy, ArgumentsAre}
 use Rattle.source_meaning.specs.Good.{program_context}
 use Rattle.source_meaning.specs.Meaning.{setting_of, fresh}
 use Rattle.source_meaning.proofs.SureMeaning.{call_set_up, call_left, start_good}

@@ -1,9 +1,9 @@
 -- Calls of functions whose bodies have no objects: the tests, the arguments, and where the function begins.
-use Rattle.std.proofs.Common.{◌≡◌, ◌≢◌, ◌⊎◌, ⊎_elim, inl, inr, ℕ, zero, suc, ◌+◌, ◌-◌, ◌*◌, ◌^◌, ◌<◌, ◌≤◌, Bool, true, false, List}
-use Rattle.std.proofs.Common.{[], ◌∷◌, ◌++◌, length, length-append, map, Option, Some, None, refl, sym, ap, ap₂, ◌∙◌, subst, arith}
+use Rattle.std.proofs.Common.{◌≡◌, ⊎_elim, inl, ℕ, zero, suc, ◌+◌, ◌-◌, ◌*◌, ◌^◌, ◌<◌, ◌≤◌, Bool, true, false, List}
+use Rattle.std.proofs.Common.{[], ◌∷◌, ◌++◌, length, length-append, map, Option, Some, None, refl, sym, ap, ◌∙◌, subst, arith}
 use Rattle.std.proofs.Common.{get_or, le-leb, mul-le-mul_right}
-use Rattle.std.specs.Prelude.{slice_get, nat_le, nat_lt, ◌==◌, ◌&&◌, ◌||◌, not, if◌then◌else◌}
-use Rattle.std.proofs.lemmas.Bool.{and_parts, and_from, cases_lt, eq-eqb, lt-leb, le-leb as le_true, lt-ltb, ltb-true, not-true, false≢true}
+use Rattle.std.specs.Prelude.{slice_get, nat_le, nat_lt, ◌&&◌, ◌||◌, not, if◌then◌else◌}
+use Rattle.std.proofs.lemmas.Bool.{and_parts, and_from, cases_lt, eq-eqb, lt-leb, lt-ltb, ltb-true, not-true, false≢true}
 use Rattle.std.proofs.lemmas.List.{length-map}
 use Rattle.behaviours.specs.Steps.{run}
 use Rattle.behaviours.proofs.Running.{run_add}
@@ -13,16 +13,14 @@ use Rattle.sb_base.specs.declared.ending.Ending.TheVariants.{Abort as AbortAt, B
 use Rattle.sb_base.specs.Endings.{code_of, report_of}
 use Rattle.obj_memory.specs.declared.value.Scalar.{Scalar}
 use Rattle.obj_memory.specs.declared.value.Scalar.TheVariants.{Integer, Pointer}
-use Rattle.obj_memory.specs.declared.value.Value.{Value}
-use Rattle.obj_memory.specs.Objects.{ObjectState}
 use Rattle.obj_memory.specs.Sound.{IsSoundTag}
 use Rattle.c_tree.specs.declared.expression.Kind.{Kind}
 use Rattle.c_tree.specs.declared.expression.Kind.TheVariants.{Void, Scalar as OfScalar, Structure, Array}
 use Rattle.c_tree.specs.declared.program.Variable.{Variable}
-use Rattle.source_meaning.specs.State.{State, Rvalue, Home, NoObject, InObject, Gives as GivesRun, Ended, Setting}
+use Rattle.source_meaning.specs.State.{State, Rvalue, Gives as GivesRun}
 use Rattle.source_meaning.specs.Actions.{integer}
 use Rattle.source_meaning.specs.Blocks.{has_objects}
-use Rattle.source_meaning.specs.Calls.{header_of, body_objects, parameter_count, plain_count, plain_values, set_up, caller}
+use Rattle.source_meaning.specs.Calls.{header_of, body_objects, plain_count, set_up, caller}
 use Rattle.source_meaning.specs.Good.{IsGood as IsGoodState, file_scope, plain_type, ArgumentIs, ArgumentsAre, TakenOf, IsOfKind, IsSetUp}
 use Rattle.source_meaning.specs.Places.{stack_first, stack_end}
 use Rattle.source_meaning.specs.Structures.{rvalue}
@@ -40,7 +38,7 @@ use Rattle.flat_meaning.specs.declared.instruction.FlatInstruction.{FlatInstruct
 use Rattle.flat_meaning.specs.declared.instruction.FlatInstruction.TheVariants as flat_code
 use Rattle.flat_meaning.specs.declared.function.FlatFunction.{FlatFunction}
 use Rattle.flat_meaning.specs.declared.function.FlatProgram.{FlatProgram}
-use Rattle.flat_meaning.specs.Memory.{Bytes, put}
+use Rattle.flat_meaning.specs.Memory.{Bytes}
 use Rattle.flat_meaning.specs.State as flat
 use Rattle.flat_meaning.specs.Calls.{function_in, room_if, rooms, charged, arguments}
 use Rattle.flat_meaning.specs.Meaning.{body_of, step, parameters_of, weight_of, instruction_at}
@@ -53,35 +51,35 @@ use Rattle.object_routines.specs.AllocatingRoutines.Entering.{block_bytes}
 use Rattle.runtime_functions.specs.Library.{Passed, NoValue, OneWord, WithEntry, register_count}
 use Rattle.metadata_plan.specs.Blocks.{call_tests}
 use Rattle.metadata_plan.specs.Registers.{words_of, all_variables, most_temporaries}
-use Rattle.metadata_plan.specs.Entries.{given, is_among, is_moved_with_entry, is_argument_with_entry, parameter_kinds}
+use Rattle.metadata_plan.specs.Entries.{is_among, is_moved_with_entry, is_argument_with_entry, parameter_kinds}
 use Rattle.metadata_plan.specs.Expanded.{Leads}
 use Rattle.metadata_plan.proofs.Calling.{tested, tests_pass, tests_end, gathered_at, counted}
 use Rattle.metadata_plan.proofs.Calling.{argument_in, argument_out}
 use Rattle.metadata_plan.proofs.Entering.{room_behind, no_rooms, enters_step}
-use Rattle.metadata_plan.proofs.Flat.{weight_small, Comes, then_comes, leads_comes, end_step}
+use Rattle.metadata_plan.proofs.Flat.{weight_small, Comes, leads_comes, end_step}
 use Rattle.metadata_plan.proofs.SetUp.{laid_out, exhausted, set_up_gives, homes_of}
-use Rattle.metadata_relation.specs.Blocks.{Expansion, objects_of_body, object_tests, result_of, result_entry, pack, call_code}
+use Rattle.metadata_relation.specs.Blocks.{Expansion, objects_of_body, result_of, result_entry, pack, call_code}
 use Rattle.metadata_relation.specs.Blocks.{space_test, call_of, enter_body, entry_code, prologue, zero_variables}
-use Rattle.metadata_relation.specs.Expanded.{IsEntry, EntersAt}
-use Rattle.metadata_relation.specs.Holding.{World, IsHeldAt, IsTemporary, IsRvalueAt, IsPlain, HasNoTag, is_pointer_type}
+use Rattle.metadata_relation.specs.Expanded.{EntersAt}
+use Rattle.metadata_relation.specs.Holding.{World, IsHeldAt, IsPlain, is_pointer_type}
 use Rattle.metadata_relation.specs.Registers.{passed_as, parameters_end, variable_words, parameter_words, total, area_words}
-use Rattle.metadata_relation.specs.Registers.{variables_end, tops_end, variable_register, temporary_register}
-use Rattle.metadata_relation.specs.Registers.{moved_register, first_free, register_in}
+use Rattle.metadata_relation.specs.Registers.{variable_register, temporary_register}
+use Rattle.metadata_relation.specs.Registers.{moved_register, first_free}
 use Rattle.metadata_relation.specs.Scopes.{context_at, AreGood}
 use Rattle.metadata_relation.specs.Stages.{factor, Compiled, map_of, views, names, world, activation, level, expansion_of}
 use Rattle.metadata_relation.specs.Stages.{IsSteady, StandsIn, IsAt, MatchesBy}
 use Rattle.metadata_relation.specs.Steps.{IsCompiled, is_no_aggregate, are_scalars, is_plain_call}
-use Rattle.metadata_relation.specs.Waiting.{BodyBy, IsBodyAs, IsWaitingAs, has_value, Level, AllWait}
+use Rattle.metadata_relation.specs.Waiting.{BodyBy, IsWaitingAs, has_value, Level, AllWait}
 use Rattle.metadata_relation.proofs.Assigning.{assigned, assigns}
 use Rattle.metadata_relation.proofs.CallHolds.{waiting_holds, none_has, no_homes, none_between, callee_holds}
 use Rattle.metadata_relation.proofs.CallStates.{entered_good}
-use Rattle.metadata_relation.proofs.Holding.{at_node, same_world, plain_on}
+use Rattle.metadata_relation.proofs.Holding.{same_world, plain_on}
 use Rattle.metadata_relation.proofs.Library.{assigned_behind}
 use Rattle.metadata_relation.proofs.Moving.{held_of}
-use Rattle.metadata_relation.proofs.Packing.{words_at, ways_of, words_within, ArePacked, are_packed, pack_assigns}
+use Rattle.metadata_relation.proofs.Packing.{ways_of, words_within, ArePacked, are_packed, pack_assigns}
 use Rattle.metadata_relation.proofs.Packing.{count_passed, passed_at, plain_parameter, held_moved}
 use Rattle.metadata_relation.proofs.Packing.{zeros_leave, zeros_assign}
-use Rattle.metadata_relation.proofs.Registers.{count_of, count_in, few_in}
+use Rattle.metadata_relation.proofs.Registers.{few_in}
 use Rattle.metadata_relation.proofs.Setting.{place_is, no_tag_is, type_is}
 use Rattle.metadata_relation.proofs.Standing.{there_by, IsThere, leaves_same, good_now, IsNode, node, fewer, ends, Result}
 use Rattle.metadata_relation.proofs.Waiting.{waits_at, waits_same}
@@ -135,13 +133,19 @@ module _ (c : Compiled) (IsGood : Bytes → Type 0) (right : IsCompiled c IsGood
       let same : room_if true (function_in p x.function) ≡ room_if true (function_in p a.function) =
       ap (λ z. room_if true (function_in p z)) h.1.function in
       let none = th.no_room in
-      omega (arith, room_behind true p x xs, same, none, runtime_rooms w s first (record {
-        code = h.1.code;
-        values = x.values;
-        stacked = a.caller.stacked;
-        frame = a.caller.frame;
-        bound = h.0.mark;
-      }) ws xs h.2)
+      omega (
+        arith,
+        room_behind true p x xs,
+        same,
+        none,
+        runtime_rooms w s first (record {
+          code = h.1.code;
+          values = x.values;
+          stacked = a.caller.stacked;
+          frame = a.caller.frame;
+          bound = h.0.mark;
+        }) ws xs h.2,
+      )
 
   -- a match further on
   pub earlier : (a : Stage) (n : ℕ) (x y : flat.Stage) → run (step (map_of c) c.layout.program) n x ≡ y

@@ -1,8 +1,8 @@
 -- The routines of the library whose lists stand inline: a byte is put out or taken, or the run ends.
-use Rattle.std.proofs.Common.{◌≡◌, ◌⊎◌, inl, inr, ℕ, zero, suc, ◌+◌, ◌-◌, ◌*◌, ◌%◌, ◌^◌, ◌<◌, ◌≤◌, Bool, true, false, List, []}
+use Rattle.std.proofs.Common.{◌≡◌, ◌⊎◌, inl, ℕ, zero, suc, ◌+◌, ◌-◌, ◌*◌, ◌%◌, ◌^◌, ◌<◌, ◌≤◌, true, false, List, []}
 use Rattle.std.proofs.Common.{◌∷◌, ◌++◌, length, length-append, Option, Some, None, drop, refl, sym, ap, ◌∙◌, subst, arith}
 use Rattle.std.proofs.Common.{mul-le-mul_right}
-use Rattle.std.specs.Prelude.{slice_get, ◌&&◌}
+use Rattle.std.specs.Prelude.{slice_get}
 use Rattle.std.proofs.lemmas.Bool.{and_parts, false≢true}
 use Rattle.addr_map.specs.Places.{MapSizes}
 use Rattle.sb_base.specs.declared.ending.Ending.TheVariants.{Exit as ExitWith, Abort as AbortAt}
@@ -15,7 +15,7 @@ use Rattle.c_tree.specs.declared.expression.Kind.TheVariants.{Scalar as OfScalar
 use Rattle.c_tree.specs.declared.expression.Routine.{Routine}
 use Rattle.c_tree.specs.declared.expression.Routine.TheVariants as routine
 use Rattle.c_tree.specs.Kinds.{routine_signature}
-use Rattle.source_meaning.specs.State.{State, Rvalue, on}
+use Rattle.source_meaning.specs.State.{State, on}
 use Rattle.source_meaning.specs.Actions.{integer, int_of}
 use Rattle.source_meaning.specs.Library.{next_byte}
 use Rattle.source_meaning.specs.Structures.{rvalue, give}
@@ -47,13 +47,12 @@ use Rattle.metadata_plan.proofs.Flat.{exit_step, end_step}
 use Rattle.metadata_plan.proofs.Library.{status_is}
 use Rattle.metadata_relation.specs.Registers.{temporary_register, first_free}
 use Rattle.metadata_relation.specs.Blocks.{untagged}
-use Rattle.metadata_relation.specs.Holding.{IsHeldAt}
 use Rattle.metadata_relation.specs.Stages.{factor, Compiled, map_of, views, names, world, activation, expansion_of, IsAt}
 use Rattle.metadata_relation.specs.Steps.{IsCompiled, is_inline_routine}
 use Rattle.metadata_relation.proofs.Assigning.{assigned, are_assignments, assigns, wider, not_into}
 use Rattle.metadata_relation.proofs.Holding.{same_world, gives_temporary}
 use Rattle.metadata_relation.proofs.Moving.{held_of}
-use Rattle.metadata_relation.proofs.Parts.{SoFar, moment, at_first, stands_here, then_computed}
+use Rattle.metadata_relation.proofs.Parts.{moment, at_first, stands_here, then_computed}
 use Rattle.metadata_relation.proofs.Registers.{temporary_free}
 use Rattle.metadata_relation.proofs.Setting.{place_is}
 use Rattle.metadata_relation.proofs.Standing.{good_counted, counted_as, IsNode, node, fewer, arrives, leads_on, ends, Result}

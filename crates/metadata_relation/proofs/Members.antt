@@ -1,16 +1,15 @@
 -- Pointers that are narrowed: to a member of what they point to, or of a value without contents.
-use Rattle.std.proofs.Common.{◌≡◌, ◌≢◌, ◌⊎◌, inl, inr, ℕ, ◌+◌, ◌-◌, ◌*◌, ◌%◌, ◌^◌, ◌<◌, ◌≤◌, Bool, true, false, List, []}
-use Rattle.std.proofs.Common.{◌∷◌, ◌++◌, length, length-append, Option, Some, None, refl, sym, ap, ap₂, ◌∙◌, subst, arith}
-use Rattle.std.proofs.Common.{ltb-true, mod-eq_of_lt}
-use Rattle.std.specs.Prelude.{slice_get, nat_lt, ◌==◌, ◌||◌, if◌then◌else◌}
-use Rattle.std.proofs.lemmas.Bool.{eq-eqb, eqb-true, eqb-false}
+use Rattle.std.proofs.Common.{◌≡◌, ◌≢◌, ◌⊎◌, inl, inr, ℕ, ◌+◌, ◌*◌, ◌%◌, ◌^◌, ◌<◌, ◌≤◌, Bool, true, false, List, []}
+use Rattle.std.proofs.Common.{◌∷◌, ◌++◌, length, length-append, Some, refl, sym, ap, ap₂, ◌∙◌, subst, arith}
+use Rattle.std.proofs.Common.{mod-eq_of_lt}
+use Rattle.std.specs.Prelude.{slice_get, ◌||◌, if◌then◌else◌}
+use Rattle.std.proofs.lemmas.Bool.{eq-eqb}
 use Rattle.addr_map.specs.Places.{MapSizes}
 use Rattle.obj_memory.specs.declared.value.Value.{Value}
 use Rattle.obj_memory.specs.Judgement.{narrowed}
-use Rattle.obj_memory.specs.Objects.{ObjectState}
 use Rattle.obj_memory.proofs.Judging.{sound_narrowed}
-use Rattle.source_meaning.specs.State.{State, Rvalue}
-use Rattle.source_meaning.specs.Structures.{rvalue, member_of}
+use Rattle.source_meaning.specs.State.{State}
+use Rattle.source_meaning.specs.Structures.{rvalue}
 use Rattle.tac_ir.specs.declared.instruction.Instruction.{Instruction}
 use Rattle.tac_ir.specs.declared.instruction.Instruction.TheVariants as tac
 use Rattle.tac_ir.specs.Edges.{LeadsTo}
@@ -31,12 +30,9 @@ use Rattle.flat_meaning.specs.Meaning.{body_of, right_value, weight_of, is_runti
 use Rattle.flat_meaning.specs.Words.{HasWords}
 use Rattle.flat_meaning.proofs.Stored.{put_same, put_other}
 use Rattle.flat_operators.proofs.Values.{sum_by}
-use Rattle.flat_routines.specs.declared.registers.Held.{Held}
-use Rattle.flat_routines.specs.Metadata.{metadata_in}
 use Rattle.flat_routines.specs.Objects.StandsFor.{Spells}
 use Rattle.flat_routines.specs.Routine.{HasAt}
 use Rattle.flat_routines.proofs.Steps.{has_front, has_back}
-use Rattle.flat_routines.proofs.Words.{same_metadata}
 use Rattle.flat_actions.specs.Judgement.Testing.{IsToTest}
 use Rattle.flat_actions.specs.Narrowing.{IsOther, CanNarrow, HasNarrowed}
 use Rattle.runtime_functions.specs.Library.{held_from}
@@ -46,13 +42,12 @@ use Rattle.metadata_plan.specs.Expanded.{Leads}
 use Rattle.metadata_plan.specs.Operators.{OperatorCode, AreOperators}
 use Rattle.metadata_plan.proofs.Constants.{any_constant}
 use Rattle.metadata_plan.proofs.Flat.{one, weight_small, Comes, then_comes}
-use Rattle.metadata_relation.specs.Contents.{takes_word}
 use Rattle.metadata_relation.specs.Registers.{temporary_register, first_free}
 use Rattle.metadata_relation.specs.Blocks.{is_short, number_code, number_operand, narrow_code, move_value}
 use Rattle.metadata_relation.specs.Holding.{IsHeldAt}
 use Rattle.metadata_relation.specs.Stages.{factor, Compiled, map_of, views, world, expansion_of, IsAt}
 use Rattle.metadata_relation.specs.Steps.{IsCompiled}
-use Rattle.metadata_relation.proofs.Altering.{Alters, alters, then_altered}
+use Rattle.metadata_relation.proofs.Altering.{alters, then_altered}
 use Rattle.metadata_relation.proofs.Assigning.{assigned, moved, not_into}
 use Rattle.metadata_relation.proofs.Giving.{gives_value}
 use Rattle.metadata_relation.proofs.Holding.{entry_stays}
@@ -318,8 +313,7 @@ module _ (c : Compiled) (IsGood : Bytes → Type 0) (right : IsCompiled c IsGood
           (right.inline.narrow (held_from (T d)) (number_operand offset free) (number_operand size (free + 1)) (free + 2)
           can (views c) h.keys s.objects (temps a).value offset size (is_runtime_function (function_in p u))
           (charged p u xs) (weight_of (function_in p u)) right.mapped)
-          (λ y y' q. (q.memory, q.shows))
-          (
+          (λ y y' q. (q.memory, q.shows)) (
             record { stands = h.stands.for.objects; sound = held.sound; spells = there },
             operand_kept offset free m1.values m2.values (m2.others free (omega arith) (λ e. omega arith)) ∙ m1.operand,
             m2.operand,

@@ -1,11 +1,10 @@
 -- Pointers to what has a name: static objects and functions. Their words and entries are constants.
 use Rattle.std.proofs.Common.{◌≡◌, ◌≢◌, ◌⊎◌, inl, inr, ℕ, zero, suc, ◌+◌, ◌-◌, ◌*◌, ◌^◌, ◌<◌, ◌≤◌, Bool, true, false, List}
-use Rattle.std.proofs.Common.{[], ◌∷◌, ◌++◌, length, length-append, Some, refl, sym, ap, ap₂, ◌∙◌, subst, arith, ltb-true}
+use Rattle.std.proofs.Common.{[], ◌∷◌, ◌++◌, length, length-append, Some, refl, sym, ap, ◌∙◌, subst, arith, ltb-true}
 use Rattle.std.specs.Prelude.{slice_get, nat_lt}
-use Rattle.addr_map.specs.declared.region.Region.TheVariants.{Globals, Locks, Heap}
-use Rattle.addr_map.specs.Places.{MapSizes, function_address, code_begin, region_start, region_end}
+use Rattle.addr_map.specs.declared.region.Region.TheVariants.{Globals, Locks}
+use Rattle.addr_map.specs.Places.{MapSizes, function_address, region_start}
 use Rattle.obj_memory.specs.declared.object.Storage.TheVariants.{Static}
-use Rattle.obj_memory.specs.declared.value.Tag.TheVariants.{OfFunction, OfObject}
 use Rattle.obj_memory.specs.declared.value.Value.{Value}
 use Rattle.obj_memory.specs.Heap.{rounded_up}
 use Rattle.obj_memory.specs.Objects.{Objects, object_at, pointer_to}
@@ -41,7 +40,7 @@ use Rattle.metadata_plan.specs.Expanded.{Leads}
 use Rattle.metadata_plan.specs.Operators.{OperatorCode, AreOperators, constant_most}
 use Rattle.metadata_plan.proofs.Constants.{short_constant, most_constant}
 use Rattle.metadata_relation.specs.Registers.{temporary_register, first_free}
-use Rattle.metadata_relation.specs.Blocks.{entry_constants, entry_constants_if, static_code, function_code}
+use Rattle.metadata_relation.specs.Blocks.{entry_constants, entry_constants_if}
 use Rattle.metadata_relation.specs.Holding.{IsHeldAt}
 use Rattle.metadata_relation.specs.Stages.{factor, Compiled, map_of, views, world, expansion_of, IsAt}
 use Rattle.metadata_relation.specs.Steps.{IsCompiled}

@@ -1,12 +1,10 @@
 -- Arguments are handed over packed, and stand in the registers of the parameters; all other registers of a function that
 -- is entered are 0.
-use Rattle.std.proofs.Common.{◌≡◌, ◌≢◌, ◌⊎◌, inl, inr, ℕ, zero, suc, ◌+◌, ◌-◌, ◌*◌, ◌<◌, ◌≤◌, Bool, true, false, List, []}
-use Rattle.std.proofs.Common.{◌∷◌, ◌++◌, length, length-append, map, Option, Some, None, refl, sym, ap, ◌∙◌, subst, arith, get_or}
-use Rattle.std.proofs.Common.{lt-ltb, le-ltb, ltb-true, ltb-false}
-use Rattle.std.specs.Prelude.{nat_lt, ◌==◌, ◌&&◌, if◌then◌else◌}
-use Rattle.std.proofs.lemmas.Bool.{and_parts, and_from, eqb-true, eqb-false, false≢true, le-leb}
+use Rattle.std.proofs.Common.{◌≡◌, inl, inr, ℕ, zero, suc, ◌+◌, ◌*◌, ◌<◌, ◌≤◌, Bool, true, false, List, []}
+use Rattle.std.proofs.Common.{◌∷◌, ◌++◌, length, length-append, map, Some, None, refl, sym, ap, ◌∙◌, subst, arith, get_or}
+use Rattle.std.specs.Prelude.{◌==◌, if◌then◌else◌}
+use Rattle.std.proofs.lemmas.Bool.{and_parts, eqb-true, eqb-false, false≢true}
 use Rattle.obj_memory.specs.declared.value.Scalar.{Scalar}
-use Rattle.obj_memory.specs.declared.value.Scalar.TheVariants.{Integer, Pointer}
 use Rattle.obj_memory.specs.declared.value.Value.{Value}
 use Rattle.c_tree.specs.declared.expression.Kind.{Kind}
 use Rattle.c_tree.specs.declared.expression.Kind.TheVariants.{Void, Scalar as OfScalar, Structure, Array}
@@ -19,16 +17,15 @@ use Rattle.flat_meaning.specs.declared.instruction.FlatInstruction.{FlatInstruct
 use Rattle.flat_meaning.specs.declared.instruction.FlatInstruction.TheVariants.{Constant, Move}
 use Rattle.flat_meaning.specs.Memory.{put}
 use Rattle.flat_meaning.specs.State as flat
-use Rattle.flat_meaning.specs.Calls.{arguments}
 use Rattle.flat_meaning.proofs.Stored.{put_same, put_other}
 use Rattle.flat_routines.specs.Metadata.{metadata_in}
 use Rattle.flat_routines.specs.Objects.StandsFor.{Spells}
 use Rattle.flat_routines.proofs.Words.{same_metadata}
 use Rattle.runtime_functions.specs.Library.{Passed, NoValue, OneWord, WithEntry, register_count, held_from}
-use Rattle.metadata_plan.specs.Registers.{all_variables, most_temporaries}
+use Rattle.metadata_plan.specs.Registers.{most_temporaries}
 use Rattle.metadata_relation.specs.Blocks.{pack_value, pack, zeros}
-use Rattle.metadata_relation.specs.Holding.{World, IsHeldAt, is_pointer_type}
-use Rattle.metadata_relation.specs.Registers.{passed_as, parameter_words, variable_words, total, before, register_in}
+use Rattle.metadata_relation.specs.Holding.{World, IsHeldAt}
+use Rattle.metadata_relation.specs.Registers.{passed_as, parameter_words, total, register_in}
 use Rattle.metadata_relation.specs.Registers.{temporary_register, moved_register}
 use Rattle.metadata_relation.proofs.Assigning.{assigned, are_assignments, moved}
 use Rattle.metadata_relation.proofs.Registers.{count_of, count_in, plain_words}

@@ -1,6 +1,6 @@
 -- Returns from functions whose bodies have no objects: to the caller that waits, or to the end of the run.
-use Rattle.std.proofs.Common.{◌≡◌, ◌≢◌, ◌⊎◌, inl, inr, ℕ, zero, suc, ◌+◌, ◌-◌, ◌*◌, ◌%◌, ◌^◌, ◌<◌, ◌≤◌, Bool, true, false, List, []}
-use Rattle.std.proofs.Common.{◌∷◌, ◌++◌, length, Option, Some, None, refl, sym, ap, ap₂, ◌∙◌, subst, arith, get_or, le-leb}
+use Rattle.std.proofs.Common.{◌≡◌, ◌⊎◌, inl, inr, ℕ, ◌+◌, ◌-◌, ◌*◌, ◌%◌, ◌<◌, ◌≤◌, Bool, true, false, List, []}
+use Rattle.std.proofs.Common.{◌∷◌, ◌++◌, length, Some, None, refl, sym, ap, ◌∙◌, subst, arith, get_or, le-leb}
 use Rattle.std.specs.Prelude.{slice_get, nat_le, nat_lt, ◌==◌, ◌&&◌, if◌then◌else◌}
 use Rattle.std.proofs.lemmas.Bool.{and_parts, and_from, eq-eqb, lt-leb, lt-ltb, le-ltb, ne_eqb, false≢true}
 use Rattle.behaviours.specs.Steps.{run}
@@ -12,17 +12,15 @@ use Rattle.obj_memory.specs.declared.value.Tag.TheVariants.{Untagged}
 use Rattle.obj_memory.specs.Objects.{Objects}
 use Rattle.c_tree.specs.declared.expression.Kind.{Kind}
 use Rattle.c_tree.specs.declared.expression.Kind.TheVariants.{Void, Scalar as OfScalar, Structure, Array}
-use Rattle.source_meaning.specs.State.{State, Rvalue, Home, NoObject, InObject}
+use Rattle.source_meaning.specs.State.{State, Home, NoObject, InObject}
 use Rattle.source_meaning.specs.Actions.{int_of}
 use Rattle.source_meaning.specs.Blocks.{has_objects, without_homes}
-use Rattle.source_meaning.specs.Calls.{Caller, caller, back_to, result_of as result_in}
+use Rattle.source_meaning.specs.Calls.{back_to, result_of as result_in}
 use Rattle.source_meaning.specs.Good.{Leaves}
 use Rattle.source_meaning.specs.Places.{stack_first}
 use Rattle.source_meaning.specs.Structures.{rvalue}
-use Rattle.tac_ir.specs.declared.instruction.Instruction.{Instruction}
 use Rattle.tac_ir.specs.declared.instruction.Instruction.TheVariants as tac
 use Rattle.tac_ir.specs.declared.function.CodeFunction.{CodeFunction}
-use Rattle.tac_ir.specs.declared.function.Tac.{Tac}
 use Rattle.tac_ir.specs.Accesses.{is_place}
 use Rattle.tac_ir.specs.Fitting.{is_of_type, is_passed}
 use Rattle.tac_ir.specs.Stage.{Temps, with_temp, Waiting, Frame, Waits, Entered, Stage, Stands, Over, Stuck}
@@ -35,30 +33,26 @@ use Rattle.flat_meaning.specs.Memory.{Bytes}
 use Rattle.flat_meaning.specs.State as flat
 use Rattle.flat_meaning.specs.Calls.{function_in, with_results}
 use Rattle.flat_meaning.specs.Meaning.{body_of, step, results_of, weight_of, instruction_at}
-use Rattle.flat_routines.specs.Metadata.{metadata_in}
 use Rattle.flat_routines.specs.Objects.StandsFor.{spell}
 use Rattle.flat_routines.specs.Routine.{HasAt}
-use Rattle.flat_routines.proofs.Steps.{has_front, has_back}
-use Rattle.flat_routines.proofs.Words.{same_metadata}
-use Rattle.runtime_functions.specs.Library.{held_from}
+use Rattle.flat_routines.proofs.Steps.{has_back}
 use Rattle.metadata_plan.specs.Registers.{most_temporaries}
 use Rattle.metadata_plan.specs.Entries.{is_moved_with_entry}
-use Rattle.metadata_plan.specs.Expanded.{Leads}
-use Rattle.metadata_plan.proofs.Flat.{one, weight_small, Comes, leads_comes, exit_step}
+use Rattle.metadata_plan.proofs.Flat.{one, weight_small, leads_comes, exit_step}
 use Rattle.metadata_plan.proofs.Library.{status_is}
-use Rattle.metadata_relation.specs.Blocks.{objects_of_body, result_of, result_entry, untagged, leave_code, before_main}
-use Rattle.metadata_relation.specs.Holding.{World, IsHeldAt, Activation, Holds}
-use Rattle.metadata_relation.specs.Registers.{result_words, temporary_register, body_top_register, variables_end, tops_end}
+use Rattle.metadata_relation.specs.Blocks.{objects_of_body, result_of, result_entry, leave_code, before_main}
+use Rattle.metadata_relation.specs.Holding.{World, IsHeldAt, Holds}
+use Rattle.metadata_relation.specs.Registers.{result_words, temporary_register, body_top_register}
 use Rattle.metadata_relation.specs.Scopes.{IsInCall, AreGoodBy, AreGood, context_at}
-use Rattle.metadata_relation.specs.Stages.{factor, Compiled, map_of, views, names, world, activation, level, expansion_of}
+use Rattle.metadata_relation.specs.Stages.{Compiled, map_of, views, names, world, level, expansion_of}
 use Rattle.metadata_relation.specs.Stages.{IsAt, MatchesBy}
 use Rattle.metadata_relation.specs.Steps.{IsCompiled, is_no_aggregate, gives_scalar}
-use Rattle.metadata_relation.specs.Waiting.{AreBetween, AreNoObjects, BodyBy, IsEnteredAs, IsBodyAs, IsWaitingAs, has_value}
+use Rattle.metadata_relation.specs.Waiting.{AreNoObjects, BodyBy, IsBodyAs, IsWaitingAs, has_value}
 use Rattle.metadata_relation.specs.Waiting.{Level, AllWait}
 use Rattle.metadata_relation.proofs.Assigning.{assigned, are_assignments, assigns, wider}
 use Rattle.metadata_relation.proofs.CallStates.{left_good}
 use Rattle.metadata_relation.proofs.Calls.{entry_there, there, scalar_place, held_at}
-use Rattle.metadata_relation.proofs.Holding.{same_world, at_node, AreFewer, gives_temporary}
+use Rattle.metadata_relation.proofs.Holding.{same_world, gives_temporary}
 use Rattle.metadata_relation.proofs.Packing.{held_moved}
 use Rattle.metadata_relation.proofs.Registers.{few_in}
 use Rattle.metadata_relation.proofs.Setting.{no_tag_is}

@@ -1,8 +1,8 @@
 -- Flat code follows a program whose instructions are all covered: from stage to stage, and so at each moment.
-use Rattle.std.proofs.Common.{◌≡◌, ℕ, zero, suc, ◌+◌, ◌*◌, ◌≤◌, List, Option, Some, None, refl, sym, ap, ◌∙◌, subst, arith}
+use Rattle.std.proofs.Common.{◌≡◌, ℕ, List, Option, Some, None, refl, sym, ap, ◌∙◌, subst, arith}
 use Rattle.std.specs.Prelude.{slice_get}
 use Rattle.behaviours.specs.Shown.{Status}
-use Rattle.behaviours.specs.Behaviour.{Behaviour, Meets, Follows}
+use Rattle.behaviours.specs.Behaviour.{Meets, Follows}
 use Rattle.behaviours.specs.Steps.{run, seen_after, Simulates}
 use Rattle.behaviours.proofs.Running.{follows_by_steps}
 use Rattle.source_meaning.specs.State.{State}
@@ -22,8 +22,8 @@ use Rattle.flat_routines.proofs.Words.{IsLocal}
 use Rattle.flat_actions.specs.Actions.{AreSpacesGood}
 use Rattle.metadata_plan.proofs.Flat.{words_kept}
 use Rattle.metadata_plan.proofs.Following.{shown_is}
-use Rattle.metadata_relation.specs.Stages.{factor, Compiled, map_of, views, expansion_of, IsAt, MatchesBy, Matches}
-use Rattle.metadata_relation.specs.Steps.{IsCompiled, IsCovered, CoversMain, AreAllCovered, ComesToMatch}
+use Rattle.metadata_relation.specs.Stages.{factor, Compiled, map_of, views, expansion_of, MatchesBy, Matches}
+use Rattle.metadata_relation.specs.Steps.{IsCompiled, CoversMain, AreAllCovered, ComesToMatch}
 use Rattle.metadata_relation.proofs.Begins.{begins}
 use Rattle.metadata_relation.proofs.Following.{covered_step}
 use Rattle.metadata_relation.proofs.Standing.{Result}

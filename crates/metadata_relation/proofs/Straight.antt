@@ -1,18 +1,18 @@
 -- A list of instructions that change registers alone takes as many steps as it has instructions.
-use Rattle.std.proofs.Common.{◌≡◌, ⊎_elim, ℕ, zero, suc, ◌+◌, ◌-◌, ◌<◌, ◌≤◌, true, false, List, [], ◌∷◌, ◌++◌, length, Option}
-use Rattle.std.proofs.Common.{Some, None, refl, sym, ap, ◌∙◌, subst, arith, ◌^◌, if◌then◌else◌, ◌||◌, lt-ltb}
-use Rattle.std.specs.Prelude.{slice_get, nat_lt, nat_le}
+use Rattle.std.proofs.Common.{◌≡◌, ⊎_elim, ℕ, zero, suc, ◌+◌, ◌-◌, ◌<◌, List, [], ◌∷◌, ◌++◌, length}
+use Rattle.std.proofs.Common.{None, refl, sym, ap, ◌∙◌, subst, arith, ◌^◌, if◌then◌else◌, ◌||◌, lt-ltb}
+use Rattle.std.specs.Prelude.{slice_get, nat_le}
 use Rattle.std.proofs.lemmas.Bool.{cases_lt}
 use Rattle.rv_isa.specs.declared.instruction.RegOp.TheVariants as op
 use Rattle.flat_meaning.specs.declared.instruction.RightOperand.TheVariants.{Register}
 use Rattle.flat_meaning.specs.declared.instruction.FlatInstruction.{FlatInstruction}
 use Rattle.flat_meaning.specs.declared.instruction.FlatInstruction.TheVariants.{Constant, Move, Operate, Operate32}
 use Rattle.flat_meaning.specs.State.{State}
-use Rattle.flat_meaning.specs.Meaning.{Context, Local, Goes, Ends, Leaves, Fails}
+use Rattle.flat_meaning.specs.Meaning.{Context, Local, Goes, Ends, Fails}
 use Rattle.flat_operators.specs.Operators.{wide_code, constant_code}
 use Rattle.flat_operators.specs.Pointers.{difference_code}
 use Rattle.flat_operators.specs.Results.{Anywhere}
-use Rattle.flat_routines.specs.Effects.{effect, effects, AreAllowed}
+use Rattle.flat_routines.specs.Effects.{effects, AreAllowed}
 use Rattle.flat_routines.specs.Local.{act, local_run}
 use Rattle.flat_routines.specs.Routine.{Outcome, Continues, Halts, left_at, Does}
 use Rattle.flat_routines.proofs.Steps.{has_self, run_add, run_suc, run_ended, run_failed, run_zero}

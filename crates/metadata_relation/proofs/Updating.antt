@@ -1,8 +1,8 @@
 -- Updates of plain variables: the variable gets the new value, and a temporary that or the old one.
-use Rattle.std.proofs.Common.{◌≡◌, ◌≢◌, ◌⊎◌, ⊎_elim, inl, inr, ℕ, ◌+◌, ◌-◌, ◌*◌, ◌%◌, ◌^◌, ◌<◌, ◌≤◌, Bool, true, false, List}
+use Rattle.std.proofs.Common.{◌≡◌, ◌≢◌, ◌⊎◌, inl, inr, ℕ, ◌+◌, ◌-◌, ◌*◌, ◌%◌, ◌^◌, ◌<◌, ◌≤◌, Bool, true, false, List}
 use Rattle.std.proofs.Common.{[], ◌∷◌, ◌++◌, length, length-append, set, Option, Some, None, refl, sym, ap, ap₂, ◌∙◌, subst}
-use Rattle.std.proofs.Common.{arith, get_or, lt-ltb, ltb-true}
-use Rattle.std.specs.Prelude.{slice_get, nat_lt, ◌==◌, ◌&&◌}
+use Rattle.std.proofs.Common.{arith, lt-ltb, ltb-true}
+use Rattle.std.specs.Prelude.{slice_get, ◌==◌, ◌&&◌}
 use Rattle.std.proofs.lemmas.Bool.{and_parts, eq-eqb, eqb-true, eqb-false}
 use Rattle.std.proofs.lemmas.List.{length-map}
 use Rattle.behaviours.specs.Steps.{run}
@@ -12,7 +12,6 @@ use Rattle.sb_base.specs.declared.ending.Ending.TheVariants.{Divide}
 use Rattle.sb_base.specs.Endings.{code_of, report_of}
 use Rattle.obj_memory.specs.declared.int_type.IntType.{IntType}
 use Rattle.obj_memory.specs.declared.operator.BinaryOperator.{BinaryOperator}
-use Rattle.obj_memory.specs.declared.value.Tag.TheVariants.{Untagged}
 use Rattle.obj_memory.specs.declared.value.Scalar.{Scalar}
 use Rattle.obj_memory.specs.declared.value.Scalar.TheVariants.{Integer, Pointer}
 use Rattle.obj_memory.specs.declared.value.Value.{Value}
@@ -20,7 +19,6 @@ use Rattle.obj_memory.specs.Integers.{fit}
 use Rattle.obj_memory.specs.Judgement.{moved}
 use Rattle.obj_memory.specs.Operators.{binary_value}
 use Rattle.obj_memory.specs.Sound.{IsSoundTag}
-use Rattle.obj_memory.proofs.Judging.{sound_offset}
 use Rattle.obj_memory.proofs.Words.{fit_twice}
 use Rattle.c_tree.specs.declared.expression.Kind.TheVariants.{Scalar as OfScalar}
 use Rattle.c_tree.specs.declared.expression.Update.{Update}
@@ -38,7 +36,7 @@ use Rattle.tac_ir.specs.declared.instruction.RightOperand.TheVariants.{Temporary
 use Rattle.tac_ir.specs.declared.instruction.Instruction.{Instruction}
 use Rattle.tac_ir.specs.declared.instruction.Instruction.TheVariants as tac
 use Rattle.tac_ir.specs.Edges.{LeadsTo}
-use Rattle.tac_ir.specs.Fitting.{is_of_type, is_type, is_update_of, is_word}
+use Rattle.tac_ir.specs.Fitting.{is_of_type, is_type, is_update_of}
 use Rattle.tac_ir.specs.Stage.{Temps, with_temp, Frame, Stage, Stands, Over, came}
 use Rattle.tac_ir.specs.Temporaries.{right_count}
 use Rattle.tac_ir.specs.Costs.{spent}
@@ -66,15 +64,15 @@ use Rattle.metadata_plan.specs.Entries.{given}
 use Rattle.metadata_plan.specs.Expanded.{Leads}
 use Rattle.metadata_plan.specs.Operators.{OperatorCode, AreOperators, Computes, binary_most}
 use Rattle.metadata_plan.proofs.Numbers.{scaled}
-use Rattle.metadata_plan.proofs.Flat.{weight_small, Comes}
+use Rattle.metadata_plan.proofs.Flat.{weight_small}
 use Rattle.metadata_plan.proofs.Simple.{most_small}
 use Rattle.metadata_relation.specs.Contents.{takes_word, is_right}
 use Rattle.metadata_relation.specs.InlineCode.{Leaves as LeavesAddress}
 use Rattle.metadata_relation.specs.Registers.{variable_register, variables_end, temporary_register, first_free}
-use Rattle.metadata_relation.specs.Blocks.{move_entry, move_entry_if, untagged, right_code, right_register, new_integer}
-use Rattle.metadata_relation.specs.Blocks.{new_address, given_register, update_plain_code}
-use Rattle.metadata_relation.specs.Holding.{IsHeldAt, is_pointer_type, HasNoTag}
-use Rattle.metadata_relation.specs.Stages.{factor, Compiled, map_of, views, names, world, activation, expansion_of, IsAt}
+use Rattle.metadata_relation.specs.Blocks.{move_entry_if, untagged, right_code, right_register}
+use Rattle.metadata_relation.specs.Blocks.{given_register}
+use Rattle.metadata_relation.specs.Holding.{IsHeldAt, is_pointer_type}
+use Rattle.metadata_relation.specs.Stages.{Compiled, map_of, views, names, world, activation, expansion_of, IsAt}
 use Rattle.metadata_relation.specs.Steps.{IsCompiled, is_update_by_word}
 use Rattle.metadata_relation.proofs.Assigning.{assigned, are_assignments, cleared, wider, not_into}
 use Rattle.metadata_relation.proofs.Holding.{same_world, gives_variable, gives_temporary}
@@ -82,7 +80,7 @@ use Rattle.metadata_relation.proofs.Inline.{inline_computes}
 use Rattle.metadata_relation.proofs.Moving.{integer_is}
 use Rattle.metadata_relation.proofs.Parts.{SoFar, moment, at_first, stands_here, then_computed, then_assigned}
 use Rattle.metadata_relation.proofs.Pointers.{IsReadFirst, IsEntryMoved, entry_moved}
-use Rattle.metadata_relation.proofs.Registers.{count_in, few_in, some_in, variable_low, temporary_free}
+use Rattle.metadata_relation.proofs.Registers.{count_in, variable_low, temporary_free}
 use Rattle.metadata_relation.proofs.Setting.{plain_inside, good_set, no_tag_is}
 use Rattle.metadata_relation.proofs.Simple.{taken}
 use Rattle.metadata_relation.proofs.Standing.{IsNode, node, fewer, arrives, leads_on, ends, Result}

@@ -62,8 +62,8 @@ use Rattle.metadata_relation.specs.Steps.{IsCompiled, is_plain_call, is_plain_ma
 use Rattle.metadata_relation.specs.Waiting.{BodyBy}
 use Rattle.metadata_relation.proofs.CallHolds.{none_has, no_homes, none_between}
 use Rattle.metadata_relation.proofs.CallStates.{entered_from, fresh_good}
-use Rattle.metadata_relation.proofs.Calls.{entry_there, EntryIsThere, IsPlainCall, plain_call, call_stage, callee_state, enters}
-use Rattle.metadata_relation.proofs.Calls.{earlier, few_parameters}
+use Rattle.metadata_relation.proofs.Entering.{entry_there, EntryIsThere, IsPlainCall, plain_call, call_stage, callee_state, enters}
+use Rattle.metadata_relation.proofs.Entering.{earlier, few_parameters}
 use Rattle.metadata_relation.proofs.Named.{placed_static}
 use Rattle.metadata_relation.proofs.Standing.{leaves_same, ends, Result}
 use Rattle.object_routines.specs.AllocatingRoutines.Allocating.{keys_code, key_test}

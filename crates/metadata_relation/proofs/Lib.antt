@@ -5,6 +5,7 @@ pub mod CallHolds
 pub mod CallStates
 pub mod Calls
 pub mod Differences
+pub mod Entering
 pub mod Following
 pub mod Giving
 pub mod Holding

@@ -291,11 +291,11 @@ gathered_at temps d (suc n) (suc j) lt =
     let e : d + 1 + j ≡ d + suc j = omega arith in
     gathered_at temps (d + 1) n j (omega arith) ∙ ap temps e
 
-first_is : (vs : List Rvalue) → first_of vs ≡ get_or vs 0 (rvalue (integer 0))
+pub first_is : (vs : List Rvalue) → first_of vs ≡ get_or vs 0 (rvalue (integer 0))
 first_is [] = refl
 first_is (v ∷ vs) = refl
 
-rest_at : (vs : List Rvalue) (j : ℕ)
+pub rest_at : (vs : List Rvalue) (j : ℕ)
     → get_or (rest_of vs) j (rvalue (integer 0)) ≡ get_or vs (suc j) (rvalue (integer 0))
 rest_at [] j = refl
 rest_at (v ∷ vs) j = refl
@@ -316,13 +316,13 @@ zeros_at [] x = refl
 zeros_at (v ∷ vs) zero = refl
 zeros_at (v ∷ vs) (suc x) = zeros_at vs x
 
-others_at : (ps : List Variable) (vs : List Rvalue) (ws : List Variable) (x : ℕ) → length ps ≤ x
+pub others_at : (ps : List Variable) (vs : List Rvalue) (ws : List Variable) (x : ℕ) → length ps ≤ x
     → get_or (parameter_values ps vs ++ map (λ (z : Variable). integer 0) ws) x (integer 0) ≡ integer 0
 others_at [] vs ws x le = zeros_at ws x
 others_at (q ∷ ps) vs ws zero le = absurd (omega arith)
 others_at (q ∷ ps) vs ws (suc x) le = others_at ps (rest_of vs) ws x (omega arith)
 
-values_length : (ps : List Variable) (vs : List Rvalue) (ws : List Variable)
+pub values_length : (ps : List Variable) (vs : List Rvalue) (ws : List Variable)
     → length (parameter_values ps vs ++ map (λ (z : Variable). integer 0) ws) ≡ length (ps ++ ws)
 values_length [] vs [] = refl
 values_length [] vs (w ∷ ws) = ap suc (values_length [] vs ws)
@@ -333,7 +333,7 @@ counted [] = refl
 counted (q ∷ ps) = let e = counted ps in omega arith
 
 -- the registers of a call: its arguments, and all others 0
-argument_in : (first n y : ℕ) (values : flat.Values) → y < n → arguments first n values y ≡ values (first + y)
+pub argument_in : (first n y : ℕ) (values : flat.Values) → y < n → arguments first n values y ≡ values (first + y)
 argument_in first n y values lt = ap (λ b. if b then values (first + y) else 0) (lt-ltb y n lt)
 
 pub argument_out : (first n y : ℕ) (values : flat.Values) → n ≤ y → arguments first n values y ≡ 0

@@ -186,7 +186,7 @@ module _ (o : OperatorCode) (views : Views) (g : Setting) (t : Tac) (address : (
         let none = no_objects_of c.parameters c.entered (integers_front c.parameters c.variables parts.variables)
         parts.entered in
         let header = header_of_code c in
-        let set = set_up_gives g header vs line (begun s) none stacked stack
+        let set = set_up_gives g header vs line (begun s) none (omega (arith, stacked, stack))
         (le-leb (s.charged + c.room) g.sizes.budgets.calls fits) in
         let frame : flat.Frame = record { function = u; next = q + 1; into = into; values = values } in
         let fn = th.function in

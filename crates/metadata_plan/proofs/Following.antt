@@ -42,7 +42,7 @@ use Rattle.metadata_plan.proofs.Library.{library_step}
 use Rattle.metadata_plan.proofs.Stepping.{call_step, return_step, begins}
 
 -- what is shown, by its parts
-shown_is : (a b : Shown) → a.output ≡ b.output → a.errors ≡ b.errors → a.taken ≡ b.taken → a.accesses ≡ b.accesses
+pub shown_is : (a b : Shown) → a.output ≡ b.output → a.errors ≡ b.errors → a.taken ≡ b.taken → a.accesses ≡ b.accesses
     → a.ending ≡ b.ending → a ≡ b
 shown_is a b o e t x n =
     ap (λ q. record { output = q; errors = a.errors; taken = a.taken; accesses = a.accesses; ending = a.ending }) o

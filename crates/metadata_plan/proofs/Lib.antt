@@ -1,5 +1,6 @@
 pub mod Numbers
 pub mod Flat
+pub mod Constants
 pub mod Holding
 pub mod SetUp
 pub mod Standing

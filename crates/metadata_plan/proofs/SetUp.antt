@@ -9,7 +9,7 @@ use Rattle.c_tree.specs.declared.program.Variable.{Variable}
 use Rattle.c_tree.specs.Kinds.{size_of_kind}
 use Rattle.source_meaning.specs.State.{State, Rvalue, Home, NoObject, InObject, Gives, Ended, on, choose, done}
 use Rattle.source_meaning.specs.State.{◌>>=◌, Header, Setting}
-use Rattle.source_meaning.specs.Places.{stack_first, stack_end}
+use Rattle.source_meaning.specs.Places.{stack_end}
 use Rattle.source_meaning.specs.Blocks.{objects_end, has_objects, place_object, place_variables, without_homes}
 use Rattle.source_meaning.specs.Calls.{body_objects, parameter_count, plain_count, plain_values, write_parameters}
 use Rattle.source_meaning.specs.Calls.{set_up, lay_out}
@@ -38,11 +38,11 @@ no_objects (v ∷ vs) e =
     rw (h.0, rest) refl
 
 -- the homes of variables that are no objects
-abbrev homes_of : List Variable → List Home
+abbrev pub homes_of : List Variable → List Home
 homes_of [] = []
 homes_of (v ∷ vs) = NoObject ∷ homes_of vs
 
-homes_none : (vs : List Variable) → AreNoObjects (homes_of vs)
+pub homes_none : (vs : List Variable) → AreNoObjects (homes_of vs)
 homes_none [] = tt
 homes_none (v ∷ vs) = homes_none vs
 
@@ -95,13 +95,12 @@ module _ (g : Setting) (f : Header) (vs : List Rvalue) (line : ℕ) (s : State) 
       (placed_none (body_objects f) a none)
       ∙ written_none f.parameters (body_objects f) line vs (laid_out f vs s)
 
-  pub set_up_gives : have_no_objects (body_objects f) ≡ true → s.stacked ≡ stack_first g
-      → stack_first g ≤ stack_end g → nat_le (s.charged + f.room) g.sizes.budgets.calls ≡ true
+  pub set_up_gives : have_no_objects (body_objects f) ≡ true → s.stacked ≤ stack_end g
+      → nat_le (s.charged + f.room) g.sizes.budgets.calls ≡ true
       → set_up g f vs line s ≡ Gives tt (laid_out f vs s)
-  set_up_gives none top stack fits =
-      let end : objects_end (body_objects f) s.stacked ≡ stack_first g =
-      objects_end_same (body_objects f) s.stacked none ∙ top in
+  set_up_gives none stack fits =
+      let end : objects_end (body_objects f) s.stacked ≡ s.stacked = objects_end_same (body_objects f) s.stacked none in
       let space : nat_le (objects_end (body_objects f) s.stacked) (stack_end g) ≡ true =
-      ap (λ n. nat_le n (stack_end g)) end ∙ le-leb (stack_first g) (stack_end g) stack in
+      ap (λ n. nat_le n (stack_end g)) end ∙ le-leb s.stacked (stack_end g) stack in
       let keys = no_objects (body_objects f) none in
       rw (fits, space, keys) (laid none)

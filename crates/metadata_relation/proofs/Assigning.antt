@@ -83,6 +83,15 @@ module _ (m : MapSizes) (p : FlatProgram) (u : ℕ) (xs : List flat.Frame) where
 
 -- ---- five registers one behind the other
 
+-- what is outside of them is outside of the last four, and is not the first
+pub wider : (y r : ℕ) → (y < r) ⊎ (r + 5 ≤ y) → (y < r + 1) ⊎ (r + 5 ≤ y)
+wider y r (inl below) = inl (omega arith)
+wider y r (inr above) = inr above
+
+pub not_into : (y r : ℕ) → (y < r) ⊎ (r + 5 ≤ y) → y ≢ r
+not_into y r (inl below) e = absurd (omega arith)
+not_into y r (inr above) e = absurd (omega arith)
+
 put_away : (values : flat.Values) (x n y : ℕ) → y ≢ x → put values x n y ≡ values y
 put_away values x n y ne = put_other values x n y ne
 

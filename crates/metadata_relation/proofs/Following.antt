@@ -1,13 +1,14 @@
 -- Flat code follows the instructions that are covered, from stage to stage.
-use Rattle.std.proofs.Common.{◌≡◌, ℕ, ◌^◌, true, false, List, Option, Some, None, refl, sym, ap, ◌∙◌, subst}
-use Rattle.std.specs.Prelude.{slice_get}
-use Rattle.std.proofs.lemmas.Bool.{ltb-true}
+use Rattle.std.proofs.Common.{◌≡◌, ℕ, ◌-◌, ◌^◌, ◌<◌, ◌&&◌, ◌||◌, true, false, List, Option, Some, None, refl, sym, ap, ◌∙◌, subst}
+use Rattle.std.specs.Prelude.{slice_get, not, nat_le}
+use Rattle.std.proofs.lemmas.Bool.{ltb-true, leb-true, and_parts, not-true}
 use Rattle.std.proofs.lemmas.Option.{same_Some}
 use Rattle.obj_memory.specs.declared.value.Scalar.{Scalar}
 use Rattle.obj_memory.specs.declared.value.Scalar.TheVariants.{Integer, Pointer}
 use Rattle.c_tree.specs.declared.expression.Kind.{Kind}
 use Rattle.c_tree.specs.declared.expression.Kind.TheVariants.{Void, Scalar as OfScalar, Structure, Array}
 use Rattle.source_meaning.specs.State.{State}
+use Rattle.source_meaning.specs.Blocks.{has_objects}
 use Rattle.source_meaning.specs.Good.{plain_type}
 use Rattle.tac_ir.specs.declared.instruction.Instruction.{Instruction}
 use Rattle.tac_ir.specs.declared.instruction.Instruction.TheVariants as tac
@@ -19,8 +20,10 @@ use Rattle.flat_meaning.specs.Memory.{Bytes}
 use Rattle.flat_meaning.specs.State as flat
 use Rattle.flat_meaning.specs.Words.{HasWords}
 use Rattle.metadata_plan.specs.Registers.{all_variables}
+use Rattle.metadata_relation.specs.Blocks.{is_short, objects_of_body}
 use Rattle.metadata_relation.specs.Stages.{Compiled, map_of, expansion_of, IsAt, MatchesBy, Matches}
-use Rattle.metadata_relation.specs.Steps.{IsCompiled, covers, admits, is_scalar_type, is_settled, is_update_by_word, IsCovered, ComesToMatch}
+use Rattle.metadata_relation.specs.Steps.{IsCompiled, covers, admits, is_part, is_scalar_type, is_settled}
+use Rattle.metadata_relation.specs.Steps.{is_update_by_word, IsCovered, ComesToMatch}
 use Rattle.metadata_plan.proofs.Flat.{words_kept}
 use Rattle.metadata_relation.proofs.Standing.{Result}
 use Rattle.metadata_relation.proofs.Simple.{constant, unary, binary, skip_step, branch, turn, case}
@@ -36,10 +39,22 @@ use Rattle.metadata_relation.proofs.Reading.{read, read_at}
 use Rattle.metadata_relation.proofs.UpdateSteps.{update_place}
 use Rattle.metadata_relation.proofs.Writing.{write}
 use Rattle.metadata_relation.proofs.Zeroing.{zero_step}
-use Rattle.std.proofs.lemmas.Bool.{and_parts, leb-true, not-true}
-use Rattle.std.specs.Prelude.{not, nat_le}
 use Rattle.tac_ir.specs.declared.instruction.Mode.{Mode}
 use Rattle.tac_ir.specs.Fitting.{is_scalar_of, is_update_of, is_word}
+use Rattle.metadata_relation.proofs.Named.{function_pointer_step, static_pointer_step}
+use Rattle.metadata_relation.proofs.Differences.{difference_step}
+use Rattle.metadata_relation.proofs.Members.{narrow_step, member_step}
+use Rattle.metadata_relation.proofs.Updating.{update_plain_step}
+use Rattle.metadata_relation.proofs.Library.{library_step}
+use Rattle.metadata_relation.proofs.Calls.{call_step}
+use Rattle.metadata_relation.proofs.Returns.{return_step}
+
+part_is : (offset size : ℕ) → is_part offset size ≡ true
+    → (offset < 2 ^ 64) × (size < 2 ^ 64) × ((is_short offset || is_short size) ≡ true)
+part_is offset size e =
+    let p = and_parts (is_word offset && is_word size) (is_short offset || is_short size) e in
+    let w = and_parts (is_word offset) (is_word size) p.0 in
+    (ltb-true offset (2 ^ 64) w.0, ltb-true size (2 ^ 64) w.1, p.1)
 
 module _ (c : Compiled) (IsGood : Bytes → Type 0) (right : IsCompiled c IsGood) (u n : ℕ) (temps : Temps)
     (ws : List Frame) (s : State) (v : flat.State) (xs : List flat.Frame)
@@ -148,6 +163,30 @@ module _ (c : Compiled) (IsGood : Bytes → Type 0) (right : IsCompiled c IsGood
   instruction (tac.Branch a x y) at e f = branch c IsGood right u n temps ws s v xs h words.0 a x y at
   instruction (tac.Case a w x y) at e f = case c IsGood right u n temps ws s v xs h words.0 a w x y at e
   instruction (tac.Turn counted m) at e f = turn c IsGood right u n temps ws s v xs h words.0 counted m at
+  instruction (tac.FunctionPointer d g m) at e f =
+      function_pointer_step c IsGood right u n temps ws s v xs h words d g m at f
+  instruction (tac.StaticPointer d x m) at e f =
+      static_pointer_step c IsGood right u n temps ws s v xs h words d x m at f
+  instruction (tac.UpdatePlain w k fixity line d x r m) at e f =
+      update_plain_step c IsGood right u n temps ws s v xs h words w k fixity line d x r m e at f
+  instruction (tac.Difference size d a b m) at e f =
+      let p = and_parts (nat_le 1 size) (is_short size) e in
+      difference_step c IsGood right u n temps ws s v xs h words.0 size d a b m (leb-true 1 size p.0)
+      (ltb-true size (2 ^ 31 - 2 ^ 11) p.1) at
+  instruction (tac.Narrow offset size d a m) at e f =
+      let p = part_is offset size e in
+      narrow_step c IsGood right u n temps ws s v xs h words offset size d a m p.0 p.1 p.2 at
+  instruction (tac.Member offset size d a m) at e f =
+      let p = part_is offset size e in
+      member_step c IsGood right u n temps ws s v xs h words offset size d a m p.0 p.1 p.2
+      (not-true (c.layout.expansion.contents u n a) (admitted (tac.Member offset size d a m) at)) at
+  instruction (tac.Library r line d count m) at e f =
+      library_step c IsGood right u n temps ws s v xs h words r line d count m e at f
+  instruction (tac.Call g line d count m) at e f =
+      call_step c IsGood right u n temps ws s v xs h g line d count m at f (admitted (tac.Call g line d count m) at)
+  instruction (tac.Return a) at e f =
+      return_step c IsGood right u n temps ws s v xs h a at (not-true (has_objects (objects_of_body h.code)) e) f
+      (admitted (tac.Return a) at) (fine (tac.Return a) at)
   instruction i at e f = cc
 
 -- a step from a node whose instruction is covered

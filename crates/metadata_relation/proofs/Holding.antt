@@ -51,7 +51,7 @@ first_stays r n values after some same =
     let e : r + 0 ≡ r = omega arith in
     subst (λ z. after z ≡ values z) e (same 0 (omega arith))
 
-entry_stays : (r : ℕ) (values after : flat.Values) → Stay r 5 values after
+pub entry_stays : (r : ℕ) (values after : flat.Values) → Stay r 5 values after
     → metadata_in after (held_from r).tag ≡ metadata_in values (held_from r).tag
 entry_stays r values after same =
     same_metadata (metadata_in after (held_from r).tag) (metadata_in values (held_from r).tag) (same 1 (omega arith))
@@ -249,7 +249,7 @@ module _ (g : Views) (k k' : Keys) (old new : Objects) (m m' : Bytes) (on : Goes
         sound = h.sound;
       }
 
-  variables_on : (plain : List Value) (values after : flat.Values)
+  pub variables_on : (plain : List Value) (values after : flat.Values)
       → ((r : ℕ) → r < variables_end a.code → after r ≡ values r)
       → ((x : ℕ) (t : Scalar) → plain_type (all_variables a.code) x ≡ Some t
       → IsPlain (world_of g k old m) t (get_or plain x (integer 0)) (variable_register a.code x) values)
@@ -260,7 +260,7 @@ module _ (g : Views) (k k' : Keys) (old new : Objects) (m m' : Bytes) (on : Goes
       plain_on g k k' old new m m' on t (get_or plain x (integer 0)) (variable_register a.code x) values after
       (λ j few. same (variable_register a.code x + j) (omega arith)) (h x t e)
 
-  temporaries_on : (d : ℕ) (entries' contents' unknown' : ℕ → Bool) → AreFewer d a entries' contents' unknown'
+  pub temporaries_on : (d : ℕ) (entries' contents' unknown' : ℕ → Bool) → AreFewer d a entries' contents' unknown'
       → (temps : Temps) (values after : flat.Values) (i : ℕ) → i ≢ d → i < most_temporaries a.code.code
       → ((j : ℕ) → j < 5 → after (temporary_register a.code i + j) ≡ values (temporary_register a.code i + j))
       → ((i : ℕ) → i < most_temporaries a.code.code → a.unknown i ≡ false

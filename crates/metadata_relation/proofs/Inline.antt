@@ -19,18 +19,19 @@ use Rattle.flat_meaning.specs.Spaces.{is_of_objects, is_allowed}
 use Rattle.flat_meaning.specs.State.{State, Stands}
 use Rattle.flat_meaning.specs.Meaning.{Context, Local, Goes, Ends, Leaves, Fails, local, with_register, with_access}
 use Rattle.flat_meaning.specs.Meaning.{address_in, received, body_of, context, weight_of}
+use Rattle.flat_routines.specs.Metadata.{ShowsNothing}
 use Rattle.flat_routines.specs.Local.{counted, act, local_step, local_run}
 use Rattle.flat_routines.specs.Routine.{Outcome, Continues, Halts, left_at, Does}
 use Rattle.flat_routines.specs.InputOutput.{IsWithoutInputOutput}
 use Rattle.flat_routines.specs.Laws.{work_of, report_length}
 use Rattle.flat_routines.proofs.Lifted.{lifted}
 use Rattle.flat_routines.proofs.Work.{does_its_weight}
-use Rattle.flat_operators.specs.Results.{Anywhere, HasResult, IsResult}
+use Rattle.flat_operators.specs.Results.{Anywhere, IsResult}
 use Rattle.metadata_plan.specs.Operators.{Position, Computes, IsHere}
 
 -- ---- the work of a run within a function does not get less
 
-abbrev AtLeast : (least : ℕ) → Local → Type 0
+abbrev pub AtLeast : (least : ℕ) → Local → Type 0
 AtLeast k (Goes pc s) = k ≤ s.work
 AtLeast k (Ends status report s) = k ≤ s.work
 AtLeast k Leaves = Unit {0}
@@ -95,31 +96,28 @@ module _ (c : Context) (k : ℕ) where
   step_least code Leaves h = tt
   step_least code Fails h = tt
 
-  run_least : (code : List FlatInstruction) (n : ℕ) (l : Local) → AtLeast k l → AtLeast k (local_run c code n l)
+  pub run_least : (code : List FlatInstruction) (n : ℕ) (l : Local) → AtLeast k l → AtLeast k (local_run c code n l)
   unfolding local_run
   run_least code zero l h = h
   run_least code (suc n) l h = run_least code n (local_step c code l) (step_least code l h)
 
 -- ---- inline
 
--- where nothing but a value was left, registers and work alone differ
-same_state : (d v n : ℕ) (s s' : State) → HasResult d v n s s' → s.work ≤ s'.work
+-- where memory and what is shown stay, registers and work alone differ
+pub same_but : (s s' : State) → s'.memory ≡ s.memory → ShowsNothing s s' → s.work ≤ s'.work
     → s' ≡ record s { values = s'.values; work = s.work + (s'.work - s.work) }
-same_state d v n s s' h le =
+same_but s s' memory shows le =
     let e : s'.work ≡ s.work + (s'.work - s.work) = omega arith in
-    ap (λ z. record s' { memory = z }) h.memory
-    ∙ ap (λ z. record s' { memory = s.memory; input = z }) h.shows.input
-    ∙ ap (λ z. record s' { memory = s.memory; input = s.input; output = z }) h.shows.output
-    ∙ ap (λ z. record s' { memory = s.memory; input = s.input; output = s.output; taken = z }) h.shows.taken
+    ap (λ z. record s' { memory = z }) memory
+    ∙ ap (λ z. record s' { memory = s.memory; input = z }) shows.input
+    ∙ ap (λ z. record s' { memory = s.memory; input = s.input; output = z }) shows.output
+    ∙ ap (λ z. record s' { memory = s.memory; input = s.input; output = s.output; taken = z }) shows.taken
     ∙ ap (λ z. record s' { memory = s.memory; input = s.input; output = s.output; taken = s.taken; accesses = z })
-    h.shows.accesses
+    shows.accesses
     ∙ ap (λ z. record s'
     { memory = s.memory; input = s.input; output = s.output; taken = s.taken; accesses = s.accesses; turns = z })
-    h.shows.turns
-    ∙ ap (λ z. record s {
-      values = s'.values;
-      work = z;
-    }) e
+    shows.turns
+    ∙ ap (λ z. record s { values = s'.values; work = z }) e
 
 module _ (map : MapSizes) (p : FlatProgram) (x : Position) where
   pub inline_computes : (is : List FlatInstruction) (line d n most : ℕ) (value : State → ℕ) → IsWithoutInputOutput is
@@ -156,7 +154,7 @@ module _ (map : MapSizes) (p : FlatProgram) (x : Position) where
             few = omega (arith, sum, le);
             comes = lifted map p x.function x.frames steps x.place x.state (x.place + length is) (Continues s') comes
                 ∙ ap (λ z. Stands x.function (x.place + length is) z x.frames)
-                (same_state d (value x.state) n x.state s' h.by least);
+                (same_but x.state s' h.by.memory h.by.shows least);
             gives = h.by.result;
             others = λ y lt ne. h.by.others y lt ne;
           }

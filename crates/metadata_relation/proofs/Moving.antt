@@ -48,7 +48,7 @@ use Rattle.metadata_relation.proofs.Giving.{gives_value, gives_integer}
 use Rattle.metadata_relation.proofs.Simple.{taken, computes_integer}
 
 -- an integer has no tag
-integer_is : (v : Value) (w : ℕ) → v.tag ≡ Untagged → w ≡ v.word → v ≡ integer w
+pub integer_is : (v : Value) (w : ℕ) → v.tag ≡ Untagged → w ≡ v.word → v ≡ integer w
 integer_is v w e f =
     ap (λ t. record { word = v.word; tag = t }) e ∙ ap (λ n. integer n) (sym f)
 

@@ -52,7 +52,7 @@ kind_words (OfScalar Pointer) k e =
 kind_words (Structure n) k e = none_some k e
 kind_words (Array n) k e = none_some k e
 
-plain_words : (v : Variable) (k : Scalar) → (if v.is_object then None else scalar_if v.kind) ≡ Some k
+pub plain_words : (v : Variable) (k : Scalar) → (if v.is_object then None else scalar_if v.kind) ≡ Some k
     → (variable_words v ≡ count_in k) × (parameter_words v ≡ count_in k)
 plain_words v k e = by v.is_object e
   where

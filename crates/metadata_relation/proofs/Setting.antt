@@ -57,7 +57,7 @@ untagged_is Untagged e = refl
 untagged_is (OfFunction f) e = cc
 untagged_is (OfObject o b) e = cc
 
-type_is : (functions : ℕ) (k : Scalar) (v : Value) → is_of_type k v ≡ true → IsOfType functions k v
+pub type_is : (functions : ℕ) (k : Scalar) (v : Value) → is_of_type k v ≡ true → IsOfType functions k v
 type_is functions (Integer t) v e =
     let p = and_parts (has_no_tag v.tag) (fit t v.word == v.word) e in
     (untagged_is v.tag p.0, eqb-true (fit t v.word) v.word p.1)
@@ -71,7 +71,7 @@ pub place_is : (o : Option ObjectState) → is_place o ≡ true → o ≡ None
 place_is None e = refl
 place_is (Some c) e = cc
 
-plain_inside : (vs : List Variable) (x : ℕ) (k : Scalar) → plain_type vs x ≡ Some k → x < length vs
+pub plain_inside : (vs : List Variable) (x : ℕ) (k : Scalar) → plain_type vs x ≡ Some k → x < length vs
 plain_inside [] x k e = cc
 plain_inside (v ∷ vs) zero k e = omega arith
 plain_inside (v ∷ vs) (suc x) k e = omega (arith, plain_inside vs x k e)

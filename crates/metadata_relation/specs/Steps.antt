@@ -1,33 +1,46 @@
 -- What the steps of instructions rest on, and which of them are covered so far.
-use Rattle.std.specs.Prelude.{◌≡◌, ℕ, Bool, true, false, not, ◌&&◌, nat_le, map, Option, Some, None, slice_get}
+use Rattle.std.specs.Prelude.{◌≡◌, ℕ, ◌^◌, ◌<◌, ◌≤◌, Bool, true, false, not, ◌&&◌, ◌||◌, ◌==◌, List, [], ◌∷◌}
+use Rattle.std.specs.Prelude.{length, map, Option, Some, None, slice_get, nat_le}
 use Rattle.behaviours.specs.Steps.{run}
-use Rattle.addr_map.specs.Places.{AreMapped}
+use Rattle.addr_map.specs.Places.{AreMapped, code_begin, function_address}
 use Rattle.obj_memory.specs.declared.value.Scalar.{Scalar}
 use Rattle.c_tree.specs.declared.expression.Kind.{Kind}
 use Rattle.c_tree.specs.declared.expression.Kind.TheVariants.{Void, Scalar as OfScalar, Structure, Array}
+use Rattle.c_tree.specs.declared.program.Variable.{Variable}
+use Rattle.c_tree.specs.ValidProgram.{is_valid_program}
+use Rattle.c_tree.specs.declared.expression.Routine.{Routine}
+use Rattle.c_tree.specs.declared.expression.Routine.TheVariants as routine
 use Rattle.c_tree.specs.declared.expression.Update.{Update}
 use Rattle.c_tree.specs.declared.expression.Update.TheVariants.{Arithmetic, Forward, Back}
+use Rattle.source_meaning.specs.Blocks.{has_objects}
 use Rattle.source_meaning.specs.Calls.{header_of}
 use Rattle.source_meaning.specs.Good.{plain_type}
+use Rattle.source_meaning.specs.Meaning.{setting_of, initial_objects}
 use Rattle.tac_ir.specs.declared.instruction.Instruction.{Instruction}
 use Rattle.tac_ir.specs.declared.instruction.Instruction.TheVariants as tac
 use Rattle.tac_ir.specs.declared.instruction.Mode.{Mode}
 use Rattle.tac_ir.specs.declared.instruction.Mode.TheVariants.{Named, Unchecked, Judged}
 use Rattle.tac_ir.specs.declared.function.CodeFunction.{CodeFunction}
+use Rattle.tac_ir.specs.declared.function.Tac.{Tac}
 use Rattle.tac_ir.specs.Fitting.{is_word}
+use Rattle.tac_ir.specs.Meaning.{function_in, header_of_code, objects_before}
 use Rattle.tac_ir.specs.Stage.{Stage}
 use Rattle.flat_meaning.specs.Memory.{Bytes}
 use Rattle.flat_meaning.specs.State as flat
 use Rattle.flat_routines.specs.Metadata.{IsObjectWord, KeepsShadow}
 use Rattle.flat_meaning.specs.Meaning.{step}
 use Rattle.metadata_plan.specs.Registers.{all_variables}
+use Rattle.metadata_relation.specs.Blocks.{is_short, objects_of_body, result_of}
 use Rattle.metadata_relation.specs.InlineCode.{IsInlineCode}
 use Rattle.metadata_relation.specs.Expanded.{IsExpanded}
 use Rattle.metadata_relation.specs.Stages.{Compiled, map_of, Matches}
+use Rattle.metadata_relation.specs.Waiting.{has_value}
 
 -- The lists that stand inline do what is asked of them, the flat program is the expansion of the code, entries depend on the
 -- bytes of the shadow space alone, the sizes are those of a map, and the functions of the setting are those of the typed
--- program.
+-- program. Each function has an entry in the jump table, and a number for its type that leaves the highest bit of a key
+-- free. The typed program is valid, the setting is its own, its functions have the headers of those of the code, each type
+-- gives what it gives there, and the static objects are those that its initializers make.
 pub record IsCompiled (c : Compiled) (IsGood : Bytes → Type 0) : Type 0 where
   pub inline : IsInlineCode (map_of c) c.entry IsGood c.layout.expansion.inline
   pub expanded : IsExpanded c.layout c.entry IsGood
@@ -36,6 +49,14 @@ pub record IsCompiled (c : Compiled) (IsGood : Bytes → Type 0) : Type 0 where
   pub mapped : AreMapped (map_of c)
   pub sizes : c.setting.sizes ≡ map_of c
   pub functions : map header_of c.typed.functions ≡ c.setting.functions
+  pub few : function_address (length c.setting.functions) ≤ code_begin
+  pub types : (f : ℕ) → c.layout.expansion.types f < 2 ^ 63
+  pub valid : is_valid_program c.typed ≡ true
+  pub setting_is : c.setting ≡ setting_of c.typed (map_of c).budgets
+  pub before : objects_before c.layout.expansion.code (setting_of c.typed (map_of c).budgets)
+      ≡ initial_objects c.typed (setting_of c.typed (map_of c).budgets)
+  pub results : c.layout.expansion.code.results ≡ c.setting.results
+  pub headers : map header_of_code c.layout.expansion.code.functions ≡ map header_of c.typed.functions
 
 abbrev pub is_scalar_type : Option Scalar → Bool
 is_scalar_type None = false
@@ -60,6 +81,18 @@ is_settled Named = true
 is_settled Unchecked = false
 is_settled Judged = true
 
+-- of the numbers of a member an instruction holds one at least
+abbrev pub is_part : (offset size : ℕ) → Bool
+is_part offset size = (is_word offset && is_word size) && (is_short offset || is_short size)
+
+-- a routine whose list stands inline
+abbrev pub is_inline_routine : Routine → Bool
+is_inline_routine routine.Putchar = true
+is_inline_routine routine.Getchar = true
+is_inline_routine routine.Exit = true
+is_inline_routine routine.Abort = true
+is_inline_routine r = false
+
 -- the instructions whose steps are known
 abbrev pub covers : CodeFunction → Instruction → Bool
 covers c (tac.Skip m) = true
@@ -83,13 +116,47 @@ covers c (tac.LeaveBlock b m) = true
 covers c (tac.Branch a x y) = true
 covers c (tac.Case a w x y) = is_word w
 covers c (tac.Turn counted m) = true
+covers c (tac.FunctionPointer d f m) = true
+covers c (tac.StaticPointer d n m) = true
+covers c (tac.UpdatePlain w k f line d x right m) = is_update_by_word w
+covers c (tac.Difference size d a b m) = nat_le 1 size && is_short size
+covers c (tac.Narrow offset size d a m) = is_part offset size
+covers c (tac.Member offset size d a m) = is_part offset size
+covers c (tac.Library r line d n m) = is_inline_routine r
+covers c (tac.Call f line d n m) = true
+covers c (tac.Return a) = not (has_objects (objects_of_body c))
 covers c i = false
 
--- what is asked of the node besides: contents are read and written by other instructions
+abbrev pub are_scalars : List Variable → Bool
+are_scalars [] = true
+are_scalars (v ∷ vs) = is_no_aggregate v.kind && are_scalars vs
+
+-- A function whose body has no objects, that takes and gives scalars. Where it gives no value, what stands for it has no
+-- entry.
+abbrev pub is_plain_call : Tac → Option CodeFunction → (with_entry : Bool) → Bool
+is_plain_call t None b = true
+is_plain_call t (Some k) b =
+    (not (has_objects (objects_of_body k)) && are_scalars k.parameters)
+    && (is_no_aggregate (result_of t k) && (has_value (result_of t k) || not b))
+
+-- so is `main`, which takes nothing (C99 5.1.2.2.1)
+abbrev pub is_plain_main : Tac → Option CodeFunction → Bool
+is_plain_main t None = false
+is_plain_main t (Some k) = is_plain_call t (Some k) false && length k.parameters == 0
+
+abbrev pub gives_scalar : Tac → Option CodeFunction → Bool
+gives_scalar t None = true
+gives_scalar t (Some k) = is_no_aggregate (result_of t k)
+
+-- what is asked of the node besides: contents are read and written by other instructions, and a member of them is another
 abbrev pub admits : Compiled → (function node : ℕ) → Instruction → Bool
 admits c u n (tac.Read kind mode line key d a m) = not (c.layout.expansion.contents u n a)
 admits c u n (tac.Write kind mode line key d a b m) = not (c.layout.expansion.contents u n a)
 admits c u n (tac.Update w k f mode line at key d a right m) = not (c.layout.expansion.contents u n a)
+admits c u n (tac.Member offset size d a m) = not (c.layout.expansion.contents u n a)
+admits c u n (tac.Call f line d count m) =
+    is_plain_call c.layout.expansion.code (function_in c.layout.expansion.code f) (c.layout.expansion.entries u m d)
+admits c u n (tac.Return a) = gives_scalar c.layout.expansion.code (function_in c.layout.expansion.code u)
 admits c u n i = true
 
 -- at a node stands an instruction that is covered
@@ -100,6 +167,17 @@ pub record IsCovered (c : Compiled) (function node : ℕ) : Type 0 where
   pub at : slice_get code.code node ≡ Some instruction
   pub covered : covers code instruction ≡ true
   pub admitted : admits c function node instruction ≡ true
+
+-- the first call is covered
+pub record CoversMain (c : Compiled) : Type 0 where
+  pub main : is_plain_main c.layout.expansion.code (function_in c.layout.expansion.code c.layout.expansion.code.main)
+      ≡ true
+
+-- all instructions are
+pub record AreAllCovered (c : Compiled) : Type 0 where
+  pub first : CoversMain c
+  pub each : (u n : ℕ) (k : CodeFunction) (i : Instruction) → slice_get c.layout.expansion.code.functions u ≡ Some k
+      → slice_get k.code n ≡ Some i → (covers k i ≡ true) × (admits c u n i ≡ true)
 
 -- the run of flat code comes to where it matches
 pub record ComesToMatch (c : Compiled) (IsGood : Bytes → Type 0) (stage : Stage) (x : flat.Stage) : Type 0 where

@@ -1,0 +1,472 @@
+-- Where a run begins: the global lock word and the end of the object stack are stored, and `main` is called.
+use Rattle.std.proofs.Common.{◌≡◌, ⊎_elim, inl, ℕ, zero, suc, ◌+◌, ◌-◌, ◌*◌, ◌^◌, ◌<◌, ◌≤◌, Bool, true, false}
+use Rattle.std.proofs.Common.{List, [], ◌∷◌, ◌++◌, length, map, Option, Some, None, refl, sym, ap, ◌∙◌, subst, arith}
+use Rattle.std.proofs.Common.{le-leb, mod-eq_of_lt}
+use Rattle.std.specs.Prelude.{slice_get, not, ◌&&◌, ◌==◌, if◌then◌else◌}
+use Rattle.std.proofs.lemmas.Bool.{and_parts, cases_lt, eqb-true, lt-leb}
+use Rattle.words.specs.TwosComplement.{low_bits}
+use Rattle.behaviours.specs.Shown.{Write}
+use Rattle.addr_map.specs.declared.region.Region.TheVariants.{Globals, Locks, Cells, Stack as StackRegion, StructureValues}
+use Rattle.addr_map.specs.Places.{MapSizes, region_size, region_start, region_end, spaces_begin}
+use Rattle.addr_map.proofs.Order.{ends_low}
+use Rattle.sb_base.specs.declared.ending.Ending.TheVariants.{Stack}
+use Rattle.sb_base.specs.Endings.{code_of, report_of}
+use Rattle.obj_memory.specs.declared.object.Storage.TheVariants.{Static, Automatic}
+use Rattle.obj_memory.specs.Heap.{rounded_up}
+use Rattle.obj_memory.specs.Objects.{Objects, object_at}
+use Rattle.obj_memory.proofs.Continuing.{continues_same}
+use Rattle.c_tree.specs.declared.program.Variable.{Variable}
+use Rattle.source_meaning.specs.State.{State}
+use Rattle.source_meaning.specs.Calls.{body_objects}
+use Rattle.source_meaning.specs.Good.{IsGood as IsGoodState, IsSetUp, ArgumentsAre, file_scope, program_context}
+use Rattle.source_meaning.specs.Meaning.{setting_of, fresh}
+use Rattle.source_meaning.specs.Places.{stack_first, stack_end}
+use Rattle.tac_ir.specs.declared.function.CodeFunction.{CodeFunction}
+use Rattle.tac_ir.specs.declared.function.StaticData.{StaticData}
+use Rattle.tac_ir.specs.declared.function.Tac.{Tac}
+use Rattle.tac_ir.specs.Stage.{no_temps, Stage, Begins, Stands, Over, came}
+use Rattle.tac_ir.specs.Costs.{spent, fourfold}
+use Rattle.tac_ir.specs.Meaning.{function_in as code_in, header_of_code, begun, called_at, line_in, objects_before, placed_data}
+use Rattle.tac_ir.specs.Meaning.{step as tac_step}
+use Rattle.rv_isa.specs.Results.{wrap}
+use Rattle.rv_isa.specs.declared.instruction.StoreOp.TheVariants.{Sd}
+use Rattle.flat_meaning.specs.declared.instruction.FlatInstruction.{FlatInstruction}
+use Rattle.flat_meaning.specs.declared.instruction.FlatInstruction.TheVariants as flat_code
+use Rattle.flat_meaning.specs.declared.function.FlatFunction.{FlatFunction}
+use Rattle.flat_meaning.specs.declared.function.FlatProgram.{FlatProgram}
+use Rattle.flat_meaning.specs.Memory.{Bytes, put, store}
+use Rattle.flat_meaning.specs.Spaces.{is_of_objects, is_allowed}
+use Rattle.flat_meaning.specs.State as flat
+use Rattle.flat_meaning.specs.Calls.{function_in, charged}
+use Rattle.flat_meaning.specs.Meaning.{Goes, Fails, body_of, started, weight_of, is_runtime_function, goes_to}
+use Rattle.flat_meaning.proofs.Stored.{put_same, put_other, store_beside, load_stored}
+use Rattle.flat_routines.specs.Objects.StandsFor.{StandsFor, global_lock}
+use Rattle.flat_routines.specs.Objects.Start.{start_keys}
+use Rattle.flat_routines.specs.Routine.{HasAt}
+use Rattle.flat_routines.proofs.Steps.{has_front, has_back}
+use Rattle.flat_routines.proofs.Words.{IsLocal}
+use Rattle.lock_space.proofs.Spaces.{allowed_at}
+use Rattle.flat_actions.specs.Actions.{AreSpacesGood}
+use Rattle.area_routines.proofs.Behind.{spaces_kept, stands_kept}
+use Rattle.metadata_plan.specs.Blocks.{call_tests}
+use Rattle.metadata_plan.proofs.Calling.{tested, tests_pass, tests_end}
+use Rattle.metadata_plan.proofs.Entering.{no_rooms}
+use Rattle.metadata_plan.proofs.Flat.{one, weight_small, Comes, next_comes, turn_comes, constant_comes}
+use Rattle.metadata_plan.proofs.SetUp.{laid_out, exhausted, set_up_gives, homes_of}
+use Rattle.metadata_relation.specs.Blocks.{objects_of_body, start_code, main_tests, before_main}
+use Rattle.metadata_relation.specs.Blocks.{space_test}
+use Rattle.metadata_relation.specs.Expanded.{EntersAt}
+use Rattle.metadata_relation.specs.Scopes.{context_at}
+use Rattle.metadata_relation.specs.Stages.{Compiled, map_of, views, names, world, expansion_of, IsFirst}
+use Rattle.metadata_relation.specs.Steps.{IsCompiled, is_plain_call, is_plain_main, CoversMain}
+use Rattle.metadata_relation.specs.Waiting.{BodyBy}
+use Rattle.metadata_relation.proofs.CallHolds.{none_has, no_homes, none_between}
+use Rattle.metadata_relation.proofs.CallStates.{entered_from, fresh_good}
+use Rattle.metadata_relation.proofs.Entering.{entry_there, EntryIsThere, IsPlainCall, plain_call, call_stage, callee_state, enters}
+use Rattle.metadata_relation.proofs.Entering.{earlier, few_parameters}
+use Rattle.metadata_relation.proofs.Named.{placed_static}
+use Rattle.metadata_relation.proofs.Standing.{leaves_same, ends, Result}
+use Rattle.object_routines.specs.AllocatingRoutines.Allocating.{keys_code, key_test}
+use Rattle.object_routines.specs.AllocatingRoutines.Entering.{block_bytes}
+
+-- ---- a store by a function of the runtime
+
+module _ (m : MapSizes) (p : FlatProgram) (u pc : ℕ) (v : flat.State) (xs : List flat.Frame) where
+  -- it is not shown
+  pub store_comes : (y x a : ℕ) → slice_get (body_of (function_in p u)) pc ≡ Some (flat_code.Store Sd y 0 x)
+      → is_runtime_function (function_in p u) ≡ true → wrap (v.values y + 0) ≡ a → is_allowed m a 8 ≡ true
+      → Comes m p u pc v xs (pc + 1) (record v { memory = store 8 v.memory a (v.values x) }) 2
+  store_comes y x a at runtime is allowed =
+      let w = weight_of (function_in p u) in
+      let t : flat.State = record v { work = v.work + w } in
+      let stored : ℕ → flat.State = λ z. record t { memory = store 8 v.memory z (v.values x) } in
+      let shown : ℕ → Bool → flat.State = λ z b. if not b && is_of_objects m z 8
+      then record (stored z) { accesses = v.accesses ++ record { address = z; size = 8; kind = Write } ∷ [] }
+      else stored z in
+      record {
+        steps = 1;
+        work = w;
+        few = weight_small (function_in p u);
+        comes = one m p u pc v xs (flat_code.Store Sd y 0 x) at
+            ∙ ap (λ b. goes_to m p (flat_code.Store Sd y 0 x) u pc t xs
+            (if b then Goes (pc + 1) (shown (wrap (v.values y + 0)) (is_runtime_function (function_in p u))) else Fails))
+            (ap (λ z. is_allowed m z 8) is ∙ allowed)
+            ∙ ap (λ b. flat.Stands u (pc + 1) (shown (wrap (v.values y + 0)) b) xs) runtime
+            ∙ ap (λ z. flat.Stands u (pc + 1) (stored z) xs) is;
+      }
+
+-- the work of where a run comes to is left out
+aside : (m : MapSizes) (p : FlatProgram) (u pc : ℕ) (v : flat.State) (xs : List flat.Frame) (q : ℕ) (after : flat.State)
+    (w most : ℕ) → Comes m p u pc v xs q (record after { work = w }) most → Comes m p u pc v xs q after most
+aside m p u pc v xs q after w most h =
+    record { steps = h.steps; work = h.work; few = h.few; comes = h.comes }
+
+-- static objects live before the run
+placed_live : (first : ℕ) (ds : List StaticData) (offset n : ℕ) → n < length ds
+    → (object_at (placed_data first ds offset) n).is_live ≡ true
+placed_live first [] offset n low = absurd (omega arith)
+placed_live first (d ∷ ds) offset zero low = refl
+placed_live first (d ∷ ds) offset (suc n) low = placed_live first ds (rounded_up 16 offset + d.size) n (omega arith)
+
+runtime_entry : (c : Compiled) (q : Option FlatFunction) → EntersAt c.layout.expansion q → is_runtime_function q ≡ true
+runtime_entry c None h = absurd h
+runtime_entry c (Some f) h = h.of_runtime
+
+module _ (c : Compiled) (IsGood : Bytes → Type 0) (right : IsCompiled c IsGood)
+    (local : IsLocal (map_of c) c.entry IsGood) (covered : CoversMain c) (input : List ℕ) (memory : Bytes)
+    (k : CodeFunction)
+    (found : code_in c.layout.expansion.code c.layout.expansion.code.main ≡ Some k)
+    (plain : IsPlainCall c IsGood right k false) (nothing : length k.parameters ≡ 0) where
+  abbrev m : MapSizes
+  m = map_of c
+
+  abbrev p : FlatProgram
+  p = c.layout.program
+
+  abbrev t : Tac
+  t = c.layout.expansion.code
+
+  abbrev f : ℕ
+  f = c.layout.expansion.code.main
+
+  abbrev u : ℕ
+  u = c.layout.program.entry
+
+  abbrev body : List FlatInstruction
+  body = body_of (function_in c.layout.program c.layout.program.entry)
+
+  entry : EntryIsThere c.layout.expansion (function_in c.layout.program c.layout.program.entry)
+  entry = entry_there c.layout.expansion (function_in p p.entry) right.expanded.enters
+
+  abbrev tests : List FlatInstruction
+  tests = call_tests (map_of c) k.room k.line 0
+
+  abbrev ending : List FlatInstruction
+  ending = flat_code.Call c.layout.expansion.code.main 0 0 ∷ flat_code.Exit 0 ∷ []
+
+  -- what stands before the call, without tests of objects
+  before_is : before_main (map_of c) c.layout.expansion.code
+      ≡ flat_code.Turn ∷ flat_code.Turn ∷ flat_code.Turn ∷ (start_code (map_of c) ++ (tests ++ []))
+  before_is =
+      ap (λ o. flat_code.Turn ∷ flat_code.Turn ∷ flat_code.Turn ∷ (start_code m ++ main_tests m o)) found
+      ∙ ap (λ b. flat_code.Turn ∷ flat_code.Turn ∷ flat_code.Turn ∷ (start_code m ++ (tests ++ (if b
+      then space_test m (block_bytes (objects_of_body k)) k.line 0 ++ (keys_code m 0 (0 + 1) ++ key_test 0 k.line)
+      else [])))) plain.none
+
+  has_all : HasAt body 0
+      ((flat_code.Turn ∷ flat_code.Turn ∷ flat_code.Turn ∷ (start_code (map_of c) ++ (tests ++ []))) ++ ending)
+  has_all = subst (λ z. HasAt body 0 (z ++ ending)) before_is entry.has
+
+  starting : HasAt body 0 (flat_code.Turn ∷ flat_code.Turn ∷ flat_code.Turn ∷ (start_code (map_of c) ++ (tests ++ [])))
+  starting = has_front body 0
+      (flat_code.Turn ∷ flat_code.Turn ∷ flat_code.Turn ∷ (start_code m ++ (tests ++ []))) ending has_all
+
+  runtime : is_runtime_function (function_in c.layout.program c.layout.program.entry) ≡ true
+  runtime = runtime_entry c (function_in p p.entry) right.expanded.enters
+
+  abbrev lock : ℕ
+  lock = region_start (map_of c) Locks
+
+  abbrev cell : ℕ
+  cell = region_start (map_of c) Cells
+
+  abbrev stack : ℕ
+  stack = region_start (map_of c) StackRegion
+
+  -- where the two words stand
+  pub record AreWordsThere : Type 0 where
+    pub lock_first : spaces_begin ≤ lock
+    pub lock_last : lock + 8 ≤ region_end (map_of c) Cells
+    pub cell_first : spaces_begin ≤ cell
+    pub cell_last : cell + 8 ≤ region_end (map_of c) Cells
+    pub behind : region_start (map_of c) StructureValues ≤ cell
+    pub cells_low : region_end (map_of c) Cells < 2 ^ 63
+    pub stack_low : stack < 2 ^ 63
+
+  words_there : AreWordsThere
+  unfolding region_start region_size
+  words_there =
+      let low = ends_low m right.mapped Cells in
+      let stack_end = ends_low m right.mapped StackRegion in
+      record {
+        lock_first = omega arith;
+        lock_last = omega arith;
+        cell_first = omega arith;
+        cell_last = omega arith;
+        behind = omega arith;
+        cells_low = omega (arith, low);
+        stack_low = omega (arith, stack_end);
+      }
+
+  -- ---- the words are stored
+
+  abbrev v0 : flat.State
+  v0 = record {
+    values = λ y. 0;
+    memory = memory;
+    input = input;
+    output = [];
+    taken = 0;
+    accesses = [];
+    turns = 0;
+    work = 0;
+  }
+
+  abbrev values_one : flat.Values
+  values_one = put (put (λ y. 0) 0 (low_bits 64 lock)) 1 1
+
+  abbrev values_two : flat.Values
+  values_two = put (put values_one 0 (low_bits 64 cell)) 1 (low_bits 64 stack)
+
+  abbrev locked : Bytes
+  locked = store 8 memory lock 1
+
+  abbrev stacked_memory : Bytes
+  stacked_memory = store 8 locked cell stack
+
+  allowed : (a : ℕ) → spaces_begin ≤ a → a + 8 ≤ region_end (map_of c) Cells → is_allowed (map_of c) a 8 ≡ true
+  allowed a low high = allowed_at m a a 8 refl low high
+
+  stored : Comes (map_of c) c.layout.program c.layout.program.entry 0 v0 [] 9
+      (record v0 { turns = 3; values = values_two; memory = stacked_memory }) 18
+  stored =
+      let there = words_there in
+      let lock_last = there.lock_last in
+      let cell_last = there.cell_last in
+      let low = there.cells_low in
+      let stack_low = there.stack_low in
+      let h = starting in
+      let s1 : flat.State = record v0 { turns = 1 } in
+      let s2 : flat.State = record v0 { turns = 2 } in
+      let s3 : flat.State = record v0 { turns = 3 } in
+      let s4 : flat.State = record s3 { values = put (λ y. 0) 0 (low_bits 64 lock) } in
+      let s5 : flat.State = record s3 { values = values_one } in
+      let s6 : flat.State = record s5 { memory = store 8 memory lock (values_one 1) } in
+      let s7 : flat.State = record s6 { values = put values_one 0 (low_bits 64 cell) } in
+      let s8 : flat.State = record s6 { values = values_two } in
+      let s9 : flat.State = record s8 { memory = store 8 (store 8 memory lock (values_one 1)) cell (values_two 1) } in
+      let one_is : values_one 1 ≡ 1 = put_same (put (λ y. 0) 0 (low_bits 64 lock)) 1 1 in
+      let lock_is : wrap (values_one 0 + 0) ≡ lock =
+      ap (λ z. wrap (z + 0)) (put_other (put (λ y. 0) 0 (low_bits 64 lock)) 1 1 0 (λ e. omega arith)
+      ∙ put_same (λ y. 0) 0 (low_bits 64 lock)) ∙ omega (arith, lock_last, low) in
+      let cell_is : wrap (values_two 0 + 0) ≡ cell =
+      ap (λ z. wrap (z + 0)) (put_other (put values_one 0 (low_bits 64 cell)) 1 (low_bits 64 stack) 0 (λ e. omega arith)
+      ∙ put_same values_one 0 (low_bits 64 cell)) ∙ omega (arith, cell_last, low) in
+      let stack_is : values_two 1 ≡ stack =
+      put_same (put values_one 0 (low_bits 64 cell)) 1 (low_bits 64 stack) ∙ mod-eq_of_lt (omega (arith, stack_low)) in
+      let k1 = turn_comes m p u 0 v0 [] h.0 in
+      let k2 = next_comes m p u 0 v0 [] 1 2 s1 s2 2 2 k1 (λ w. aside m p u 1 (record s1 { work = w }) [] 2 s2 w 2
+      (turn_comes m p u 1 (record s1 { work = w }) [] h.1.0)) in
+      let k3 = next_comes m p u 0 v0 [] 2 3 s2 s3 4 2 k2 (λ w. aside m p u 2 (record s2 { work = w }) [] 3 s3 w 2
+      (turn_comes m p u 2 (record s2 { work = w }) [] h.1.1.0)) in
+      let k4 = next_comes m p u 0 v0 [] 3 4 s3 s4 6 2 k3 (λ w. aside m p u 3 (record s3 { work = w }) [] 4 s4 w 2
+      (constant_comes m p u 3 (record s3 { work = w }) [] 0 lock h.1.1.1.0)) in
+      let k5 = next_comes m p u 0 v0 [] 4 5 s4 s5 8 2 k4 (λ w. aside m p u 4 (record s4 { work = w }) [] 5 s5 w 2
+      (constant_comes m p u 4 (record s4 { work = w }) [] 1 1 h.1.1.1.1.0)) in
+      let k6 = next_comes m p u 0 v0 [] 5 6 s5 s6 10 2 k5 (λ w. aside m p u 5 (record s5 { work = w }) [] 6 s6 w 2
+      (store_comes m p u 5 (record s5 { work = w }) [] 0 1 lock h.1.1.1.1.1.0 runtime lock_is
+      (allowed lock there.lock_first there.lock_last))) in
+      let k7 = next_comes m p u 0 v0 [] 6 7 s6 s7 12 2 k6 (λ w. aside m p u 6 (record s6 { work = w }) [] 7 s7 w 2
+      (constant_comes m p u 6 (record s6 { work = w }) [] 0 cell h.1.1.1.1.1.1.0)) in
+      let k8 = next_comes m p u 0 v0 [] 7 8 s7 s8 14 2 k7 (λ w. aside m p u 7 (record s7 { work = w }) [] 8 s8 w 2
+      (constant_comes m p u 7 (record s7 { work = w }) [] 1 stack h.1.1.1.1.1.1.1.0)) in
+      let k9 = next_comes m p u 0 v0 [] 8 9 s8 s9 16 2 k8 (λ w. aside m p u 8 (record s8 { work = w }) [] 9 s9 w 2
+      (store_comes m p u 8 (record s8 { work = w }) [] 0 1 cell h.1.1.1.1.1.1.1.1.0 runtime cell_is
+      (allowed cell there.cell_first there.cell_last))) in
+      subst (λ z. Comes m p u 0 v0 [] 9 (record v0 { turns = 3; values = values_two; memory = store 8 locked cell z }) 18)
+      stack_is
+      (subst (λ z. Comes m p u 0 v0 [] 9
+      (record v0 { turns = 3; values = values_two; memory = store 8 (store 8 memory lock z) cell (values_two 1) }) 18)
+      one_is k9)
+
+  has_tests : HasAt body 9 tests
+  has_tests = has_front body 9 tests [] (has_back body 3 (start_code m) (tests ++ []) starting.1.1.1)
+
+  calls : slice_get body 13 ≡ Some (flat_code.Call c.layout.expansion.code.main 0 0)
+  calls = (has_back body 0 (flat_code.Turn ∷ flat_code.Turn ∷ flat_code.Turn ∷ (start_code m ++ (tests ++ []))) ending
+      has_all).0
+
+  -- ---- `main` is called
+
+  abbrev old : Objects
+  old = objects_before c.layout.expansion.code c.setting
+
+  abbrev s0 : State
+  s0 = spent 4 (fresh c.setting (objects_before c.layout.expansion.code c.setting) input)
+
+  module _ (stands : StandsFor (views c) (start_keys (views c)) (objects_before c.layout.expansion.code c.setting)
+      (store 8 memory (global_lock (map_of c)) 1))
+      (spaces : AreSpacesGood (map_of c) IsGood (store 8 memory (global_lock (map_of c)) 1)) where
+    abbrev v9 : flat.State
+    v9 = record v0 { turns = 3; values = values_two; memory = stacked_memory; work = 0 + stored.work }
+
+    low_calls : (map_of c).budgets.calls < 2 ^ 63
+    low_calls = let z = right.mapped.budgets.calls.greatest in omega (arith, z)
+
+    budgets_same : c.setting.sizes.budgets.calls ≡ (map_of c).budgets.calls
+    budgets_same = ap (λ (z : MapSizes). z.budgets.calls) right.sizes
+
+    charge : 0 ≡ charged c.layout.program c.layout.program.entry []
+    charge = let none = entry.no_room in omega (arith, none, no_rooms false p)
+
+    abbrev Gives : Stage → Type 0
+    Gives a = Result c IsGood a (flat.Stands c.layout.program.entry 9 v9 [])
+
+    abbrev stage : Stage
+    stage = call_stage c IsGood right c.layout.program.entry 9 13 v9 [] c.layout.expansion.code.main k found plain k.line
+        0 0 [] [] s0
+
+    exhausts : (map_of c).budgets.calls < 0 + k.room → Gives stage
+    exhausts more =
+        let budget = budgets_same in
+        let start_few = stored.few in
+        let none = exhausted c.setting (header_of_code k) [] k.line (begun s0)
+        (lt-leb (0 + k.room) c.setting.sizes.budgets.calls (omega (arith, more, budget))) in
+        let free = charge in
+        let r = tests_end m p u 9 v9 [] k.room k.line 0 has_tests low_calls (omega (arith, more, free))
+        (omega (arith, free)) in
+        let stopped : State = (let z : State = record (begun s0) { work = 0 + 4 + 1 } in spent (3 * (z.work - (0 + 4))) z)
+        in
+        let few = r.few in
+        let result : Gives (Over (Stack k.line) stopped) =
+        ends c IsGood (flat.Stands u 9 v9 []) (Stack k.line) stopped
+        (record (tested m p u 9 v9 [] k.room k.line 0 has_tests low_calls) { work = v9.work + r.work })
+        r.steps (code_of (Stack k.line)) (report_of (Stack k.line)) r.comes refl refl
+        (record { input = refl; output = refl; taken = refl; accesses = refl }) (omega arith)
+        (omega (arith, few, start_few)) in
+        subst (λ z. Gives (came (fourfold (0 + 4) z) (λ _ y. Stands f k.entry no_temps [] y))) (sym none) result
+
+    module _ (fits : 0 + k.room ≤ (map_of c).budgets.calls) where
+      inside : charged c.layout.program c.layout.program.entry [] + k.room ≤ (map_of c).budgets.calls
+      inside = let free = charge in omega (arith, fits, free)
+
+      abbrev values : flat.Values
+      values = (tested (map_of c) c.layout.program c.layout.program.entry 9 v9 [] k.room k.line 0 has_tests
+          low_calls).values
+
+      room_left : stack_first c.setting ≤ stack_end c.setting
+      room_left = omega arith
+
+      abbrev callee : State
+      callee = callee_state c IsGood right c.layout.program.entry 9 13 v9 [] c.layout.expansion.code.main k found plain
+          k.line 0 0 [] [] s0
+
+      set_good : IsSetUp (context_at (names c) c.layout.expansion.code.main []) old callee
+      set_good =
+          let budget = budgets_same in
+          let g = fresh_good c IsGood right input in
+          let good : IsGoodState (program_context c.typed (setting_of c.typed (map_of c).budgets).sizes
+          (file_scope c.typed)) (begun s0) = record {
+            kept = g.kept;
+            low = g.low;
+            statics = g.statics;
+            homes = g.homes;
+            plain = g.plain;
+            typed = g.typed;
+            separate = g.separate;
+          } in
+          let up = entered_from c IsGood right f k found (file_scope c.typed) [] k.line (begun s0)
+          (laid_out (header_of_code k) [] (begun s0)) good (no_arguments k.parameters nothing)
+          (set_up_gives c.setting (header_of_code k) [] k.line (begun s0) (none_has (objects_of_body k) plain.none)
+          room_left (le-leb (0 + k.room) c.setting.sizes.budgets.calls (omega (arith, fits, budget)))) in
+          record { good = up.good; lives = up.lives; new = up.new; ends = up.ends }
+        where
+          no_arguments : (ps : List Variable) → length ps ≡ 0
+              → ArgumentsAre (length (file_scope c.typed).functions) (map (λ v. v.kind) ps) [] old
+          no_arguments [] e = tt
+          no_arguments (q ∷ ps) e = absurd (omega arith)
+
+      same_below : (a : ℕ) → a < region_start (map_of c) StructureValues → stacked_memory a ≡ locked a
+      same_below a lt = (let there = words_there in let behind = there.behind in
+          store_beside 8 locked cell stack a (inl (omega (arith, lt, behind))))
+
+      enters_it : Gives stage
+      enters_it =
+          let there = words_there in
+          let stack_low = there.stack_low in
+          let start_few = stored.few in
+          let few = few_parameters c IsGood right k.parameters in
+          let none = nothing in
+          enters c IsGood right u 9 13 v9 [] f k found plain k.line 0 0 [] [] s0 values 6 (start_keys (views c))
+          (record {
+            comes = tests_pass m p u 9 v9 [] k.room k.line 0 has_tests low_calls inside;
+            at = calls;
+            arguments_are = λ x t typed low. absurd (omega (arith, low, none));
+            charge = charge;
+            fits = fits;
+            room = room_left;
+            work = omega (arith, start_few, few, none);
+            stands = record {
+              for = record {
+                objects = stands_kept m right.mapped (length c.setting.functions) c.layout.expansion.types c.entry IsGood
+                    local (start_keys (views c)) locked stacked_memory same_below spaces old stands;
+                spaces = spaces_kept m right.mapped (length c.setting.functions) c.layout.expansion.types c.entry IsGood
+                    local (start_keys (views c)) locked stacked_memory same_below spaces;
+                keys = refl;
+                shown = record { input = refl; output = refl; taken = refl; accesses = refl };
+              };
+              top = load_stored 8 locked cell stack (omega (arith, stack_low))
+                  ∙ ap (λ z. region_start z StackRegion) (sym right.sizes);
+              turns = omega arith;
+            };
+            steady = record {
+              good = record {
+                by = record {
+                  behind = callee;
+                  since = leaves_same (context_at (names c) f []) callee set_good.good;
+                };
+              };
+              bytes = record {
+                some = λ x live automatic. absurd (not_automatic x automatic);
+              };
+              keys = omega arith;
+              statics = continues_same old;
+              statics_live = λ x low. placed_live _ c.layout.expansion.code.statics 0 x low;
+            };
+            wait = λ after. (
+              record {
+                by = subst (BodyBy (world c (start_keys (views c)) s0 v9) callee k (stack_first c.setting)
+                    (stack_first c.setting) (homes_of (body_objects (header_of_code k))) after) (sym plain.none)
+                    (refl, no_homes (body_objects (header_of_code k)));
+                mark = length old;
+                within = omega arith;
+                own = none_between (body_objects (header_of_code k)) (length old) (length old);
+              },
+              (refl, (let long = ap length before_is in omega (arith, long)), refl),
+            );
+          })
+        where
+          not_automatic : (x : ℕ) → (object_at old x).storage ≡ Automatic → ⊥
+          not_automatic x e = (let static = placed_static (region_start c.setting.sizes Globals)
+              c.layout.expansion.code.statics 0 x in apart (sym static ∙ e))
+            where
+              apart : Static ≡ Automatic → ⊥
+              apart e = cc
+
+    main_called : Result c IsGood stage (started c.layout.program memory input)
+    main_called =
+        earlier c IsGood right stage stored.steps (flat.Stands u 0 v0 []) (flat.Stands u 9 v9 []) stored.comes
+        (⊎_elim (λ more. exhausts more) (λ fits. enters_it fits) (cases_lt (map_of c).budgets.calls (0 + k.room)))
+
+pub begins : (c : Compiled) (IsGood : Bytes → Type 0) (right : IsCompiled c IsGood)
+    → IsLocal (map_of c) c.entry IsGood → CoversMain c → (s : State) (x : flat.Stage) → IsFirst c IsGood s x
+    → Result c IsGood (tac_step c.setting (expansion_of c).code (Begins s)) x
+begins c IsGood right local covered s x h =
+    subst (λ z. Result c IsGood (tac_step c.setting (expansion_of c).code (Begins z)) x) (sym h.fresh_is)
+    (subst (λ z. Result c IsGood (tac_step c.setting (expansion_of c).code
+    (Begins (fresh c.setting (objects_before (expansion_of c).code c.setting) h.input))) z) (sym h.started_is)
+    (by (code_in c.layout.expansion.code c.layout.expansion.code.main) refl covered.main))
+  where
+    by : (o : Option CodeFunction) → code_in c.layout.expansion.code c.layout.expansion.code.main ≡ o
+        → is_plain_main c.layout.expansion.code o ≡ true
+        → Result c IsGood (tac_step c.setting (expansion_of c).code
+        (Begins (fresh c.setting (objects_before (expansion_of c).code c.setting) h.input)))
+        (started c.layout.program h.memory h.input)
+    by None found e = cc
+    by (Some k) found e =
+        let parts = and_parts (is_plain_call c.layout.expansion.code (Some k) false) (length k.parameters == 0) e in
+        subst (λ z. Result c IsGood (called_at c.setting z c.layout.expansion.code.main [] (line_in z) []
+        (spent 4 (fresh c.setting (objects_before (expansion_of c).code c.setting) h.input)))
+        (started c.layout.program h.memory h.input)) (sym found)
+        (main_called c IsGood right local covered h.input h.memory k found
+        (plain_call c IsGood right k false parts.0) (eqb-true (length k.parameters) 0 parts.1) h.stands h.spaces)

@@ -1,0 +1,352 @@
+-- A function without objects is entered: from where its arguments stand packed the run comes to its first node.
+use Rattle.std.proofs.Common.{◌≡◌, ℕ, ◌+◌, ◌-◌, ◌*◌, ◌<◌, ◌≤◌, Bool, true, false, List}
+use Rattle.std.proofs.Common.{[], ◌∷◌, ◌++◌, length, length-append, Option, Some, None, refl, sym, ap, ◌∙◌, subst, arith}
+use Rattle.std.proofs.Common.{get_or, le-leb}
+use Rattle.std.specs.Prelude.{slice_get, nat_le, ◌&&◌, ◌||◌, not, if◌then◌else◌}
+use Rattle.std.proofs.lemmas.Bool.{and_parts, and_from, not-true}
+use Rattle.behaviours.specs.Steps.{run}
+use Rattle.behaviours.proofs.Running.{run_add}
+use Rattle.addr_map.specs.declared.region.Region.TheVariants.{RuntimeCalls}
+use Rattle.addr_map.specs.Places.{MapSizes, region_size}
+use Rattle.obj_memory.specs.declared.value.Scalar.{Scalar}
+use Rattle.obj_memory.specs.declared.value.Scalar.TheVariants.{Integer, Pointer}
+use Rattle.c_tree.specs.declared.expression.Kind.{Kind}
+use Rattle.c_tree.specs.declared.expression.Kind.TheVariants.{Void, Scalar as OfScalar, Structure, Array}
+use Rattle.c_tree.specs.declared.program.Variable.{Variable}
+use Rattle.source_meaning.specs.State.{State, Rvalue}
+use Rattle.source_meaning.specs.Actions.{integer}
+use Rattle.source_meaning.specs.Blocks.{has_objects}
+use Rattle.source_meaning.specs.Calls.{body_objects, plain_count, set_up}
+use Rattle.source_meaning.specs.Good.{plain_type}
+use Rattle.source_meaning.specs.Places.{stack_first, stack_end}
+use Rattle.source_meaning.specs.Structures.{rvalue}
+use Rattle.tac_ir.specs.declared.function.CodeFunction.{CodeFunction}
+use Rattle.tac_ir.specs.Stage.{no_temps, Frame, Waits, Entered, Stage, Stands, came}
+use Rattle.tac_ir.specs.Costs.{spent, fourfold, heavier}
+use Rattle.tac_ir.specs.Meaning.{header_of_code, begun}
+use Rattle.flat_meaning.specs.declared.instruction.FlatInstruction.{FlatInstruction}
+use Rattle.flat_meaning.specs.declared.instruction.FlatInstruction.TheVariants as flat_code
+use Rattle.flat_meaning.specs.declared.function.FlatFunction.{FlatFunction}
+use Rattle.flat_meaning.specs.declared.function.FlatProgram.{FlatProgram}
+use Rattle.flat_meaning.specs.Memory.{Bytes}
+use Rattle.flat_meaning.specs.State as flat
+use Rattle.flat_meaning.specs.Calls.{function_in, room_if, rooms, charged, arguments}
+use Rattle.flat_meaning.specs.Meaning.{body_of, step, parameters_of, instruction_at}
+use Rattle.flat_routines.specs.Objects.StandsFor.{Keys}
+use Rattle.flat_routines.specs.Routine.{HasAt}
+use Rattle.flat_routines.proofs.Steps.{has_front, has_self}
+use Rattle.runtime_functions.specs.Library.{Passed, NoValue, OneWord, WithEntry, register_count}
+use Rattle.metadata_plan.specs.Registers.{words_of, all_variables}
+use Rattle.metadata_plan.specs.Expanded.{Leads}
+use Rattle.metadata_plan.proofs.Calling.{counted}
+use Rattle.metadata_plan.proofs.Calling.{argument_out}
+use Rattle.metadata_plan.proofs.Entering.{room_behind, no_rooms, enters_step}
+use Rattle.metadata_plan.proofs.Flat.{Comes, leads_comes}
+use Rattle.metadata_plan.proofs.SetUp.{laid_out, set_up_gives, homes_of}
+use Rattle.metadata_relation.specs.Blocks.{Expansion, objects_of_body, result_of}
+use Rattle.metadata_relation.specs.Blocks.{enter_body, entry_code, prologue, zero_variables}
+use Rattle.metadata_relation.specs.Expanded.{EntersAt}
+use Rattle.metadata_relation.specs.Holding.{World, IsPlain}
+use Rattle.metadata_relation.specs.Registers.{passed_as, parameters_end, variable_words, parameter_words, total, area_words}
+use Rattle.metadata_relation.specs.Registers.{variable_register}
+use Rattle.metadata_relation.specs.Stages.{factor, Compiled, map_of, views, world}
+use Rattle.metadata_relation.specs.Stages.{IsSteady, StandsIn, MatchesBy}
+use Rattle.metadata_relation.specs.Steps.{IsCompiled, is_no_aggregate, are_scalars, is_plain_call}
+use Rattle.metadata_relation.specs.Waiting.{has_value, Level, AllWait}
+use Rattle.metadata_relation.proofs.Assigning.{assigned, assigns}
+use Rattle.metadata_relation.proofs.CallHolds.{none_has, callee_holds}
+use Rattle.metadata_relation.proofs.Holding.{same_world, plain_on}
+use Rattle.metadata_relation.proofs.Packing.{zeros_leave, zeros_assign}
+use Rattle.metadata_relation.proofs.Standing.{there_by, IsThere, Result}
+
+-- ---- rooms
+
+-- the function with which the run begins
+pub record EntryIsThere (e : Expansion) (q : Option FlatFunction) : Type 0 where
+  pub has : HasAt (body_of q) 0 (entry_code e.map e.code)
+  pub no_room : room_if false q ≡ 0
+  pub room : room_if true q ≤ region_size e.map RuntimeCalls
+
+pub entry_there : (e : Expansion) (q : Option FlatFunction) → EntersAt e q → EntryIsThere e q
+entry_there e None h = absurd h
+entry_there e (Some f) h = record {
+  has = subst (λ z. HasAt z 0 (entry_code e.map e.code)) (sym h.body) (has_self (entry_code e.map e.code));
+  no_room = ap (λ b. if b then 0 else f.room) h.of_runtime;
+  room =
+      let same : room_if true (Some f) ≡ f.room = ap (λ b. if b then f.room else 0) h.of_runtime in
+      omega (arith, same, h.room);
+}
+
+module _ (c : Compiled) (IsGood : Bytes → Type 0) (right : IsCompiled c IsGood) where
+  abbrev p : FlatProgram
+  p = c.layout.program
+
+  abbrev map_here : MapSizes
+  map_here = map_of c
+
+  -- a function of the program, and its expansion
+  pub there : (f : ℕ) (k : CodeFunction) → slice_get c.layout.expansion.code.functions f ≡ Some k
+      → IsThere c.layout.expansion f k (c.layout.address f) (function_in c.layout.program f)
+  there f k found = there_by c.layout.expansion f k (c.layout.address f) (function_in p f)
+      (right.expanded.functions f k found)
+
+  -- of the functions of the runtime only that waits with which the run began
+  pub runtime_rooms : (w : World) (s : State) (first : ℕ) (v : Level) (ws : List Frame) (xs : List flat.Frame)
+      → AllWait w s c.layout first v ws xs → rooms true p xs ≤ region_size (map_of c) RuntimeCalls
+  runtime_rooms w s first v [] [] h = absurd h
+  runtime_rooms w s first v [] (x ∷ []) h =
+      let entry = entry_there c.layout.expansion (function_in p p.entry) right.expanded.enters in
+      let same : room_if true (function_in p x.function) ≡ room_if true (function_in p p.entry) =
+      ap (λ z. room_if true (function_in p z)) h.1.0 in
+      omega (arith, room_behind true p x [], no_rooms true p, entry.room, same)
+  runtime_rooms w s first v [] (x ∷ y ∷ xs) h = absurd h
+  runtime_rooms w s first v (Entered n b ∷ ws) xs h =
+      runtime_rooms w s first (record v { stacked = b.stacked; frame = b.frame; bound = h.0.mark }) ws xs h.1
+  runtime_rooms w s first v (Waits a ∷ ws) [] h = absurd h
+  runtime_rooms w s first v (Waits a ∷ ws) (x ∷ xs) h =
+      let th = there a.function h.1.code h.1.there in
+      let same : room_if true (function_in p x.function) ≡ room_if true (function_in p a.function) =
+      ap (λ z. room_if true (function_in p z)) h.1.function in
+      let none = th.no_room in
+      omega (
+        arith,
+        room_behind true p x xs,
+        same,
+        none,
+        runtime_rooms w s first (record {
+          code = h.1.code;
+          values = x.values;
+          stacked = a.caller.stacked;
+          frame = a.caller.frame;
+          bound = h.0.mark;
+        }) ws xs h.2,
+      )
+
+  -- a match further on
+  pub earlier : (a : Stage) (n : ℕ) (x y : flat.Stage) → run (step (map_of c) c.layout.program) n x ≡ y
+      → Result c IsGood a y → Result c IsGood a x
+  earlier a n x y e r = record {
+    steps = n + r.steps;
+    matches = subst (MatchesBy c IsGood a)
+        (sym (run_add (step map_here p) n r.steps x ∙ ap (run (step map_here p) r.steps) e)) r.matches;
+  }
+
+  -- what is tested of a call
+  pub record IsPlainCall (k : CodeFunction) (with_entry : Bool) : Type 0 where
+    pub none : has_objects (objects_of_body k) ≡ false
+    pub scalars : are_scalars k.parameters ≡ true
+    pub result : is_no_aggregate (result_of c.layout.expansion.code k) ≡ true
+    pub valued : has_value (result_of c.layout.expansion.code k) ≡ false → with_entry ≡ false
+
+  pub plain_call : (k : CodeFunction) (b : Bool) → is_plain_call c.layout.expansion.code (Some k) b ≡ true → IsPlainCall k b
+  plain_call k b e =
+      let t = c.layout.expansion.code in
+      let all = and_parts (not (has_objects (objects_of_body k)) && are_scalars k.parameters)
+      (is_no_aggregate (result_of t k) && (has_value (result_of t k) || not b)) e in
+      let first = and_parts (not (has_objects (objects_of_body k))) (are_scalars k.parameters) all.0 in
+      let second = and_parts (is_no_aggregate (result_of t k)) (has_value (result_of t k) || not b) all.1 in
+      record {
+        none = not-true (has_objects (objects_of_body k)) first.0;
+        scalars = first.1;
+        result = second.0;
+        valued = λ no. by (has_value (result_of t k)) b no second.1;
+      }
+    where
+      by : (x b : Bool) → x ≡ false → (x || not b) ≡ true → b ≡ false
+      by true b e q = cc
+      by false true e q = cc
+      by false false e q = refl
+
+  -- the words of plain variables
+  few_words : (vs : List Variable) → total variable_words vs ≤ 5 * plain_count vs
+  few_words [] = omega arith
+  few_words (v ∷ vs) = by v.is_object (few_words vs)
+    where
+      few_kind : (kind : Kind) → words_of kind ≤ 5
+      few_kind Void = omega arith
+      few_kind (OfScalar (Integer t)) = omega arith
+      few_kind (OfScalar Pointer) = omega arith
+      few_kind (Structure n) = omega arith
+      few_kind (Array n) = omega arith
+
+      by : (b : Bool) → total variable_words vs ≤ 5 * plain_count vs
+          → (if b then 0 else words_of v.kind) + total variable_words vs ≤ 5 * ((if b then 0 else 1) + plain_count vs)
+      by true rest = omega (arith, rest)
+      by false rest = omega (arith, rest, few_kind v.kind)
+
+  pub few_parameters : (ps : List Variable) → total parameter_words ps ≤ 5 * length ps
+  few_parameters [] = omega arith
+  few_parameters (v ∷ vs) = omega (arith, few_passed (passed_as v.kind), few_parameters vs)
+    where
+      few_passed : (way : Passed) → register_count way ≤ 5
+      few_passed NoValue = omega arith
+      few_passed OneWord = omega arith
+      few_passed WithEntry = omega arith
+
+  no_area : (kind : Kind) → is_no_aggregate kind ≡ true → area_words kind ≡ 0
+  no_area Void e = refl
+  no_area (OfScalar k) e = refl
+  no_area (Structure n) e = cc
+  no_area (Array n) e = refl
+
+  -- ---- a function is entered
+
+  -- From where the arguments stand packed and the call does, the run comes to the function's first node.
+  module _ (u pc q : ℕ) (v : flat.State) (xs : List flat.Frame) (f : ℕ) (k : CodeFunction)
+      (found : slice_get c.layout.expansion.code.functions f ≡ Some k) (plain : IsPlainCall k false) (line first into : ℕ)
+      (vs : List Rvalue) (ws : List Frame) (s : State) where
+    abbrev pub GivesCall : Stage → Type 0
+    GivesCall a = Result c IsGood a (flat.Stands u pc v xs)
+
+    -- what three-address code does
+    abbrev pub call_stage : Stage
+    call_stage = came (heavier (set_up c.setting (header_of_code k) vs line) (begun s))
+        (λ _ z. Stands f k.entry no_temps ws z)
+
+    -- the state behind the set-up of a function without objects
+    abbrev pub callee_state : State
+    callee_state =
+        let z = laid_out (header_of_code k) vs (begun s) in spent (3 * (z.work - (begun s).work)) z
+
+    abbrev pub frame_of : (values : flat.Values) → flat.Frame
+    frame_of values = record { function = u; next = q + 1; into = into; values = values }
+
+    -- what is known where the call stands
+    pub record IsAtCall (values : flat.Values) (most : ℕ) (keys : Keys) : Type 0 where
+      pub comes : Comes (map_of c) c.layout.program u pc v xs q (record v { turns = v.turns + 1; values = values }) most
+      pub at : instruction_at c.layout.program u q ≡ Some (flat_code.Call f first into)
+      pub arguments_are : (x : ℕ) (t : Scalar) → plain_type (all_variables k) x ≡ Some t → x < length k.parameters
+          → IsPlain (world c keys s v) t (get_or vs x (rvalue (integer 0))).value (variable_register k x)
+          (arguments first (parameters_end k) values)
+      pub charge : s.charged ≡ charged c.layout.program u xs
+      pub fits : s.charged + k.room ≤ (map_of c).budgets.calls
+      pub room : s.stacked ≤ stack_end c.setting
+      pub work : v.work + most + 8 + 2 * parameters_end k ≤ factor * (s.work + 3 + 4 * length k.parameters)
+      pub stands : StandsIn c IsGood keys s v
+      pub steady : IsSteady c f ws callee_state
+      pub wait : (after : flat.Values) → AllWait (world c keys s v) callee_state c.layout (stack_first c.setting)
+          (record {
+            code = k;
+            values = after;
+            stacked = s.stacked;
+            frame = homes_of (body_objects (header_of_code k));
+            bound = length s.objects;
+          }) ws (frame_of values ∷ xs)
+
+    pub calls_same : c.setting.sizes.budgets.calls ≡ (map_of c).budgets.calls
+    calls_same = ap (λ z. z.budgets.calls) right.sizes
+
+    pub enters : (values : flat.Values) (most : ℕ) (keys : Keys) → IsAtCall values most keys → GivesCall call_stage
+    enters values most keys h =
+        let m = map_here in
+        let header = header_of_code k in
+        let th = there f k found in
+        let fn = th.function in
+        let K = h.comes in
+        let budget = calls_same in
+        let charge = h.charge in
+        let fits = h.fits in
+        let set = set_up_gives c.setting header vs line (begun s) (none_has (objects_of_body k) plain.none) h.room
+        (le-leb (s.charged + k.room) c.setting.sizes.budgets.calls (omega (arith, fits, budget))) in
+        let frame = frame_of values in
+        let in_room : room_if false (Some fn) ≡ k.room = ap (room_if false) (sym th.function_is) ∙ th.room in
+        let in_runtime : room_if true (Some fn) ≡ 0 = ap (room_if true) (sym th.function_is) ∙ th.no_room in
+        let behind = room_behind false p frame xs in
+        let top = runtime_rooms (world c keys s v) callee_state (stack_first c.setting) (record {
+          code = k;
+          values = values;
+          stacked = s.stacked;
+          frame = homes_of (body_objects header);
+          bound = length s.objects;
+        }) ws (frame ∷ xs) (h.wait values) in
+        let room = and_from (nat_le (room_if false (Some fn) + rooms false p (frame ∷ xs)) m.budgets.calls)
+        (nat_le (room_if true (Some fn) + rooms true p (frame ∷ xs)) (region_size m RuntimeCalls))
+        (le-leb (room_if false (Some fn) + rooms false p (frame ∷ xs)) m.budgets.calls
+        (omega (arith, in_room, behind, charge, fits)))
+        (le-leb (room_if true (Some fn) + rooms true p (frame ∷ xs)) (region_size m RuntimeCalls)
+        (omega (arith, in_runtime, top))) in
+        let called : flat.State = record v { turns = v.turns + 1; values = values; work = v.work + K.work } in
+        let n : parameters_of (function_in p f) ≡ parameters_end k =
+        (let none = no_area (result_of c.layout.expansion.code k) plain.result in let is = th.parameters in omega arith) in
+        let regs = arguments first (parameters_end k) values in
+        let in_callee : flat.State = record called {
+          values = regs;
+          work = v.work + K.work + (8 + 2 * parameters_end k);
+        } in
+        let e : step m p (flat.Stands u q called xs) ≡ flat.Stands f 0 in_callee (frame ∷ xs) =
+        enters_step m p u q called xs f first into fn h.at th.function_is room
+        ∙ ap (λ z. flat.Stands f 0 (record called {
+          values = arguments first z values;
+          work = v.work + K.work + (8 + 2 * z);
+        }) (frame ∷ xs)) n in
+        let zero_list = zero_variables k in
+        let parts = zeros_assign (parameters_end k + 1) (total variable_words k.variables) in
+        let begun_list : prologue c.layout.expansion k ≡ zero_list ++ [] =
+        ap (λ b. zero_list ++ (if b then enter_body c.layout.expansion k else [])) plain.none in
+        let has_prologue = subst (HasAt (body_of (function_in p f)) 0) begun_list th.begun in
+        let z = assigns m p f (frame ∷ xs) zero_list parts.0 0 in_callee
+        (has_front (body_of (function_in p f)) 0 zero_list [] has_prologue) in
+        let after = assigned zero_list regs in
+        let zeroed : flat.State = record in_callee { values = after; work = in_callee.work + z.work } in
+        let long : length (prologue c.layout.expansion k) ≡ 0 + length zero_list =
+        (let x = ap length begun_list in omega (arith, x, length-append {A = FlatInstruction} zero_list [])) in
+        let l = leads_comes m p f (0 + length zero_list) zeroed (frame ∷ xs) (c.layout.address f k.entry)
+        (subst (λ y. Leads (body_of (function_in p f)) y (c.layout.address f k.entry)) long th.begins) in
+        let last : flat.State = record zeroed { work = in_callee.work + z.work + l.work } in
+        let comes : run (step m p) (K.steps + (1 + (z.steps + l.steps))) (flat.Stands u pc v xs)
+        ≡ flat.Stands f (c.layout.address f k.entry) last (frame ∷ xs) =
+        run_add (step m p) K.steps (1 + (z.steps + l.steps)) (flat.Stands u pc v xs)
+        ∙ ap (run (step m p) (1 + (z.steps + l.steps))) K.comes
+        ∙ run_add (step m p) 1 (z.steps + l.steps) (flat.Stands u q called xs)
+        ∙ ap (run (step m p) (z.steps + l.steps)) e
+        ∙ run_add (step m p) z.steps l.steps (flat.Stands f 0 in_callee (frame ∷ xs))
+        ∙ ap (run (step m p) l.steps) z.comes ∙ l.comes in
+        let same : (y : ℕ) → after y ≡ regs y = zeros_leave (parameters_end k + 1) (total variable_words k.variables) regs
+        (λ y le. argument_out first (parameters_end k) y values (omega (arith, le))) in
+        let many = counted k.parameters in
+        let few = few_words k.variables in
+        let K_few = K.few in
+        let z_few = z.few in
+        let l_few = l.few in
+        let count = parts.1 in
+        let work = h.work in
+        let turned = h.stands.turns in
+        let shown = h.stands.for.shown in
+        let result : GivesCall (Stands f k.entry no_temps ws callee_state) = record {
+          steps = K.steps + (1 + (z.steps + l.steps));
+          matches = subst (MatchesBy c IsGood (Stands f k.entry no_temps ws callee_state)) (sym comes) (record {
+            function = refl;
+            place = refl;
+            code = k;
+            there = found;
+            work = omega (arith, K_few, z_few, l_few, work, many, few, count);
+            charge = omega (arith, behind, th.room, charge);
+            fits = omega (arith, fits);
+            keys = keys;
+            stands = record {
+              for = record {
+                objects = h.stands.for.objects;
+                spaces = h.stands.for.spaces;
+                keys = h.stands.for.keys;
+                shown = record {
+                  input = shown.input;
+                  output = shown.output;
+                  taken = shown.taken;
+                  accesses = shown.accesses;
+                };
+              };
+              top = h.stands.top;
+              turns = omega (arith, turned);
+            };
+            steady = h.steady;
+            holds = callee_holds (world c keys s v) c.layout.expansion.code k callee_state.charged
+                (c.layout.expansion.entries f k.entry) (c.layout.expansion.contents f k.entry) vs after
+                (λ x t typed inside. plain_on (views c) keys keys s.objects s.objects v.memory v.memory
+                (same_world (views c) keys s.objects v.memory) t (get_or vs x (rvalue (integer 0))).value
+                (variable_register k x) regs after (λ j lt. same (variable_register k x + j))
+                (h.arguments_are x t typed inside))
+                (λ y le. same y ∙ argument_out first (parameters_end k) y values le);
+            wait = record { by = h.wait after };
+          });
+        } in
+        subst (λ z. GivesCall (came (fourfold (begun s).work z) (λ _ y. Stands f k.entry no_temps ws y))) (sym set) result

@@ -1,0 +1,510 @@
+-- Returns from functions whose bodies have no objects: to the caller that waits, or to the end of the run.
+use Rattle.std.proofs.Common.{◌≡◌, ◌⊎◌, inl, inr, ℕ, ◌+◌, ◌-◌, ◌*◌, ◌%◌, ◌<◌, ◌≤◌, Bool, true, false, List, []}
+use Rattle.std.proofs.Common.{◌∷◌, ◌++◌, length, Some, None, refl, sym, ap, ◌∙◌, subst, arith, get_or, le-leb}
+use Rattle.std.specs.Prelude.{slice_get, nat_le, nat_lt, ◌==◌, ◌&&◌, if◌then◌else◌}
+use Rattle.std.proofs.lemmas.Bool.{and_parts, and_from, eq-eqb, lt-leb, lt-ltb, le-ltb, ne_eqb, false≢true}
+use Rattle.behaviours.specs.Steps.{run}
+use Rattle.behaviours.proofs.Running.{run_add}
+use Rattle.addr_map.specs.Places.{MapSizes}
+use Rattle.sb_base.specs.declared.ending.Ending.TheVariants.{Exit as ExitWith}
+use Rattle.obj_memory.specs.declared.value.Scalar.TheVariants.{Integer, Pointer}
+use Rattle.obj_memory.specs.declared.value.Tag.TheVariants.{Untagged}
+use Rattle.obj_memory.specs.Objects.{Objects}
+use Rattle.c_tree.specs.declared.expression.Kind.{Kind}
+use Rattle.c_tree.specs.declared.expression.Kind.TheVariants.{Void, Scalar as OfScalar, Structure, Array}
+use Rattle.source_meaning.specs.State.{State, Home, NoObject, InObject}
+use Rattle.source_meaning.specs.Actions.{int_of}
+use Rattle.source_meaning.specs.Blocks.{has_objects, without_homes}
+use Rattle.source_meaning.specs.Calls.{back_to, result_of as result_in}
+use Rattle.source_meaning.specs.Good.{Leaves}
+use Rattle.source_meaning.specs.Places.{stack_first}
+use Rattle.source_meaning.specs.Structures.{rvalue}
+use Rattle.tac_ir.specs.declared.instruction.Instruction.TheVariants as tac
+use Rattle.tac_ir.specs.declared.function.CodeFunction.{CodeFunction}
+use Rattle.tac_ir.specs.Accesses.{is_place}
+use Rattle.tac_ir.specs.Fitting.{is_of_type, is_passed}
+use Rattle.tac_ir.specs.Stage.{Temps, with_temp, Waiting, Frame, Waits, Entered, Stage, Stands, Over, Stuck}
+use Rattle.tac_ir.specs.Costs.{handed_bytes, spent}
+use Rattle.tac_ir.specs.Meaning.{function_in as code_in, type_of, effect, given_to}
+use Rattle.flat_meaning.specs.declared.instruction.FlatInstruction.{FlatInstruction}
+use Rattle.flat_meaning.specs.declared.instruction.FlatInstruction.TheVariants as flat_code
+use Rattle.flat_meaning.specs.declared.function.FlatProgram.{FlatProgram}
+use Rattle.flat_meaning.specs.Memory.{Bytes}
+use Rattle.flat_meaning.specs.State as flat
+use Rattle.flat_meaning.specs.Calls.{function_in, with_results}
+use Rattle.flat_meaning.specs.Meaning.{body_of, step, results_of, weight_of, instruction_at}
+use Rattle.flat_routines.specs.Objects.StandsFor.{spell}
+use Rattle.flat_routines.specs.Routine.{HasAt}
+use Rattle.flat_routines.proofs.Steps.{has_back}
+use Rattle.metadata_plan.specs.Registers.{most_temporaries}
+use Rattle.metadata_plan.specs.Entries.{is_moved_with_entry}
+use Rattle.metadata_plan.proofs.Flat.{one, weight_small, leads_comes, exit_step}
+use Rattle.metadata_plan.proofs.Library.{status_is}
+use Rattle.metadata_relation.specs.Blocks.{objects_of_body, result_of, result_entry, leave_code, before_main}
+use Rattle.metadata_relation.specs.Holding.{World, IsHeldAt, Holds}
+use Rattle.metadata_relation.specs.Registers.{result_words, temporary_register, body_top_register}
+use Rattle.metadata_relation.specs.Scopes.{IsInCall, AreGoodBy, AreGood, context_at}
+use Rattle.metadata_relation.specs.Stages.{Compiled, map_of, views, names, world, level, expansion_of}
+use Rattle.metadata_relation.specs.Stages.{IsAt, MatchesBy}
+use Rattle.metadata_relation.specs.Steps.{IsCompiled, is_no_aggregate, gives_scalar}
+use Rattle.metadata_relation.specs.Waiting.{AreNoObjects, BodyBy, IsBodyAs, IsWaitingAs, has_value}
+use Rattle.metadata_relation.specs.Waiting.{Level, AllWait}
+use Rattle.metadata_relation.proofs.Assigning.{assigned, are_assignments, assigns, wider}
+use Rattle.metadata_relation.proofs.CallStates.{left_good}
+use Rattle.metadata_relation.proofs.Calls.{scalar_place, held_at}
+use Rattle.metadata_relation.proofs.Entering.{entry_there, there}
+use Rattle.metadata_relation.proofs.Holding.{same_world, gives_temporary}
+use Rattle.metadata_relation.proofs.Packing.{held_moved}
+use Rattle.metadata_relation.proofs.Registers.{few_in}
+use Rattle.metadata_relation.proofs.Setting.{no_tag_is}
+use Rattle.metadata_relation.proofs.Standing.{good_now, good_then, good_counted, IsNode, node, ends, Result}
+use Rattle.metadata_relation.proofs.Updating.{untagged_are, untagged_leaves}
+use Rattle.metadata_relation.proofs.Waiting.{waits_at, waits_same}
+
+-- ---- results in registers
+
+in_results : (into n from y : ℕ) (results values : flat.Values) → into ≤ y → y < into + n
+    → with_results into n results from values y ≡ results (from + (y - into))
+in_results into n from y results values low high =
+    ap (λ b. if b then results (from + (y - into)) else values y)
+    (and_from (nat_le into y) (nat_lt y (into + n)) (le-leb into y low) (lt-ltb y (into + n) high))
+
+out_results : (into n from y : ℕ) (results values : flat.Values) → (y < into) ⊎ (into + n ≤ y)
+    → with_results into n results from values y ≡ values y
+out_results into n from y results values (inl below) =
+    ap (λ b. if b && nat_lt y (into + n) then results (from + (y - into)) else values y) (lt-leb into y below)
+out_results into n from y results values (inr above) =
+    by (nat_le into y) (nat_lt y (into + n)) (le-ltb y (into + n) above)
+  where
+    by : (a b : Bool) → b ≡ false → (if a && b then results (from + (y - into)) else values y) ≡ values y
+    by true true e = cc
+    by true false e = refl
+    by false b e = refl
+
+pub returns_by : (m : MapSizes) (p : FlatProgram) (u q : ℕ) (v : flat.State) (x : flat.Frame) (xs : List flat.Frame)
+    (y n : ℕ) → instruction_at p u q ≡ Some (flat_code.Return y) → results_of (function_in p u) ≡ n
+    → step m p (flat.Stands u q v (x ∷ xs)) ≡ flat.Stands x.function x.next
+    (record v { values = with_results x.into n v.values y x.values; work = v.work + (8 + 2 * n) }) xs
+returns_by m p u q v x xs y n at results =
+    one m p u q v (x ∷ xs) (flat_code.Return y) at
+    ∙ ap (λ n. flat.Stands x.function x.next
+    (record v { values = with_results x.into n v.values y x.values; work = v.work + (8 + 2 * n) }) xs) results
+
+-- ---- what waits knows a number that no object of it reaches
+
+body_higher : (w : World) (s : State) (c : CodeFunction) (stacked outer a b : ℕ) (homes : List Home)
+    (values : flat.Values) → a ≤ b → IsBodyAs w s c stacked outer a homes values → IsBodyAs w s c stacked outer b homes values
+body_higher w s c stacked outer a b homes values le h = record {
+  by = h.by;
+  mark = h.mark;
+  within = (let i = h.within in omega arith);
+  own = λ o q. (let z = h.own o q in let above = z.0 in let below = z.1 in (above, omega arith));
+}
+
+waits_higher : (w : World) (s : State) (l : _) (first : ℕ) (v : Level) (bound : ℕ) → v.bound ≤ bound → (ws : List Frame)
+    (xs : List flat.Frame) → AllWait w s l first v ws xs → AllWait w s l first (record v { bound = bound }) ws xs
+unfolding body_higher
+waits_higher w s l first v bound le [] [] h = h
+waits_higher w s l first v bound le [] (x ∷ []) h =
+    (body_higher w s v.code v.stacked first v.bound bound v.frame v.values le h.0, h.1)
+waits_higher w s l first v bound le [] (x ∷ y ∷ xs) h = h
+waits_higher w s l first v bound le (Entered n b ∷ ws) xs h =
+    let e = h.0 in (
+      record {
+        some = e.some;
+        block = e.block;
+        mark = e.mark;
+        own = λ o q. (let z = e.own o q in let above = z.0 in let below = z.1 in (above, omega arith));
+        below = e.below;
+        homes = e.homes;
+      },
+      h.1,
+    )
+waits_higher w s l first v bound le (Waits a ∷ ws) [] h = h
+waits_higher w s l first v bound le (Waits a ∷ ws) (x ∷ xs) h =
+    (body_higher w s v.code v.stacked a.caller.stacked v.bound bound v.frame v.values le h.0, h.1, h.2)
+
+none_die : (homes : List Home) (objects : Objects) → AreNoObjects homes → without_homes homes objects ≡ objects
+none_die [] objects h = refl
+none_die (NoObject ∷ homes) objects h = none_die homes objects h
+none_die (InObject o ∷ homes) objects h = absurd h
+
+-- a function that gives a scalar hands over a word at least
+some_results : (kind : Kind) → is_no_aggregate kind ≡ true → 1 ≤ result_words kind
+some_results Void e = omega arith
+some_results (OfScalar (Integer t)) e = omega arith
+some_results (OfScalar Pointer) e = omega arith
+some_results (Structure size) e = cc
+some_results (Array size) e = cc
+
+few_results : (kind : Kind) → is_no_aggregate kind ≡ true → result_words kind ≤ 5
+few_results Void e = omega arith
+few_results (OfScalar (Integer t)) e = omega arith
+few_results (OfScalar Pointer) e = omega arith
+few_results (Structure size) e = cc
+few_results (Array size) e = cc
+
+module _ (c : Compiled) (IsGood : Bytes → Type 0) (right : IsCompiled c IsGood) (u n : ℕ) (temps : Temps)
+    (ws : List Frame) (s : State) (v : flat.State) (xs : List flat.Frame)
+    (h : IsAt c IsGood u n temps ws s u (c.layout.address u n) v xs) (a : ℕ)
+    (at : slice_get h.code.code n ≡ Some (tac.Return a)) (none : has_objects (objects_of_body h.code) ≡ false)
+    (passed : is_passed (result_of c.layout.expansion.code h.code) (temps a) ≡ true)
+    (scalar : is_no_aggregate (result_of c.layout.expansion.code h.code) ≡ true) where
+  abbrev pc : ℕ
+  pc = c.layout.address u n
+
+  abbrev m : MapSizes
+  m = map_of c
+
+  abbrev p : FlatProgram
+  p = c.layout.program
+
+  abbrev body : List FlatInstruction
+  body = body_of (function_in c.layout.program u)
+
+  abbrev kind : Kind
+  kind = result_of c.layout.expansion.code h.code
+
+  abbrev r : ℕ
+  r = temporary_register h.code a
+
+  label : IsNode c u n h.code (tac.Return a)
+  label = node c IsGood right u n temps ws s v xs h (tac.Return a) at
+
+  low : a < most_temporaries h.code.code
+  low = omega (arith, label.temporaries_low)
+
+  contents_none : (temps a).contents ≡ None
+  contents_none = scalar_place kind (temps a) scalar passed
+
+  held : IsHeldAt (world c h.keys s v) (c.layout.expansion.entries u n a) (temps a).value (temporary_register h.code a)
+      v.values
+  held = held_at c IsGood right u n temps ws s v xs h a low contents_none
+
+  here : instruction_at c.layout.program u (c.layout.address u n) ≡ Some (flat_code.Return (temporary_register h.code a))
+  here = (subst (λ b. HasAt body pc ((if b
+      then leave_code c.layout.expansion.inline m h.code (objects_of_body h.code) (body_top_register h.code) else [])
+      ++ (flat_code.Return r ∷ []))) none label.put.has).0
+
+  results : results_of (function_in c.layout.program u) ≡ result_words (result_of c.layout.expansion.code h.code)
+  results = (there c IsGood right u h.code h.there).results
+
+  -- the state once the value is handed on
+  abbrev pub handed : State
+  handed = spent (handed_bytes (temps a)) (spent 3 s)
+
+  -- ---- to the end of the run
+
+  ended : (x : flat.Frame) → x.function ≡ c.layout.program.entry
+      → x.next ≡ length (before_main (map_of c) c.layout.expansion.code) + 1 → x.into ≡ 0
+      → Result c IsGood (Over (ExitWith (int_of (temps a).value.word)) handed)
+      (flat.Stands u (c.layout.address u n) v (x ∷ []))
+  ended x function next into =
+      let k = result_words kind in
+      let w = v.values r in
+      let values = with_results x.into k v.values r x.values in
+      let back : flat.State = record v { values = values; work = v.work + (8 + 2 * k) } in
+      let entry = entry_there c.layout.expansion (function_in p p.entry) right.expanded.enters in
+      let rest = has_back (body_of (function_in p p.entry)) 0 (before_main m c.layout.expansion.code)
+      (flat_code.Call c.layout.expansion.code.main 0 0 ∷ flat_code.Exit 0 ∷ []) entry.has in
+      let place = 0 + length (before_main m c.layout.expansion.code) + 1 in
+      let place_is : x.next ≡ place = omega (arith, next) in
+      let first = returns_by m p u pc v x [] r k here results
+      ∙ ap (λ z. flat.Stands z x.next back []) function ∙ ap (λ z. flat.Stands p.entry z back []) place_is in
+      let second = exit_step m p p.entry place back [] 0 rest.1.0 in
+      let some = some_results kind scalar in
+      let few = few_results kind scalar in
+      let status : values 0 ≡ w =
+      in_results x.into k r 0 v.values x.values (omega (arith, into)) (omega (arith, into, some))
+      ∙ ap v.values (omega (arith, into)) in
+      let last : flat.State = record back { work = back.work + weight_of (function_in p p.entry) } in
+      let comes : run (step m p) 2 (flat.Stands u pc v (x ∷ [])) ≡ flat.Over (values 0 % 256) [] last =
+      ap (step m p) first ∙ second in
+      let shown = h.stands.for.shown in
+      let before = h.work in
+      let light = weight_small (function_in p p.entry) in
+      let result : Result c IsGood (Over (ExitWith (int_of w)) handed) (flat.Stands u pc v (x ∷ [])) =
+      ends c IsGood (flat.Stands u pc v (x ∷ [])) (ExitWith (int_of w)) handed last 2 (values 0 % 256) [] comes
+      (ap (λ z. z % 256) status ∙ status_is w) refl
+      (record { input = shown.input; output = shown.output; taken = shown.taken; accesses = shown.accesses })
+      h.stands.turns (omega (arith, before, light, few)) in
+      subst (λ z. Result c IsGood (Over (ExitWith (int_of z)) handed) (flat.Stands u pc v (x ∷ []))) held.word result
+
+  -- ---- to a caller
+
+  -- its first word does
+  first_word : (k : ℕ) → 1 ≤ k → (into : ℕ) (before : flat.Values)
+      → with_results into k v.values (temporary_register h.code a) before into ≡ v.values (temporary_register h.code a)
+  first_word k some into before =
+      in_results into k r into v.values before (omega arith) (omega (arith, some)) ∙ ap v.values (omega arith)
+
+  one_wide : (y into : ℕ) → (y < into) ⊎ (into + 5 ≤ y) → (y < into) ⊎ (into + 1 ≤ y)
+  one_wide y into (inl below) = inl below
+  one_wide y into (inr above) = inr (omega arith)
+
+  -- the value has come to where the caller wants it
+  record IsDelivered (kind : Kind) (with_entry : Bool) (into : ℕ) (before : flat.Values) : Type 0 where
+    assigns_all : are_assignments (result_entry kind with_entry into) ≡ true
+    few : 2 * result_words kind + 2 * length (result_entry kind with_entry into) ≤ 10
+    held_there : IsHeldAt (world c h.keys s v) with_entry (temps a).value into
+        (assigned (result_entry kind with_entry into)
+        (with_results into (result_words kind) v.values (temporary_register h.code a) before))
+    others : (y : ℕ) → (y < into) ⊎ (into + 5 ≤ y)
+        → assigned (result_entry kind with_entry into)
+        (with_results into (result_words kind) v.values (temporary_register h.code a) before) y ≡ before y
+
+  delivered : (kind : Kind) → result_of c.layout.expansion.code h.code ≡ kind → is_no_aggregate kind ≡ true
+      → is_passed kind (temps a) ≡ true → (b : Bool) → (has_value kind ≡ false → b ≡ false) → (into : ℕ)
+      (before : flat.Values) → IsDelivered kind b into before
+  delivered Void is e f true valued into before = absurd (false≢true (sym (valued refl)))
+  delivered Void is e f false valued into before = record {
+    assigns_all = refl;
+    few = omega arith;
+    held_there = record {
+      word = first_word 1 (omega arith) into before ∙ held.word;
+      entry = λ q. cc;
+      sound = held.sound;
+    };
+    others = λ y out. out_results into 1 r y v.values before (one_wide y into out);
+  }
+  delivered (OfScalar (Integer t)) is e f b valued into before =
+      let plain = untagged_are b into in
+      let count = plain.1 in
+      let values = with_results into 1 v.values r before in
+      let z = untagged_leaves b into values in
+      let word = z.others into (inl (omega arith)) ∙ first_word 1 (omega arith) into before ∙ held.word in
+      let typed = (and_parts (is_place (temps a).contents) (is_of_type (Integer t) (temps a).value) f).1 in
+      let no_tag : (temps a).value.tag ≡ Untagged = no_tag_is (Integer t) (temps a).value typed in
+      record {
+        assigns_all = plain.0;
+        few = omega (arith, count);
+        held_there = record {
+          word = word;
+          entry = λ q. record { word = word; tag = z.entry q ∙ ap (spell (views c) h.keys) (sym no_tag) };
+          sound = held.sound;
+        };
+        others = λ y out. z.others y (wider y into out) ∙ out_results into 1 r y v.values before (one_wide y into out);
+      }
+  delivered (OfScalar Pointer) is e f b valued into before = record {
+    assigns_all = refl;
+    few = omega arith;
+    held_there = held_moved (world c h.keys s v) (c.layout.expansion.entries u n a) b (temps a).value r into v.values
+        (with_results into 5 v.values r before)
+        (λ q. label.closed.read n a (tac.Return a) at
+        (and_from (a == a) (is_moved_with_entry (result_of c.layout.expansion.code h.code)) (eq-eqb a a refl)
+        (ap is_moved_with_entry is)))
+        (λ j lt. (let few = few_in b in
+        in_results into 5 r (into + j) v.values before (omega arith) (omega (arith, lt, few))
+        ∙ ap v.values (omega arith))) held;
+    others = λ y out. out_results into 5 r y v.values before out;
+  }
+  delivered (Structure size) is e f b valued into before = cc
+  delivered (Array size) is e f b valued into before = cc
+
+  module _ (w : Waiting) (others : List Frame) (x : flat.Frame) (rest : List flat.Frame)
+      (body_is : IsBodyAs (world c h.keys s v) s h.code s.stacked w.caller.stacked (length s.objects) s.frame v.values)
+      (k : IsWaitingAs (world c h.keys s v) c.layout h.code body_is.mark w x rest)
+      (wait : AllWait (world c h.keys s v) s c.layout (stack_first c.setting) (record {
+        code = k.code;
+        values = x.values;
+        stacked = w.caller.stacked;
+        frame = w.caller.frame;
+        bound = body_is.mark;
+      }) others rest)
+      (inside : IsInCall (names c) u w s) (good_rest : AreGoodBy (names c) w.function others inside.before) where
+    abbrev into : ℕ
+    into = temporary_register k.code w.place
+
+    abbrev with_entry : Bool
+    with_entry = c.layout.expansion.entries w.function w.node w.place
+
+    there_is : IsDelivered (result_of c.layout.expansion.code h.code)
+        (c.layout.expansion.entries w.function w.node w.place) (temporary_register k.code w.place) x.values
+    there_is = delivered kind refl scalar passed with_entry k.valued into x.values
+
+    abbrev list : List FlatInstruction
+    list = result_entry (result_of c.layout.expansion.code h.code)
+        (c.layout.expansion.entries w.function w.node w.place) (temporary_register k.code w.place)
+
+    abbrev words : ℕ
+    words = result_words (result_of c.layout.expansion.code h.code)
+
+    abbrev given_back : flat.Values
+    given_back = with_results (temporary_register k.code w.place)
+        (result_words (result_of c.layout.expansion.code h.code)) v.values (temporary_register h.code a) x.values
+
+    abbrev after : flat.Values
+    after = assigned list given_back
+
+    -- no object dies, and the top of the object stack is the caller's
+    is_body : (s.stacked ≡ w.caller.stacked) × AreNoObjects s.frame
+    is_body = subst (BodyBy (world c h.keys s v) s h.code s.stacked w.caller.stacked s.frame v.values) none body_is.by
+
+    objects_same : without_homes s.frame s.objects ≡ s.objects
+    objects_same = none_die s.frame s.objects is_body.1
+
+    -- the caller's state, with some objects
+    abbrev back_with : Objects → State
+    back_with objects = record handed {
+      objects = objects;
+      frame = w.caller.frame;
+      plain = w.caller.plain;
+      charged = w.caller.charged;
+      stacked = w.caller.stacked;
+    }
+
+    good : AreGood (names c) w.function others (back_with s.objects)
+    good =
+        let on = left_good c IsGood right u h.code h.there w.function others inside.before inside.behind s
+        (good_now (names c) w.function others inside.before (record { by = good_rest })) inside.set_up inside.since in
+        let back = good_then (names c) w.function others inside.before (back_to w.caller s)
+        (subst (λ z. Leaves (context_at (names c) w.function others) inside.before (back_to z s)) (sym inside.caller_is) on)
+        (record { by = good_rest }) in
+        subst (λ z. AreGood (names c) w.function others (back_with z)) objects_same
+        (good_counted (names c) w.function others (back_to w.caller s) s.input s.output s.taken s.turns
+        (s.work + 3 + handed_bytes (temps a)) back)
+
+    caller_holds : Holds (world c h.keys s v) (record {
+      tac = c.layout.expansion.code;
+      code = k.code;
+      charged = w.caller.charged;
+      entries = c.layout.expansion.entries w.function w.node;
+      contents = c.layout.expansion.contents w.function w.node;
+      unknown = λ i. false;
+    }) (with_temp w.temps w.place (rvalue (temps a).value)) w.caller.plain w.caller.frame after
+    caller_holds =
+        gives_temporary (views c) h.keys h.keys s.objects s.objects v.memory v.memory
+        (same_world (views c) h.keys s.objects v.memory) (record {
+          tac = c.layout.expansion.code;
+          code = k.code;
+          charged = w.caller.charged;
+          entries = c.layout.expansion.entries w.function w.node;
+          contents = c.layout.expansion.contents w.function w.node;
+          unknown = λ i. i == w.place;
+        }) (c.layout.expansion.entries w.function w.node) (c.layout.expansion.contents w.function w.node) (λ i. false)
+        w.temps w.caller.plain w.caller.frame x.values after w.place (rvalue (temps a).value) k.low
+        (record { kept = λ i ne e. e; plain = λ i ne e. e; known = λ i ne e. ne_eqb i w.place ne })
+        (λ y o home live is. live) (λ y lt out. there_is.others y out)
+        (record { by = there_is.held_there; none = λ e. refl }) k.holds
+
+    backs : Result c IsGood (given_to (Waits w ∷ others) (temps a) handed)
+        (flat.Stands u (c.layout.address u n) v (x ∷ rest))
+    backs =
+        let first_state : flat.State = record v { values = given_back; work = v.work + (8 + 2 * words) } in
+        let first = returns_by m p u pc v x rest r words here results
+        ∙ ap (λ z. flat.Stands x.function x.next
+        (record v { values = with_results z words v.values r x.values; work = v.work + (8 + 2 * words) }) rest) k.into
+        ∙ ap (λ z. flat.Stands z x.next first_state rest) k.function in
+        let assigned_all = assigns m p w.function rest list there_is.assigns_all x.next first_state k.behind in
+        let second_state : flat.State = record first_state { values = after; work = first_state.work + assigned_all.work } in
+        let q = x.next + length list in
+        let l = leads_comes m p w.function q second_state rest (c.layout.address w.function w.node) k.leads in
+        let last : flat.State = record second_state { work = second_state.work + l.work } in
+        let comes : run (step m p) (1 + (assigned_all.steps + l.steps)) (flat.Stands u pc v (x ∷ rest))
+        ≡ flat.Stands w.function (c.layout.address w.function w.node) last rest =
+        run_add (step m p) 1 (assigned_all.steps + l.steps) (flat.Stands u pc v (x ∷ rest))
+        ∙ ap (run (step m p) (assigned_all.steps + l.steps)) first
+        ∙ run_add (step m p) assigned_all.steps l.steps (flat.Stands w.function x.next first_state rest)
+        ∙ ap (run (step m p) l.steps) assigned_all.comes ∙ l.comes in
+        let s' : State = back_with s.objects in
+        let stage : Stage = Stands w.function w.node (with_temp w.temps w.place (rvalue (temps a).value)) others s' in
+        let shown = h.stands.for.shown in
+        let before = h.work in
+        let few = there_is.few in
+        let assigned_few = assigned_all.few in
+        let l_few = l.few in
+        let value : temps a ≡ rvalue (temps a).value =
+        ap (λ z. record { value = (temps a).value; contents = z }) contents_none in
+        let result : Result c IsGood stage (flat.Stands u pc v (x ∷ rest)) = record {
+          steps = 1 + (assigned_all.steps + l.steps);
+          matches = subst (MatchesBy c IsGood stage) (sym comes) (record {
+            function = refl;
+            place = refl;
+            code = k.code;
+            there = k.there;
+            work = omega (arith, before, few, assigned_few, l_few);
+            charge = k.charge;
+            fits = k.fits;
+            keys = h.keys;
+            stands = record {
+              for = record {
+                objects = h.stands.for.objects;
+                spaces = h.stands.for.spaces;
+                keys = h.stands.for.keys;
+                shown = record {
+                  input = shown.input;
+                  output = shown.output;
+                  taken = shown.taken;
+                  accesses = shown.accesses;
+                };
+              };
+              top = h.stands.top ∙ is_body.0;
+              turns = h.stands.turns;
+            };
+            steady = record {
+              good = good;
+              bytes = h.steady.bytes;
+              keys = h.steady.keys;
+              statics = h.steady.statics;
+              statics_live = h.steady.statics_live;
+            };
+            holds = caller_holds;
+            wait = record {
+              by = waits_at (world c h.keys s v) s' c.layout (stack_first c.setting) k.code x.values after
+                  (λ y from to. there_is.others y (inl (omega (arith, to)))) w.caller.stacked (length s.objects)
+                  w.caller.frame others rest
+                  (waits_same (views c) h.keys s s' v.memory c.layout (stack_first c.setting) refl (record {
+                    code = k.code;
+                    values = x.values;
+                    stacked = w.caller.stacked;
+                    frame = w.caller.frame;
+                    bound = length s.objects;
+                  }) others rest
+                  (waits_higher (world c h.keys s v) s c.layout (stack_first c.setting) (record {
+                    code = k.code;
+                    values = x.values;
+                    stacked = w.caller.stacked;
+                    frame = w.caller.frame;
+                    bound = body_is.mark;
+                  }) (length s.objects) body_is.within others rest wait));
+            };
+          });
+        } in
+        subst (λ z. Result c IsGood (Stands w.function w.node (with_temp w.temps w.place (temps a)) others (back_with z))
+        (flat.Stands u pc v (x ∷ rest))) (sym objects_same)
+        (subst (λ z. Result c IsGood (Stands w.function w.node (with_temp w.temps w.place z) others s')
+        (flat.Stands u pc v (x ∷ rest))) (sym value) result)
+
+  returns : (given_to ws (temps a) handed ≡ Stuck → ⊥)
+      → Result c IsGood (given_to ws (temps a) handed) (flat.Stands u (c.layout.address u n) v xs)
+  returns = by ws xs h.wait.by h.steady.good.by
+    where
+      by : (ws' : List Frame) (xs' : List flat.Frame)
+          → AllWait (world c h.keys s v) s c.layout (stack_first c.setting) (level h.code s v) ws' xs'
+          → AreGoodBy (names c) u ws' s → (given_to ws' (temps a) handed ≡ Stuck → ⊥)
+          → Result c IsGood (given_to ws' (temps a) handed) (flat.Stands u (c.layout.address u n) v xs')
+      by [] [] wait steady fine = absurd wait
+      by [] (x ∷ []) wait steady fine = ended x wait.1.0 wait.1.1 wait.1.2
+      by [] (x ∷ y ∷ rest) wait steady fine = absurd wait
+      by (Entered number b ∷ others) rest wait steady fine = absurd (fine refl)
+      by (Waits w ∷ others) [] wait steady fine = absurd wait
+      by (Waits w ∷ others) (x ∷ rest) wait steady fine = backs w others x rest wait.0 wait.1 wait.2 steady.0 steady.1
+
+pub return_step : (c : Compiled) (IsGood : Bytes → Type 0) (right : IsCompiled c IsGood) (u n : ℕ) (temps : Temps)
+    (ws : List Frame) (s : State) (v : flat.State) (xs : List flat.Frame)
+    (h : IsAt c IsGood u n temps ws s u (c.layout.address u n) v xs) (a : ℕ)
+    → slice_get h.code.code n ≡ Some (tac.Return a) → has_objects (objects_of_body h.code) ≡ false
+    → is_passed (result_in c.setting (type_of (code_in c.layout.expansion.code u))) (temps a) ≡ true
+    → gives_scalar c.layout.expansion.code (code_in c.layout.expansion.code u) ≡ true
+    → (effect c.setting (expansion_of c).code (tac.Return a) u temps ws (spent 3 s) ≡ Stuck → ⊥)
+    → Result c IsGood (effect c.setting (expansion_of c).code (tac.Return a) u temps ws (spent 3 s))
+    (flat.Stands u (c.layout.address u n) v xs)
+return_step c IsGood right u n temps ws s v xs h a at none passed scalar fine =
+    let type = ap type_of h.there in
+    let result : result_in c.setting (type_of (code_in c.layout.expansion.code u))
+    ≡ result_of c.layout.expansion.code h.code =
+    ap (λ z. get_or c.setting.results z Void) type
+    ∙ ap (λ z. get_or z h.code.type_number Void) (sym right.results) in
+    returns c IsGood right u n temps ws s v xs h a at none
+    (ap (λ z. is_passed z (temps a)) (sym result) ∙ passed)
+    (ap (gives_scalar c.layout.expansion.code) (sym h.there) ∙ scalar) fine

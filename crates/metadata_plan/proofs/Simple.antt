@@ -48,7 +48,6 @@ use Rattle.tac_ir.specs.Edges.{LeadsTo}
 use Rattle.metadata_plan.specs.Part.{has_no_pointer, is_word, IsIntegerCode}
 use Rattle.metadata_plan.specs.Matching.{IsAlike, IsAt}
 use Rattle.metadata_plan.proofs.Numbers.{scaled}
-use Rattle.metadata_plan.proofs.Constants.{any_constant}
 use Rattle.metadata_plan.proofs.Flat.{then_comes}
 use Rattle.metadata_plan.proofs.Flat.{weight_small, Comes, constant_comes, move_comes, turn_comes, branch_taken_comes}
 use Rattle.metadata_plan.proofs.Flat.{branch_passed_comes}
@@ -180,7 +179,7 @@ module _ (o : OperatorCode) (views : Views) (g : Setting) (t : Tac) (address : (
       let f = first_free c in
       let to : d < most_temporaries c.code = omega (arith, k.temporaries_low) in
       let place = pc + length (o.constant x w f) in
-      let r = any_constant o ops m p position x w f (temporary_free c k.integers d to) (ltb-true w (2 ^ 64) k.part)
+      let r = ops.constant m p position x w f (temporary_free c k.integers d to) (ltb-true w (2 ^ 64) k.part)
       (record { has = k.put.has; words = words }) in
       sets_temporary (tac.Constant d w next) k d w next 12 (inl refl) r.after
       (leads_on place (address u next) (record v { values = r.after }) 10
@@ -428,7 +427,7 @@ module _ (o : OperatorCode) (views : Views) (g : Setting) (t : Tac) (address : (
 
     abbrev word_in : Computes m p position tested_at (first_free c) w (first_free c + 1) 5
     word_in =
-        any_constant o ops m p position free w (free + 1) (omega arith) (ltb-true w (2 ^ 64) label.part)
+        ops.constant m p position free w (free + 1) (omega arith) (ltb-true w (2 ^ 64) label.part)
         (record { has = has_front (body_of (function_in p u)) pc word_code test label.put.has; words = words })
 
     kept : (z : ℕ) → z < free → word_in.after z ≡ v.values z

@@ -1,5 +1,5 @@
 -- The code of the operators on integers (C99 6.5.3.3, 6.5.5 to 6.5.12, 6.3.1.3), and what is asked of it.
-use Rattle.std.specs.Prelude.{◌≡◌, ◌≢◌, ℕ, ◌+◌, ◌-◌, ◌*◌, ◌^◌, ◌<◌, ◌≤◌, nat_lt, if◌then◌else◌, List, length, Some, None}
+use Rattle.std.specs.Prelude.{◌≡◌, ◌≢◌, ℕ, ◌+◌, ◌-◌, ◌*◌, ◌^◌, ◌<◌, ◌≤◌, List, length, Some, None}
 use Rattle.behaviours.specs.Steps.{run}
 use Rattle.addr_map.specs.Places.{MapSizes}
 use Rattle.sb_base.specs.declared.ending.Ending.{Ending}
@@ -68,20 +68,20 @@ binary_most Add = 3
 binary_most Subtract = 3
 binary_most _ = 4
 
--- how many instructions a constant takes at most: one that an instruction holds takes no other
-abbrev pub constant_most : (word : ℕ) → ℕ
-constant_most w = if nat_lt w (2 ^ 31 - 2 ^ 11) then 1 else 5
-
 -- the code stands in a function where the run is, whose state is one of words
 pub record IsHere (program : FlatProgram) (position : Position) (code : List FlatInstruction) : Type 0 where
   pub has : HasAt (body_of (function_in program position.function)) position.place code
   pub words : IsOfWords position.state
 
--- Wherever it stands, the code of an operator comes to its end with the operator's value.
+-- Wherever it stands, the code of an operator comes to its end with the operator's value; a constant that an instruction
+-- holds is one.
 pub record AreOperators (operators : OperatorCode) : Type 0 where
   pub constant : (map : MapSizes) (p : FlatProgram) (x : Position) (into word scratch : ℕ) → into < scratch
       → word < 2 ^ 64 → IsHere p x (operators.constant into word scratch)
-      → Computes map p x (x.place + length (operators.constant into word scratch)) into word scratch (constant_most word)
+      → Computes map p x (x.place + length (operators.constant into word scratch)) into word scratch 5
+  pub short_constant : (map : MapSizes) (p : FlatProgram) (x : Position) (into word scratch : ℕ) → into < scratch
+      → word < 2 ^ 31 - 2 ^ 11 → IsHere p x (operators.constant into word scratch)
+      → Computes map p x (x.place + length (operators.constant into word scratch)) into word scratch 1
   pub unary : (map : MapSizes) (p : FlatProgram) (x : Position) (op : UnaryOperator) (t : IntType)
       (into from scratch : ℕ) → into < scratch → from < scratch → IsHere p x (operators.unary op t into from scratch)
       → Computes map p x (x.place + length (operators.unary op t into from scratch)) into

@@ -40,7 +40,6 @@ use Rattle.metadata_plan.specs.Registers.{most_temporaries}
 use Rattle.metadata_plan.specs.Entries.{given, entry_source}
 use Rattle.metadata_plan.specs.Expanded.{Leads}
 use Rattle.metadata_plan.specs.Operators.{OperatorCode, AreOperators}
-use Rattle.metadata_plan.proofs.Constants.{any_constant}
 use Rattle.metadata_plan.proofs.Flat.{one, weight_small, Comes, then_comes}
 use Rattle.metadata_relation.specs.Registers.{temporary_register, first_free}
 use Rattle.metadata_relation.specs.Blocks.{is_short, number_code, number_operand, narrow_code, move_value}
@@ -104,7 +103,7 @@ module _ (o : OperatorCode) (ops : AreOperators o) (m : MapSizes) (p : FlatProgr
       )
       by false has =
           let list = o.constant r n s in
-          let c = any_constant o ops m p (moment m p u pc v xs words q a k K) r n s low fits
+          let c = ops.constant m p (moment m p u pc v xs words q a k K) r n s low fits
           (stands_here m p u pc v xs words q a k K list has) in (
             c.after,
             then_computed m p u pc v xs words q a k K (q + length list) r n s 5 c,

@@ -37,8 +37,8 @@ use Rattle.runtime_functions.specs.Library.{held_from}
 use Rattle.metadata_plan.specs.Registers.{most_temporaries}
 use Rattle.metadata_plan.specs.Entries.{given}
 use Rattle.metadata_plan.specs.Expanded.{Leads}
-use Rattle.metadata_plan.specs.Operators.{OperatorCode, AreOperators, constant_most}
-use Rattle.metadata_plan.proofs.Constants.{short_constant, most_constant}
+use Rattle.metadata_plan.specs.Operators.{OperatorCode, AreOperators}
+use Rattle.metadata_plan.proofs.Constants.{constant_most, short_constant, most_constant, any_constant}
 use Rattle.metadata_relation.specs.Registers.{temporary_register, first_free}
 use Rattle.metadata_relation.specs.Blocks.{entry_constants, entry_constants_if}
 use Rattle.metadata_relation.specs.Holding.{IsHeldAt}
@@ -102,20 +102,20 @@ module _ (o : OperatorCode) (ops : AreOperators o) (m : MapSizes) (p : FlatProgr
       let m2 = constant_most bound * 2 in
       let m3 = constant_most key * 2 in
       let m4 = constant_most lock * 2 in
-      let r1 = ops.constant m p (moment m p u pc v xs words q a k K) (r + 1) base s (omega arith) fit.base_low
+      let r1 = any_constant o ops m p (moment m p u pc v xs words q a k K) (r + 1) base s (omega arith) fit.base_low
       (stands_here m p u pc v xs words q a k K c1 (has_front code q c1 (c2 ++ (c3 ++ c4)) has)) in
       let k1 = k + m1 in
       let j1 = then_computed m p u pc v xs words q a k K q1 (r + 1) base s (constant_most base) r1 in
-      let r2 = ops.constant m p (moment m p u pc v xs words q1 r1.after k1 j1) (r + 2) bound s (omega arith)
+      let r2 = any_constant o ops m p (moment m p u pc v xs words q1 r1.after k1 j1) (r + 2) bound s (omega arith)
       fit.bound_low
       (stands_here m p u pc v xs words q1 r1.after k1 j1 c2 (has_front code q1 c2 (c3 ++ c4) rest1)) in
       let k2 = k1 + m2 in
       let j2 = then_computed m p u pc v xs words q1 r1.after k1 j1 q2 (r + 2) bound s (constant_most bound) r2 in
-      let r3 = ops.constant m p (moment m p u pc v xs words q2 r2.after k2 j2) (r + 3) key s (omega arith) fit.key_low
+      let r3 = any_constant o ops m p (moment m p u pc v xs words q2 r2.after k2 j2) (r + 3) key s (omega arith) fit.key_low
       (stands_here m p u pc v xs words q2 r2.after k2 j2 c3 (has_front code q2 c3 c4 rest2)) in
       let k3 = k2 + m3 in
       let j3 = then_computed m p u pc v xs words q2 r2.after k2 j2 q3 (r + 3) key s (constant_most key) r3 in
-      let r4 = ops.constant m p (moment m p u pc v xs words q3 r3.after k3 j3) (r + 4) lock s (omega arith) fit.lock_low
+      let r4 = any_constant o ops m p (moment m p u pc v xs words q3 r3.after k3 j3) (r + 4) lock s (omega arith) fit.lock_low
       (stands_here m p u pc v xs words q3 r3.after k3 j3 c4 rest3) in
       let k4 = k3 + m4 in
       let q4 = q3 + length c4 in
@@ -252,7 +252,7 @@ module _ (c : Compiled) (IsGood : Bytes → Type 0) (right : IsCompiled c IsGood
           let first = o.constant (T d) word free in
           let rest = entry_constants_if o b (held_from (T d)).tag base bound key lock free in
           let begun : Far pc v.values 0 = at_first (map_of c) c.layout.program u pc v xs words in
-          let r = right.inline.operators.constant (map_of c) c.layout.program
+          let r = any_constant o right.inline.operators (map_of c) c.layout.program
           (moment (map_of c) c.layout.program u pc v xs words pc v.values 0 begun) (T d) word free (omega (arith, room))
           fits
           (stands_here (map_of c) c.layout.program u pc v xs words pc v.values 0 begun first

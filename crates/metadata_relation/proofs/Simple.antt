@@ -43,7 +43,6 @@ use Rattle.metadata_relation.specs.Holding.{World, IsTemporary, IsRvalueAt}
 use Rattle.metadata_relation.specs.Stages.{Compiled, map_of, views, names, world, activation, expansion_of, IsAt}
 use Rattle.metadata_plan.proofs.Numbers.{scaled}
 use Rattle.metadata_relation.specs.Steps.{IsCompiled}
-use Rattle.metadata_plan.proofs.Constants.{any_constant}
 use Rattle.metadata_plan.proofs.Flat.{weight_small, Comes, then_comes, turn_comes, branch_taken_comes, branch_passed_comes}
 use Rattle.metadata_plan.proofs.Flat.{leads_comes}
 use Rattle.metadata_plan.proofs.Holding.{IsSet}
@@ -155,7 +154,7 @@ module _ (c : Compiled) (IsGood : Bytes → Type 0) (right : IsCompiled c IsGood
       let o = c.layout.expansion.inline.operators in
       let list = o.constant (T d) w free in
       computes_integer i k d next w 5 list refl (inl refl) low k.put.has k.put.leads
-      (any_constant o right.inline.operators (map_of c) c.layout.program position (T d) w free
+      (right.inline.operators.constant (map_of c) c.layout.program position (T d) w free
       (let f = temporary_free h.code d low in omega arith) (ltb-true w (2 ^ 64) fits)
       (record { has = has_front body pc list (untagged (c.layout.expansion.entries u next d) (T d)) k.put.has; words = words }))
       (omega arith)
@@ -325,8 +324,7 @@ module _ (c : Compiled) (IsGood : Bytes → Type 0) (right : IsCompiled c IsGood
     abbrev word_in : Computes (map_of c) c.layout.program position tested_at (first_free h.code) w
         (first_free h.code + 1) 5
     word_in =
-        any_constant c.layout.expansion.inline.operators right.inline.operators (map_of c) c.layout.program position free w
-        (free + 1) (omega arith)
+        right.inline.operators.constant (map_of c) c.layout.program position free w (free + 1) (omega arith)
         (ltb-true w (2 ^ 64) fits)
         (record { has = has_front body pc word_code test label.put.has; words = words })
 

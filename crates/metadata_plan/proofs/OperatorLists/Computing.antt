@@ -1,8 +1,8 @@
 -- In whatever function it stands, the code of an operator computes it, each instruction at its weight.
 use Rattle.std.proofs.Common.{◌≡◌, ℕ, suc, ◌+◌, ◌-◌, ◌*◌, ◌^◌, ◌<◌, ◌≤◌, Bool, true, false, ◌==◌, not, ◌||◌, List, []}
-use Rattle.std.specs.Prelude.{nat_lt, nat_le}
+use Rattle.std.specs.Prelude.{nat_le}
 use Rattle.std.proofs.Common.{◌∷◌, length, Option, Some, None, refl, ap, ◌∙◌, subst, arith, if◌then◌else◌}
-use Rattle.std.proofs.Common.{mul-le-mul_right, mul_comm}
+use Rattle.std.proofs.Common.{mul-le-mul_right, mul_comm, lt-ltb}
 use Rattle.std.proofs.Math.Nat.{suc-mul}
 use Rattle.addr_map.specs.Places.{MapSizes}
 use Rattle.sb_base.specs.declared.ending.Ending.TheVariants as ending
@@ -35,15 +35,15 @@ use Rattle.flat_routines.specs.Effects.{worked, effects}
 use Rattle.flat_routines.proofs.Steps.{run_zero, run_suc}
 use Rattle.flat_routines.proofs.Straight.{run_straight}
 use Rattle.flat_routines.proofs.Lifted.{lifted}
-use Rattle.metadata_plan.specs.Operators.{Position, Computes, EndsBy, AreOperators, binary_most, constant_most}
+use Rattle.metadata_plan.specs.Operators.{Position, Computes, EndsBy, AreOperators, binary_most}
 use Rattle.flat_operators.specs.Operators.{conversion_code, converted, divided_code, unary_code, binary_code}
-use Rattle.flat_operators.specs.Operators.{wide_code, constant_code}
+use Rattle.flat_operators.specs.Operators.{is_short, wide_code, constant_code}
 use Rattle.flat_operators.proofs.Values.{int_sum, int_difference, int_product, quotient_by, remainder_by, less_by}
 use Rattle.flat_operators.proofs.Values.{sum_by, difference_by, product_by, and_by, or_by, xor_by}
 use Rattle.flat_operators.proofs.Operators.{Gives, conversion_gives, operator_gives, alone_gives, wrapping_gives}
 use Rattle.flat_operators.proofs.Operators.{turned_gives, equal_gives, unequal_gives, shift_left_gives}
 use Rattle.flat_operators.proofs.Operators.{shift_right_gives, unary_gives, constant_gives, length_converted}
-use Rattle.flat_operators.proofs.Operators.{length_conversion, length_wrapping, length_unary, length_if}
+use Rattle.flat_operators.proofs.Operators.{length_conversion, length_wrapping, length_unary, length_constant}
 use Rattle.flat_operators.proofs.Operators.{length_left, length_right}
 use Rattle.metadata_plan.specs.OperatorLists.Operators.{operators}
 use Rattle.metadata_plan.proofs.OperatorLists.Plain.{ArePlain, plain_effects, plain_conversion, plain_converted}
@@ -246,22 +246,26 @@ module _ (m : MapSizes) (p : FlatProgram) (x : Position) where
         (tt, (tt, (tt, tt))) (omega arith)
 
 -- a short constant is one instruction
-few_constant : (d w : ℕ) → length (constant_code d w) ≤ constant_most w
+one_constant : (d w : ℕ) → w < 2 ^ 31 - 2 ^ 11 → length (constant_code d w) ≤ 1
 unfolding constant_code
-few_constant d w = by (nat_lt w (2 ^ 31 - 2 ^ 11))
-  where
-    by : (b : Bool)
-        → length (if b || nat_le (2 ^ 64 - 2 ^ 31) w then Constant d w ∷ [] else wide_code d w) ≤ (if b then 1 else 5)
-    by true = omega arith
-    by false = length_if (nat_le (2 ^ 64 - 2 ^ 31) w) (Constant d w ∷ []) (wide_code d w) 5 (omega arith) (omega arith)
+one_constant d w short =
+    let list : (if is_short w then Constant d w ∷ [] else wide_code d w) ≡ Constant d w ∷ [] =
+    ap (λ b. if b || nat_le (2 ^ 64 - 2 ^ 31) w then Constant d w ∷ [] else wide_code d w)
+    (lt-ltb w (2 ^ 31 - 2 ^ 11) short) in
+    let count = ap length list in
+    omega arith
 
 -- all of them
 pub computing : AreOperators operators
 computing = record {
   constant = λ m p x d v n into low here.
-      straight m p x (constant_code d v) d v n (constant_most v) here.has
+      straight m p x (constant_code d v) d v n 5 here.has
       (constant_gives (context m p x.function x.frames) d n x.state v low)
-      (plain_constant d v) (few_constant d v);
+      (plain_constant d v) (length_constant d v);
+  short_constant = λ m p x d v n into short here.
+      straight m p x (constant_code d v) d v n 1 here.has
+      (constant_gives (context m p x.function x.frames) d n x.state v (omega (arith, short)))
+      (plain_constant d v) (one_constant d v short);
   unary = λ m p x o t d y n into from here.
       straight m p x (unary_code o t d y n) d _ n 5 here.has
       (unary_gives (context m p x.function x.frames) d n x.state here.words o t y from) (plain_unary o t d y n)

@@ -139,6 +139,8 @@ callee_holds w tac k charge entries contents vs values args none = record {
   homes = record {
     declared = λ x o e. absurd (no_home (body_objects (header_of_code k)) x o e);
     homes = λ x o e. absurd (no_home (body_objects (header_of_code k)) x o e);
+    automatic = λ x o e. absurd (no_home (body_objects (header_of_code k)) x o e);
+    sizes = λ x o e. absurd (no_home (body_objects (header_of_code k)) x o e);
   };
   count = values_length k.parameters vs k.variables;
 }

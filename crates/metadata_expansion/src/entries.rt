@@ -381,7 +381,10 @@ fn insert_read(
             insert_if(set, *from, is_moved_with_entry(*kind));
         }
         Instruction::Judge {
-            test, key, pointer, ..
+            test,
+            key,
+            pointer,
+            ..
         } => {
             insert_if(set, *pointer, reads_for(function, *test, *key));
         }

@@ -24,6 +24,7 @@ pub mod Simple
 pub mod Standing
 pub mod StartData
 pub mod StartFile
+pub mod Statuses
 pub mod StoredParts
 pub mod StoredTexts
 pub mod TopCell

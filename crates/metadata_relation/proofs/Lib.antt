@@ -13,6 +13,7 @@ pub mod Inline
 pub mod Leaving
 pub mod Moving
 pub mod NamedChecks
+pub mod OuterBlocks
 pub mod Pointers
 pub mod Ranges
 pub mod Reading

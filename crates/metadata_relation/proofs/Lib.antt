@@ -14,6 +14,7 @@ pub mod Leaving
 pub mod Moving
 pub mod NamedChecks
 pub mod OuterBlocks
+pub mod PlacedHomes
 pub mod Pointers
 pub mod Ranges
 pub mod Reading

@@ -2,6 +2,7 @@ pub mod Accesses
 pub mod Acting
 pub mod Assigning
 pub mod Behind
+pub mod BlockVariables
 pub mod Checking
 pub mod Comparing
 pub mod Finishing

@@ -1,6 +1,6 @@
 -- The homes of a block's objects are placed, each behind the one before.
-use Rattle.std.proofs.Common.{◌≡◌, ◌⊎◌, inl, inr, ℕ, suc, ◌+◌, ◌-◌, ◌*◌, ◌^◌, ◌<◌, ◌≤◌, Bool, true, false, if◌then◌else◌, List}
-use Rattle.std.proofs.Common.{[], ◌∷◌, ◌++◌, length, refl, sym, ap, ◌∙◌, subst, arith}
+use Rattle.std.proofs.Common.{◌≡◌, ◌⊎◌, inl, inr, ℕ, zero, suc, ◌+◌, ◌-◌, ◌*◌, ◌^◌, ◌<◌, ◌≤◌, Bool, true, false}
+use Rattle.std.proofs.Common.{if◌then◌else◌, List, [], ◌∷◌, ◌++◌, length, refl, sym, ap, ◌∙◌, subst, arith}
 use Rattle.std.proofs.lemmas.Bool.{lt-ltb}
 use Rattle.words.specs.TwosComplement.{low_bits}
 use Rattle.addr_map.specs.Places.{MapSizes}
@@ -26,9 +26,25 @@ use Rattle.flat_routines.proofs.Steps.{has_back, has_front}
 use Rattle.metadata_plan.specs.Operators.{OperatorCode}
 use Rattle.metadata_plan.proofs.Flat.{at_place, Comes, move_comes, next_comes, operate_comes, then_comes, weaker}
 use Rattle.metadata_relation.specs.Blocks.{is_short, number_code, number_operand, place_home, place_homes}
-use Rattle.metadata_relation.specs.Registers.{home_entry, home_register}
+use Rattle.metadata_relation.specs.Registers.{before, first_free, home_entry, home_register, home_words}
+use Rattle.metadata_relation.specs.Holding.{is_object_in}
+use Rattle.metadata_plan.specs.Registers.{all_variables}
+use Rattle.metadata_relation.proofs.Registers.{home_low}
 use Rattle.metadata_relation.proofs.Comparing.{short_code, short_operand}
 use Rattle.metadata_relation.proofs.StoredParts.{sum_is}
+
+-- homes of objects are one behind the other
+before_grows : (vs : List Variable) (x y : ℕ) → is_object_in vs x ≡ true → x < y
+    → before home_words x vs + 4 ≤ before home_words y vs
+before_grows [] x y e lt = absurd cc
+before_grows (v ∷ vs) zero zero e lt = absurd (omega (arith, lt))
+before_grows (v ∷ vs) zero (suc y) e lt =
+    let four : home_words v ≡ 4 = ap (λ b. if b then 4 else 0) e in
+    omega (arith, four)
+before_grows (v ∷ vs) (suc x) zero e lt = absurd (omega (arith, lt))
+before_grows (v ∷ vs) (suc x) (suc y) e lt =
+    let more = before_grows vs x y e (omega (arith, lt)) in
+    omega (arith, more)
 
 module _ (m : MapSizes) (p : FlatProgram) (u : ℕ) (xs : List flat.Frame) (o : OperatorCode) (c : CodeFunction)
     (first key lock s : ℕ) where
@@ -204,6 +220,31 @@ module _ (m : MapSizes) (p : FlatProgram) (u : ℕ) (xs : List flat.Frame) (o : 
         key_is = same 2 (omega arith) ∙ h.key_is;
         lock_is = same 3 (omega arith) ∙ h.lock_is;
       }
+
+  outside_behind : (vs : List Variable) (x y j : ℕ) → is_object_in (all_variables c) x ≡ true → x < y → j < 4
+      → IsOutside (home_register c x + j) y vs
+  outside_behind [] x y j e lt few = tt
+  outside_behind (z ∷ vs) x y j e lt few = (
+    λ t. inl (let more = before_grows (all_variables c) x y e lt in omega (arith, more, few)),
+    outside_behind vs x (suc y) j e (omega (arith, lt)) few,
+  )
+
+  -- homes of the function's objects are apart
+  pub are_apart : first_free c ≤ first → first_free c ≤ key → first_free c ≤ lock → (vs : List Variable) (x : ℕ)
+      → ((y : ℕ) → is_object_in vs y ≡ true → is_object_in (all_variables c) (x + y) ≡ true) → AreApart x vs
+  are_apart f k l [] x h = tt
+  are_apart f k l (z ∷ vs) x h = (
+    λ e.
+        (let here : x + 0 ≡ x = omega arith in
+        let object = subst (λ n. is_object_in (all_variables c) n ≡ true) here (h zero e) in
+        let low = home_low c x object in (
+          record { first_above = omega (arith, low, f); key_above = omega (arith, low, k); lock_above = omega (arith, low, l) },
+          λ j few. outside_behind vs x (suc x) j object (omega arith) few,
+        )),
+    are_apart f k l vs (suc x)
+        (λ y t. (let place : x + suc y ≡ suc x + y = omega arith in
+        subst (λ n. is_object_in (all_variables c) n ≡ true) place (h (suc y) t))),
+  )
 
   -- behind a variable
   module _ (x : ℕ) (z : Variable) (vs : List Variable) (offset pc : ℕ) (v : flat.State) where

@@ -66,13 +66,15 @@ module _ (w : World) (s : State) (l : Layout) (first : ℕ) (c : CodeFunction) (
     own = λ o q. (let z = h.own o q in let below = z.1 in (z.0, omega arith));
   }
 
-  entered_below : (n : ℕ) (b : Block) → IsEnteredAs w s c bound n b values → IsEnteredAs w s c more n b values
-  entered_below n b h = record {
+  entered_below : (n : ℕ) (b : Block) (frame : List Home) → IsEnteredAs w s c bound n b frame values
+      → IsEnteredAs w s c more n b frame values
+  entered_below n b frame h = record {
     some = h.some;
     block = h.block;
     mark = h.mark;
     own = λ o q. (let z = h.own o q in let below = z.1 in (z.0, omega arith));
     below = h.below;
+    over = h.over;
     homes = h.homes;
   }
 
@@ -83,7 +85,7 @@ module _ (w : World) (s : State) (l : Layout) (first : ℕ) (c : CodeFunction) (
   waits_below stacked frame [] [] h = h
   waits_below stacked frame [] (x ∷ []) h = (body_below stacked first frame h.0, h.1)
   waits_below stacked frame [] (x ∷ y ∷ xs) h = h
-  waits_below stacked frame (Entered n b ∷ ws) xs h = (entered_below n b h.0, h.1)
+  waits_below stacked frame (Entered n b ∷ ws) xs h = (entered_below n b frame h.0, h.1)
   waits_below stacked frame (Waits a ∷ ws) [] h = h
   waits_below stacked frame (Waits a ∷ ws) (x ∷ xs) h = (body_below stacked a.caller.stacked frame h.0, h.1, h.2)
 

@@ -84,7 +84,7 @@ module _ (c : Compiled) (IsGood : Bytes → Type 0) (right : IsCompiled c IsGood
   abbrev left : State
   left = leave_block b (spent 2 s)
 
-  abbrev entered : IsEnteredAs (world c h.keys s v) s h.code (length s.objects) k b v.values
+  abbrev entered : IsEnteredAs (world c h.keys s v) s h.code (length s.objects) k b s.frame v.values
   entered = h.wait.by.0
 
   abbrev vs : List Variable

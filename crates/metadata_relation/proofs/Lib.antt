@@ -4,6 +4,7 @@ pub mod Altering
 pub mod Assigning
 pub mod Begins
 pub mod Behind
+pub mod BlockVariables
 pub mod CallHolds
 pub mod CallStates
 pub mod Calls
@@ -23,8 +24,10 @@ pub mod Members
 pub mod Moving
 pub mod Named
 pub mod NamedChecks
+pub mod OuterBlocks
 pub mod Packing
 pub mod Parts
+pub mod PlacedHomes
 pub mod Pointers
 pub mod Ranges
 pub mod Reading
@@ -38,6 +41,7 @@ pub mod Simulating
 pub mod Standing
 pub mod StartData
 pub mod StartFile
+pub mod Statuses
 pub mod StoredParts
 pub mod StoredTexts
 pub mod Straight

@@ -4,16 +4,18 @@ use Rattle.std.proofs.Common.{Some, sym, ap, ◌∙◌, arith}
 use Rattle.std.specs.Prelude.{nat_le}
 use Rattle.std.proofs.lemmas.Bool.{lt-leb}
 use Rattle.std.proofs.Math.Bool.{and-false}
-use Rattle.behaviours.specs.Shown.{Write}
+use Rattle.behaviours.specs.Shown.{Read, Write}
 use Rattle.addr_map.specs.declared.region.Region.TheVariants.{Cells, Heap, StructureValues}
 use Rattle.addr_map.specs.Places.{AreMapped, MapSizes, objects_begin, region_end, region_size, region_start, spaces_begin}
+use Rattle.rv_isa.specs.declared.instruction.LoadOp.TheVariants.{Ld}
 use Rattle.rv_isa.specs.declared.instruction.StoreOp.TheVariants.{Sd}
-use Rattle.flat_meaning.specs.declared.instruction.FlatInstruction.TheVariants.{Store}
+use Rattle.rv_isa.specs.Results.{extended}
+use Rattle.flat_meaning.specs.declared.instruction.FlatInstruction.TheVariants.{Load, Store}
 use Rattle.flat_meaning.specs.declared.function.FlatProgram.{FlatProgram}
 use Rattle.flat_meaning.specs.Calls.{function_in}
 use Rattle.flat_meaning.specs.Meaning.{address_in, at_instruction, body_of, context, Fails, Goes, goes_to, instruction_at}
-use Rattle.flat_meaning.specs.Meaning.{weight_of, with_access}
-use Rattle.flat_meaning.specs.Memory.{put, store}
+use Rattle.flat_meaning.specs.Meaning.{weight_of, with_access, with_register}
+use Rattle.flat_meaning.specs.Memory.{load, put, store}
 use Rattle.flat_meaning.specs.Spaces.{is_allowed, is_of_objects}
 use Rattle.flat_meaning.specs.State as flat
 use Rattle.flat_meaning.proofs.Stored.{put_other, put_same}
@@ -21,7 +23,7 @@ use Rattle.flat_routines.specs.Routine.{HasAt}
 use Rattle.flat_routines.proofs.Spaces.Quiet.{space_allowed}
 use Rattle.heap_space.proofs.Regions.{table_laid_out}
 use Rattle.metadata_plan.proofs.Flat.{Comes, constant_comes, then_comes, weight_small}
-use Rattle.metadata_relation.specs.Blocks.{top_cell, write_top}
+use Rattle.metadata_relation.specs.Blocks.{read_top, top_cell, write_top}
 
 -- where the cell lies
 pub record IsCellPlace (m : MapSizes) : Type 0 where
@@ -116,6 +118,67 @@ module _ (m : MapSizes) (mapped : AreMapped m) (p : FlatProgram) (u : ℕ) (xs :
             ∙ ap (λ z. flat.Stands u (pc + 2) (record v {
               values = put v.values r z;
               memory = store 8 v.memory (top_cell m) (v.values x);
+              work = v.work + both.work;
+            }) xs) is;
+      }
+
+  pub cell_loaded : (pc r y : ℕ) (v : flat.State) → instruction_at p u pc ≡ Some (Load Ld r y 0)
+      → v.values y ≡ top_cell m
+      → Comes m p u pc v xs (pc + 1) (record v { values = put v.values r (load 8 v.memory (top_cell m)) }) 2
+  unfolding extended
+  cell_loaded pc r y v e is =
+      let place = cell_place m mapped in
+      let small = place.small in
+      let w = weight_of (function_in p u) in
+      let at : address_in v y 0 ≡ top_cell m = omega arith in
+      let c = context m p u xs in
+      let t : flat.State = record v { work = v.work + w } in
+      let n = load 8 v.memory (top_cell m) in
+      record {
+        steps = 1;
+        work = w;
+        few = weight_small (function_in p u);
+        comes = ap (λ o. at_instruction m p o u pc v xs) e
+            ∙ ap (λ a. goes_to m p (Load Ld r y 0) u pc t xs (if is_allowed m a 8
+            then Goes (pc + 1) (with_register r (load 8 v.memory a) (with_access c a 8 Read t)) else Fails)) at
+            ∙ ap (λ b. goes_to m p (Load Ld r y 0) u pc t xs (if b
+            then Goes (pc + 1) (with_register r n (with_access c (top_cell m) 8 Read t)) else Fails))
+            (space_allowed m (top_cell m) 8 place.first place.last)
+            ∙ ap (λ b. flat.Stands u (pc + 1) (with_register r n (if not c.is_runtime && b
+            then record t { accesses = v.accesses ++ record { address = top_cell m; size = 8; kind = Read } ∷ [] }
+            else t)) xs) not_of_objects
+            ∙ ap (λ b. flat.Stands u (pc + 1) (with_register r n (if b
+            then record t { accesses = v.accesses ++ record { address = top_cell m; size = 8; kind = Read } ∷ [] }
+            else t)) xs) (and-false (not c.is_runtime));
+      }
+
+  -- a register gets what the cell has
+  pub top_read : (pc r : ℕ) (v : flat.State) → HasAt (body_of (function_in p u)) pc (read_top m r)
+      → Comes m p u pc v xs (pc + 2) (record v {
+        values = put (put v.values r (top_cell m)) r (load 8 v.memory (top_cell m));
+      }) 4
+  top_read pc r v has =
+      let place = cell_place m mapped in
+      let small = place.small in
+      let is : top_cell m % 2 ^ 64 ≡ top_cell m = omega arith in
+      let n = load 8 v.memory (top_cell m) in
+      let one = constant_comes m p u pc v xs r (top_cell m) has.0 in
+      let between : flat.State = record v { values = put v.values r (top_cell m % 2 ^ 64); work = v.work + one.work } in
+      let two = cell_loaded (pc + 1) r r between has.1.0 (put_same v.values r (top_cell m % 2 ^ 64) ∙ is) in
+      let both = then_comes m p u pc v xs (pc + 1) (pc + 1 + 1) (record v { values = put v.values r (top_cell m % 2 ^ 64) })
+      (record between { values = put (put v.values r (top_cell m % 2 ^ 64)) r n }) 2 2 one two in
+      let place_is : pc + 1 + 1 ≡ pc + 2 = omega arith in
+      record {
+        steps = both.steps;
+        work = both.work;
+        few = both.few;
+        comes = both.comes
+            ∙ ap (λ z. flat.Stands u z (record v {
+              values = put (put v.values r (top_cell m % 2 ^ 64)) r n;
+              work = v.work + both.work;
+            }) xs) place_is
+            ∙ ap (λ z. flat.Stands u (pc + 2) (record v {
+              values = put (put v.values r z) r n;
               work = v.work + both.work;
             }) xs) is;
       }

@@ -54,22 +54,24 @@ module _ (g : Views) (k k' : Keys) (s s' : State) (m m' : Bytes) (l : Layout) (f
       by true e = record {
         of_lock = locks homes (values (lock_register c (objects_of_body c)))
             (λ o q. (let z = h.own o q in let below = z.1 in omega arith)) e.of_lock;
+        placed = e.placed;
         lock_is = e.lock_is;
         top_is = e.top_is;
         top_is_one = e.top_is_one;
       }
       by false e = e
 
-  entered_by : (c : CodeFunction) (bound n : ℕ) (b : Block) (values : flat.Values) → bound ≤ number
-      → IsEnteredAs (world_of g k s.objects m) s c bound n b values
-      → IsEnteredAs (world_of g k' s'.objects m') s' c bound n b values
-  entered_by c bound n b values le h =
+  entered_by : (c : CodeFunction) (bound n : ℕ) (b : Block) (frame : List Home) (values : flat.Values) → bound ≤ number
+      → IsEnteredAs (world_of g k s.objects m) s c bound n b frame values
+      → IsEnteredAs (world_of g k' s'.objects m') s' c bound n b frame values
+  entered_by c bound n b frame values le h =
       let some = h.own h.block.of_lock.some h.block.of_lock.some_home in
       let above = some.0 in let below = some.1 in
       record {
         some = h.some;
         block = record {
           of_lock = locks b.homes _ (λ o q. (let z = h.own o q in let less = z.1 in omega arith)) h.block.of_lock;
+          placed = h.block.placed;
           lock_is = h.block.lock_is;
           top_is = h.block.top_is;
           top_is_one = h.block.top_is_one;
@@ -77,6 +79,7 @@ module _ (g : Views) (k k' : Keys) (s s' : State) (m m' : Bytes) (l : Layout) (f
         mark = h.mark;
         own = h.own;
         below = h.below;
+        over = h.over;
         homes = homes_on g k k' s.objects s'.objects m m' on c b.frame values values
             (λ x o home. live o (let z = h.below x o home in omega arith)) (λ r from lt. refl) h.homes;
       }
@@ -118,7 +121,7 @@ module _ (g : Views) (k k' : Keys) (s s' : State) (m m' : Bytes) (l : Layout) (f
       let e = h.0 in
       let some = e.own e.block.of_lock.some e.block.of_lock.some_home in
       let above = some.0 in let below = some.1 in (
-        entered_by v.code v.bound n b v.values le e,
+        entered_by v.code v.bound n b v.frame v.values le e,
         waits_by (record v { stacked = b.stacked; frame = b.frame; bound = e.mark }) ws xs (omega arith) h.1,
       )
   waits_by v (Waits a ∷ ws) [] le h = h
@@ -235,6 +238,7 @@ module _ (w : World) (s : State) (l : Layout) (first : ℕ) (c : CodeFunction) (
   block_at entered top outer homes h = record {
     of_lock = subst (AreOfLock w.keys s homes)
         (sym (same (lock_register c entered) h.lock_is.first h.lock_is.last)) h.of_lock;
+    placed = h.placed;
     lock_is = h.lock_is;
     top_is = same top h.top_is_one.first h.top_is_one.last ∙ h.top_is;
     top_is_one = h.top_is_one;
@@ -253,13 +257,15 @@ module _ (w : World) (s : State) (l : Layout) (first : ℕ) (c : CodeFunction) (
       by true e = block_at (objects_of_body c) (body_top_register c) outer homes e
       by false e = e
 
-  entered_at : (bound n : ℕ) (b : Block) → IsEnteredAs w s c bound n b values → IsEnteredAs w s c bound n b after
-  entered_at bound n b h = record {
+  entered_at : (bound n : ℕ) (b : Block) (frame : List Home) → IsEnteredAs w s c bound n b frame values
+      → IsEnteredAs w s c bound n b frame after
+  entered_at bound n b frame h = record {
     some = h.some;
     block = block_at (objects_in (Some c) n) (block_top_register c n) b.stacked b.homes h.block;
     mark = h.mark;
     own = h.own;
     below = h.below;
+    over = h.over;
     homes = homes_on w.views w.keys w.keys w.objects w.objects w.memory w.memory
         (same_world w.views w.keys w.objects w.memory) c b.frame values after (λ x o home live held. live)
         (λ r from lt. same r from (omega arith)) h.homes;
@@ -273,7 +279,7 @@ module _ (w : World) (s : State) (l : Layout) (first : ℕ) (c : CodeFunction) (
   waits_at stacked bound frame [] (x ∷ []) h = (body_at stacked first bound frame h.0, h.1)
   waits_at stacked bound frame [] (x ∷ y ∷ xs) h = h
   waits_at stacked bound frame (Entered n b ∷ ws) xs h =
-      (entered_at bound n b h.0, waits_at b.stacked h.0.mark b.frame ws xs h.1)
+      (entered_at bound n b frame h.0, waits_at b.stacked h.0.mark b.frame ws xs h.1)
   waits_at stacked bound frame (Waits a ∷ ws) [] h = h
   waits_at stacked bound frame (Waits a ∷ ws) (x ∷ xs) h =
       (body_at stacked a.caller.stacked bound frame h.0, h.1, h.2)

@@ -19,7 +19,7 @@ use Rattle.flat_routines.specs.Routine.{HasAt}
 use Rattle.object_routines.specs.AllocatingRoutines.Entering.{IsHomeOf, AreOfLock}
 use Rattle.metadata_plan.specs.Registers.{most_temporaries}
 use Rattle.metadata_plan.specs.Expanded.{Leads}
-use Rattle.metadata_relation.specs.Registers.{variables_end, tops_end, lock_register, body_top_register, block_top_register, temporary_register}
+use Rattle.metadata_relation.specs.Registers.{variables_end, tops_end, first_object, lock_register, body_top_register, block_top_register, temporary_register}
 use Rattle.metadata_relation.specs.Blocks.{Expansion, objects_of_body, result_of, result_entry, before_main}
 use Rattle.metadata_relation.specs.Holding.{World, HasHomes, Holds}
 
@@ -38,6 +38,11 @@ AreNoObjects [] = Unit {0}
 AreNoObjects (NoObject ∷ homes) = AreNoObjects homes
 AreNoObjects (InObject o ∷ homes) = ⊥
 
+-- a variable without a home has none around a block, and none in it
+abbrev pub AreOver : (frame outer inner : List Home) → Type 0
+AreOver frame outer inner = (x : ℕ) → get_or frame x NoObject ≡ NoObject
+    → (get_or outer x NoObject ≡ NoObject) × (get_or inner x NoObject ≡ NoObject)
+
 -- ---- blocks
 
 -- a register of a home, or of an end of the object stack
@@ -50,18 +55,20 @@ pub record IsHomeRegister (c : CodeFunction) (register : ℕ) : Type 0 where
 pub record IsBlockAt (w : World) (state : State) (c : CodeFunction) (entered : List Variable) (top outer : ℕ)
     (homes : List Home) (values : flat.Values) : Type 0 where
   pub of_lock : AreOfLock w.keys state homes (values (lock_register c entered))
+  pub placed : get_or homes (first_object entered) NoObject ≡ NoObject → ⊥
   pub lock_is : IsHomeRegister c (lock_register c entered)
   pub top_is : values top ≡ outer
   pub top_is_one : IsHomeRegister c top
 
 -- a block that was entered, and the homes around it
 pub record IsEnteredAs (w : World) (state : State) (c : CodeFunction) (bound number : ℕ) (b : Block)
-    (values : flat.Values) : Type 0 where
+    (frame : List Home) (values : flat.Values) : Type 0 where
   pub some : has_objects (objects_in (Some c) number) ≡ true
   pub block : IsBlockAt w state c (objects_in (Some c) number) (block_top_register c number) b.stacked b.homes values
   pub mark : ℕ
   pub own : AreBetween mark bound b.homes
   pub below : AreHomesBelow mark b.frame
+  pub over : AreOver frame b.frame b.homes
   pub homes : HasHomes w c b.frame values
 
 -- The body of a function: where it has objects they are a block of its own, under the homes behind all that were left; and
@@ -147,7 +154,7 @@ AllWait w s l first v [] (x ∷ []) =
     IsBodyAs w s v.code v.stacked first v.bound v.frame v.values × EntryWaits l x
 AllWait w s l first v [] (x ∷ y ∷ xs) = ⊥
 AllWait w s l first v (Entered n b ∷ ws) xs =
-    (h : IsEnteredAs w s v.code v.bound n b v.values)
+    (h : IsEnteredAs w s v.code v.bound n b v.frame v.values)
     × AllWait w s l first (record v { stacked = b.stacked; frame = b.frame; bound = h.mark }) ws xs
 AllWait w s l first v (Waits a ∷ ws) [] = ⊥
 AllWait w s l first v (Waits a ∷ ws) (x ∷ xs) =

@@ -1,0 +1,83 @@
+-- Which variables a block of a function enters: objects of the function, which have no homes before.
+use Rattle.std.proofs.Common.{◌≡◌, ℕ, zero, suc, ◌+◌, Bool, true, false, ◌||◌, if◌then◌else◌, List, [], ◌∷◌}
+use Rattle.std.proofs.Common.{get_or, map, refl, sym, ap, ◌∙◌, Some, arith}
+use Rattle.std.specs.Prelude.{◌==◌, slice_get}
+use Rattle.std.proofs.lemmas.Bool.{and_parts, eqb-true}
+use Rattle.c_tree.specs.declared.program.Variable.{Variable}
+use Rattle.c_tree.specs.Blocks.{closed, is_among, no_variable, opened}
+use Rattle.source_meaning.specs.Blocks.{has_objects}
+use Rattle.source_meaning.specs.State.{Home, InObject, NoObject}
+use Rattle.tac_ir.specs.declared.function.CodeFunction.{CodeFunction}
+use Rattle.tac_ir.specs.Fitting.{has_no_home, have_no_homes}
+use Rattle.tac_ir.specs.Meaning.{blocks_in, if_there, objects_in}
+use Rattle.metadata_plan.specs.Registers.{all_variables}
+use Rattle.metadata_relation.specs.Holding.{is_object_in}
+use Rattle.metadata_relation.specs.Registers.{first_object}
+
+-- a variable whose block is not entered is no object
+closed_is_none : (d : Variable) → (closed d).is_object ≡ false
+closed_is_none d = by d.is_object refl
+  where
+    by : (b : Bool) → d.is_object ≡ b → (if d.is_object then no_variable else d).is_object ≡ false
+    by true is = ap (λ b. (if b then no_variable else d).is_object) is
+    by false is = ap (λ b. (if b then no_variable else d).is_object) is ∙ is
+
+-- an object that a block enters is one of the function's, under a number of the block's
+opened_object : (numbers : List ℕ) (n : ℕ) (all : List Variable) (y : ℕ)
+    → is_object_in (opened numbers n all (map closed all)) y ≡ true
+    → (is_object_in all y ≡ true) × (is_among numbers (n + y) ≡ true)
+opened_object numbers n [] y e = absurd cc
+opened_object numbers n (d ∷ ds) zero e = by (is_among numbers n) refl
+  where
+    by : (b : Bool) → is_among numbers n ≡ b → (d.is_object ≡ true) × (is_among numbers (n + 0) ≡ true)
+    by true t =
+        (ap (λ b. (if b then d else closed d).is_object) (sym t) ∙ e, ap (is_among numbers) (omega arith) ∙ t)
+    by false t =
+        let is : (closed d).is_object ≡ true = ap (λ b. (if b then d else closed d).is_object) (sym t) ∙ e in
+        let both : false ≡ true = sym (closed_is_none d) ∙ is in
+        absurd cc
+opened_object numbers n (d ∷ ds) (suc y) e =
+    let r = opened_object numbers (suc n) ds y e in
+    let place : n + suc y ≡ suc n + y = omega arith in
+    (r.0, ap (is_among numbers) place ∙ r.1)
+
+none_is : (m : Home) → has_no_home m ≡ true → m ≡ NoObject
+none_is NoObject e = refl
+none_is (InObject o) e = absurd cc
+
+among_none : (frame : List Home) (numbers : List ℕ) (x : ℕ) → have_no_homes frame numbers ≡ true
+    → is_among numbers x ≡ true → get_or frame x NoObject ≡ NoObject
+among_none frame [] x none e = absurd cc
+among_none frame (y ∷ ys) x none e =
+    let p = and_parts (has_no_home (get_or frame y NoObject)) (have_no_homes frame ys) none in
+    by (λ t. among_none frame ys x p.1 t) p.0 (y == x) refl e
+  where
+    by : (is_among ys x ≡ true → get_or frame x NoObject ≡ NoObject) → has_no_home (get_or frame y NoObject) ≡ true
+        → (b : Bool) → (y == x) ≡ b → (b || is_among ys x) ≡ true → get_or frame x NoObject ≡ NoObject
+    by rest first true is t =
+        ap (λ z. get_or frame z NoObject) (sym (eqb-true y x is)) ∙ none_is (get_or frame y NoObject) first
+    by rest first false is t = rest t
+
+-- the first object is one, where there are any
+pub first_is_object : (vs : List Variable) → has_objects vs ≡ true → is_object_in vs (first_object vs) ≡ true
+first_is_object [] e = absurd cc
+first_is_object (v ∷ vs) e = by (λ t. first_is_object vs t) v.is_object refl e
+  where
+    by : (has_objects vs ≡ true → is_object_in vs (first_object vs) ≡ true) → (b : Bool) → v.is_object ≡ b
+        → (b || has_objects vs) ≡ true
+        → is_object_in (v ∷ vs) (if v.is_object then 0 else suc (first_object vs)) ≡ true
+    by rest true is t = ap (λ b. is_object_in (v ∷ vs) (if b then 0 else suc (first_object vs))) is ∙ is
+    by rest false is t = ap (λ b. is_object_in (v ∷ vs) (if b then 0 else suc (first_object vs))) is ∙ rest t
+
+module _ (c : CodeFunction) (k : ℕ) where
+  pub declares : (y : ℕ) → is_object_in (objects_in (Some c) k) y ≡ true → is_object_in (all_variables c) y ≡ true
+  declares y e = (opened_object (if_there (slice_get (blocks_in (Some c)) k)) 0 (all_variables c) y e).0
+
+  -- the objects of a block that is entered have no homes before
+  pub fresh : (frame : List Home) → have_no_homes frame (if_there (slice_get (blocks_in (Some c)) k)) ≡ true
+      → (y : ℕ) → is_object_in (objects_in (Some c) k) y ≡ true → get_or frame y NoObject ≡ NoObject
+  fresh frame none y e =
+      let numbers = if_there (slice_get (blocks_in (Some c)) k) in
+      let place : y ≡ 0 + y = omega arith in
+      among_none frame numbers y none
+      (ap (is_among numbers) place ∙ (opened_object numbers 0 (all_variables c) y e).1)

@@ -2,6 +2,7 @@
 
 ghost use Rattle.std.specs.Prelude.{◌≡◌, ℕ, ◌+◌, ◌*◌, ◌<◌, ◌≤◌, ◌&&◌, ◌||◌, ◌==◌, ◌^◌, ◌∷◌, [], length, map, min};
 ghost use Rattle.std.specs.Prelude.{get_or, true, IfOk, Some, slice_get};
+ghost use Rattle.std.specs.List.{list_all};
 ghost use Rattle.c_tree.specs.declared.expression.Kind.TheVariants.{Void};
 ghost use Rattle.c_tree.specs.Kinds.{routine_signature};
 ghost use Rattle.source_meaning.specs.Good.{plain_type};
@@ -9,7 +10,7 @@ ghost use Rattle.tac_ir.specs.Meaning.{function_in};
 ghost use Rattle.tac_ir.specs.Temporaries.{temporaries};
 ghost use Rattle.metadata_plan.specs.Registers.{all_variables, most_temporaries};
 ghost use Rattle.metadata_plan.specs.Entries.{AreClosed, can_compare, converted_from, entry_source, given};
-ghost use Rattle.metadata_plan.specs.Entries.{has_fixed_path, is_among, is_argument_with_entry, is_fixed};
+ghost use Rattle.metadata_plan.specs.Entries.{is_among, is_argument_with_entry, is_fixed};
 ghost use Rattle.metadata_plan.specs.Entries.{is_moved_with_entry, is_name, is_pointer_type, key_in, parameter_kinds};
 ghost use Rattle.metadata_plan.specs.Entries.{pointer_of, read_from, reads_entry, reads_for, written_from};
 ghost use Rattle.metadata_expansion.specs.TemporarySets.{is_in, room};
@@ -223,11 +224,11 @@ fn is_fixed(member: &Member) -> bool
     member.scaled.is_none() && member.constant < 1 << 32
 }
 
-// Whether all members of a key do.
-fn has_fixed_path(key: &Key) -> bool
-    ensures { result ≡ has_fixed_path key.now }
+// Whether all members do.
+fn are_fixed(members: &[Member]) -> bool
+    ensures { result ≡ list_all is_fixed members.now }
 {
-    for member in key.path.as_slice() {
+    for member in members {
         if !is_fixed(member) {
             return false;
         }
@@ -240,7 +241,7 @@ fn can_compare(test: Test, key: &Key) -> bool
     ensures { result ≡ can_compare test key.now }
 {
     match test {
-        Test::Spatial => is_named(key.base) && has_fixed_path(key),
+        Test::Spatial => is_named(key.base) && are_fixed(key.path.as_slice()),
         Test::Temporal => is_named(key.base),
     }
 }

@@ -116,6 +116,7 @@ waits_higher w s l first v bound le (Entered n b ∷ ws) xs h =
         mark = e.mark;
         own = λ o q. (let z = e.own o q in let above = z.0 in let below = z.1 in (above, omega arith));
         below = e.below;
+        over = e.over;
         homes = e.homes;
       },
       h.1,

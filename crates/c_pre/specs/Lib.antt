@@ -4,6 +4,8 @@ pub mod Lines
 pub mod Headers
 pub mod Names
 pub mod Trace
+pub mod HideSets
+pub mod Arguments
 pub mod Expansion
 pub mod Directives
 pub mod Sections

@@ -15,7 +15,7 @@ use Rattle.c_pre.specs.Names.{Name, Macros}
 use Rattle.c_pre.specs.Trace.{Trace, after, answer, quiet}
 use Rattle.c_pre.specs.Directives as d
 use Rattle.c_pre.specs.Sections.{State}
-use Rattle.c_pre.specs.Pending.{inner_first}
+use Rattle.c_pre.specs.InnerFirst.{inner_first}
 
 abbrev pub Fails : {A : Type 0} → Trace A → PreError → Type 0
 Fails t Memory = ⊤

@@ -5,7 +5,8 @@ ghost use Rattle.c_pre.specs.Directives as spec;
 ghost use Rattle.c_pre.specs.Reading as reading;
 ghost use Rattle.c_pre.specs.Outcomes.{line_of_kind};
 
-use crate::definition::Definition;
+use crate::arguments::Role;
+use crate::definition::{Definition, Macro};
 use crate::header::Header;
 use crate::name::MacroName;
 use c_lexer::{Punctuator, Token, TokenKind};
@@ -44,7 +45,7 @@ pub enum LineKind<'t, 'a> {
     Else(bool),
     /// `#endif`, and whether nothing stands behind it.
     Endif(bool),
-    /// `#define` of a name with its replacement list.
+    /// `#define` of a name.
     Define(Definition<'t, 'a>),
     /// `#undef` of a name.
     Undef(MacroName<'a>),
@@ -82,6 +83,101 @@ fn begins_parameters(tokens: &[Token<'_>]) -> bool
     }
 }
 
+/// How many tokens stand before the first `)`, if there is one.
+fn close_at(tokens: &[Token<'_>]) -> Option<usize> {
+    let mut n = 0;
+    while n < tokens.len() {
+        if Role::of(&tokens[n]) == Role::Closes {
+            return Some(n);
+        }
+        n += 1;
+    }
+    None
+}
+
+/// Whether a name is among these, parted by commas.
+fn is_among(name: &[u8], tokens: &[Token<'_>]) -> bool {
+    let mut rest = tokens;
+    while let [first, more @ ..] = rest {
+        if first.kind.spelling() == name {
+            return true;
+        }
+        rest = match more {
+            [_, others @ ..] => others,
+            [] => more,
+        };
+    }
+    false
+}
+
+/// Whether names stand there, parted by commas.
+fn are_names(tokens: &[Token<'_>]) -> bool {
+    let mut rest = tokens;
+    loop {
+        let [name, more @ ..] = rest else {
+            return false;
+        };
+        if MacroName::of(&name.kind).is_none() {
+            return false;
+        }
+        let [comma, others @ ..] = more else {
+            return true;
+        };
+        if Role::of(comma) != Role::Parts {
+            return false;
+        }
+        rest = others;
+    }
+}
+
+/// Whether each of these names, parted by commas, stands there once.
+fn differ(tokens: &[Token<'_>]) -> bool {
+    let mut rest = tokens;
+    while let [name, _, others @ ..] = rest {
+        if is_among(name.kind.spelling(), others) {
+            return false;
+        }
+        rest = others;
+    }
+    true
+}
+
+/// Whether a token is `#` or `...`.
+fn is_left_out(token: &Token<'_>) -> bool {
+    match token.kind {
+        TokenKind::Punctuator(Punctuator::Hash | Punctuator::Ellipsis) => true,
+        _ => false,
+    }
+}
+
+/// Whether a `#` or `...` stands there.
+fn has_left_out(tokens: &[Token<'_>]) -> bool {
+    for token in tokens {
+        if is_left_out(token) {
+            return true;
+        }
+    }
+    false
+}
+
+/// What `#define` of this name with these tokens behind the `(` of its parameters is.
+fn function_like<'t, 'a>(name: MacroName<'a>, tokens: &'t [Token<'a>]) -> LineKind<'t, 'a> {
+    let Some(close) = close_at(tokens) else {
+        return LineKind::UnknownDirective;
+    };
+    let parameters = &tokens[..close];
+    let list = &tokens[close + 1..];
+    let well_formed = (parameters.is_empty() || are_names(parameters)) && differ(parameters);
+    if !well_formed || has_left_out(list) {
+        return LineKind::UnknownDirective;
+    }
+    let meaning = Macro {
+        parameters: Some(parameters),
+        list,
+    };
+    LineKind::Define(Definition { name, meaning })
+}
+
 /// What `#define` with these tokens behind it is.
 fn definition_of<'t, 'a>(tokens: &'t [Token<'a>]) -> LineKind<'t, 'a>
     ensures { line_of_kind result ≡ spec.definition tokens.now }
@@ -93,9 +189,13 @@ fn definition_of<'t, 'a>(tokens: &'t [Token<'a>]) -> LineKind<'t, 'a>
         return LineKind::UnknownDirective;
     };
     if begins_parameters(list) {
-        return LineKind::UnknownDirective;
+        return function_like(name, &list[1..]);
     }
-    LineKind::Define(Definition { name, list })
+    let meaning = Macro {
+        parameters: None,
+        list,
+    };
+    LineKind::Define(Definition { name, meaning })
 }
 
 /// What `#undef` with these tokens behind it is.

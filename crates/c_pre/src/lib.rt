@@ -1,19 +1,22 @@
 //! Directives and macros of a C source text (C99 6.10): from the tokens of the text to those that are compiled.
 //!
-//! Headers are built in, macros are object-like, and there is no `#if`.
+//! Headers are built in, and there is no `#if`.
 #![tactic(auto)]
 
+pub mod arguments;
 pub mod definition;
 pub mod directive;
+pub mod expander;
 pub mod expansion;
 pub mod fault;
 pub mod header;
 pub mod headers;
+pub mod hide_set;
+pub mod hiding;
 pub mod laws;
 pub mod lines;
 pub mod name;
 pub mod preprocessor;
-pub mod reader;
 pub mod section;
 pub mod text;
 

@@ -9,13 +9,13 @@ ghost use Rattle.c_pre.specs.Names as names;
 ghost use Rattle.c_pre.specs.Trace.{quiet, line_of};
 ghost use Rattle.c_pre.specs.Sections as sections;
 ghost use Rattle.c_pre.specs.Reading as spec;
-ghost use Rattle.c_pre.specs.Pending.{inner_first};
-ghost use Rattle.c_pre.specs.Outcomes.{Emits, Steps, state_of, line_of_kind};
+ghost use Rattle.c_pre.specs.InnerFirst.{inner_first};
+ghost use Rattle.c_pre.specs.Outcomes.{Emits, Steps, state_of, line_of_kind, macro_of};
 
 use crate::MAX_REPLACEMENT_TOKENS;
-use crate::definition::Definition;
+use crate::definition::{Definition, Macro};
 use crate::directive::LineKind;
-use crate::expansion::{MacroTable, expand_line};
+use crate::expansion::{MacroTable, expand_run};
 use crate::fault::{PreError, PreFault, PreFaultKind};
 use crate::header::Header;
 use crate::headers::Headers;
@@ -66,6 +66,20 @@ fn same_list(a: &[Token<'_>], b: &[Token<'_>]) -> bool
         b = others;
     }
     b.is_empty()
+}
+
+/// Whether two macros have the same parameters in the same order.
+fn same_parameters(a: Option<&[Token<'_>]>, b: Option<&[Token<'_>]>) -> bool {
+    match (a, b) {
+        (None, None) => true,
+        (Some(a), Some(b)) => same_list(a, b),
+        _ => false,
+    }
+}
+
+/// Whether two definitions are the same.
+fn same_macro(a: Macro<'_, '_>, b: Macro<'_, '_>) -> bool {
+    same_parameters(a.parameters, b.parameters) && same_list(a.list, b.list)
 }
 
 impl<'t, 'a> Preprocessor<'t, 'a> {
@@ -145,15 +159,16 @@ impl<'t, 'a> Preprocessor<'t, 'a> {
     /// `#define`.
     #[tactic(auto, using(crate::proofs::Tables::redefines))]
     fn define(&mut self, at: Line, definition: Definition<'t, 'a>) -> Result<(), PreError>
-        ensures { Steps (spec.defined (state_of self.old) at definition.entry.name definition.entry.list.now)
+        ensures { Steps (spec.defined (state_of self.old) at definition.entry.name
+            (macro_of definition.entry.meaning))
             (λ _. state_of self.new) result }
     {
         if let Some(old) = self.macros.get(&definition.name).copied() {
-            if !same_list(old, definition.list) {
+            if !same_macro(old, definition.meaning) {
                 return Err(fault(PreFaultKind::MacroRedefined, at));
             }
         }
-        self.macros.insert(definition.name, definition.list)?;
+        self.macros.insert(definition.name, definition.meaning)?;
         Ok(())
     }
 
@@ -240,7 +255,7 @@ impl<'t, 'a> Preprocessor<'t, 'a> {
         ensures { Emits (spec.read_text_line (state_of self.old) line.now) (λ _. state_of self.new) out.old.items
             out.new.items result }
     {
-        self.room = expand_line(self.alloc, &self.macros, self.room, line, out)?;
+        self.room = expand_run(self.alloc, &self.macros, self.room, line, out)?;
         Ok(())
     }
 

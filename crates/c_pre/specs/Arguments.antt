@@ -1,5 +1,5 @@
 -- The arguments of a function-like macro's call (C99 6.10.3 paragraph 11).
-use Rattle.std.specs.Prelude.{ℕ, zero, suc, Bool, true, false, List, [], ◌∷◌, Option, Some, None, option_map, length}
+use Rattle.std.specs.Prelude.{ℕ, zero, suc, Bool, true, false, List, [], ◌∷◌, Option, Some, None, option_map}
 use Rattle.std.specs.Prelude.{nat_eq}
 use Rattle.c_lexer.specs.declared.token.TokenKind.{TokenKind}
 use Rattle.c_lexer.specs.declared.token.TokenKind.TheVariants.{Punctuator}
@@ -63,8 +63,13 @@ abbrev pub opened : List HidingToken → Option (List HidingToken)
 opened [] = None
 opened (x ∷ more) = behind_open (role x.token.kind) more
 
--- whether the number of arguments is that of the parameters (6.10.3 paragraph 4): no tokens between the parentheses are
--- no argument where there is no parameter, and else one
-abbrev pub fits : ℕ → List (List HidingToken) → Bool
-fits zero ([] ∷ []) = true
-fits n arguments = nat_eq n (length arguments)
+-- whether the first argument has no tokens
+abbrev pub begins_empty : List (List HidingToken) → Bool
+begins_empty ([] ∷ more) = true
+begins_empty arguments = false
+
+-- whether the number of arguments is that of the parameters (6.10.3 paragraph 4): where there is no parameter, no tokens
+-- between the parentheses are no argument and not one
+abbrev pub fits : ℕ → Bool → ℕ → Bool
+fits zero true (suc zero) = true
+fits parameters is_empty arguments = nat_eq parameters arguments

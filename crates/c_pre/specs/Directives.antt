@@ -76,11 +76,11 @@ are_names [] = false
 are_names (name ∷ []) = is_some (name_of name.kind)
 are_names (name ∷ comma ∷ more) = is_some (name_of name.kind) && is_comma comma.kind && are_names more
 
--- these names
+-- the names, without the commas
 abbrev pub names_among : Tokens → Names
 names_among [] = []
-names_among (name ∷ []) = spelling_of name.kind ∷ []
-names_among (name ∷ comma ∷ more) = spelling_of name.kind ∷ names_among more
+names_among (token ∷ more) =
+    if is_comma token.kind then names_among more else spelling_of token.kind ∷ names_among more
 
 abbrev pub differ : Names → Bool
 differ [] = true

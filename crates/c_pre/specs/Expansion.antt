@@ -1,5 +1,5 @@
 -- Macro replacement (C99 6.10.3), by hide sets (6.10.3.4): each token has the names that it is not replaced by.
-use Rattle.std.specs.Prelude.{ℕ, zero, suc, ◌+◌, ◌-◌, List, [], ◌∷◌, ◌++◌, map, length, Option, Some, None, Result, Ok}
+use Rattle.std.specs.Prelude.{ℕ, zero, suc, ◌+◌, ◌-◌, Bool, List, [], ◌∷◌, ◌++◌, map, length, Option, Some, None, Result, Ok}
 use Rattle.std.specs.Prelude.{Err, if◌then◌else◌, nat_le, bytes_eq}
 use Rattle.c_lexer.specs.declared.token.Token.{Token}
 use Rattle.c_lexer.specs.Spelled.{on_line}
@@ -9,7 +9,7 @@ use Rattle.c_pre.specs.declared.fault.PreFaultKind.TheVariants.{TooMany, BadCall
 use Rattle.c_pre.specs.Lines.{Tokens}
 use Rattle.c_pre.specs.Names.{Name, Names, Macro, Macros, name_of, member}
 use Rattle.c_pre.specs.HideSets.{HidingToken, common, joined}
-use Rattle.c_pre.specs.Arguments.{Call, taken, opened, fits}
+use Rattle.c_pre.specs.Arguments.{Call, taken, opened, begins_empty, fits}
 use Rattle.c_pre.specs.Trace.{Trace, fault_at}
 
 -- the tokens that an expansion gives, and at its end how many tokens replacement lists may still put in, or the fault
@@ -106,20 +106,21 @@ each_expanded go room [] = Ok ([], room)
 each_expanded go room (argument ∷ more) =
     then_others (go room argument).given (go room argument).end (λ left. each_expanded go left more)
 
--- a call whose arguments are expanded
-abbrev pub with_arguments : Expander → Option ℕ → Used → Names → Call → Expanded → Expansion
-with_arguments go outer used parameters call (Err fault) = stops fault
-with_arguments go outer used parameters call (Ok arguments) =
-    read_again go outer used.line arguments.1
+-- a call whose arguments are expanded, and whether the first of them had no tokens
+abbrev pub with_arguments : Expander → Option ℕ → Used → Names → Bool → Call → Expanded → Expansion
+with_arguments go outer used parameters is_empty call (Err fault) = stops fault
+with_arguments go outer used parameters is_empty call (Ok arguments) =
+    if fits (length parameters) is_empty (length arguments.0)
+    then read_again go outer used.line arguments.1
     (put_in used.line (used.name ∷ common used.hidden call.close) parameters arguments.0 used.list) call.follow
+    else stops (fault_at used.line BadCall)
 
 -- a call, or what stands there in place of one
 abbrev pub with_call : Expander → Option ℕ → Used → Names → ℕ → Option Call → Expansion
 with_call go outer used parameters room None = stops (fault_at used.line BadCall)
 with_call go outer used parameters room (Some call) =
-    if fits (length parameters) call.arguments
-    then with_arguments go outer used parameters call (each_expanded (go (Some used.line)) room call.arguments)
-    else stops (fault_at used.line BadCall)
+    with_arguments go outer used parameters (begins_empty call.arguments) call
+    (each_expanded (go (Some used.line)) room call.arguments)
 
 -- the name of a function-like macro: with a `(` behind it a call, else it stays
 abbrev pub called : Expander → Option ℕ → Used → Names → HidingToken → ℕ → List HidingToken → Option (List HidingToken)

@@ -11,6 +11,11 @@ pub mod Directives
 pub mod Sections
 pub mod Groups
 pub mod Reading
+pub mod InnerFirst
+pub mod SharedSets
 pub mod Pending
+pub mod Ends
+pub mod PutIn
 pub mod Outcomes
+pub mod Progress
 pub mod Origin

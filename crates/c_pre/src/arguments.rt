@@ -1,12 +1,10 @@
-//! Arguments of calls of function-like macros (C99 6.10.3 paragraph 11).
+//! What tokens are to the arguments of calls of function-like macros (C99 6.10.3 paragraph 11).
 
-ghost use Rattle.std.specs.Prelude.{◌≡◌, ◌≤◌, length, option_map, IfSome, ◌<◌};
+ghost use Rattle.std.specs.Prelude.{◌≡◌};
 ghost use Rattle.c_pre.specs.Arguments as spec;
-ghost use Rattle.c_pre.specs.Ends as ends;
+ghost use Rattle.c_pre.specs.Ends.{role_of};
 
-use crate::hiding::Hiding;
 use c_lexer::{Punctuator, Token, TokenKind};
-use std::alloc::{AllocError, AllocFailed, Global};
 
 /// What a token is to arguments.
 #[derive(Clone, Copy, Debug, PartialEq, Eq)]
@@ -24,7 +22,7 @@ pub enum Role {
 impl Role {
     /// That of a token.
     pub fn of(token: &Token<'_>) -> Self
-        ensures { ends.role_of result ≡ spec.role token.now.kind }
+        ensures { role_of result ≡ spec.role token.now.kind }
     {
         match token.kind {
             TokenKind::Punctuator(Punctuator::LeftParenthesis) => Role::Opens,
@@ -33,30 +31,4 @@ impl Role {
             _ => Role::Other,
         }
     }
-}
-
-/// The end of the argument that begins where so many tokens are unread (the next one last): how many are unread from
-/// the comma or `)` on that ends it, if that stands where more than `least` are unread.
-pub fn argument_end(unread: &[Hiding<'_>], from: usize, least: usize) -> Option<usize> {
-    let mut depth = 0;
-    let mut n = from;
-    while n > least {
-        match Role::of(&unread[n - 1].token) {
-            Role::Opens => depth += 1,
-            Role::Closes => {
-                if depth == 0 {
-                    return Some(n);
-                }
-                depth -= 1;
-            }
-            Role::Parts => {
-                if depth == 0 {
-                    return Some(n);
-                }
-            }
-            Role::Other => {}
-        }
-        n -= 1;
-    }
-    None
 }

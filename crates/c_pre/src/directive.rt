@@ -1,14 +1,14 @@
 //! What a line of a text is (C99 6.10 paragraph 1).
 
-ghost use Rattle.std.specs.Prelude.{◌≡◌};
+ghost use Rattle.std.specs.Prelude.{◌≡◌, ◌<◌, length, IfSome};
 ghost use Rattle.c_pre.specs.Directives as spec;
 ghost use Rattle.c_pre.specs.Reading as reading;
-ghost use Rattle.c_pre.specs.Outcomes.{line_of_kind};
+ghost use Rattle.c_pre.specs.Outcomes.{close_index, line_of_kind};
 
-use crate::arguments::Role;
 use crate::definition::{Definition, Macro};
 use crate::header::Header;
 use crate::name::MacroName;
+use crate::parameters::{are_parameters, has_left_out};
 use c_lexer::{Punctuator, Token, TokenKind};
 
 /// The name of a directive.
@@ -83,92 +83,45 @@ fn begins_parameters(tokens: &[Token<'_>]) -> bool
     }
 }
 
-/// How many tokens stand before the first `)`, if there is one.
-fn close_at(tokens: &[Token<'_>]) -> Option<usize> {
-    let mut n = 0;
-    while n < tokens.len() {
-        if Role::of(&tokens[n]) == Role::Closes {
-            return Some(n);
-        }
-        n += 1;
-    }
-    None
-}
-
-/// Whether a name is among these, parted by commas.
-fn is_among(name: &[u8], tokens: &[Token<'_>]) -> bool {
-    let mut rest = tokens;
-    while let [first, more @ ..] = rest {
-        if first.kind.spelling() == name {
-            return true;
-        }
-        rest = match more {
-            [_, others @ ..] => others,
-            [] => more,
-        };
-    }
-    false
-}
-
-/// Whether names stand there, parted by commas.
-fn are_names(tokens: &[Token<'_>]) -> bool {
-    let mut rest = tokens;
-    loop {
-        let [name, more @ ..] = rest else {
-            return false;
-        };
-        if MacroName::of(&name.kind).is_none() {
-            return false;
-        }
-        let [comma, others @ ..] = more else {
-            return true;
-        };
-        if Role::of(comma) != Role::Parts {
-            return false;
-        }
-        rest = others;
-    }
-}
-
-/// Whether each of these names, parted by commas, stands there once.
-fn differ(tokens: &[Token<'_>]) -> bool {
-    let mut rest = tokens;
-    while let [name, _, others @ ..] = rest {
-        if is_among(name.kind.spelling(), others) {
-            return false;
-        }
-        rest = others;
-    }
-    true
-}
-
-/// Whether a token is `#` or `...`.
-fn is_left_out(token: &Token<'_>) -> bool {
+/// Whether a token is `)`.
+fn is_close(token: &Token<'_>) -> bool
+    ensures { result ≡ spec.is_close token.now.kind }
+{
     match token.kind {
-        TokenKind::Punctuator(Punctuator::Hash | Punctuator::Ellipsis) => true,
+        TokenKind::Punctuator(Punctuator::RightParenthesis) => true,
         _ => false,
     }
 }
 
-/// Whether a `#` or `...` stands there.
-fn has_left_out(tokens: &[Token<'_>]) -> bool {
-    for token in tokens {
-        if is_left_out(token) {
-            return true;
+/// How many tokens stand before the first `)`, if there is one.
+#[tactic(auto, using(crate::proofs::Closing::behind_more, crate::proofs::Closing::behind_none))]
+fn close_at(tokens: &[Token<'_>]) -> Option<usize>
+    ensures place { result ≡ close_index tokens.now }
+    ensures within { IfSome result (λ n. n < length tokens.now) }
+{
+    let mut n = 0;
+    let mut rest = tokens;
+    while let [token, more @ ..] = rest {
+        if is_close(token) {
+            return Some(n);
         }
+        n += 1;
+        rest = more;
     }
-    false
+    None
 }
 
 /// What `#define` of this name with these tokens behind the `(` of its parameters is.
-fn function_like<'t, 'a>(name: MacroName<'a>, tokens: &'t [Token<'a>]) -> LineKind<'t, 'a> {
+#[tactic(auto, using(crate::proofs::Closing::parted))]
+fn function_like<'t, 'a>(name: MacroName<'a>, tokens: &'t [Token<'a>]) -> LineKind<'t, 'a>
+    ensures { line_of_kind result ≡ spec.function_like name.entry (spec.to_close tokens.now) }
+{
     let Some(close) = close_at(tokens) else {
         return LineKind::UnknownDirective;
     };
     let parameters = &tokens[..close];
     let list = &tokens[close + 1..];
-    let well_formed = (parameters.is_empty() || are_names(parameters)) && differ(parameters);
-    if !well_formed || has_left_out(list) {
+    if !are_parameters(parameters) || has_left_out(list) {
         return LineKind::UnknownDirective;
     }
     let meaning = Macro {

@@ -1,15 +1,29 @@
-//! The expansion of text lines, without recursion.
+//! The expansion of text lines, without recursion: a stack of the calls whose arguments are being expanded.
 
-use crate::arguments::{Role, argument_end};
-use crate::definition::{Definition, Macro};
+ghost use Rattle.std.specs.Prelude.{◌≡◌, ◌≤◌, ◌∷◌, length, map, option_map, IfOk, OnOk, None, is_some, true};
+ghost use Rattle.c_pre.specs.Arguments.{fits, taken};
+ghost use Rattle.c_pre.specs.Expansion as expansion;
+ghost use Rattle.c_pre.specs.InnerFirst.{inner_first};
+ghost use Rattle.c_pre.specs.Limits.{max_expanded_tokens};
+ghost use Rattle.c_pre.specs.Outcomes.{macro_of, macros_of};
+ghost use Rattle.c_pre.specs.Names.{Macros};
+ghost use Rattle.c_pre.specs.Pending as pending;
+ghost use Rattle.c_pre.specs.Progress as progress;
+ghost use Rattle.c_pre.specs.SharedSets.{IsKnown, names_of};
+
+use crate::arguments::Role;
+use crate::definition::Definition;
 use crate::expansion::{MacroTable, give};
 use crate::fault::{PreError, PreFault, PreFaultKind};
-use crate::hide_set::{EMPTY, HideSet, HideSets};
+use crate::hide_set::HideSet;
 use crate::hiding::Hiding;
 use crate::name::MacroName;
+use crate::parameters::count;
+use crate::unread::Unread;
 use c_lexer::Token;
 use sb_base::Line;
 use std::alloc::{AllocError, Global};
+use std::mem;
 
 /// A call of a function-like macro whose arguments are being expanded.
 #[derive(Drop)]
@@ -24,6 +38,8 @@ pub struct Call<'t, 'a> {
     pub parameters: &'t [Token<'a>],
     /// The replacement list.
     pub list: &'t [Token<'a>],
+    /// Whether the first argument has no tokens.
+    pub is_empty: bool,
     /// How many tokens are unread from the comma or `)` on that ends the present argument.
     pub end: usize,
     /// The arguments that are expanded.
@@ -32,70 +48,64 @@ pub struct Call<'t, 'a> {
     pub given: Vec<Hiding<'a>>,
 }
 
-/// What is left to do. Arguments are expanded where they stand, before the tokens behind them.
+impl<'t, 'a> Call<'t, 'a> {
+    /// Ends the present argument.
+    fn end_argument(&mut self, alloc: Global) -> Result<(), PreError>
+        ensures { OnOk result (progress.ArgumentEnds self.old self.new) }
+    {
+        let given = mem::replace(&mut self.given, Vec::new(alloc));
+        self.done.push(given)?;
+        Ok(())
+    }
+}
+
+/// What is left to do.
 #[derive(Drop)]
 pub struct Expander<'t, 'a> {
     /// Where memory comes from.
     pub alloc: Global,
-    /// The hide sets of all tokens.
-    pub sets: HideSets<'a>,
-    /// The tokens that are still to be read, the next one last.
-    pub unread: Vec<Hiding<'a>>,
-    /// The calls whose arguments are being expanded, the innermost last.
+    /// The tokens that are still to be read.
+    pub unread: Unread<'a>,
+    /// The calls, the innermost last.
     pub calls: Vec<Call<'t, 'a>>,
-    /// How many tokens replacement lists may still put in.
-    pub room: usize,
 }
 
-/// The argument of the parameter that a token names.
-fn argument_of<'s, 'a>(
-    parameters: &[Token<'a>],
-    arguments: &'s [Vec<Hiding<'a>>],
-    token: &Token<'a>,
-) -> Option<&'s [Hiding<'a>]> {
-    let name = MacroName::of(&token.kind)?;
-    let mut n = 0;
-    let mut rest = parameters;
-    while n < arguments.len() {
-        let [parameter, more @ ..] = rest else {
-            return None;
-        };
-        if name.is(parameter.kind.spelling()) {
-            return Some(arguments[n].as_slice());
-        }
-        let [_, others @ ..] = more else {
-            return None;
-        };
-        rest = others;
-        n += 1;
+/// A fault of a call on this line.
+fn bad_call(line: Line) -> PreError
+    ensures { result ≡ PreError.Fault (record { kind = PreFaultKind.BadCall; line = line }) }
+{
+    PreError::Fault(PreFault::new(PreFaultKind::BadCall, line))
+}
+
+/// Whether the number of arguments is that of the parameters, where the first argument has tokens or not.
+fn fits(parameters: usize, is_empty: bool, arguments: usize) -> bool
+    ensures { result ≡ fits parameters is_empty arguments }
+{
+    if parameters == 0 && is_empty && arguments == 1 {
+        return true;
     }
-    None
+    parameters == arguments
 }
 
 impl<'t, 'a> Expander<'t, 'a> {
     /// Begins with a text.
-    pub fn new(alloc: Global, room: usize, text: &[Token<'a>]) -> Result<Self, AllocError> {
-        let mut unread = Vec::new(alloc);
-        let mut n = text.len();
-        while n > 0 {
-            n -= 1;
-            let token = &text[n];
-            unread.push(Hiding {
-                token: token.on_line(token.line),
-                hidden: EMPTY,
-            })?;
-        }
+    pub fn new(alloc: Global, room: usize, text: &[Token<'a>]) -> Result<Self, AllocError>
+        ensures sound { IfOk result (λ e. pending.IsSound e) }
+        ensures whole { IfOk result (λ e. (macros : Macros) → pending.comes_to macros (pending.left e)
+            ≡ expansion.expansion macros None room (expansion.of_text text.now)) }
+    {
         Ok(Expander {
             alloc,
-            sets: HideSets::new(alloc),
-            unread,
+            unread: Unread::new(alloc, room, text)?,
             calls: Vec::new(alloc),
-            room,
         })
     }
 
     /// How many tokens are unread from the end of the present argument on.
-    fn end(&self) -> usize {
+    #[tactic(auto, using(crate::proofs::Stacks::last_is_inner))]
+    fn end(&self) -> usize
+        ensures { result ≡ pending.end_of (inner_first self.now.calls.items) }
+    {
         match self.calls.as_slice().split_last() {
             Some((call, _)) => call.end,
             None => 0,
@@ -103,32 +113,13 @@ impl<'t, 'a> Expander<'t, 'a> {
     }
 
     /// The line on which a token counts.
-    fn line(&self, token: &Token<'a>) -> Line {
+    #[tactic(auto, using(crate::proofs::Stacks::last_is_inner))]
+    fn line(&self, token: &Token<'a>) -> Line
+        ensures { result ≡ expansion.line_at (pending.line_of_calls (inner_first self.now.calls.items)) token.now.line }
+    {
         match self.calls.as_slice().split_last() {
             Some((call, _)) => call.line,
             None => token.line,
-        }
-    }
-
-    /// Takes the next token of the present argument, or of the text.
-    fn next(&mut self) -> Option<Hiding<'a>> {
-        if self.unread.len() <= self.end() {
-            return None;
-        }
-        self.unread.pop()
-    }
-
-    /// Whether the next token is a `(`.
-    fn is_called(&self) -> bool {
-        if self.unread.len() <= self.end() {
-            return false;
-        }
-        match self.unread.as_slice().split_last() {
-            Some((next, _)) => match Role::of(&next.token) {
-                Role::Opens => true,
-                _ => false,
-            },
-            None => false,
         }
     }
 
@@ -137,17 +128,27 @@ impl<'t, 'a> Expander<'t, 'a> {
         &self,
         macros: &MacroTable<'t, 'a>,
         x: &Hiding<'a>,
-    ) -> Option<Definition<'t, 'a>> {
+    ) -> Option<Definition<'t, 'a>>
+        requires { IsKnown self.now.unread.sets x.now.hidden }
+        ensures { option_map (λ m. (m.name, macro_of m.meaning)) result
+            ≡ expansion.replacement (macros_of macros.now) (pending.hiding self.now.unread.sets x.now) }
+    {
         let name = MacroName::of(&x.token.kind)?;
-        let meaning = macros.get(&name).copied()?;
-        if self.sets.contains(x.hidden, &name) {
+        if self.unread.sets.contains(x.hidden, &name) {
             return None;
         }
+        let meaning = macros.get(&name).copied()?;
         Some(Definition { name, meaning })
     }
 
     /// Gives a token that stays: to the present argument, or to the text.
-    fn give(&mut self, x: Hiding<'a>, out: &mut Vec<Token<'a>>) -> Result<(), PreError> {
+    fn give(&mut self, x: Hiding<'a>, out: &mut Vec<Token<'a>>) -> Result<(), PreError>
+        requires few { length out.old.items ≤ max_expanded_tokens }
+        requires sound { pending.IsSound self.old }
+        requires set { IsKnown self.old.unread.sets x.entry.hidden }
+        ensures { progress.Goes (λ macros. progress.staying macros self.old x.entry) self.new out.old.items out.new.items
+            result }
+    {
         let Some(call) = self.calls.pop() else {
             return give(out, x.token);
         };
@@ -157,86 +158,23 @@ impl<'t, 'a> Expander<'t, 'a> {
         Ok(())
     }
 
-    /// Puts a token in before all that is unread.
-    fn put(&mut self, line: Line, token: &Token<'a>, hidden: HideSet) -> Result<(), PreError> {
-        if self.room == 0 {
-            return Err(PreError::Fault(PreFault::new(PreFaultKind::TooMany, line)));
-        }
-        self.unread.push(Hiding {
-            token: token.on_line(line),
-            hidden,
-        })?;
-        self.room -= 1;
-        Ok(())
-    }
-
-    /// Puts an expanded argument in.
-    fn put_argument(
-        &mut self,
-        line: Line,
-        here: HideSet,
-        argument: &[Hiding<'a>],
-    ) -> Result<(), PreError> {
-        let mut n = argument.len();
-        while n > 0 {
-            n -= 1;
-            let x = &argument[n];
-            let hidden = self.sets.joined(x.hidden, here)?;
-            self.put(line, &x.token, hidden)?;
-        }
-        Ok(())
-    }
-
-    /// Puts a replacement list in, with these arguments for these parameters.
-    fn put_in(
-        &mut self,
-        line: Line,
-        here: HideSet,
-        parameters: &[Token<'a>],
-        arguments: &[Vec<Hiding<'a>>],
-        list: &[Token<'a>],
-    ) -> Result<(), PreError> {
-        let mut n = list.len();
-        while n > 0 {
-            n -= 1;
-            let token = &list[n];
-            match argument_of(parameters, arguments, token) {
-                Some(argument) => self.put_argument(line, here, argument)?,
-                None => self.put(line, token, here)?,
-            }
-        }
-        Ok(())
-    }
-
     /// Puts in the list of an object-like macro for its name.
     fn replace(
         &mut self,
         x: Hiding<'a>,
         name: MacroName<'a>,
         list: &'t [Token<'a>],
-    ) -> Result<(), PreError> {
+    ) -> Result<(), PreError>
+        requires sound { pending.IsSound self.old }
+        requires set { IsKnown self.old.unread.sets x.entry.hidden }
+        requires within { pending.end_of (inner_first self.old.calls.items) ≤ length self.old.unread.tokens.items }
+        ensures { progress.Steps (λ macros. progress.object_like macros self.old x.entry name.entry list.now) self.new
+            result }
+    {
         let line = self.line(&x.token);
-        let here = self.sets.with(name, x.hidden)?;
-        self.put_in(line, here, &[], &[], list)
-    }
-
-    /// The end of the first argument of a call whose `(` was read, if the call ends and the number of its arguments is
-    /// that of the parameters.
-    fn first_end(&self, parameters: &[Token<'a>]) -> Option<usize> {
-        let first = argument_end(&self.unread, self.unread.len(), self.end())?;
-        let mut end = first;
-        let mut n = 1;
-        while Role::of(&self.unread[end - 1].token) == Role::Parts {
-            end = argument_end(&self.unread, end - 1, self.end())?;
-            n += 1;
-        }
-        let wanted = parameters.len() / 2 + parameters.len() % 2;
-        let is_none = wanted == 0 && n == 1 && first == self.unread.len();
-        if n == wanted || is_none {
-            Some(first)
-        } else {
-            None
-        }
+        let here = self.unread.sets.with(name, x.hidden)?;
+        let none = Vec::new(self.alloc);
+        self.unread.put_in(line, here, &list[..0], &none, list)
     }
 
     /// The name of a function-like macro: begins a call, or gives the name where no `(` follows.
@@ -247,21 +185,50 @@ impl<'t, 'a> Expander<'t, 'a> {
         parameters: &'t [Token<'a>],
         list: &'t [Token<'a>],
         out: &mut Vec<Token<'a>>,
-    ) -> Result<(), PreError> {
-        if !self.is_called() {
+    ) -> Result<(), PreError>
+        requires few { length out.old.items ≤ max_expanded_tokens }
+        requires sound { pending.IsSound self.old }
+        requires set { IsKnown self.old.unread.sets x.entry.hidden }
+        requires within { pending.end_of (inner_first self.old.calls.items) ≤ length self.old.unread.tokens.items }
+        ensures { progress.Goes (λ macros. progress.function_like macros self.old x.entry name.entry parameters.now
+            list.now) self.new out.old.items out.new.items result }
+    {
+        if self.unread.open(self.end())?.is_none() {
             return self.give(x, out);
         }
-        self.unread.pop();
+        self.begin_call(x, name, parameters, list)
+    }
+
+    /// Begins a call whose `(` was read.
+    fn begin_call(
+        &mut self,
+        x: Hiding<'a>,
+        name: MacroName<'a>,
+        parameters: &'t [Token<'a>],
+        list: &'t [Token<'a>],
+    ) -> Result<(), PreError>
+        requires sound { pending.IsSound self.old }
+        requires set { IsKnown self.old.unread.sets x.entry.hidden }
+        requires within { pending.end_of (inner_first self.old.calls.items) ≤ length self.old.unread.tokens.items }
+        ensures { progress.Steps (λ macros. progress.beginning macros self.old x.entry name.entry parameters.now
+            list.now) self.new result }
+    {
+        let outer = self.end();
         let line = self.line(&x.token);
-        let Some(end) = self.first_end(parameters) else {
-            return Err(PreError::Fault(PreFault::new(PreFaultKind::BadCall, line)));
+        if !self.unread.is_closed(outer) {
+            return Err(bad_call(line));
+        }
+        let Some(end) = self.unread.argument_end(outer) else {
+            return Err(PreError::Memory);
         };
+        let is_empty = end == self.unread.tokens.len();
         self.calls.push(Call {
             name,
             hidden: x.hidden,
             line,
             parameters,
             list,
+            is_empty,
             end,
             done: Vec::new(self.alloc),
             given: Vec::new(self.alloc),
@@ -270,45 +237,57 @@ impl<'t, 'a> Expander<'t, 'a> {
     }
 
     /// Begins the next argument of a call.
-    fn begin_argument(&mut self, call: Call<'t, 'a>) -> Result<(), PreError> {
-        let Some(end) = argument_end(&self.unread, self.unread.len(), self.end()) else {
+    fn begin_argument(&mut self, call: Call<'t, 'a>) -> Result<(), PreError>
+        requires sound { pending.IsSound self.old }
+        requires call { pending.CallIsKnown self.old.unread.sets call.entry }
+        requires within { pending.end_of (inner_first self.old.calls.items) ≤ length self.old.unread.tokens.items }
+        requires closed { is_some (taken 0 (pending.left self.old).tokens) ≡ true }
+        ensures { progress.Steps (λ macros. progress.next_argument macros self.old call.entry) self.new result }
+    {
+        let Some(end) = self.unread.argument_end(self.end()) else {
             return Err(PreError::Memory);
         };
-        let mut done = call.done;
-        done.push(call.given)?;
-        self.calls.push(Call {
-            name: call.name,
-            hidden: call.hidden,
-            line: call.line,
-            parameters: call.parameters,
-            list: call.list,
-            end,
-            done,
-            given: Vec::new(self.alloc),
-        })?;
+        let mut call = call;
+        call.end_argument(self.alloc)?;
+        call.end = end;
+        self.calls.push(call)?;
         Ok(())
     }
 
-    /// Puts in the list of a call, all of whose arguments are expanded. The second set is that of its `)`.
-    fn end_call(&mut self, call: Call<'t, 'a>, close: HideSet) -> Result<(), PreError> {
-        let mut done = call.done;
-        done.push(call.given)?;
-        let shared = self.sets.common(self.alloc, call.hidden, close)?;
-        let here = self.sets.with(call.name, shared)?;
-        self.put_in(call.line, here, call.parameters, &done, call.list)
+    /// Puts in the list of a call, all of whose arguments are expanded. The set is that of its `)`.
+    fn end_call(&mut self, call: Call<'t, 'a>, close: HideSet) -> Result<(), PreError>
+        requires sound { pending.IsSound self.old }
+        requires call { pending.CallIsKnown self.old.unread.sets call.entry }
+        requires close { IsKnown self.old.unread.sets close }
+        requires within { pending.end_of (inner_first self.old.calls.items) ≤ length self.old.unread.tokens.items }
+        ensures { progress.Steps (λ macros. progress.last_argument macros self.old call.entry close) self.new result }
+    {
+        let mut call = call;
+        call.end_argument(self.alloc)?;
+        if !fits(count(call.parameters), call.is_empty, call.done.len()) {
+            return Err(bad_call(call.line));
+        }
+        let shared = self.unread.sets.common(self.alloc, call.hidden, close)?;
+        let here = self.unread.sets.with(call.name, shared)?;
+        self.unread.put_in(call.line, here, call.parameters, &call.done, call.list)
     }
 
     /// The end of the present argument, or of the text. Tells whether there was an argument.
-    fn end_argument(&mut self) -> Result<bool, PreError> {
+    fn end_argument(&mut self) -> Result<bool, PreError>
+        requires sound { pending.IsSound self.old }
+        requires none { length self.old.unread.tokens.items ≤ pending.end_of (inner_first self.old.calls.items) }
+        ensures { progress.Ends (λ macros. pending.comes_to macros (pending.left self.old)) self.new result }
+    {
         let Some(call) = self.calls.pop() else {
             return Ok(false);
         };
-        let Some(separator) = self.next() else {
+        let Some(separator) = self.unread.next(self.end()) else {
             return Err(PreError::Memory);
         };
         match Role::of(&separator.token) {
             Role::Closes => self.end_call(call, separator.hidden)?,
-            _ => self.begin_argument(call)?,
+            Role::Parts => self.begin_argument(call)?,
+            _ => return Err(PreError::Memory),
         }
         Ok(true)
     }
@@ -318,8 +297,13 @@ impl<'t, 'a> Expander<'t, 'a> {
         &mut self,
         macros: &MacroTable<'t, 'a>,
         out: &mut Vec<Token<'a>>,
-    ) -> Result<bool, PreError> {
-        let Some(x) = self.next() else {
+    ) -> Result<bool, PreError>
+        requires few { length out.old.items ≤ max_expanded_tokens }
+        requires sound { pending.IsSound self.old }
+        ensures { progress.Advances (pending.comes_to (macros_of macros.now) (pending.left self.old)) (macros_of macros.now)
+            self.new out.old.items out.new.items result }
+    {
+        let Some(x) = self.unread.next(self.end()) else {
             return self.end_argument();
         };
         match self.macro_for(macros, &x) {

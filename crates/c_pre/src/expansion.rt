@@ -46,7 +46,7 @@ pub fn expand_run<'t, 'a>(
     let mut expander = Expander::new(alloc, room, text)?;
     for _ in 0..u64::MAX {
         if !expander.step(macros, out)? {
-            return Ok(expander.room);
+            return Ok(expander.unread.room);
         }
     }
     Err(PreError::Memory)

@@ -3,7 +3,7 @@
 ghost use Rattle.std.specs.Prelude.{◌≡◌, ◌≤◌, ◌∷◌, length, IfOk, OnOk, IsTrue};
 ghost use Rattle.c_pre.specs.Names as names;
 ghost use Rattle.c_pre.specs.HideSets as spec;
-ghost use Rattle.c_pre.specs.SharedSets.{FirstIs, Grows, IsKnown, names_of};
+ghost use Rattle.c_pre.specs.SharedSets.{earlier, FirstIs, Grows, IsKnown, names_of};
 
 use crate::name::MacroName;
 use std::alloc::{AllocError, Global};
@@ -34,6 +34,19 @@ pub struct HideSets<'a> {
 /// The empty set.
 pub const EMPTY: HideSet = HideSet { number: 0 };
 
+impl<'a> HideNode<'a> {
+    /// The set of the others, which was made before set n.
+    fn earlier(&self, n: usize) -> HideSet
+        ensures { result.number ≡ earlier n self.now.others.number }
+    {
+        if self.others.number < n {
+            self.others
+        } else {
+            EMPTY
+        }
+    }
+}
+
 impl<'a> HideSets<'a> {
     /// No set but the empty one.
     pub fn new(alloc: Global) -> Self
@@ -45,6 +58,7 @@ impl<'a> HideSets<'a> {
     }
 
     /// A name of a set and the set of its others, or None of the empty set.
+    #[tactic(auto, using(crate::proofs::Sets::names_none))]
     fn first(&self, set: HideSet) -> Option<(MacroName<'a>, HideSet)>
         requires { IsKnown self.now set }
         ensures { FirstIs self.now set result }
@@ -53,11 +67,7 @@ impl<'a> HideSets<'a> {
             return None;
         }
         let node = &self.nodes[set.number - 1];
-        let others = if node.others.number < set.number {
-            node.others
-        } else {
-            EMPTY
-        };
+        let others = node.earlier(set.number);
         Some((node.name.again(), others))
     }
 

@@ -1,11 +1,13 @@
 //! Laws of expanded tokens, each as the contract of a function that does nothing.
 
-ghost use Rattle.std.specs.Prelude.{◌≡◌, ◌∷◌, ◌++◌, ℕ, Bool, true, false, List, All, Ok};
+ghost use Rattle.std.specs.Prelude.{◌≡◌, [], ◌∷◌, ◌++◌, ℕ, Bool, true, false, List, All, Ok, Option};
 ghost use Rattle.c_pre.specs.Directives.{if_defined, else_group, endif_line, line_kind};
 ghost use Rattle.c_pre.specs.Groups.{Group, IsFormed, lines_of};
 ghost use Rattle.c_pre.specs.Lines.{Tokens};
+ghost use Rattle.c_pre.specs.Expansion.{ends, expansion, replacement, turn};
+ghost use Rattle.c_pre.specs.HideSets.{HidingToken};
 ghost use Rattle.c_pre.specs.Origin.{ComesFrom};
-ghost use Rattle.c_pre.specs.Names.{Name};
+ghost use Rattle.c_pre.specs.Names.{Name, Macros};
 ghost use Rattle.c_pre.specs.Reading.{expanded_tokens, holds, read_lines};
 ghost use Rattle.c_pre.specs.Sections.{State, chosen, is_read, opened, with_section};
 ghost use Rattle.c_pre.specs.Trace.{line_of};
@@ -39,4 +41,14 @@ pub fn groups_are_skipped()
     ensures from_else { (s : State) (line : ℕ) (middle closing : Tokens) (g : Group) (rest : List Tokens) →
         IsFormed g → line_kind middle ≡ else_group true → line_kind closing ≡ endif_line true →
         read_lines (with_section (opened line true) s) (middle ∷ (lines_of g ++ (closing ∷ rest))) ≡ read_lines s rest }
+{}
+
+/// What the definition of expansion means without its bound on depth: no tokens give none, and each token stays, or is
+/// replaced, together with what follows, by expansions that are not bounded either (C99 6.10.3.4).
+#[tactic(auto, using(crate::proofs::Unfolding::expansion_nil, crate::proofs::Unfolding::expansion_turn))]
+pub fn expansion_is_unbounded()
+    ensures none { (macros : Macros) (outer : Option ℕ) (room : ℕ) → expansion macros outer room [] ≡ ends room }
+    ensures one { (macros : Macros) (outer : Option ℕ) (room : ℕ) (x : HidingToken) (follow : List HidingToken) →
+        expansion macros outer room (x ∷ follow)
+        ≡ turn (expansion macros) outer x (replacement macros x) room follow }
 {}

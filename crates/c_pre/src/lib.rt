@@ -16,9 +16,11 @@ pub mod hiding;
 pub mod laws;
 pub mod lines;
 pub mod name;
+pub mod parameters;
 pub mod preprocessor;
 pub mod section;
 pub mod text;
+pub mod unread;
 
 pub use crate::fault::{PreError, PreFault, PreFaultKind};
 pub use crate::text::expand;

@@ -1,7 +1,7 @@
 //! The lines of a text.
 
 ghost use Rattle.std.specs.Prelude.{◌≡◌, ◌≤◌, length};
-ghost use Rattle.c_pre.specs.Outcomes.{line_len, line_rest};
+ghost use Rattle.c_pre.specs.Outcomes.{is_hash, line_len, line_rest, run_len, run_rest};
 
 use c_lexer::{Punctuator, Token, TokenKind};
 
@@ -34,7 +34,10 @@ pub fn line_len(tokens: &[Token<'_>]) -> usize
 }
 
 /// How many tokens belong to the text lines before them, up to the next directive.
-fn run_rest(tokens: &[Token<'_>]) -> usize {
+fn run_rest(tokens: &[Token<'_>]) -> usize
+    ensures value { result ≡ run_rest tokens.now }
+    ensures within { result ≤ length tokens.now }
+{
     let mut n = 0;
     let mut rest = tokens;
     while let [token, more @ ..] = rest {
@@ -48,7 +51,9 @@ fn run_rest(tokens: &[Token<'_>]) -> usize {
 }
 
 /// Whether a token is `#`.
-fn is_hash(token: &Token<'_>) -> bool {
+fn is_hash(token: &Token<'_>) -> bool
+    ensures { result ≡ is_hash token.now.kind }
+{
     match token.kind {
         TokenKind::Punctuator(Punctuator::Hash) => true,
         _ => false,
@@ -56,7 +61,10 @@ fn is_hash(token: &Token<'_>) -> bool {
 }
 
 /// How many tokens the first directive, or the text lines up to the first directive, have.
-pub fn run_len(tokens: &[Token<'_>]) -> usize {
+pub fn run_len(tokens: &[Token<'_>]) -> usize
+    ensures value { result ≡ run_len tokens.now }
+    ensures within { result ≤ length tokens.now }
+{
     match tokens {
         [] => 0,
         [first, more @ ..] => {

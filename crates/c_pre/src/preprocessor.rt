@@ -21,6 +21,7 @@ use crate::header::Header;
 use crate::headers::Headers;
 use crate::lines::line_len;
 use crate::name::MacroName;
+use crate::parameters::same_names;
 use crate::section::IfSection;
 use c_lexer::Token;
 use indexmap::IndexMap;
@@ -68,18 +69,24 @@ fn same_list(a: &[Token<'_>], b: &[Token<'_>]) -> bool
     b.is_empty()
 }
 
-/// Whether two macros have the same parameters in the same order.
-fn same_parameters(a: Option<&[Token<'_>]>, b: Option<&[Token<'_>]>) -> bool {
-    match (a, b) {
-        (None, None) => true,
-        (Some(a), Some(b)) => same_list(a, b),
-        _ => false,
+/// Whether two macros have the same parameters in the same order, or both none.
+fn same_parameters(a: &Macro<'_, '_>, b: &Macro<'_, '_>) -> bool
+    ensures { result ≡ names.same_parameters (macro_of a.now).parameters (macro_of b.now).parameters }
+{
+    match a.parameters {
+        None => b.parameters.is_none(),
+        Some(names) => match b.parameters {
+            None => false,
+            Some(others) => same_names(names, others),
+        },
     }
 }
 
 /// Whether two definitions are the same.
-fn same_macro(a: Macro<'_, '_>, b: Macro<'_, '_>) -> bool {
-    same_parameters(a.parameters, b.parameters) && same_list(a.list, b.list)
+fn same_macro(a: &Macro<'_, '_>, b: &Macro<'_, '_>) -> bool
+    ensures { result ≡ names.same_macro (macro_of a.now) (macro_of b.now) }
+{
+    same_parameters(a, b) && same_list(a.list, b.list)
 }
 
 impl<'t, 'a> Preprocessor<'t, 'a> {
@@ -164,7 +171,7 @@ impl<'t, 'a> Preprocessor<'t, 'a> {
             (λ _. state_of self.new) result }
     {
         if let Some(old) = self.macros.get(&definition.name).copied() {
-            if !same_macro(old, definition.meaning) {
+            if !same_macro(&old, &definition.meaning) {
                 return Err(fault(PreFaultKind::MacroRedefined, at));
             }
         }

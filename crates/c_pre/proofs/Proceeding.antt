@@ -1,0 +1,133 @@
+-- The steps of the code, against what is left to do.
+use Rattle.std.proofs.Common.{◌≡◌, ℕ, zero, suc, ◌+◌, ◌-◌, ◌≤◌, ◌<◌, Bool, true, false, List, [], ◌∷◌, ◌++◌, map, length}
+use Rattle.std.proofs.Common.{take, drop, refl, sym, ap, subst, ◌∙◌, append_assoc, append-nil, arith, Option, Some, None}
+use Rattle.std.proofs.Common.{option_map, is_some, Result, Ok, Err, Vec, Global, if◌then◌else◌}
+use Rattle.std.specs.List.{AllByRecursion}
+use Rattle.c_pre.specs.declared.expander.Call as declared
+use Rattle.c_pre.specs.declared.expander.Expander as declared_expander
+use Rattle.c_pre.specs.declared.fault.PreError.{PreError}
+use Rattle.c_pre.specs.declared.fault.PreError.TheVariants.{Memory, Fault}
+use Rattle.c_pre.specs.declared.fault.PreFaultKind.TheVariants.{TooMany, BadCall}
+use Rattle.c_pre.specs.declared.hide_set.HideSets.{HideSets}
+use Rattle.c_pre.specs.declared.hiding.Hiding.{Hiding}
+use Rattle.c_pre.specs.declared.unread.Unread.{Unread}
+use Rattle.c_pre.specs.Expansion.{Expansion, Used, gives_first, read_again, stops, expansion, trace_of}
+use Rattle.c_pre.specs.HideSets.{HidingToken}
+use Rattle.c_pre.specs.InnerFirst.{inner_first}
+use Rattle.c_pre.specs.Lines.{Tokens}
+use Rattle.c_pre.specs.Names.{Macros}
+use Rattle.c_pre.specs.Pending.{Frame, Left, left_in, left, above, hiding, all_hiding, end_of, line_of_calls, frame, frames}
+use Rattle.c_pre.specs.Pending.{resumed, comes_to, AreKnown, CallIsKnown, IsClosed, SoundIn}
+use Rattle.c_pre.specs.Progress.{Steps, GoesOn, StopsAt}
+use Rattle.c_pre.specs.PutIn.{Puts, PutsIn}
+use Rattle.c_pre.specs.SharedSets.{IsKnown, Grows, names_of}
+use Rattle.c_pre.specs.Trace.{Trace, after, fault_at}
+use Rattle.c_pre.proofs.Sets.{grows_twice}
+use Rattle.c_pre.proofs.Heights.{map_append, all_both}
+use Rattle.c_pre.proofs.Lefts.{put_frames, left_put, enough_room, calls_still_known}
+use Rattle.c_pre.proofs.Steps.{resumed_given, resumed_stops, again_goes, again_stops}
+
+-- a token is given to the text
+pub text_given : (macros : Macros) (l : Left) (x : HidingToken) (before now : Tokens) → l.frames ≡ []
+    → now ≡ before ++ x.token ∷ []
+    → after before (trace_of (resumed (expansion macros) l.frames (gives_first x (expansion macros l.line l.room l.tokens))))
+    ≡ after now (trace_of (comes_to macros l))
+text_given macros l x before now none given =
+    let t = expansion macros l.line l.room l.tokens in
+    let rest = map (λ (y : HidingToken). y.token) t.given in
+    ap (λ fs. after before (trace_of (resumed (expansion macros) fs (gives_first x t)))) none
+    ∙ ap (λ (given : Tokens). record { given = given; end = t.end })
+    (sym (append_assoc before (x.token ∷ []) rest) ∙ ap (λ (n : Tokens). n ++ rest) (sym given))
+    ∙ ap (λ fs. after now (trace_of (resumed (expansion macros) fs t))) (sym none)
+
+-- a token is given to the innermost argument
+pub argument_given : (macros : Macros) (sets : HideSets) (call : declared.Call) (given : Vec Hiding Global)
+    (outer : List declared.Call) (x : Hiding) (tokens : List Hiding) (room : ℕ)
+    → given.items ≡ call.given.items ++ x ∷ []
+    → resumed (expansion macros) (left_in sets (call ∷ outer) tokens room).frames
+    (gives_first (hiding sets x) (expansion macros (Some call.line) room (above call.end sets tokens)))
+    ≡ comes_to macros (left_in sets (record call { given = given } ∷ outer) tokens room)
+argument_given macros sets call given outer x tokens room e =
+    let low = end_of outer in
+    let beyond = above low sets (take call.end tokens) in
+    let f = frame sets call (line_of_calls outer) beyond in
+    let t = expansion macros (Some call.line) room (above call.end sets tokens) in
+    resumed_given (expansion macros) (frames sets outer (take low (take call.end tokens))) f (hiding sets x) t
+    ∙ ap (λ gs. resumed (expansion macros) (record f { given = gs } ∷ frames sets outer (take low (take call.end tokens))) t)
+    (sym (map_append (hiding sets) call.given.items (x ∷ [])) ∙ ap (all_hiding sets) (sym e))
+
+pub argument_given_sound : (sets : HideSets) (call : declared.Call) (given : Vec Hiding Global)
+    (outer : List declared.Call) (x : Hiding) (tokens : List Hiding) → given.items ≡ call.given.items ++ x ∷ []
+    → IsKnown sets x.hidden → SoundIn sets (call ∷ outer) tokens
+    → SoundIn sets (record call { given = given } ∷ outer) tokens
+argument_given_sound sets call given outer x tokens e known sound = record {
+  calls = (record {
+        hidden = sound.calls.0.hidden;
+        done = sound.calls.0.done;
+        given = subst (λ items. AreKnown sets items) (sym e)
+            (all_both _ call.given.items (x ∷ []) sound.calls.0.given (known, tt));
+      }, sound.calls.1);
+  unread = sound.unread;
+  closed = (sound.closed.0, sound.closed.1);
+}
+
+-- sets were made before tokens were put in
+pub sets_then_puts : (tokens : List HidingToken) (old new : Unread) (sets : HideSets) → Grows old.sets sets
+    → Puts tokens (record old { sets = sets }) new → Puts tokens old new
+sets_then_puts tokens old new sets grows p = record {
+  below = p.below;
+  put = p.put;
+  room = p.room;
+  known = p.known;
+  grows = grows_twice old.sets sets new.sets grows p.grows;
+}
+
+-- tokens were put in, or there was no room for them
+module _ (tokens : List HidingToken) (old new : Unread) (calls : List declared.Call)
+    (sound : SoundIn old.sets calls old.tokens.items) (within : end_of calls ≤ length old.tokens.items) where
+  fs : List Frame
+  fs = frames old.sets calls (take (end_of calls) old.tokens.items)
+
+  unread : List HidingToken
+  unread = above (end_of calls) old.sets old.tokens.items
+
+  put_goes : (macros : Macros) (line : ℕ) → Puts tokens old new
+      → resumed (expansion macros) fs (read_again (expansion macros) (line_of_calls calls) line old.room tokens unread)
+      ≡ comes_to macros (left_in new.sets calls new.tokens.items new.room)
+  put_goes macros line p =
+      ap (resumed (expansion macros) fs)
+      (again_goes (expansion macros) (line_of_calls calls) line old.room tokens unread
+      (enough_room tokens old new p calls sound.calls sound.unread within))
+      ∙ sym (ap (comes_to macros) (left_put tokens old new p calls sound.calls sound.unread within))
+
+  put_sound : Puts tokens old new → SoundIn new.sets calls new.tokens.items
+  put_sound p = record {
+    calls = calls_still_known old.sets new.sets p.grows calls sound.calls;
+    unread = p.known;
+    closed = subst (λ (l : List Frame). AllByRecursion IsClosed l)
+        (sym (put_frames tokens old new p calls sound.calls sound.unread within)) sound.closed;
+  }
+
+  put_refused : (macros : Macros) (line : ℕ) → old.room < length tokens
+      → resumed (expansion macros) fs (read_again (expansion macros) (line_of_calls calls) line old.room tokens unread)
+      ≡ stops (fault_at line TooMany)
+  put_refused macros line h =
+      ap (resumed (expansion macros) fs)
+      (again_stops (expansion macros) (line_of_calls calls) line old.room tokens unread h)
+      ∙ resumed_stops (expansion macros) fs (fault_at line TooMany)
+
+  pub put_steps : {X : Type 0} (whole : Macros → Expansion) (line : ℕ) (after : declared_expander.Expander)
+      (result : Result X PreError) → after.unread ≡ new → inner_first after.calls.items ≡ calls
+      → ((macros : Macros) → whole macros ≡ resumed (expansion macros) fs
+      (read_again (expansion macros) (line_of_calls calls) line old.room tokens unread))
+      → PutsIn tokens old new line result → Steps whole after result
+  put_steps whole line after (Ok x) u cs same p = record {
+    same = λ macros. same macros ∙ put_goes macros line p
+        ∙ ap (λ l. comes_to macros (left_in new.sets l new.tokens.items new.room)) (sym cs)
+        ∙ ap (λ (v : Unread). comes_to macros (left_in v.sets (inner_first after.calls.items) v.tokens.items v.room)) (sym u);
+    sound = subst (λ (v : Unread). SoundIn v.sets (inner_first after.calls.items) v.tokens.items) (sym u)
+        (subst (λ l. SoundIn new.sets l new.tokens.items) (sym cs) (put_sound p));
+  }
+  put_steps whole line after (Err Memory) u cs same p = λ macros. tt
+  put_steps whole line after (Err (Fault fault)) u cs same p =
+      λ macros. same macros ∙ put_refused macros line p.1 ∙ ap stops (sym p.0)

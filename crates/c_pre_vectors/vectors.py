@@ -23,6 +23,8 @@ OPTIONS = ["-E", "-std=c99", "-undef", "-nostdinc"]
 TOKEN = re.compile(r'[A-Za-z_]\w*|\d\w*|"(?:[^"\\]|\\.)*"|\'(?:[^\'\\]|\\.)*\'|\.\.\.|<<=|>>=|->|\+\+|--|<<|>>|[<>=!]=|&&|\|\||[-+*/%&^|]=|\S')
 
 FAULTS = [
+    (r"unterminated argument list|macro \"\w+\" (requires|passed) \d+ argument", 7),
+    (r"duplicate macro parameter|expected parameter name|expected '[,)]'|expected comma|may not be used as a parameter", 2),
     (r"invalid preprocessing directive|macro names must be identifiers|no macro name given|extra tokens at end of #", 2),
     (r"unterminated #", 3),
     (r"#(else|endif) without #if|#else after #else", 4),
@@ -76,6 +78,38 @@ TEXTS = [
     "#define LOOP for (i = 0; i < N; i++)\n#define N 10\nvoid f(void) { int i; LOOP g(i); }\n",
 ]
 
+# Macros with parameters.
+CALLS = [
+    "#define SQ(x) ((x)*(x))\nint main(void){return SQ(3+1);}\n", "#define f(x) (x+f)\nint main(void){int f=2;return f(1);}\n",
+    "#define SQ(x) x\nint main(void){return SQ(1,2);}\n",
+    "#define max(a, b) ((a) > (b) ? (a) : (b))\nmax(max(1,2),max(3,4))\n",
+    "#define f(a) a*g\n#define g(a) f(a)\nf(2)(9)\n", "#define f(a) a*g\n#define g(a) f(a)\ng(2)(9)\n", "#define f(x) x f\nf(f)(1)\n", "#define f(x) x\nf(f)(1)\n",
+    "#define f() 1\nf() f( ) f () f\n", "#define f() 1\nf(1)\n", "#define e\n#define f() 1\nf(e)\n", "#define f(x) [x]\nf() f( ) f(())\n", "#define f(x,y) [x|y]\nf(,) f(1,) f(,2)\n",
+    "#define f(x,y) [x|y]\nf()\n", "#define f(x,y) [x|y]\nf(1)\n", "#define f(x,y) [x|y]\nf(1,2,3)\n", "#define f(x,y) [x|y]\nf((1,2),3) f((,),(,))\n", "#define c ,\n#define f(x) [x]\nf(c) f(1 c 2)\n",
+    "#define c ,\n#define f(x) g(x)\n#define g(x,y) [x|y]\nf(1 c 2)\n", "#define c ,\n#define f(x) g(x)\n#define g(x,y) [x|y]\nf(1)\n",
+    "#define f(x) [x]\nf(1\n", "#define f(x) [x]\nf((1)\n", "#define f(x) [x]\nx\nf\n", "#define f(x) [x]\nf f f(1) f\n", "#define f(x) [x]\n#define g f\ng(1) g g (2)\n",
+    "#define f(x) [x]\n#define g f (\ng 1) g(2))\n", "#define f(x) [x]\n#define g f (\nf(g)\n", "#define f(x) [x]\n#define g f (\ng\n", "#define f(x) [x]\n#define p )\nf(1 p\n", "#define f(x) [x]\n#define p )\nf(1 p )\n",
+    "#define f(x) [x]\n#define o (\nf o 1)\n", "#define f(x) [x]\n#define o (\n#define g(x) x\ng(f o 1))\n", "#define f(x) x(1)\n#define g(x) [x]\nf(g) f(f)\n", "#define f(x) x (1)\n#define g(x) [x] f\nf(g)(g)\n",
+    "#define f(x) x+x\n#define g(x) f(x)*f(x)\ng(f(1))\n", "#define f(a,b,c) c b a\nf(f(1,2,3),f(4,5,6),f(7,8,9))\n", "#define x 1\n#define f(x) x\nf(2) x f(x)\n", "#define f(int) int+int\nf(1) int\n",
+    "#define while(if) if while\nwhile(1) while (2)\n", "#define f (x) y\nf(1)\n", "#define f( x , y ) x-y\nf(1,2)\n", "#define f(x)x\nf(1)\n", "#define f(x)(x)\nf(1)\n", "#define f(x)\nf(1) f(f(1)) 2\n",
+    "#define f(x) 1\n#define f(x) 1\nf(2)\n", "#define f(x) 1\n#define f( x )  1\nf(2)\n", "#define f(x) x\n#define f(y) y\n", "#define f(x) 1\n#define f(y) 1\n", "#define f(x) x\n#define f(x,y) x\n", "#define f(x) x\n#define f x\n",
+    "#define f x\n#define f(x) x\n", "#define f() 1\n#define f(x) 1\n", "#define f(x) x\n#undef f\n#define f(y) y+y\nf(1)\n", "#define f(x) x\n#undef f\nf(1)\n",
+    "#define f(x,x) x\n", "#define f(x,y,x) x\n", "#define f(x\n", "#define f(\n", "#define f(x,) x\n", "#define f(,x) x\n", "#define f(x y) x\n", "#define f(1) x\n", "#define f(x,,y) x\n", "#define f((x)) x\n", "#define f(+) x\n",
+    "#ifdef A\n#define f(x,x) #\n#else\n1\n#endif\n", "#define f(x) x\n#ifdef f\n1\n#endif\n", "#define f(x) x\n#ifdef A\nf(\n#endif\n2\n",
+    "#define f(x) [x]\n#define g(x) f(x) f\ng(1)(2)\n", "#define f(x) [x] g\n#define g(x) {x} f\nf(1)(2)(3)(4)\n", "#define a a b\n#define f(x) x a\nf(a)\n", "#define a f(a)\n#define f(x) [x]\na\n", "#define a f\n#define f(x) a(x)\na(1) f(1)\n",
+    "#define f(x) x\n#define a f(b)\n#define b f(a)\na b f(a) f(b)\n", "#define E(x) x\n#define f(x) E(E)(x)\nf(1)\n", "#define L (\n#define R )\n#define f(x) [x]\n#define g(x) x\ng(f L 1 R)\n",
+    "#define NIL(xxx) xxx\n#define G_0(arg) NIL(G_1)(arg)\n#define G_1(arg) NIL(arg)\nG_0(42)\n",
+]
+
+# Calls over lines: of these all tokens are told, behind the word of such rows.
+OVER_LINES = [
+    # C99 6.10.3.5, without its examples of # and ##
+    "#define x 3\n#define f(a) f(x * (a))\n#undef x\n#define x 2\n#define g f\n#define z z[0]\n#define h g(~\n#define m(a) a(w)\n#define w 0,1\n#define t(a) a\n"
+    "f(y+1) + f(f(z)) % t(t(g)(0) + t)(1);\ng(x+(3,4)-w) | h 5) & m\n(f)^m(m);\n",
+    "#define f(x) [x]\nf\n(\n1\n)\n2\n", "#define f(x,y) [x|y]\nf(1,\n2) f(\n\n3\n,4\n)\n", "#define f(x) [x]\nf\n\n\n1 f\n(2)\n", "#define f(x) [x]\n#define g f\ng\n(1)\n", "#define f(x) x\nf(f\n)(1)\nf\n",
+    "#define f(x) [x]\nf(a /* c\n */ b) // d\n", "#define f(x) [x]\nf(1) f(\n2) # f(3\n)\n",
+]
+
 NAMES = ["a", "b", "c", "d", "e", "f"]
 OTHERS = ["1", "2", "+", "-", "(", ")", "x", "y", ";", ",", "int", '"s"', "->", "<<", "'c'"]
 
@@ -106,6 +140,38 @@ def random_lines(r, depth):
             yield r.choice(["#else", "#endif", "#foo", "#define", "#undef", "#ifdef a b", "#"])
         else:
             yield random_list(r, 6)
+
+
+def balanced(r, words, counts, depth):
+    """Words, and calls of names with mostly as many arguments as their macros have parameters."""
+    parts = []
+    for _ in range(r.randint(1, 3)):
+        word = r.choice(words)
+        parts.append(word)
+        if r.random() < (0.8 if counts.get(word) is not None else 0.1) and depth < 3:
+            count = counts.get(word) if r.random() < 0.93 else r.randint(0, 2)
+            inner = [balanced(r, words, counts, depth + 1) for _ in range(1 if count is None else count)]
+            parts.append("(" + " , ".join(inner) + ")")
+    return " ".join(parts)
+
+
+def random_calls():
+    """Texts of macros with parameters, all of which their lists name, and of a line that uses them; the same each time."""
+    r = random.Random(44)
+    for _ in range(420):
+        counts = {name: r.choice([None, 0, 1, 1, 2, 2]) for name in ["f", "g", "h", "k", "u", "v"][: r.randint(2, 6)]}
+        lines = []
+        for name, count in counts.items():
+            parameters = ["a", "b"][: count or 0]
+            words = list(counts) + ["x", "1"] + parameters * 3
+            if r.random() < 0.85:
+                body = balanced(r, words, counts, 1)
+            else:
+                body = " ".join(r.choice(words + ["(", ")", ","]) for _ in range(r.randint(0, 6)))
+            body = " ".join([body] + [p for p in parameters if p not in body.split()])
+            lines.append(f"#define {name}{'' if count is None else '(' + ','.join(parameters) + ')'} {body}")
+        lines.append(balanced(r, list(counts) + ["x", "1"], counts, 0) + " " + balanced(r, list(counts) + ["2"], counts, 0))
+        yield "\n".join(lines) + "\n"
 
 
 def random_texts():
@@ -163,14 +229,30 @@ def expected(text):
     return shown(gcc.stdout)
 
 
+def all_tokens(command, text):
+    """The tokens of a preprocessor's output."""
+    output = run(command, text)
+    if output.returncode != 0:
+        raise ValueError(output.stderr)
+    return [token for row in output.stdout.split("\n") if not row.startswith("#") for token in TOKEN.findall(row)]
+
+
+def over_lines(text):
+    """All tokens of a text, and the line of its end."""
+    gcc = all_tokens(["gcc", "-pedantic-errors"], text)
+    if gcc != all_tokens(["clang"], text):
+        raise ValueError("clang differs")
+    return " ".join(gcc + ["end", str(text.count("\n") + 1)]) + "\n"
+
+
 def too_many():
     """Twice as many empty macros with each line: too many tokens put in, at the macro's use."""
     lines = ["#define b1"] + [f"#define b{n} b{n - 1} b{n - 1}" for n in range(2, 41)] + ["b40"]
     return "\n".join(lines) + "\n", "fault 6 line 41\n"
 
 
-# Texts and what they expand to, by C99 6.10 and by the rules that the subset adds: `#if`, parameters, other headers and other forms
-# are faults. Behind the tokens stands the line of the end.
+# Texts and what they expand to, by C99 6.10 and by the rules that the subset adds: `#if`, `#` and `...` in a macro with
+# parameters, an argument that is wrong though nothing names its parameter, other headers and other forms are faults. Behind the tokens stands the line of the end.
 ALL = [
     ("#define N 72\nputchar(N);", "putchar ( 72 ) ; end 2"),
     ("#ifdef A\nreturn 2;\n#else\nreturn 3;\n#endif\n", "return 3 ; end 6"),
@@ -195,7 +277,17 @@ ALL = [
     ("#include <stdlib.h>\nEXIT_SUCCESS EXIT_FAILURE EOF", "0 1 EOF end 2"),
     ("#foo", "fault 2 line 1"),
     ("#if 1\n#endif", "fault 2 line 1"),
-    ("#define f(x) x", "fault 2 line 1"),
+    ("#define f(x) x", "end 1"),
+    ("#define f(x) #x", "fault 2 line 1"),
+    ("#define f(x) x##x", "fault 2 line 1"),
+    ("#define f(...) 1", "fault 2 line 1"),
+    ("#define f(x, ...) x", "fault 2 line 1"),
+    ("#define f(x) (...)", "fault 2 line 1"),
+    ("#define f(x) g\n#define g(x,y) 1\nf(\ng(1))", "fault 7 line 3"),
+    ("#define f(x) x\nx\nf(1\n#undef f\n)", "fault 7 line 3"),
+    ("#define f(x) x\nf\n#undef f\n(1)", "f ( 1 ) end 4"),
+    ("#define f(x) x\nf(1,\nf(2", "fault 7 line 2"),
+    ("#define f(x) x\n1\n2 f(\nf(3,4)\n)", "fault 7 line 3"),
     ("#define f (x) y\nf", "( x ) y end 2"),
     ("#define int long\nint", "long end 2"),
     ("#define 1", "fault 2 line 1"),
@@ -245,13 +337,14 @@ def main():
         sys.exit(__doc__)
     here = os.path.dirname(os.path.abspath(__file__))
     rows = []
-    for text in dict.fromkeys(TEXTS + list(random_texts())):
+    for text in dict.fromkeys(TEXTS + list(random_texts()) + CALLS + list(random_calls())):
         try:
             rows.append((text, expected(text)))
         except ValueError as error:
             print("left out:", error, repr(text), file=sys.stderr)
+    rows += [("%all\n\n" + text, over_lines("\n" + text)) for text in OVER_LINES]
     rows.append(too_many())
-    assert not any(text.startswith("%") for text, _ in rows)
+    assert not any(text.startswith("%") and not text.startswith("%all\n") for text, _ in rows)
     others = list(written())
     rows += others
     assert all("%%" not in text for text, _ in rows)

@@ -33,10 +33,10 @@ module _ (sets : HideSets) (outer : List declared.Call) (tokens : List Hiding) (
     (is_length : call.end + k ≡ length tokens)
     (ends : argument_length zero (above (end_of outer) sets tokens) ≡ Some k) (low : end_of outer < call.end)
     (closed : is_some (taken zero (above (end_of outer) sets tokens)) ≡ true) where
-  first : List HidingToken
+  abbrev first : List HidingToken
   first = above call.end sets tokens
 
-  beyond : List HidingToken
+  abbrev beyond : List HidingToken
   beyond = above (end_of outer) sets (take call.end tokens)
 
   two : above (end_of outer) sets tokens ≡ first ++ beyond
@@ -103,47 +103,33 @@ module _ (sets : HideSets) (outer : List declared.Call) (tokens : List Hiding) (
       ∙ ap (λ items. resumed go (frames sets outer items)
       (behind_argument go (frame sets call o beyond) t.given t.end)) (sym below)
 
-  -- another one, behind one that ended
-  pub other_argument : (macros : Macros) (room : ℕ) (before : declared.Call)
-      → call.done.items ≡ before.done.items ++ before.given ∷ [] → call.given.items ≡ []
-      → used_in sets call ≡ used_in sets before → call.parameters.now ≡ before.parameters.now
-      → call.is_empty ≡ before.is_empty
+  -- another one, behind those that are done
+  pub other_argument : (macros : Macros) (room : ℕ) → call.given.items ≡ []
       → resumed (expansion macros) (frames sets outer (take (end_of outer) tokens))
-      (rest_of_call (expansion macros) (frame sets before (line_of_calls outer) []) (all_hiding sets before.given.items) room
+      (rest_of_call (expansion macros) (frame sets call (line_of_calls outer) [])
+      (map (λ v. all_hiding sets v.items) call.done.items) room
       (option_map with_argument (taken zero (above (end_of outer) sets tokens))))
       ≡ comes_to macros (left_in sets (call ∷ outer) tokens room)
-  other_argument macros room before done given used parameters empty =
+  other_argument macros room given =
       let go = expansion macros in
       let o = line_of_calls outer in
-      let fs = frames sets outer (take (end_of outer) tokens) in
-      let is_done = map (λ v. all_hiding sets v.items) before.done.items in
-      let with_parts : Used → List (List ℕ) → Bool → List (List HidingToken) → List HidingToken → Frame = λ u p b d g. record {
-        used = u;
-        parameters = p;
-        is_empty = b;
+      let t = go (Some call.line) room first in
+      let done = map (λ v. all_hiding sets v.items) call.done.items in
+      let with_given : List HidingToken → Frame = λ g. record {
+        used = used_in sets call;
+        parameters = names_among call.parameters.now;
+        is_empty = call.is_empty;
         outer = o;
-        done = d;
+        done = done;
         given = g;
         beyond = beyond;
       } in
-      let comes : Frame → Expansion = λ f. resumed go fs (behind_argument go f (go (Some f.used.line) room first).given
-      (go (Some f.used.line) room first).end) in
-      ap (λ c. resumed go fs (rest_of_call go (frame sets before o []) (all_hiding sets before.given.items) room
-      (option_map with_argument c))) whole_call
-      ∙ ap (resumed go fs)
-      (next_begins go o (used_in sets before) (names_among before.parameters.now) before.is_empty is_done
-      (all_hiding sets before.given.items) first beyond room call_behind.0 call_behind.1)
-      ∙ ap (λ u. comes (with_parts u (names_among before.parameters.now) before.is_empty
-      (is_done ++ (all_hiding sets before.given.items ∷ [])) [])) (sym used)
-      ∙ ap (λ p. comes (with_parts (used_in sets call) (names_among p) before.is_empty
-      (is_done ++ (all_hiding sets before.given.items ∷ [])) [])) (sym parameters)
-      ∙ ap (λ b. comes (with_parts (used_in sets call) (names_among call.parameters.now) b
-      (is_done ++ (all_hiding sets before.given.items ∷ [])) [])) (sym empty)
-      ∙ ap (λ d. comes (with_parts (used_in sets call) (names_among call.parameters.now) call.is_empty d []))
-      (sym (ap (map (λ v. all_hiding sets v.items)) done
-      ∙ map_append (λ v. all_hiding sets v.items) before.done.items (before.given ∷ [])))
-      ∙ ap (λ g. comes (with_parts (used_in sets call) (names_among call.parameters.now) call.is_empty
-      (map (λ v. all_hiding sets v.items) call.done.items) (all_hiding sets g))) (sym given)
+      ap (λ c. resumed go (frames sets outer (take (end_of outer) tokens))
+      (rest_of_call go (frame sets call o []) done room (option_map with_argument c))) whole_call
+      ∙ ap (resumed go (frames sets outer (take (end_of outer) tokens)))
+      (next_begins go o (used_in sets call) (names_among call.parameters.now) call.is_empty done first beyond room
+      call_behind.0 call_behind.1)
+      ∙ ap (λ g. resumed go (frames sets outer (take (end_of outer) tokens))
+      (behind_argument go (with_given (all_hiding sets g)) t.given t.end)) (sym given)
       ∙ ap (λ items. resumed go (frames sets outer items)
-      (behind_argument go (frame sets call o beyond) (go (Some call.line) room first).given
-      (go (Some call.line) room first).end)) (sym below)
+      (behind_argument go (frame sets call o beyond) t.given t.end)) (sym below)

@@ -22,7 +22,7 @@ parted [] = refl
 parted (token ∷ more) = by_first (is_close token.kind) (parted more)
   where
     by_place : (place : Option ℕ)
-        → option_map {A = Tokens × Tokens} (λ p. (token ∷ p.0, p.1)) (option_map (λ n. (take n more, drop (suc n) more)) place)
+        → option_map (λ (p : Tokens × Tokens). (token ∷ p.0, p.1)) (option_map (λ n. (take n more, drop (suc n) more)) place)
         ≡ option_map (λ n. (take n (token ∷ more), drop (suc n) (token ∷ more))) (option_map suc place)
     by_place None = refl
     by_place (Some k) = refl

@@ -188,6 +188,29 @@ begins_behind (x ∷ more) u rest e = by x.begins_line refl (λ f. begins_behind
     ≡ u ∷ rest) b e in let same : x ≡ u = cc in sym (ap (λ (w : Token). w.begins_line) same) ∙ b
     by false b ih = ih (subst (λ c. drop (if c then 0 else suc (line_rest more)) (x ∷ more) ≡ u ∷ rest) b e)
 
+if_hash : (t : Token) (more : Tokens) (u : Token) (m : Tokens) (k : ℕ) → is_hash t.kind ≡ false → drop k more ≡ u ∷ m
+    → u.begins_line ≡ true → ((r : ℕ) → run_rest (u ∷ m) ≡ r → run_rest more ≡ k + r) → (b : Bool) → is_hash u.kind ≡ b
+    → (is_hash u.kind ≡ false → runs (lines (u ∷ m)) ≡ (u ∷ take (run_rest m) m) ∷ runs (lines (drop (run_rest m) m)))
+    → before_run (t ∷ take k more) (runs (lines (u ∷ m)))
+    ≡ (t ∷ take (run_rest more) more) ∷ runs (lines (drop (run_rest more) more))
+if_hash t more u m k plain e starts sum true b ih =
+    let none : run_rest (u ∷ m) ≡ 0 = ap (λ c. if c && is_hash u.kind then 0 else suc (run_rest m)) starts
+    ∙ ap (λ c. if c then 0 else suc (run_rest m)) b in
+    behind_line t more k 0 (u ∷ m) plain e (sum 0 none)
+    (ap (before_run (t ∷ take k more)) (hash_run u m b)
+    ∙ directive_behind (t ∷ take k more) (u ∷ take (line_rest m) m) (runs (lines (drop (line_rest m) m)))
+    (text t (take k more) plain) (not_text u (take (line_rest m) m) b)
+    ∙ ap (λ rs. (t ∷ take k more) ∷ rs) (sym (hash_run u m b))
+    ∙ ap (λ xs. (t ∷ xs) ∷ runs (lines (u ∷ m))) (sym (append-nil (take k more))))
+if_hash t more u m k plain e starts sum false b ih =
+    let some : run_rest (u ∷ m) ≡ suc (run_rest m) =
+    ap (λ c. if c && is_hash u.kind then 0 else suc (run_rest m)) starts
+    ∙ ap (λ c. if c then 0 else suc (run_rest m)) b in
+    behind_line t more k (suc (run_rest m)) (u ∷ m) plain e (sum (suc (run_rest m)) some)
+    (ap (before_run (t ∷ take k more)) (ih b)
+    ∙ text_behind (t ∷ take k more) (u ∷ take (run_rest m) m) (runs (lines (drop (run_rest m) m)))
+    (text t (take k more) plain) (text u (take (run_rest m) m) b))
+
 -- behind the first line: nothing, a directive, or more text lines
 by_rest : (t : Token) (more rest : Tokens) → is_hash t.kind ≡ false → drop (line_rest more) more ≡ rest
     → ((u : Token) (m : Tokens) → rest ≡ u ∷ m → is_hash u.kind ≡ false
@@ -198,36 +221,10 @@ by_rest t more [] plain e ih =
     let sum : run_rest more ≡ line_rest more + 0 = run_rest_line more ∙ ap (λ r. line_rest more + run_rest r) e in
     behind_line t more (line_rest more) 0 [] plain e sum
     (ap (λ xs. (t ∷ xs) ∷ []) (sym (append-nil (take (line_rest more) more))))
-by_rest t more (u ∷ m) plain e ih = by (is_hash u.kind) refl
-  where
-    k = line_rest more
-
-    starts : u.begins_line ≡ true
-    starts = begins_behind more u m e
-
-    sum : (r : ℕ) → run_rest (u ∷ m) ≡ r → run_rest more ≡ k + r
-    sum r h = run_rest_line more ∙ ap (λ x. k + run_rest x) e ∙ ap (λ n. k + n) h
-
-    by : (b : Bool) → is_hash u.kind ≡ b
-        → before_run (t ∷ take k more) (runs (lines (u ∷ m)))
-        ≡ (t ∷ take (run_rest more) more) ∷ runs (lines (drop (run_rest more) more))
-    by true b =
-        let none : run_rest (u ∷ m) ≡ 0 = ap (λ c. if c && is_hash u.kind then 0 else suc (run_rest m)) starts
-        ∙ ap (λ c. if c then 0 else suc (run_rest m)) b in
-        behind_line t more k 0 (u ∷ m) plain e (sum 0 none)
-        (ap (before_run (t ∷ take k more)) (hash_run u m b)
-        ∙ directive_behind (t ∷ take k more) (u ∷ take (line_rest m) m) (runs (lines (drop (line_rest m) m)))
-        (text t (take k more) plain) (not_text u (take (line_rest m) m) b)
-        ∙ ap (λ rs. (t ∷ take k more) ∷ rs) (sym (hash_run u m b))
-        ∙ ap (λ xs. (t ∷ xs) ∷ runs (lines (u ∷ m))) (sym (append-nil (take k more))))
-    by false b =
-        let some : run_rest (u ∷ m) ≡ suc (run_rest m) =
-        ap (λ c. if c && is_hash u.kind then 0 else suc (run_rest m)) starts
-        ∙ ap (λ c. if c then 0 else suc (run_rest m)) b in
-        behind_line t more k (suc (run_rest m)) (u ∷ m) plain e (sum (suc (run_rest m)) some)
-        (ap (before_run (t ∷ take k more)) (ih u m refl b)
-        ∙ text_behind (t ∷ take k more) (u ∷ take (run_rest m) m) (runs (lines (drop (run_rest m) m)))
-        (text t (take k more) plain) (text u (take (run_rest m) m) b))
+by_rest t more (u ∷ m) plain e ih =
+    if_hash t more u m (line_rest more) plain e (begins_behind more u m e)
+    (λ r h. run_rest_line more ∙ ap (λ x. line_rest more + run_rest x) e ∙ ap (λ n. line_rest more + n) h)
+    (is_hash u.kind) refl (ih u m refl)
 
 text_run : (n : ℕ) (t : Token) (more : Tokens) → length more ≤ n → is_hash t.kind ≡ false
     → runs (lines (t ∷ more)) ≡ (t ∷ take (run_rest more) more) ∷ runs (lines (drop (run_rest more) more))

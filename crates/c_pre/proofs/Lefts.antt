@@ -28,7 +28,7 @@ module _ (old new : HideSets) (more : Grows old new) where
       ap (λ l. l ∷ map (λ w. all_hiding new (items w)) vs) (same_hiding old new more (items v) a.0)
       ∙ ap (λ ls. all_hiding old (items v) ∷ ls) (same_done items vs a.1)
 
-  frame_with : declared.Call → Option ℕ → Names → List (List HidingToken) → List HidingToken → List HidingToken → Frame
+  abbrev frame_with : declared.Call → Option ℕ → Names → List (List HidingToken) → List HidingToken → List HidingToken → Frame
   frame_with call outer hidden done given beyond = record {
     used = record { name = call.name; hidden = hidden; line = call.line; list = call.list.now };
     parameters = names_among call.parameters.now;
@@ -76,8 +76,10 @@ module _ (old new : HideSets) (more : Grows old new) where
 module _ (tokens : List HidingToken) (old new : Unread) (p : Puts tokens old new) (calls : List declared.Call)
     (known : AllByRecursion (CallIsKnown old.sets) calls) (are_known : AreKnown old.sets old.tokens.items)
     (within : end_of calls ≤ length old.tokens.items) where
+  abbrev high : ℕ
   high = length old.tokens.items
 
+  abbrev low : ℕ
   low = end_of calls
 
   put_below : take low new.tokens.items ≡ take low old.tokens.items
@@ -96,7 +98,7 @@ module _ (tokens : List HidingToken) (old new : Unread) (p : Puts tokens old new
       ∙ ap (λ items. tokens ++ above low new.sets items) p.below
       ∙ ap (λ l. tokens ++ l) (same_above old.sets new.sets p.grows low old.tokens.items are_known)
 
-  with_parts : List Frame → List HidingToken → ℕ → Left
+  abbrev with_parts : List Frame → List HidingToken → ℕ → Left
   with_parts frames tokens room =
       record { frames = frames; line = line_of_calls calls; tokens = tokens; room = room }
 

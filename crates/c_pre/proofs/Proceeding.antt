@@ -85,10 +85,10 @@ sets_then_puts tokens old new sets grows p = record {
 -- tokens were put in, or there was no room for them
 module _ (tokens : List HidingToken) (old new : Unread) (calls : List declared.Call)
     (sound : SoundIn old.sets calls old.tokens.items) (within : end_of calls ≤ length old.tokens.items) where
-  fs : List Frame
+  abbrev fs : List Frame
   fs = frames old.sets calls (take (end_of calls) old.tokens.items)
 
-  unread : List HidingToken
+  abbrev unread : List HidingToken
   unread = above (end_of calls) old.sets old.tokens.items
 
   put_goes : (macros : Macros) (line : ℕ) → Puts tokens old new

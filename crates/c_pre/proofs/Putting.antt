@@ -145,11 +145,11 @@ module _ (line : ℕ) (here : HideSet) (argument : List Hiding) (a b c d : Unrea
   argument_step q =
       subst (λ ts. Puts ts a d) one (puts_more _ _ a c d (puts_sets _ a b c p grows tokens room) q)
 
-  pub argument_refused : {X Y : Type 0} (error : PreError) (e : Unread)
+  pub argument_refused : (X Y : Type 0) (error : PreError) (e : Unread)
       → PutsIn {X = X} (put_token line (names_of c.sets hidden) x.token None) c d line (Err error)
       → PutsIn {X = Y} (put_argument line (names_of a.sets here) (all_hiding a.sets argument)) a e line (Err error)
-  argument_refused Memory e q = q
-  argument_refused (Fault fault) e q =
+  argument_refused X Y Memory e q = q
+  argument_refused X Y (Fault fault) e q =
       (q.0, omega (
         arith,
         q.1,
@@ -174,6 +174,7 @@ module _ (line : ℕ) (here : HideSet) (parameters : Names) (arguments : List (L
     (a b c : Unread) (n : ℕ) (t : Token) (here_known : IsKnown a.sets here)
     (p : Puts (put_in line (names_of a.sets here) parameters arguments (drop n list)) a b)
     (some : 0 < n) (within : n ≤ length list) (at : t ≡ get_or list (n - 1) t) where
+  abbrev o : Option (List HidingToken)
   o = argument_of parameters arguments (name_of t.kind)
 
   list_rest : drop (n - 1) list ≡ t ∷ drop n list
@@ -193,11 +194,11 @@ module _ (line : ℕ) (here : HideSet) (parameters : Names) (arguments : List (L
       (ap (λ ts. ts ++ put_in line (names_of a.sets here) parameters arguments (drop n list)) e ∙ list_one)
       (puts_more _ tokens a b c p q)
 
-  pub list_refused : {X Y : Type 0} (tokens : List HidingToken) (error : PreError) (d : Unread)
+  pub list_refused : (X Y : Type 0) (tokens : List HidingToken) (error : PreError) (d : Unread)
       → tokens ≡ put_token line (names_of a.sets here) t o → PutsIn {X = X} tokens b c line (Err error)
       → PutsIn {X = Y} (put_in line (names_of a.sets here) parameters arguments list) a d line (Err error)
-  list_refused tokens Memory d e q = q
-  list_refused tokens (Fault fault) d e q =
+  list_refused X Y tokens Memory d e q = q
+  list_refused X Y tokens (Fault fault) d e q =
       (q.0, omega (
         arith,
         q.1,
@@ -210,7 +211,7 @@ module _ (line : ℕ) (here : HideSet) (parameters : Names) (arguments : List (L
       ))
 
 -- which argument is whose
-at_place : {A : Type 0} → List A → Option ℕ → Option A
+abbrev pub at_place : {A : Type 0} → List A → Option ℕ → Option A
 at_place xs None = None
 at_place xs (Some k) = slice_get xs k
 

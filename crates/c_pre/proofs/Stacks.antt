@@ -35,7 +35,7 @@ pub first_is_outermost : (section : IfSection) (more : List IfSection)
 first_is_outermost section more = finished-onto more [] section
 
 length-onto : {A : Type 0} (xs done : List A) → length (onto xs done) ≡ length xs + length done
-length-onto [] done = refl
+length-onto [] done = omega arith
 length-onto (x ∷ xs) done = length-onto xs (x ∷ done) ∙ omega arith
 
 pub length_inner : {A : Type 0} (xs : List A) → length (inner_first xs) ≡ length xs

@@ -15,35 +15,23 @@ use Rattle.c_pre.specs.Trace.{fault_at}
 use Rattle.c_pre.proofs.Splitting.{with_first}
 
 module _ (go : Expander) where
-  rest_same : (f g : Frame) (given : List HidingToken) (room : ℕ) (o : Option Call) → f.used ≡ g.used
-      → f.parameters ≡ g.parameters → f.is_empty ≡ g.is_empty → f.outer ≡ g.outer → f.done ≡ g.done
-      → rest_of_call go f given room o ≡ rest_of_call go g given room o
-  rest_same f g given room None a b c d e = ap (λ (u : Used). stops (fault_at u.line BadCall)) a
-  rest_same f g given room (Some call) a b c d e =
-      ap (λ (u : Used). with_arguments go f.outer u f.parameters f.is_empty call (after_done (f.done ++ (given ∷ []))
-      (each_expanded (go (Some u.line)) room (other_arguments call.arguments)))) a
-      ∙ ap (λ parameters. with_arguments go f.outer g.used parameters f.is_empty call (after_done (f.done ++ (given ∷ []))
-      (each_expanded (go (Some g.used.line)) room (other_arguments call.arguments)))) b
-      ∙ ap (λ is_empty. with_arguments go f.outer g.used g.parameters is_empty call (after_done (f.done ++ (given ∷ []))
-      (each_expanded (go (Some g.used.line)) room (other_arguments call.arguments)))) c
-      ∙ ap (λ outer. with_arguments go outer g.used g.parameters g.is_empty call (after_done (f.done ++ (given ∷ []))
-      (each_expanded (go (Some g.used.line)) room (other_arguments call.arguments)))) d
-      ∙ ap (λ done. with_arguments go g.outer g.used g.parameters g.is_empty call (after_done (done ++ (given ∷ []))
-      (each_expanded (go (Some g.used.line)) room (other_arguments call.arguments)))) e
+  rest_same : (f : Frame) (given : List HidingToken) (done : List (List HidingToken)) (room : ℕ) (o : Option Call)
+      → rest_of_call go f done room o ≡ rest_of_call go (record f { given = given }) done room o
+  rest_same f given done room None = refl
+  rest_same f given done room (Some call) = refl
+
+  given_behind : (f : Frame) (x : HidingToken) (given : List HidingToken) (end : Result ℕ PreFault)
+      → behind_argument go f (x ∷ given) end ≡ behind_argument go (record f { given = f.given ++ (x ∷ []) }) given end
+  given_behind f x given (Ok room) =
+      ap (λ all. rest_of_call go f (f.done ++ (all ∷ [])) room (taken zero f.beyond))
+      (sym (append_assoc f.given (x ∷ []) given))
+      ∙ rest_same f (f.given ++ (x ∷ [])) (f.done ++ (((f.given ++ (x ∷ [])) ++ given) ∷ [])) room (taken zero f.beyond)
+  given_behind f x given (Err fault) = refl
 
   -- a token is given to the innermost argument
   pub resumed_given : (outer : List Frame) (f : Frame) (x : HidingToken) (t : Expansion)
       → resumed go (f ∷ outer) (gives_first x t) ≡ resumed go (record f { given = f.given ++ (x ∷ []) } ∷ outer) t
-  resumed_given outer f x t = ap (resumed go outer) (by t.end)
-    where
-      g : Frame
-      g = record f { given = f.given ++ (x ∷ []) }
-
-      by : (end : Result ℕ PreFault) → behind_argument go f (x ∷ t.given) end ≡ behind_argument go g t.given end
-      by (Ok room) =
-          ap (λ given. rest_of_call go f given room (taken zero f.beyond)) (sym (append_assoc f.given (x ∷ []) t.given))
-          ∙ rest_same f g ((f.given ++ (x ∷ [])) ++ t.given) room (taken zero f.beyond) refl refl refl refl refl
-      by (Err fault) = refl
+  resumed_given outer f x t = ap (resumed go outer) (given_behind f x t.given t.end)
 
   -- a fault inside is the whole's
   pub resumed_stops : (frames : List Frame) (fault : PreFault) → resumed go frames (stops fault) ≡ stops fault
@@ -76,6 +64,32 @@ module _ (go : Expander) where
         (sym (append_assoc done (given ∷ []) others.0))
     argument_done call arguments done given (Err fault) = refl
 
+    by_end : (call : Call) (done : List (List HidingToken)) (others : List (List HidingToken)) (given beyond : List HidingToken)
+        → taken zero beyond ≡ Some (record call { arguments = others }) → (end : Result ℕ PreFault)
+        → with_arguments go outer used parameters is_empty call (after_done done
+        (then_others given end (λ left. each_expanded (go (Some used.line)) left (other_arguments others))))
+        ≡ behind_argument go (record {
+          used = used;
+          parameters = parameters;
+          is_empty = is_empty;
+          outer = outer;
+          done = done;
+          given = [];
+          beyond = beyond;
+        }) given end
+    by_end call done others given beyond e (Ok room) =
+        argument_done call others done given (each_expanded (go (Some used.line)) room (other_arguments others))
+        ∙ ap (rest_of_call go (record {
+          used = used;
+          parameters = parameters;
+          is_empty = is_empty;
+          outer = outer;
+          done = done;
+          given = [];
+          beyond = beyond;
+        }) (done ++ (given ∷ [])) room) (sym e)
+    by_end call done others given beyond e (Err fault) = refl
+
     -- an argument is expanded before the others
     one_argument : (call : Call) (done : List (List HidingToken)) (others : List (List HidingToken)) (t : Expansion)
         (beyond : List HidingToken) → taken zero beyond ≡ Some (record call { arguments = others })
@@ -90,10 +104,14 @@ module _ (go : Expander) where
           given = [];
           beyond = beyond;
         }) t.given t.end
-    one_argument call done others t beyond e = by t.end
-      where
-        f : Frame
-        f = record {
+    one_argument call done others t beyond e = by_end call done others t.given beyond e t.end
+
+    -- the next argument of a call begins
+    pub next_begins : (done : List (List HidingToken)) (first beyond : List HidingToken) (room : ℕ) (call : Call)
+        → taken zero beyond ≡ Some call
+        → with_arguments go outer used parameters is_empty (with_argument (with_first first call))
+        (after_done done (each_expanded (go (Some used.line)) room (first ∷ other_arguments call.arguments)))
+        ≡ behind_argument go (record {
           used = used;
           parameters = parameters;
           is_empty = is_empty;
@@ -101,41 +119,16 @@ module _ (go : Expander) where
           done = done;
           given = [];
           beyond = beyond;
-        }
-
-        by : (end : Result ℕ PreFault)
-            → with_arguments go outer used parameters is_empty call (after_done done
-            (then_others t.given end (λ left. each_expanded (go (Some used.line)) left (other_arguments others))))
-            ≡ behind_argument go f t.given end
-        by (Ok room) =
-            argument_done call others done t.given (each_expanded (go (Some used.line)) room (other_arguments others))
-            ∙ ap (rest_of_call go f t.given room) (sym e)
-        by (Err fault) = refl
-
-    -- the next argument of a call begins
-    pub next_begins : (done : List (List HidingToken)) (given first : List HidingToken) (beyond : List HidingToken)
-        (room : ℕ) (call : Call) → taken zero beyond ≡ Some call
-        → with_arguments go outer used parameters is_empty (with_argument (with_first first call))
-        (after_done (done ++ (given ∷ []))
-        (each_expanded (go (Some used.line)) room (first ∷ other_arguments call.arguments)))
-        ≡ behind_argument go (record {
-          used = used;
-          parameters = parameters;
-          is_empty = is_empty;
-          outer = outer;
-          done = done ++ (given ∷ []);
-          given = [];
-          beyond = beyond;
         }) (go (Some used.line) room first).given (go (Some used.line) room first).end
-    next_begins done given first beyond room call e =
-        one_argument (with_argument (with_first first call)) (done ++ (given ∷ [])) call.arguments
+    next_begins done first beyond room call e =
+        one_argument (with_argument (with_first first call)) done call.arguments
         (go (Some used.line) room first) beyond e
 
   nothing_done : (e : Expanded) → after_done [] e ≡ e
   nothing_done (Ok others) = refl
   nothing_done (Err fault) = refl
 
-  is_first : List HidingToken → Bool
+  abbrev is_first : List HidingToken → Bool
   is_first first = begins_empty (first ∷ [])
 
   first_only : (first : List HidingToken) (more : List (List HidingToken)) → begins_empty (first ∷ more) ≡ is_first first
@@ -162,3 +155,26 @@ module _ (go : Expander) where
       ∙ ap (with_arguments go outer used parameters is_empty (with_first first call)) (sym (nothing_done others))
       ∙ one_argument outer used parameters is_empty (with_first first call) [] call.arguments
       (go (Some used.line) room first) beyond e
+
+  -- a call ends
+  module _ (f : Frame) (done : List (List HidingToken)) (room : ℕ) (close : Names) (follow : List HidingToken) where
+    abbrev last : Call
+    last = record { arguments = [] ∷ []; close = close; follow = follow }
+
+    abbrev put_last : List (List HidingToken) → Expansion
+    put_last all = read_again go f.outer f.used.line room
+        (put_in f.used.line (f.used.name ∷ common f.used.hidden close) f.parameters all f.used.list) follow
+
+    pub call_ends : fits (length f.parameters) f.is_empty (length done) ≡ true
+        → rest_of_call go f done room (Some last) ≡ put_last done
+    call_ends e =
+        ap (λ all. if fits (length f.parameters) f.is_empty (length all) then put_last all
+        else stops (fault_at f.used.line BadCall)) (append-nil done)
+        ∙ ap (λ b. if b then put_last done else stops (fault_at f.used.line BadCall)) e
+
+    pub call_does_not_fit : fits (length f.parameters) f.is_empty (length done) ≡ false
+        → rest_of_call go f done room (Some last) ≡ stops (fault_at f.used.line BadCall)
+    call_does_not_fit e =
+        ap (λ all. if fits (length f.parameters) f.is_empty (length all) then put_last all
+        else stops (fault_at f.used.line BadCall)) (append-nil done)
+        ∙ ap (λ b. if b then put_last done else stops (fault_at f.used.line BadCall)) e

@@ -98,17 +98,20 @@ module _ (go : Expander) (falls : Falls go) where
       then_falls room (go outer room argument).given (go outer room argument).end
       (λ left. each_expanded (go outer) left more) (falls outer room argument) (λ left. each_falls outer more left)
 
+  either_falls : (b : Bool) (room : ℕ) (t : Expansion) (fault : PreFault) → IfEnd room t.end
+      → IfEnd room (if b then t else stops fault).end
+  either_falls true room t fault h = h
+  either_falls false room t fault h = tt
+
   with_falls : (outer : Option ℕ) (used : Used) (parameters : Names) (is_empty : Bool) (call : Call) (e : Expanded) (room : ℕ)
       → IfLeft room e → IfEnd room (with_arguments go outer used parameters is_empty call e).end
   with_falls outer used parameters is_empty call (Ok arguments) room h =
-      by (fits (length parameters) is_empty (length arguments.0))
-    where
-      tokens = put_in used.line (used.name ∷ common used.hidden call.close) parameters arguments.0 used.list
-
-      by : (b : Bool) → IfEnd room (if b then read_again go outer used.line arguments.1 tokens call.follow
-          else stops (fault_at used.line BadCall)).end
-      by true = again_falls outer used.line arguments.1 room tokens call.follow h
-      by false = tt
+      either_falls (fits (length parameters) is_empty (length arguments.0)) room
+      (read_again go outer used.line arguments.1
+      (put_in used.line (used.name ∷ common used.hidden call.close) parameters arguments.0 used.list) call.follow)
+      (fault_at used.line BadCall)
+      (again_falls outer used.line arguments.1 room
+      (put_in used.line (used.name ∷ common used.hidden call.close) parameters arguments.0 used.list) call.follow h)
   with_falls outer used parameters is_empty call (Err fault) room h = tt
 
   call_falls : (outer : Option ℕ) (used : Used) (parameters : Names) (room : ℕ) (o : Option Call)

@@ -40,15 +40,16 @@ abbrev pub after_done : List (List HidingToken) → Expanded → Expanded
 after_done done (Ok more) = Ok (done ++ more.0, more.1)
 after_done done (Err fault) = Err fault
 
--- the rest of a call behind its present argument, which gave these tokens
-abbrev pub rest_of_call : Expander → Frame → List HidingToken → ℕ → Option Call → Expansion
-rest_of_call go f given room None = stops (fault_at f.used.line BadCall)
-rest_of_call go f given room (Some call) =
+-- the rest of a call behind its present argument, where these arguments are done
+abbrev pub rest_of_call : Expander → Frame → List (List HidingToken) → ℕ → Option Call → Expansion
+rest_of_call go f done room None = stops (fault_at f.used.line BadCall)
+rest_of_call go f done room (Some call) =
     with_arguments go f.outer f.used f.parameters f.is_empty call
-    (after_done (f.done ++ (given ∷ [])) (each_expanded (go (Some f.used.line)) room (other_arguments call.arguments)))
+    (after_done done (each_expanded (go (Some f.used.line)) room (other_arguments call.arguments)))
 
 abbrev pub behind_argument : Expander → Frame → List HidingToken → Result ℕ PreFault → Expansion
-behind_argument go f given (Ok room) = rest_of_call go f (f.given ++ given) room (taken zero f.beyond)
+behind_argument go f given (Ok room) =
+    rest_of_call go f (f.done ++ ((f.given ++ given) ∷ [])) room (taken zero f.beyond)
 behind_argument go f given (Err fault) = stops fault
 
 -- what the expansion of what is left of the innermost argument comes to, behind the calls around it

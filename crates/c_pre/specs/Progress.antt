@@ -1,5 +1,5 @@
 -- What the steps of the code do: each leaves something that comes to the same.
-use Rattle.std.specs.Prelude.{◌≡◌, ℕ, zero, ◌≤◌, Bool, true, false, List, [], ◌∷◌, ◌++◌, length, Option, Some, None, Result}
+use Rattle.std.specs.Prelude.{◌≡◌, ℕ, zero, ◌≤◌, Bool, true, false, List, [], ◌∷◌, ◌++◌, length, map, Option, Some, None, Result}
 use Rattle.std.specs.Prelude.{Ok, Err, option_map, ⊤}
 use Rattle.c_pre.specs.declared.expander.Call as declared
 use Rattle.c_pre.specs.declared.expander.Expander as declared_expander
@@ -57,14 +57,15 @@ beginning macros e x name parameters list = behind macros (left e)
 -- a call behind the comma that ended an argument
 abbrev pub next_argument : Macros → declared_expander.Expander → declared.Call → Expansion
 next_argument macros e call = behind macros (left e)
-    (rest_of_call (expansion macros) (frame e.unread.sets call (left e).line []) (all_hiding e.unread.sets call.given.items)
-    (left e).room (option_map with_argument (taken zero (left e).tokens)))
+    (rest_of_call (expansion macros) (frame e.unread.sets call (left e).line [])
+    (map (λ v. all_hiding e.unread.sets v.items) call.done.items) (left e).room
+    (option_map with_argument (taken zero (left e).tokens)))
 
 -- a call behind its `)`
 abbrev pub last_argument : Macros → declared_expander.Expander → declared.Call → HideSet → Expansion
 last_argument macros e call close = behind macros (left e)
-    (rest_of_call (expansion macros) (frame e.unread.sets call (left e).line []) (all_hiding e.unread.sets call.given.items)
-    (left e).room
+    (rest_of_call (expansion macros) (frame e.unread.sets call (left e).line [])
+    (map (λ v. all_hiding e.unread.sets v.items) call.done.items) (left e).room
     (Some (record { arguments = [] ∷ []; close = names_of e.unread.sets close; follow = (left e).tokens })))
 
 -- the present argument ended

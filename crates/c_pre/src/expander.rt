@@ -1,6 +1,6 @@
 //! The expansion of text lines, without recursion: a stack of the calls whose arguments are being expanded.
 
-ghost use Rattle.std.specs.Prelude.{◌≡◌, ◌≤◌, ◌∷◌, length, map, option_map, IfOk, OnOk, None, is_some, true};
+ghost use Rattle.std.specs.Prelude.{◌≡◌, ◌≤◌, [], length, option_map, IfOk, OnOk, None, is_some, true};
 ghost use Rattle.c_pre.specs.Arguments.{fits, taken};
 ghost use Rattle.c_pre.specs.Expansion as expansion;
 ghost use Rattle.c_pre.specs.InnerFirst.{inner_first};
@@ -236,11 +236,12 @@ impl<'t, 'a> Expander<'t, 'a> {
         Ok(())
     }
 
-    /// Begins the next argument of a call.
+    /// Begins the next argument of a call, behind those that are done.
     fn begin_argument(&mut self, call: Call<'t, 'a>) -> Result<(), PreError>
         requires sound { pending.IsSound self.old }
         requires call { pending.CallIsKnown self.old.unread.sets call.entry }
         requires within { pending.end_of (inner_first self.old.calls.items) ≤ length self.old.unread.tokens.items }
+        requires given { call.entry.given.items ≡ [] }
         requires closed { is_some (taken 0 (pending.left self.old).tokens) ≡ true }
         ensures { progress.Steps (λ macros. progress.next_argument macros self.old call.entry) self.new result }
     {
@@ -248,7 +249,6 @@ impl<'t, 'a> Expander<'t, 'a> {
             return Err(PreError::Memory);
         };
         let mut call = call;
-        call.end_argument(self.alloc)?;
         call.end = end;
         self.calls.push(call)?;
         Ok(())
@@ -262,8 +262,6 @@ impl<'t, 'a> Expander<'t, 'a> {
         requires within { pending.end_of (inner_first self.old.calls.items) ≤ length self.old.unread.tokens.items }
         ensures { progress.Steps (λ macros. progress.last_argument macros self.old call.entry close) self.new result }
     {
-        let mut call = call;
-        call.end_argument(self.alloc)?;
         if !fits(count(call.parameters), call.is_empty, call.done.len()) {
             return Err(bad_call(call.line));
         }
@@ -284,6 +282,8 @@ impl<'t, 'a> Expander<'t, 'a> {
         let Some(separator) = self.unread.next(self.end()) else {
             return Err(PreError::Memory);
         };
+        let mut call = call;
+        call.end_argument(self.alloc)?;
         match Role::of(&separator.token) {
             Role::Closes => self.end_call(call, separator.hidden)?,
             Role::Parts => self.begin_argument(call)?,

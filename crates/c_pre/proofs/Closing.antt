@@ -1,6 +1,7 @@
 -- The first `)` behind the parameters of a macro.
 use Rattle.std.proofs.Common.{◌≡◌, ℕ, zero, suc, ◌+◌, Bool, true, false, List, [], ◌∷◌, length, take, drop, Option, Some}
 use Rattle.std.proofs.Common.{None, option_map, refl, sym, ap, ◌∙◌, arith, if◌then◌else◌}
+use Rattle.c_lexer.specs.declared.token.Token.{Token}
 use Rattle.c_pre.specs.Directives.{is_close, to_close}
 use Rattle.c_pre.specs.Lines.{Tokens}
 use Rattle.c_pre.specs.Outcomes.{close_index}
@@ -17,20 +18,32 @@ pub behind_none : (place : Option ℕ) → behind 0 place ≡ place
 behind_none None = refl
 behind_none (Some k) = let e : 0 + k ≡ k = omega arith in ap Some e
 
-pub parted : (tokens : Tokens) → to_close tokens ≡ option_map (λ n. (take n tokens, drop (suc n) tokens)) (close_index tokens)
-parted [] = refl
-parted (token ∷ more) = by_first (is_close token.kind) (parted more)
-  where
-    by_place : (place : Option ℕ)
-        → option_map (λ (p : Tokens × Tokens). (token ∷ p.0, p.1)) (option_map (λ n. (take n more, drop (suc n) more)) place)
-        ≡ option_map (λ n. (take n (token ∷ more), drop (suc n) (token ∷ more))) (option_map suc place)
-    by_place None = refl
-    by_place (Some k) = refl
+-- the tokens before a place, and those behind the token there
+abbrev pub parted_at : Tokens → Option ℕ → Option (Tokens × Tokens)
+parted_at tokens None = None
+parted_at tokens (Some n) = Some (take n tokens, drop (suc n) tokens)
 
-    by_first : (b : Bool)
-        → to_close more ≡ option_map (λ n. (take n more, drop (suc n) more)) (close_index more)
-        → (if b then Some ([], more) else option_map (λ p. (token ∷ p.0, p.1)) (to_close more))
-        ≡ option_map (λ n. (take n (token ∷ more), drop (suc n) (token ∷ more)))
-        (if b then Some 0 else option_map suc (close_index more))
-    by_first true e = refl
-    by_first false e = ap (option_map (λ p. (token ∷ p.0, p.1))) e ∙ by_place (close_index more)
+abbrev pub longer : Token → Option (Tokens × Tokens) → Option (Tokens × Tokens)
+longer token None = None
+longer token (Some p) = Some (token ∷ p.0, p.1)
+
+is_longer : (token : Token) (o : Option (Tokens × Tokens)) → option_map (λ p. (token ∷ p.0, p.1)) o ≡ longer token o
+is_longer token None = refl
+is_longer token (Some p) = refl
+
+by_place : (token : Token) (more : Tokens) (place : Option ℕ)
+    → longer token (parted_at more place) ≡ parted_at (token ∷ more) (option_map suc place)
+by_place token more None = refl
+by_place token more (Some k) = refl
+
+by_first : (token : Token) (more : Tokens) (b : Bool) (o : Option (Tokens × Tokens)) (place : Option ℕ)
+    → o ≡ longer token (parted_at more place) → (x : Option (Tokens × Tokens)) → x ≡ Some ([], more)
+    → (if b then x else o) ≡ parted_at (token ∷ more) (if b then Some 0 else option_map suc place)
+by_first token more true o place e x f = f
+by_first token more false o place e x f = e ∙ by_place token more place
+
+pub parted : (tokens : Tokens) → to_close tokens ≡ parted_at tokens (close_index tokens)
+parted [] = refl
+parted (token ∷ more) =
+    by_first token more (is_close token.kind) _ (close_index more)
+    (is_longer token (to_close more) ∙ ap (longer token) (parted more)) _ refl

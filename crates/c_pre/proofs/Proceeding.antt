@@ -3,6 +3,7 @@ use Rattle.std.proofs.Common.{◌≡◌, ℕ, zero, suc, ◌+◌, ◌-◌, ◌�
 use Rattle.std.proofs.Common.{take, drop, refl, sym, ap, subst, ◌∙◌, append_assoc, append-nil, arith, Option, Some, None}
 use Rattle.std.proofs.Common.{option_map, is_some, Result, Ok, Err, Vec, Global, if◌then◌else◌}
 use Rattle.std.specs.List.{AllByRecursion}
+use Rattle.c_lexer.specs.declared.token.Token.{Token}
 use Rattle.c_pre.specs.declared.expander.Call as declared
 use Rattle.c_pre.specs.declared.expander.Expander as declared_expander
 use Rattle.c_pre.specs.declared.fault.PreError.{PreError}
@@ -17,12 +18,15 @@ use Rattle.c_pre.specs.InnerFirst.{inner_first}
 use Rattle.c_pre.specs.Lines.{Tokens}
 use Rattle.c_pre.specs.Names.{Macros}
 use Rattle.c_pre.specs.Pending.{Frame, Left, left_in, left, above, hiding, all_hiding, end_of, line_of_calls, frame, frames}
-use Rattle.c_pre.specs.Pending.{resumed, comes_to, AreKnown, CallIsKnown, IsClosed, SoundIn}
-use Rattle.c_pre.specs.Progress.{Steps, GoesOn, StopsAt}
+use Rattle.c_pre.specs.Pending.{resumed, comes_to, AreKnown, CallIsKnown, IsClosed, SoundIn, IsSound}
+use Rattle.c_pre.specs.Limits.{max_expanded_tokens}
+use Rattle.c_pre.specs.Outcomes.{Fails, Emits}
+use Rattle.c_pre.specs.Progress.{Steps, GoesOn, GivesOn, Goes, Comes, StopsAt}
 use Rattle.c_pre.specs.PutIn.{Puts, PutsIn}
 use Rattle.c_pre.specs.SharedSets.{IsKnown, Grows, names_of}
-use Rattle.c_pre.specs.Trace.{Trace, after, fault_at}
+use Rattle.c_pre.specs.Trace.{Trace, after, answer, fault_at, gives, ◌>>=◌}
 use Rattle.c_pre.proofs.Sets.{grows_twice}
+use Rattle.c_pre.proofs.Traces.{fault_here, bind_read, bind_failed}
 use Rattle.c_pre.proofs.Heights.{map_append, all_both}
 use Rattle.c_pre.proofs.Lefts.{put_frames, left_put, enough_room, calls_still_known}
 use Rattle.c_pre.proofs.Steps.{resumed_given, resumed_stops, again_goes, again_stops}
@@ -131,3 +135,64 @@ module _ (tokens : List HidingToken) (old new : Unread) (calls : List declared.C
   put_steps whole line after (Err Memory) u cs same p = λ macros. tt
   put_steps whole line after (Err (Fault fault)) u cs same p =
       λ macros. same macros ∙ put_refused macros line p.1 ∙ ap stops (sym p.0)
+
+-- the same, where sets were made first
+pub sets_then_put : {X : Type 0} (tokens : List HidingToken) (old new : Unread) (sets : HideSets) (line : ℕ)
+    (result : Result X PreError) → Grows old.sets sets → PutsIn tokens (record old { sets = sets }) new line result
+    → PutsIn tokens old new line result
+sets_then_put tokens old new sets line (Ok x) grows p = sets_then_puts tokens old new sets grows p
+sets_then_put tokens old new sets line (Err Memory) grows p = p
+sets_then_put tokens old new sets line (Err (Fault fault)) grows p = p
+
+-- a step by another word for the same
+pub steps_by : {X : Type 0} (whole other : Macros → Expansion) (new : declared_expander.Expander) (result : Result X PreError)
+    → ((macros : Macros) → whole macros ≡ other macros) → Steps other new result → Steps whole new result
+steps_by whole other new (Ok x) e s = record { same = λ macros. e macros ∙ s.same macros; sound = s.sound }
+steps_by whole other new (Err Memory) e s = λ macros. tt
+steps_by whole other new (Err (Fault fault)) e s = λ macros. e macros ∙ s macros
+
+-- a step that gives no token is one that may
+pub goes_by : {X : Type 0} (whole : Macros → Expansion) (new : declared_expander.Expander) (given : Tokens)
+    (result : Result X PreError) → length given ≤ max_expanded_tokens → Steps whole new result
+    → Goes whole new given given result
+goes_by whole new given (Ok x) few s =
+    record { same = λ macros. ap (λ t. after given (trace_of t)) (s.same macros); sound = s.sound; few = few }
+goes_by whole new given (Err Memory) few s = λ macros. tt
+goes_by whole new given (Err (Fault fault)) few s = λ macros.
+    ap (λ t. answer (after given (trace_of t))) (s macros) ∙ fault_here ℕ given fault.line fault.kind few
+
+-- one step, from that of all macros
+pub advances : (X : Type 0) (whole : Macros → Expansion) (macros : Macros) (all : Expansion) (new : declared_expander.Expander)
+    (before now : Tokens) (error : PreError) → all ≡ whole macros
+    → Goes {X = X} whole new before now (Err error) → Fails (after before (trace_of all)) error
+advances X whole macros all new before now Memory e g = tt
+advances X whole macros all new before now (Fault fault) e g =
+    ap (λ t. answer (after before (trace_of t))) e ∙ g macros
+
+pub comes : (whole : Macros → Expansion) (macros : Macros) (all : Expansion) (new : declared_expander.Expander)
+    (before now : Tokens) → all ≡ whole macros → GivesOn whole new before now → Comes all macros new before now
+comes whole macros all new before now e g = record {
+  same = ap (λ t. after before (trace_of t)) e ∙ g.same macros;
+  sound = g.sound;
+  few = g.few;
+}
+
+-- a token that stays is given to the text, or is one too many
+pub text_goes : (whole t : Macros → Expansion) (new : declared_expander.Expander) (before now : Tokens) (token : Token)
+    (result : Result (Unit {0}) PreError) → Emits (gives token) (λ x. x) before now result
+    → ((macros : Macros) → trace_of (whole macros) ≡ (gives token >>= λ _. trace_of (t macros)))
+    → ((macros : Macros) → t macros ≡ comes_to macros (left new)) → IsSound new → Goes whole new before now result
+text_goes whole t new before now token (Ok x) h e f sound = record {
+  same = λ macros. ap (after before) (e macros)
+      ∙ bind_read before now (gives token) (λ _. trace_of (t macros)) x h.0
+      ∙ ap (λ u. after now (trace_of u)) (f macros);
+  sound = sound;
+  few = h.1;
+}
+text_goes whole t new before now token (Err error) h e f sound = λ macros.
+    subst (λ tr. Fails (after before tr) error) (sym (e macros))
+    (bind_failed before (gives token) (λ _. trace_of (t macros)) error h)
+
+pub empty_list : {A : Type 0} (xs : List A) → length xs ≡ 0 → xs ≡ []
+empty_list [] e = refl
+empty_list (x ∷ xs) e = absurd (omega arith)

@@ -72,12 +72,7 @@ last_argument macros e call close = behind macros (left e)
 pub record ArgumentEnds (old new : declared.Call) : Type 0 where
   pub done : new.done.items ≡ old.done.items ++ old.given ∷ []
   pub given : new.given.items ≡ []
-  pub name : new.name ≡ old.name
-  pub hidden : new.hidden ≡ old.hidden
-  pub line : new.line ≡ old.line
-  pub parameters : new.parameters.now ≡ old.parameters.now
-  pub list : new.list.now ≡ old.list.now
-  pub is_empty : new.is_empty ≡ old.is_empty
+  pub same : new ≡ record old { done = new.done; given = new.given }
 
 -- the whole goes on as what is left
 pub record GoesOn (whole : Macros → Expansion) (new : declared_expander.Expander) : Type 0 where

@@ -145,7 +145,7 @@ impl<'t, 'a> Expander<'t, 'a> {
     fn give(&mut self, x: Hiding<'a>, out: &mut Vec<Token<'a>>) -> Result<(), PreError>
         requires few { length out.old.items ≤ max_expanded_tokens }
         requires sound { pending.IsSound self.old }
-        requires set { IsKnown self.old.unread.sets x.entry.hidden }
+        requires set { IsKnown self.old.unread.sets x.hidden }
         ensures { progress.Goes (λ macros. progress.staying macros self.old x.entry) self.new out.old.items out.new.items
             result }
     {
@@ -166,7 +166,7 @@ impl<'t, 'a> Expander<'t, 'a> {
         list: &'t [Token<'a>],
     ) -> Result<(), PreError>
         requires sound { pending.IsSound self.old }
-        requires set { IsKnown self.old.unread.sets x.entry.hidden }
+        requires set { IsKnown self.old.unread.sets x.hidden }
         requires within { pending.end_of (inner_first self.old.calls.items) ≤ length self.old.unread.tokens.items }
         ensures { progress.Steps (λ macros. progress.object_like macros self.old x.entry name.entry list.now) self.new
             result }
@@ -188,12 +188,13 @@ impl<'t, 'a> Expander<'t, 'a> {
     ) -> Result<(), PreError>
         requires few { length out.old.items ≤ max_expanded_tokens }
         requires sound { pending.IsSound self.old }
-        requires set { IsKnown self.old.unread.sets x.entry.hidden }
+        requires set { IsKnown self.old.unread.sets x.hidden }
         requires within { pending.end_of (inner_first self.old.calls.items) ≤ length self.old.unread.tokens.items }
         ensures { progress.Goes (λ macros. progress.function_like macros self.old x.entry name.entry parameters.now
             list.now) self.new out.old.items out.new.items result }
     {
-        if self.unread.open(self.end())?.is_none() {
+        let end = self.end();
+        if self.unread.open(end)?.is_none() {
             return self.give(x, out);
         }
         self.begin_call(x, name, parameters, list)
@@ -208,7 +209,7 @@ impl<'t, 'a> Expander<'t, 'a> {
         list: &'t [Token<'a>],
     ) -> Result<(), PreError>
         requires sound { pending.IsSound self.old }
-        requires set { IsKnown self.old.unread.sets x.entry.hidden }
+        requires set { IsKnown self.old.unread.sets x.hidden }
         requires within { pending.end_of (inner_first self.old.calls.items) ≤ length self.old.unread.tokens.items }
         ensures { progress.Steps (λ macros. progress.beginning macros self.old x.entry name.entry parameters.now
             list.now) self.new result }
@@ -239,13 +240,14 @@ impl<'t, 'a> Expander<'t, 'a> {
     /// Begins the next argument of a call, behind those that are done.
     fn begin_argument(&mut self, call: Call<'t, 'a>) -> Result<(), PreError>
         requires sound { pending.IsSound self.old }
-        requires call { pending.CallIsKnown self.old.unread.sets call.entry }
+        requires call { pending.CallIsKnown self.old.unread.sets call }
         requires within { pending.end_of (inner_first self.old.calls.items) ≤ length self.old.unread.tokens.items }
-        requires given { call.entry.given.items ≡ [] }
+        requires given { call.given.items ≡ [] }
         requires closed { is_some (taken 0 (pending.left self.old).tokens) ≡ true }
         ensures { progress.Steps (λ macros. progress.next_argument macros self.old call.entry) self.new result }
     {
-        let Some(end) = self.unread.argument_end(self.end()) else {
+        let outer = self.end();
+        let Some(end) = self.unread.argument_end(outer) else {
             return Err(PreError::Memory);
         };
         let mut call = call;
@@ -257,7 +259,7 @@ impl<'t, 'a> Expander<'t, 'a> {
     /// Puts in the list of a call, all of whose arguments are expanded. The set is that of its `)`.
     fn end_call(&mut self, call: Call<'t, 'a>, close: HideSet) -> Result<(), PreError>
         requires sound { pending.IsSound self.old }
-        requires call { pending.CallIsKnown self.old.unread.sets call.entry }
+        requires call { pending.CallIsKnown self.old.unread.sets call }
         requires close { IsKnown self.old.unread.sets close }
         requires within { pending.end_of (inner_first self.old.calls.items) ≤ length self.old.unread.tokens.items }
         ensures { progress.Steps (λ macros. progress.last_argument macros self.old call.entry close) self.new result }
@@ -279,7 +281,8 @@ impl<'t, 'a> Expander<'t, 'a> {
         let Some(call) = self.calls.pop() else {
             return Ok(false);
         };
-        let Some(separator) = self.unread.next(self.end()) else {
+        let outer = self.end();
+        let Some(separator) = self.unread.next(outer) else {
             return Err(PreError::Memory);
         };
         let mut call = call;
@@ -303,7 +306,8 @@ impl<'t, 'a> Expander<'t, 'a> {
         ensures { progress.Advances (pending.comes_to (macros_of macros.now) (pending.left self.old)) (macros_of macros.now)
             self.new out.old.items out.new.items result }
     {
-        let Some(x) = self.unread.next(self.end()) else {
+        let end = self.end();
+        let Some(x) = self.unread.next(end) else {
             return self.end_argument();
         };
         match self.macro_for(macros, &x) {

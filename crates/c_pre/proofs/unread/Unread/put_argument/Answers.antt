@@ -25,4 +25,4 @@ returns-in_err-put c =
     (argument_refused c.args.line c.args.here c.args.argument.now c.args.self.now b d c.put.new.self c.loop-n.n
     c.index-argument-n.result c.in_ok-hidden.hidden c.requires.argument c.requires.set c.loop-n.invariant.puts
     c.loop-n-test.true c.loop-n.invariant.within c.index-argument-n.is c.in_ok-hidden.ensures.grows refl refl
-    c.in_ok-hidden.ensures.names _ _ c.in_err-put.field-0.0 c.put.new.self c.in_err-put.ensures)
+    c.in_ok-hidden.ensures.names (Unit {0}) (Unit {0}) c.in_err-put.field-0.0 c.put.new.self c.in_err-put.ensures)

@@ -53,7 +53,7 @@ returns-in_err-put_argument-in-Some c =
     (list_refused line here (names_among c.args.parameters.now)
     (map (λ v. all_hiding a.sets v.items) c.args.arguments.now) c.args.list.now a b c.put_argument.new.self
     c.loop-n.n token c.requires.set c.loop-n.invariant.puts c.loop-n-test.true c.loop-n.invariant.within
-    c.index-list-n.is _ _ (put_argument line (names_of b.sets here) (all_hiding b.sets argument))
+    c.index-list-n.is (Unit {0}) (Unit {0}) (put_argument line (names_of b.sets here) (all_hiding b.sets argument))
     c.in_err-put_argument-in-Some.field-0.0 c.put_argument.new.self
     (ap (λ h. put_argument line h (all_hiding b.sets argument)) (grows.same here c.requires.set)
     ∙ ap (put_argument line (names_of a.sets here)) (same_hiding a.sets b.sets grows argument known)
@@ -91,7 +91,7 @@ returns-in_err-put-in-None c =
     (list_refused line here (names_among c.args.parameters.now)
     (map (λ v. all_hiding a.sets v.items) c.args.arguments.now) c.args.list.now a b c.put.new.self
     c.loop-n.n token c.requires.set c.loop-n.invariant.puts c.loop-n-test.true c.loop-n.invariant.within
-    c.index-list-n.is _ _ (put_token line (names_of b.sets here) token None)
+    c.index-list-n.is (Unit {0}) (Unit {0}) (put_token line (names_of b.sets here) token None)
     c.in_err-put-in-None.field-0.0 c.put.new.self
     (ap (λ h. put_token line h token None) (c.loop-n.invariant.puts.grows.same here c.requires.set)
     ∙ ap (put_token line (names_of a.sets here) token) (c.in-None.ensures.argument a.sets))

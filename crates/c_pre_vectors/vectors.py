@@ -155,10 +155,10 @@ def balanced(r, words, counts, depth):
     return " ".join(parts)
 
 
-def random_calls():
-    """Texts of macros with parameters, all of which their lists name, and of a line that uses them; the same each time."""
-    r = random.Random(44)
-    for _ in range(420):
+def random_calls(seed=44, count=420):
+    """Texts of macros with parameters, all of which their lists name, and of a line that uses them; the same for a seed."""
+    r = random.Random(seed)
+    for _ in range(count):
         counts = {name: r.choice([None, 0, 1, 1, 2, 2]) for name in ["f", "g", "h", "k", "u", "v"][: r.randint(2, 6)]}
         lines = []
         for name, count in counts.items():

@@ -2,7 +2,8 @@
 use Rattle.std.proofs.Common.{◌≡◌, ℕ, zero, suc, ◌+◌, ◌-◌, ◌≤◌, ◌<◌, Bool, true, false, List, [], ◌∷◌, ◌++◌, map, length}
 use Rattle.std.proofs.Common.{take, drop, refl, sym, ap, subst, ◌∙◌, append-nil, arith, Option, Some, None, nat_eq}
 use Rattle.std.proofs.Common.{option_map, is_some, Result, Ok, Err, if◌then◌else◌}
-use Rattle.std.proofs.lemmas.Bool.{eqb-true}
+use Rattle.std.proofs.Math.Dec.{eqb-suc-zero}
+use Rattle.std.proofs.lemmas.Bool.{eqb-true, eqb-false}
 use Rattle.std.specs.List.{AllByRecursion}
 use Rattle.c_pre.specs.declared.expander.Call as declared
 use Rattle.c_pre.specs.declared.hide_set.HideSets.{HideSets}
@@ -26,7 +27,16 @@ some_of (Some x) e = (x, refl)
 
 pub empty_by_length : (first : List HidingToken) → begins_empty (first ∷ []) ≡ nat_eq (length first) 0
 empty_by_length [] = refl
-empty_by_length (x ∷ first) = refl
+empty_by_length (x ∷ first) = sym (eqb-suc-zero (length first))
+
+pub same_empty : (e k n : ℕ) → e + k ≡ n → nat_eq e n ≡ nat_eq k 0
+same_empty e k n h = by (nat_eq e n) (nat_eq k 0) refl refl
+  where
+    by : (a b : Bool) → nat_eq e n ≡ a → nat_eq k 0 ≡ b → a ≡ b
+    by true true p q = refl
+    by false false p q = refl
+    by true false p q = let s = eqb-true e n p in absurd (eqb-false k 0 q (omega arith))
+    by false true p q = let s = eqb-true k 0 q in absurd (eqb-false e n p (omega arith))
 
 -- an argument of a call begins, which ends at the height of the call
 module _ (sets : HideSets) (outer : List declared.Call) (tokens : List Hiding) (call : declared.Call) (k : ℕ)

@@ -16,7 +16,7 @@ drop_append zero xs ys h = refl
 drop_append (suc n) [] ys h = absurd (omega arith)
 drop_append (suc n) (x ∷ xs) ys h = drop_append n xs ys (omega arith)
 
-take_append : {A : Type 0} (n : ℕ) (xs ys : List A) → n ≤ length xs → take n (xs ++ ys) ≡ take n xs
+pub take_append : {A : Type 0} (n : ℕ) (xs ys : List A) → n ≤ length xs → take n (xs ++ ys) ≡ take n xs
 take_append zero xs ys h = refl
 take_append (suc n) [] ys h = absurd (omega arith)
 take_append (suc n) (x ∷ xs) ys h = ap (λ l. x ∷ l) (take_append n xs ys (omega arith))
@@ -111,7 +111,7 @@ module _ (sets : HideSets) where
       ap (above low sets) (take_and_drop high xs)
       ∙ above_append low (take high xs) (drop high xs) (omega (arith, length_take high xs b))
 
-length_map : {A B : Type 0} (f : A → B) (xs : List A) → length (map f xs) ≡ length xs
+pub length_map : {A B : Type 0} (f : A → B) (xs : List A) → length (map f xs) ≡ length xs
 length_map f [] = refl
 length_map f (x ∷ xs) = ap suc (length_map f xs)
 

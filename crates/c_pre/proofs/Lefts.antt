@@ -21,7 +21,7 @@ use Rattle.c_pre.proofs.Heights.{take_take, above_two, same_above, same_hiding, 
 use Rattle.c_pre.proofs.Putting.{longer}
 
 module _ (old new : HideSets) (more : Grows old new) where
-  same_done : {A : Type 0} (items : A → List Hiding) (vs : List A) → AllByRecursion (λ v. AreKnown old (items v)) vs
+  pub same_done : {A : Type 0} (items : A → List Hiding) (vs : List A) → AllByRecursion (λ v. AreKnown old (items v)) vs
       → map (λ v. all_hiding new (items v)) vs ≡ map (λ v. all_hiding old (items v)) vs
   same_done items [] a = refl
   same_done items (v ∷ vs) a =

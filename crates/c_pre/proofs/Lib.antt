@@ -18,3 +18,4 @@ pub mod Steps
 pub mod Lefts
 pub mod Proceeding
 pub mod Calling
+pub mod Ending

@@ -9,7 +9,8 @@ use Rattle.c_pre.specs.declared.hide_set.HideSet.{HideSet}
 use Rattle.c_pre.specs.declared.hiding.Hiding.{Hiding}
 use Rattle.c_pre.specs.Arguments.{taken, with_argument}
 use Rattle.c_pre.specs.Directives.{names_among}
-use Rattle.c_pre.specs.Expansion.{Expansion, Used, stops, gives_first, replaced, with_call, line_at, expansion, trace_of}
+use Rattle.c_pre.specs.Expansion.{Expansion, Used, stops, gives_first, replaced, with_call, line_at, turn, replacement, expansion}
+use Rattle.c_pre.specs.Expansion.{trace_of}
 use Rattle.c_pre.specs.HideSets.{HidingToken}
 use Rattle.c_pre.specs.Limits.{max_expanded_tokens}
 use Rattle.c_pre.specs.Lines.{Tokens}
@@ -88,12 +89,6 @@ abbrev pub Steps : {X : Type 0} → (Macros → Expansion) → declared_expander
 Steps whole new (Ok x) = GoesOn whole new
 Steps whole new (Err error) = (macros : Macros) → StopsAt (whole macros) error
 
--- the same of the end of an argument, or of the text
-abbrev pub Ends : (Macros → Expansion) → declared_expander.Expander → Result Bool PreError → Type 0
-Ends whole new (Ok true) = GoesOn whole new
-Ends whole new (Ok false) = (macros : Macros) → whole macros ≡ record { given = []; end = Ok new.unread.room }
-Ends whole new (Err error) = (macros : Macros) → StopsAt (whole macros) error
-
 pub record GivesOn (whole : Macros → Expansion) (new : declared_expander.Expander) (before now : Tokens) : Type 0 where
   pub same : (macros : Macros) → after before (trace_of (whole macros)) ≡ after now (trace_of (comes_to macros (left new)))
   pub sound : IsSound new
@@ -119,3 +114,14 @@ abbrev pub Advances : Expansion → Macros → declared_expander.Expander → To
 Advances whole macros new before now (Ok true) = Comes whole macros new before now
 Advances whole macros new before now (Ok false) = IsDone whole new before now
 Advances whole macros new before now (Err error) = Fails (after before (trace_of whole)) error
+
+-- a token is read
+abbrev pub reading : Macros → declared_expander.Expander → Hiding → Expansion
+reading macros e x = behind macros (left e)
+    (turn (expansion macros) (left e).line (hiding e.unread.sets x) (replacement macros (hiding e.unread.sets x))
+    (left e).room (left e).tokens)
+
+abbrev pub Reads : {X : Type 0} → Macros → Expansion → declared_expander.Expander → Tokens → Tokens → Result X PreError
+    → Type 0
+Reads macros whole new before now (Ok x) = Comes whole macros new before now
+Reads macros whole new before now (Err error) = Fails (after before (trace_of whole)) error

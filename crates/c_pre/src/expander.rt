@@ -1,6 +1,6 @@
 //! The expansion of text lines, without recursion: a stack of the calls whose arguments are being expanded.
 
-ghost use Rattle.std.specs.Prelude.{◌≡◌, ◌≤◌, [], length, option_map, IfOk, OnOk, None, is_some, true};
+ghost use Rattle.std.specs.Prelude.{◌≡◌, ◌≤◌, [], ◌∷◌, length, option_map, IfOk, OnOk, None, is_some, true};
 ghost use Rattle.c_pre.specs.Arguments.{fits, taken};
 ghost use Rattle.c_pre.specs.Expansion as expansion;
 ghost use Rattle.c_pre.specs.InnerFirst.{inner_first};
@@ -149,8 +149,12 @@ impl<'t, 'a> Expander<'t, 'a> {
         ensures { progress.Goes (λ macros. progress.staying macros self.old x.entry) self.new out.old.items out.new.items
             result }
     {
-        let Some(call) = self.calls.pop() else {
+        let depth = self.calls.len();
+        if depth == 0 {
             return give(out, x.token);
+        }
+        let Some(call) = self.calls.pop() else {
+            return Err(PreError::Memory);
         };
         let mut call = call;
         call.given.push(x)?;
@@ -194,10 +198,10 @@ impl<'t, 'a> Expander<'t, 'a> {
             list.now) self.new out.old.items out.new.items result }
     {
         let end = self.end();
-        if self.unread.open(end)?.is_none() {
-            return self.give(x, out);
+        match self.unread.open(end)? {
+            None => self.give(x, out),
+            Some(_) => self.begin_call(x, name, parameters, list),
         }
-        self.begin_call(x, name, parameters, list)
     }
 
     /// Begins a call whose `(` was read.
@@ -269,18 +273,19 @@ impl<'t, 'a> Expander<'t, 'a> {
         }
         let shared = self.unread.sets.common(self.alloc, call.hidden, close)?;
         let here = self.unread.sets.with(call.name, shared)?;
-        self.unread.put_in(call.line, here, call.parameters, &call.done, call.list)
+        let done = call.done.as_slice();
+        self.unread.put_in(call.line, here, call.parameters, done, call.list)
     }
 
-    /// The end of the present argument, or of the text. Tells whether there was an argument.
-    fn end_argument(&mut self) -> Result<bool, PreError>
-        requires sound { pending.IsSound self.old }
-        requires none { length self.old.unread.tokens.items ≤ pending.end_of (inner_first self.old.calls.items) }
-        ensures { progress.Ends (λ macros. pending.comes_to macros (pending.left self.old)) self.new result }
+    /// The end of the present argument of the innermost call, which is given.
+    fn end_argument(&mut self, call: Call<'t, 'a>) -> Result<(), PreError>
+        requires sound { pending.SoundIn self.old.unread.sets (call ∷ inner_first self.old.calls.items)
+            self.old.unread.tokens.items }
+        requires none { length self.old.unread.tokens.items ≤ call.end }
+        ensures { progress.Steps (λ macros. pending.comes_to macros (pending.left_in self.old.unread.sets
+            (call.entry ∷ inner_first self.old.calls.items) self.old.unread.tokens.items self.old.unread.room)) self.new
+            result }
     {
-        let Some(call) = self.calls.pop() else {
-            return Ok(false);
-        };
         let outer = self.end();
         let Some(separator) = self.unread.next(outer) else {
             return Err(PreError::Memory);
@@ -288,11 +293,34 @@ impl<'t, 'a> Expander<'t, 'a> {
         let mut call = call;
         call.end_argument(self.alloc)?;
         match Role::of(&separator.token) {
-            Role::Closes => self.end_call(call, separator.hidden)?,
-            Role::Parts => self.begin_argument(call)?,
-            _ => return Err(PreError::Memory),
+            Role::Closes => self.end_call(call, separator.hidden),
+            Role::Parts => self.begin_argument(call),
+            _ => Err(PreError::Memory),
         }
-        Ok(true)
+    }
+
+    /// Reads a token of the present argument, or of the text.
+    fn read(
+        &mut self,
+        macros: &MacroTable<'t, 'a>,
+        x: Hiding<'a>,
+        out: &mut Vec<Token<'a>>,
+    ) -> Result<(), PreError>
+        requires few { length out.old.items ≤ max_expanded_tokens }
+        requires sound { pending.IsSound self.old }
+        requires set { IsKnown self.old.unread.sets x.hidden }
+        requires within { pending.end_of (inner_first self.old.calls.items) ≤ length self.old.unread.tokens.items }
+        ensures { progress.Reads (macros_of macros.now) (progress.reading (macros_of macros.now) self.old x.entry) self.new
+            out.old.items out.new.items result }
+    {
+        let Some(definition) = self.macro_for(macros, &x) else {
+            return self.give(x, out);
+        };
+        let meaning = definition.meaning;
+        match meaning.parameters {
+            None => self.replace(x, definition.name, meaning.list),
+            Some(parameters) => self.call(x, definition.name, parameters, meaning.list, out),
+        }
     }
 
     /// Reads one token, or ends an argument. Tells whether more is to be done.
@@ -307,21 +335,14 @@ impl<'t, 'a> Expander<'t, 'a> {
             self.new out.old.items out.new.items result }
     {
         let end = self.end();
-        let Some(x) = self.unread.next(end) else {
-            return self.end_argument();
-        };
-        match self.macro_for(macros, &x) {
-            None => self.give(x, out)?,
-            Some(definition) => {
-                let meaning = definition.meaning;
-                match meaning.parameters {
-                    None => self.replace(x, definition.name, meaning.list)?,
-                    Some(parameters) => {
-                        self.call(x, definition.name, parameters, meaning.list, out)?
-                    }
-                }
-            }
+        if let Some(x) = self.unread.next(end) {
+            self.read(macros, x, out)?;
+            return Ok(true);
         }
+        let Some(call) = self.calls.pop() else {
+            return Ok(false);
+        };
+        self.end_argument(call)?;
         Ok(true)
     }
 }

@@ -18,11 +18,11 @@ returns c =
     let new : inner_first c.push.new.self.items ≡ call ∷ outer =
         ap inner_first c.in_ok-push.ensures.items ∙ last_is_inner c.args.self.now.calls.items call in
     record {
-      same = λ macros. other_argument u.sets outer u.tokens.items call here.0.0 here.0.1.0 here.0.1.1 here.1
+      same = λ macros. other_argument u.sets outer u.tokens.items call here.0.0 here.0.1 here.0.2 here.1
           c.requires.closed macros u.room c.requires.given
           ∙ ap (λ cs. comes_to macros (left_in u.sets cs u.tokens.items u.room)) (sym new);
       sound = subst (λ (cs : List declared.Call). SoundIn u.sets cs u.tokens.items) (sym new)
-          (sound_call u.sets outer u.tokens.items call here.0.0 here.0.1.0 here.0.1.1 here.1 c.requires.closed
+          (sound_call u.sets outer u.tokens.items call here.0.0 here.0.1 here.0.2 here.1 c.requires.closed
           (record { hidden = c.requires.call.hidden; done = c.requires.call.done; given = c.requires.call.given })
           c.requires.sound);
     }

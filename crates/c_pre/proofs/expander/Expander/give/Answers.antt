@@ -1,4 +1,4 @@
-use Rattle.std.proofs.Common.{◌≡◌, List, [], ◌∷◌, ◌++◌, Vec, Global, refl, sym, ap, subst, ◌∙◌}
+use Rattle.std.proofs.Common.{◌≡◌, List, [], ◌∷◌, ◌++◌, Vec, Global, refl, sym, ap, subst, ◌∙◌, length, arith}
 use Rattle.c_pre.specs.declared.expander.Call as declared
 use Rattle.c_pre.specs.Expansion.{gives_first, expansion, trace_of}
 use Rattle.c_pre.specs.InnerFirst.{inner_first}
@@ -10,14 +10,12 @@ use Rattle.c_pre.proofs.Stacks.{last_is_inner}
 use Rattle.c_pre.proofs.Proceeding.{empty_list, text_goes, argument_given, argument_given_sound}
 use Rattle.c_pre.proofs.expander.Expander.give.Goals as goal
 
-pub returns-in_default : goal.returns-in_default
-returns-in_default c =
+pub returns-then-depth-eq0 : goal.returns-then-depth-eq0
+returns-then-depth-eq0 c =
     let u = c.args.self.now.unread in
     let x = c.args.x in
     let old : inner_first c.args.self.now.calls.items ≡ [] =
-        ap inner_first (empty_list c.args.self.now.calls.items c.in_default.ensures.cases.0) in
-    let new : inner_first c.pop.new.self.items ≡ [] =
-        ap inner_first (empty_list c.pop.new.self.items c.in_default.ensures.cases.1) in
+        ap inner_first (empty_list c.args.self.now.calls.items (omega (arith, c.len-depth.ensures, c.if-depth-eq0.true))) in
     text_goes (λ macros. staying macros c.args.self.now x)
     (λ macros. comes_to macros (left_in u.sets (inner_first c.args.self.now.calls.items) u.tokens.items u.room)) _
     c.args.out.now.items c.give.new.out.items x.token c.give.result c.give.ensures
@@ -25,8 +23,8 @@ returns-in_default c =
     (gives_first (hiding u.sets x) (expansion macros (left_in u.sets cs u.tokens.items u.room).line u.room
     (left_in u.sets cs u.tokens.items u.room).tokens)))
     ≡ (gives x.token >>= λ _. trace_of (comes_to macros (left_in u.sets cs u.tokens.items u.room)))) (sym old) refl)
-    (λ macros. ap (λ cs. comes_to macros (left_in u.sets cs u.tokens.items u.room)) (old ∙ sym new))
-    (subst (λ (cs : List declared.Call). SoundIn u.sets cs u.tokens.items) (old ∙ sym new) c.requires.sound)
+    (λ macros. refl)
+    c.requires.sound
 
 pub returns : goal.returns
 returns c =

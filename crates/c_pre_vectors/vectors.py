@@ -27,9 +27,17 @@ FAULTS = [
     (r"duplicate macro parameter|expected parameter name|expected '[,)]'|expected comma|may not be used as a parameter", 2),
     (r"invalid preprocessing directive|macro names must be identifiers|no macro name given|extra tokens at end of #", 2),
     (r"unterminated #", 3),
-    (r"#(else|endif) without #if|#else after #else", 4),
+    (r"#(elif|else|endif) without #if|#(elif|else) after #else", 4),
     (r'"\w+" redefined', 5),
+    (
+        r"in #if|in operand of #if|#(el)?if with no expression|missing binary operator|missing expression between|missing '[()]' in expression"
+        r"|not valid in preprocessor expressions|has no (left|right) operand|without following ':'|without preceding '\?'",
+        8,
+    ),
 ]
+
+# An error of `-pedantic-errors` that is none of C99: what a sum or a product beyond intmax_t is, C99 leaves open, and here it wraps.
+NO_FAULT = r"integer overflow in preprocessor expression"
 
 TEXTS = [
     "int main(void) { return 0; }\n",
@@ -110,6 +118,44 @@ OVER_LINES = [
     "#define f(x) [x]\nf(a /* c\n */ b) // d\n", "#define f(x) [x]\nf(1) f(\n2) # f(3\n)\n",
 ]
 
+# Conditions, each of which decides between two words.
+CONDITIONS = [
+    "0xFFFFFFFF>-1", "0 && 1/0", "1?2:1/0", "-1<0u", "'a'", "1,2", "()", "", "1/0", "0 || 1/0", "1 || 1/0", "1 && 1%0", "0 ? 1/0 : 3", "1 ? 1/0 : 3",
+    "2*3==6&&!(-1<0u)", "1 ? -1 : 0u", "(1 ? -1 : 0u) > 0", "(0 ? 0u : -1) > 0", "(1/1 ? 2 : 1/0) == 2", "(0 && 1/0) + 1u > -1", "!1u - 2 < 0", "(1u < 2) - 2 < 0",
+    "(1u && 1) - 2 < 0", "(1u || 1) - 2 < 0", "(1u == 1) - 2 < 0", "~0u == -1", "~0 < 0", "~0u < 0", "-1u > 0", "+0u - 1 > 0", "0x8000000000000000 > 0",
+    "0x8000000000000000 - 1 > 0", "-0x8000000000000000 > 0", "9223372036854775807 + 1 < 0", "0x7fffffffffffffff * 2 == -2", "18446744073709551615u == -1",
+    "-1 >> 63", "(-1 >> 63) == -1", "(-1u >> 63) == 1", "(1 << 63) < 0", "(1u << 63) > 0", "(-1 << 1u) < 0", "(1 << 2u) - 5 < 0", "-7 / 2 == -3", "-7 % 2 == -1",
+    "-7 / 2u == -3", "7 % -2 == 1", "-1 / 1u > 0", "'\\0'", "'a' == 97", "'\\x7f' - 128 < 0", "'\\''", "x", "!x", "int", "int == 0 && while == 0", "sizeof",
+    "sizeof 1", "(int)1", "sizeof(int)", "defined A", "defined(A)", "defined B", "!defined(B)", "defined int", "defined ( A ) + defined A == 2", "defined A && A == 3", "A", "B",
+    "A - 3", "(A)", "C == 5", "C", "D", "E", "E == 0", "S", "defined defined", "1 2", "1 +", "+", ")", "(1", "(1))", "1 ? 2", "1 : 2", "1 ? : 2", "? 1 : 2", "1 = 1", "1 += 1",
+    "\"a\"", "1 \"a\"", "1[0]", "f(1)", "1(2)", "*1", "&1", "1 & & 1", "1++", "++1", "- - 1 == 1", "-+-1 == 1", "!!2 == 1", "1 . x", "1->x", "{1}", "1;", "1 ? 0 : 1 ? 2 : 3",
+    "(1 ? 0 : 1) ? 2 : 3", "0 ? 1 : 0 ? 2 : 3", "1 || 0 && 0", "1 | 2 == 3", "(1 | 2) == 3", "4 ^ 5 & 6", "1 + 2 << 3 == 24", "1 << 2 + 1 == 8", "3 - 2 - 1", "8 / 4 / 2", "5 & 3 == 3",
+    "1 < 2 < 3", "3 > 2 > 1", "3 > 2 == 1", "-1 == 0xffffffffffffffff", "2 & 1 || 2 ^ 3", "01 + 010 + 0x10 == 25", "10l + 10L + 1ll + 1LL == 22", "1ul + 1UL + 1lu + 1ULL == 4",
+    "((((((((((1))))))))))", "0 ? x : y ? z : 4", "F(A, 2) == 6", "F(A, A) - C", "F", "F + 1", "defined F", "defined(F) && F(1, 0)", "F(F(1, 2), 3) == 6", "F(1)", "F(1, 2", "F(1, 2, 3)",
+    "F(1 +, 2)", "F(defined A, 2)", "0 && F(1)", "F(int, 1)",
+]
+
+# What stands before each of them.
+MACROS = "#define A 3\n#define C A + 2\n#define D C *\n#define E\n#define S sizeof\n#define F(x, y) ((x) * y)\n"
+
+SECTIONS = [
+    "#if 1\n1\n#elif 1\n2\n#elif 0\n3\n#else\n4\n#endif\n5\n", "#if 0\n1\n#elif 1\n2\n#elif 1\n3\n#else\n4\n#endif\n5\n",
+    "#if 0\n1\n#elif 0\n2\n#elif 7\n3\n#else\n4\n#endif\n5\n", "#if 0\n1\n#elif 0\n2\n#elif 0\n3\n#else\n4\n#endif\n5\n",
+    "#if 0\n1\n#elif 0\n2\n#endif\n3\n", "#if 1\n1\n#elif 1/0\n2\n#elif\n3\n#elif (\n4\n#endif\n5\n", "#if 0\n#elif 1\n1\n#elif 1/0\n#else\n2\n#endif\n",
+    "#if 0\n1\n#elif 1/0\n2\n#endif\n", "#if 0\n1\n#elif\n2\n#endif\n", "#if 0\n1\n#elif 1 2\n2\n#endif\n", "#if\n#endif\n", "x\n#if 1 +\n#endif\ny\n",
+    "#ifdef A\n1\n#elif 1\n2\n#endif\n", "#ifndef A\n1\n#elif 1/0\n2\n#else\n3\n#endif\n", "#ifdef A\n1\n#elif defined A\n2\n#elif !defined A\n3\n#endif\n",
+    "#elif 1\n", "x\n#elif\n", "#if 1\n#else\n#elif 1\n#endif\n", "#if 0\n#else\n#elif 1\n#endif\n", "#if 0\n#elif 1\n#else\n#elif 1/0\n#endif\n", "#if 1\n#endif\n#elif 1\n",
+    "#if 0\n#if 1\n#else\n#elif 1\n#endif\n#endif\n", "#if 0\n#elif 0\n#else\n#else\n#endif\n", "#if 1\n1\n", "#if 0\n#elif 1\n1\n", "#if 1\n#if 0\n#elif 1\n1\n#endif\n",
+    "#if 0\n#if 1/0\n1\n#elif\n2\n#elif )\n3\n#else\n4\n#endif\n5\n#else\n6\n#endif\n7\n", "#if 1\n#if 0\n1\n#elif 1\n2\n#else\n3\n#endif\n4\n#elif 1\n5\n#endif\n6\n",
+    "#if 0\n#ifdef A\n1\n#elif 1\n2\n#endif\n3\n#elif 1\n#ifdef A\n4\n#elif 1\n5\n#endif\n6\n#endif\n7\n",
+    "#if 1\n#define A 1\n#elif 1\n#define A 2\n#endif\nA\n", "#if 0\n#define A 1\n#elif 1\n#define A 2\n#else\n#define A 3\n#endif\nA\n",
+    "#define A 0\n#if A\n1\n#elif A + 1\n2\n#endif\n#undef A\n#if A + 1\n3\n#endif\n", "#define A B\n#define B A\n#if A\n1\n#else\n2\n#endif\n",
+    "#define if else\n#if 1\n1\n#endif\nif\n", "#define defined_ 1\n#if defined_\n1\n#endif\n",
+    "#if 1 /* c\n */ + 1\n1\n#endif\n", "#if 1 \\\n - 1\n1\n#else\n2\n#endif\n", "# if 1 // c\n1\n# endif\n", "#if 0 // c \\\n 1\n1\n#endif\n2\n", "#if 0\n#elif 1 // c\n1\n#endif\n",
+    "#if 1\n#else x\n#endif\n", "#if 0\n#elif 1\n#endif x\n", "#if 1/0\n#else\n#else\n", "#else\n#if 1/0\n", "#if 0\n#foo\n#elif 1\n#foo\n#endif\n", "#if 1\n#if 1\n#if 1\n#if 1\n#if 1\n#if 1\n#if 1\n#if 1\n#if 1\n#if 1\n1\n" + "#endif\n" * 10,
+    "#if 1\n#if 1\n#if 1\n#if 1\n#if 1\n#if 1\n#if 1\n#if 1\n#if 1\n#if 0\n1\n" + "#elif 1\n2\n#endif\n" * 10,
+]
+
 NAMES = ["a", "b", "c", "d", "e", "f"]
 OTHERS = ["1", "2", "+", "-", "(", ")", "x", "y", ";", ",", "int", '"s"', "->", "<<", "'c'"]
 
@@ -181,6 +227,59 @@ def random_texts():
         yield "\n".join(list(random_lines(r, 0)) + [" ".join(NAMES)]) + "\n"
 
 
+CONSTANTS = [
+    "0", "1", "2", "3", "7", "8", "0u", "1u", "2u", "10", "0x10", "017", "1ul", "5l", "'a'", "'\\0'", "'\\177'", "0x7fffffffffffffff", "0x8000000000000000",
+    "0xffffffffffffffff", "9223372036854775807", "18446744073709551615u", "4294967295", "4294967296u",
+]
+BETWEEN = ["*", "/", "%", "+", "-", "<", ">", "<=", ">=", "==", "!=", "&", "^", "|", "&&", "||"]
+
+
+def random_operand(r, depth):
+    kind = r.random()
+    if depth == 0 or kind < 0.25:
+        return [r.choice(CONSTANTS)]
+    if kind < 0.35:
+        return [r.choice(["A", "B", "C", "while"])]
+    if kind < 0.45:
+        return r.choice([["defined", "A"], ["defined", "B"], ["defined", "(", "C", ")"], ["defined", "(", "int", ")"]])
+    if kind < 0.65:
+        return [r.choice(["+", "-", "~", "!"])] + random_operand(r, depth - 1)
+    return ["("] + random_condition(r, depth - 1) + [")"]
+
+
+def random_condition(r, depth):
+    """The tokens of a condition. A shift goes by a constant, of less than 64, since C99 leaves other shifts open."""
+    kind = r.random()
+    if depth == 0 or kind < 0.2:
+        return random_operand(r, depth)
+    if kind < 0.3:
+        return random_operand(r, depth - 1) + ["?"] + random_condition(r, depth - 1) + [":"] + random_condition(r, depth - 1)
+    if kind < 0.4:
+        return ["("] + random_operand(r, depth - 1) + [r.choice(["<<", ">>"]), r.choice(["0", "1", "8", "31u", "63"]), ")"]
+    return random_condition(r, depth - 1) + [r.choice(BETWEEN)] + random_condition(r, depth - 1)
+
+
+def broken(r, tokens):
+    """The tokens with one more, one fewer or another one; none of them behind `defined`, where C99 leaves the answer open."""
+    at = r.randrange(len(tokens))
+    if "defined" in tokens[max(0, at - 3): at + 1]:
+        return tokens
+    other = r.choice(["(", ")", "?", ":", "1", "x", "=", "*", "!", '"s"', "++", "["])
+    return tokens[:at] + r.choice([[], [other], [tokens[at], other]]) + tokens[at + 1:]
+
+
+def deciding(condition):
+    return f"{MACROS}#if {condition}\n1\n#else\n0\n#endif\n"
+
+
+def random_conditions(count):
+    """Conditions of random tokens, the same each time."""
+    r = random.Random(44)
+    for _ in range(count):
+        tokens = random_condition(r, 4)
+        yield deciding(" ".join(broken(r, tokens) if r.random() < 0.2 else tokens))
+
+
 def run(command, text):
     with tempfile.NamedTemporaryFile("w", suffix=".c", newline="", delete=False) as f:
         f.write(text)
@@ -211,18 +310,23 @@ def fault(errors):
     for m in re.finditer(r"^[^\n]*?\.c:(\d+):(?:\d+:)? error: ([^\n]*)$", errors, re.M):
         if m[2] == "the conditional began here":
             continue
+        if re.search(NO_FAULT, m[2]):
+            continue
         kinds = [kind for pattern, kind in FAULTS if re.search(pattern, m[2])]
         if not kinds:
             raise ValueError(m[2])
         found.append((kinds[0] == 3, int(m[1]), kinds[0]))
+    if not found:
+        return None
     unclosed, line, kind = min(found)
     return f"fault {kind} line {line}\n"
 
 
 def expected(text):
     gcc = run(["gcc", "-pedantic-errors"], text)
-    if gcc.returncode != 0:
-        return fault(gcc.stderr)
+    told = fault(gcc.stderr)
+    if told is not None:
+        return told
     clang = run(["clang"], text)
     if clang.returncode != 0 or shown(clang.stdout) != shown(gcc.stdout):
         raise ValueError("clang differs")
@@ -276,7 +380,28 @@ ALL = [
     ("#include <stdio.h>\n#include <stdlib.h>\n#include <string.h>\n#include <stddef.h>\nNULL", "( ( void * ) 0 ) end 5"),
     ("#include <stdlib.h>\nEXIT_SUCCESS EXIT_FAILURE EOF", "0 1 EOF end 2"),
     ("#foo", "fault 2 line 1"),
-    ("#if 1\n#endif", "fault 2 line 1"),
+    ("#if 1\nx\n#endif", "x end 3"),
+    # Commas, which C99 allows in an operand that is not evaluated; a `defined` that C99 leaves open; wide constants; levels; what C99
+    # leaves open of operators.
+    ("#if 0 && (1,2)\n#endif", "fault 8 line 1"),
+    ("#if defined\nx\n#else\ny\n#endif", "y end 5"),
+    ("#if defined 1\n#endif", "fault 8 line 1"),
+    ("#if defined ()\n#endif", "fault 8 line 1"),
+    ("#if defined (A\n#endif", "fault 8 line 1"),
+    ("#define D defined\n#define A 1\n#if D A\n#endif", "fault 8 line 3"),
+    ("#define D defined\n#if D\nx\n#endif", "end 4"),
+    # A character constant is an int of a value from 0 to 255, and so no unsigned one.
+    ("#if '\\377' == 255 && '\\377' - 256 < 0\nx\n#endif", "x end 3"),
+    ("#define D defined A\n#if 1 || D\n#endif", "fault 8 line 2"),
+    ("#if L'a'\n#endif", "fault 8 line 1"),
+    ("#if " + "(" * 200 + "1" + ")" * 200 + "\nx\n#endif", "x end 3"),
+    ("#if " + "(" * 201 + "1" + ")" * 201 + "\nx\n#endif", "fault 8 line 1"),
+    ("#if 1" + "+1" * 200 + "\nx\n#endif", "x end 3"),
+    ("#if 1" + "+1" * 201 + "\nx\n#endif", "fault 8 line 1"),
+    ("#if (1 << 64) == 1 && (1 << -1) < 0 && (1u << 65) == 2\nx\n#endif", "x end 3"),
+    ("#if (-9223372036854775807-1) / -1 < 0 && (-9223372036854775807-1) % -1 == 0\nx\n#endif", "x end 3"),
+    ("#include <limits.h>\n#if LONG_MAX == 9223372036854775807 && LONG_MIN < 0 && ULONG_MAX > 0 && CHAR_MAX == 255\nx\n#endif", "x end 4"),
+    ("#ifdef A\n#if ) x\n#endif\n#endif", "end 4"),
     ("#define f(x) x", "end 1"),
     ("#define f(x) #x", "fault 2 line 1"),
     ("#define f(x) x##x", "fault 2 line 1"),
@@ -337,7 +462,8 @@ def main():
         sys.exit(__doc__)
     here = os.path.dirname(os.path.abspath(__file__))
     rows = []
-    for text in dict.fromkeys(TEXTS + list(random_texts()) + CALLS + list(random_calls())):
+    conditions = [deciding(condition) for condition in CONDITIONS] + SECTIONS + list(random_conditions(300))
+    for text in dict.fromkeys(TEXTS + list(random_texts()) + CALLS + list(random_calls()) + conditions):
         try:
             rows.append((text, expected(text)))
         except ValueError as error:

@@ -19,7 +19,10 @@ use Rattle.c_pre.specs.declared.header.Header.{Header}
 use Rattle.c_pre.specs.declared.directive.DirectiveName.{DirectiveName}
 use Rattle.c_pre.specs.declared.directive.DirectiveName.TheVariants as d
 use Rattle.c_pre.specs.declared.section.IfSection.{IfSection}
-use Rattle.c_pre.specs.Directives.{Line, text_line, if_defined, if_other, else_group, endif_line, define, undef}
+use Rattle.c_conditions.specs.Conditions.{condition_value}
+use Rattle.c_pre.specs.Conditions.{condition_at, judged, judged_at_end, marked_behind, without_name}
+use Rattle.c_pre.specs.Directives.{Line, text_line, if_defined, if_other, if_condition, elif, else_group, endif_line}
+use Rattle.c_pre.specs.Directives.{define, undef}
 use Rattle.c_pre.specs.Directives.{include, null_directive, unknown_include, unknown_directive, named_or, only_name}
 use Rattle.c_pre.specs.Directives.{is_empty, begins_parameters, behind_first, is_close, to_close, is_left_out, are_parameters}
 use Rattle.c_pre.specs.Directives.{function_like, define_named, definition, header_of, included}
@@ -38,8 +41,8 @@ use Rattle.c_pre.specs.Lines.{Tokens, begins, before, lines}
 use Rattle.c_pre.specs.Names.{Name, Names, Macro, Macros, name_of, member}
 use Rattle.c_pre.specs.Origin.{ComesFrom, StandsIn}
 use Rattle.c_pre.specs.Reading.{redefined, with_macro, may_be, defined, define_line, define_lines, holds, obeyed}
-use Rattle.c_pre.specs.Reading.{followed, with_room, read_text_line, is_text, read_line, read_lines, start}
-use Rattle.c_pre.specs.Reading.{before_run, runs, expanded_tokens}
+use Rattle.c_pre.specs.Reading.{followed, leaving_room, read_text_line, is_text, read_line, read_lines, start}
+use Rattle.c_pre.specs.Reading.{before_run, runs, expanded_tokens, with_condition, with_alternative, elif_at}
 use Rattle.c_pre.specs.Sections.{State, is_read, opened, skipped, with_section, else_at, endif_at, finished}
 use Rattle.c_pre.specs.Trace.{Trace, goes_on, ◌>>=◌, quiet, gives, fails, fault_at, line_of, ended, answer}
 
@@ -305,7 +308,7 @@ module _ (P : Token → Type 0) (moves : (line : ℕ) (t : Token) → P t → P 
   unfolding read_text_line expansion
   a_text_line s line is a =
       let t = expand_by (length (of_text line) + s.room) s.macros None s.room (of_text line) in
-      bind (trace_of t) (with_room s) (λ _. Unit {0}) StateIs
+      bind (trace_of t) (leaving_room s) (λ _. Unit {0}) StateIs
       (record {
         given = tokens_of t.given (expanding (length (of_text line) + s.room) s.macros is.macros None s.room (of_text line)
             (all_of_text line a));
@@ -399,6 +402,7 @@ module _ (P : Token → Type 0) (moves : (line : ℕ) (t : Token) → P t → P 
   directive_is (Some d.Ifdef) more a = named_is (λ name. if_defined name true) if_other (only_name more) (λ _. tt) tt
   directive_is (Some d.Ifndef) more a = named_is (λ name. if_defined name false) if_other (only_name more) (λ _. tt) tt
   directive_is (Some d.If) more a = tt
+  directive_is (Some d.Elif) more a = tt
   directive_is (Some d.Else) more a = tt
   directive_is (Some d.Endif) more a = tt
 
@@ -471,6 +475,32 @@ module _ (P : Token → Type 0) (moves : (line : ℕ) (t : Token) → P t → P 
   at_endif line well s (section ∷ outer) is =
       is_if (section.in_read_text && not well) _ _ _ (is_failed _ _ _) (is_quiet _ StateIs (with_sections s _ is))
 
+  -- conditions give no token
+  judged_is : (line room : ℕ) (word : Option ℕ) → TraceIs (judged line room word) (λ _. Unit {0})
+  judged_is line room None = is_failed _ _ _
+  judged_is line room (Some word) = is_quiet _ _ tt
+
+  judged_end_is : (line : ℕ) (tokens : Tokens) (end : Result ℕ PreFault)
+      → TraceIs (judged_at_end line tokens end) (λ _. Unit {0})
+  judged_end_is line tokens (Ok room) = judged_is line room (condition_value (map without_name tokens))
+  judged_end_is line tokens (Err fault) = record { given = tt; end = tt }
+
+  condition_is : (line : ℕ) (macros : Macros) (room : ℕ) (tokens : Tokens)
+      → TraceIs (condition_at line macros room tokens) (λ _. Unit {0})
+  unfolding condition_at
+  condition_is line macros room tokens =
+      let expanded = trace_of (expansion macros None room (of_text (marked_behind 0 macros tokens))) in
+      judged_end_is line expanded.given expanded.end
+
+  at_elif : (at : ℕ) (tokens : Tokens) (s : State) (sections : List IfSection) → StateIs s
+      → TraceIs (elif_at at tokens s sections) StateIs
+  at_elif at tokens s [] is = is_failed _ _ _
+  at_elif at tokens s (section ∷ outer) is =
+      is_if section.has_else _ _ _ (is_failed _ _ _)
+      (is_if section.is_taken _ _ _ (is_quiet _ StateIs (with_sections s _ is))
+      (bind (condition_at at s.macros s.room tokens) (with_alternative s section outer) (λ _. Unit {0}) StateIs
+      (condition_is at s.macros s.room tokens) (λ c _. is_quiet _ StateIs (record { macros = is.macros }))))
+
   none_is : (k : Macro) → None ≡ Some k → AllByRecursion P k.list
   none_is k e = absurd (cc)
 
@@ -479,6 +509,10 @@ module _ (P : Token → Type 0) (moves : (line : ℕ) (t : Token) → P t → P 
     obeying s at text_line is a = is_quiet s StateIs is
     obeying s at (if_defined name wanted) is a = is_quiet _ StateIs (with_sections s _ is)
     obeying s at if_other is a = is_failed _ _ _
+    obeying s at (if_condition tokens) is a =
+        bind (condition_at at s.macros s.room tokens) (with_condition s at) (λ _. Unit {0}) StateIs
+        (condition_is at s.macros s.room tokens) (λ c _. is_quiet _ StateIs (record { macros = is.macros }))
+    obeying s at (elif tokens) is a = at_elif at tokens s s.sections is
     obeying s at (else_group well) is a = at_else at well s s.sections is
     obeying s at (endif_line well) is a = at_endif at well s s.sections is
     obeying s at (define name list) is a = defining s at name list is a
@@ -493,6 +527,8 @@ module _ (P : Token → Type 0) (moves : (line : ℕ) (t : Token) → P t → P 
     following : (s : State) (at : ℕ) (line : Line) → StateIs s → TraceIs (followed s at line) StateIs
     following s at (if_defined name wanted) is = is_quiet _ StateIs (with_sections s _ is)
     following s at if_other is = is_quiet _ StateIs (with_sections s _ is)
+    following s at (if_condition tokens) is = is_quiet _ StateIs (with_sections s _ is)
+    following s at (elif tokens) is = at_elif at tokens s s.sections is
     following s at (else_group well) is = at_else at well s s.sections is
     following s at (endif_line well) is = at_endif at well s s.sections is
     following s at _ is = is_quiet s StateIs is

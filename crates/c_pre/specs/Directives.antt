@@ -20,8 +20,11 @@ pub data Line : Type 0 where
   text_line : Line
   -- `#ifdef` (whether the name is to be defined) and `#ifndef`
   if_defined : Name → Bool → Line
-  -- begins an if-section, which only a skipped group may have: `#if`, and `#ifdef` and `#ifndef` without one name
+  -- `#ifdef` and `#ifndef` without one name, which only a skipped group may have
   if_other : Line
+  -- `#if` and `#elif`, with the tokens behind the directive's name
+  if_condition : Tokens → Line
+  elif : Tokens → Line
   -- whether nothing stands behind the directive's name
   else_group : Bool → Line
   endif_line : Bool → Line
@@ -154,6 +157,7 @@ directive_named name =
     else if bytes_eq name (codes "ifdef") then Some d.Ifdef
     else if bytes_eq name (codes "ifndef") then Some d.Ifndef
     else if bytes_eq name (codes "if") then Some d.If
+    else if bytes_eq name (codes "elif") then Some d.Elif
     else if bytes_eq name (codes "else") then Some d.Else
     else if bytes_eq name (codes "endif") then Some d.Endif
     else None
@@ -164,7 +168,8 @@ directive_by d.Undef more = named_or undef unknown_directive (only_name more)
 directive_by d.Include more = included (header_of more)
 directive_by d.Ifdef more = named_or (λ name. if_defined name true) if_other (only_name more)
 directive_by d.Ifndef more = named_or (λ name. if_defined name false) if_other (only_name more)
-directive_by d.If more = if_other
+directive_by d.If more = if_condition more
+directive_by d.Elif more = elif more
 directive_by d.Else more = else_group (is_empty more)
 directive_by d.Endif more = endif_line (is_empty more)
 

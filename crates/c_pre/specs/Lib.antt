@@ -8,6 +8,7 @@ pub mod HideSets
 pub mod Arguments
 pub mod Expansion
 pub mod Directives
+pub mod Conditions
 pub mod Sections
 pub mod Groups
 pub mod Reading

@@ -10,6 +10,7 @@ use Rattle.c_pre.specs.declared.fault.PreFault.{PreFault}
 use Rattle.c_pre.specs.declared.fault.PreError.{PreError}
 use Rattle.c_pre.specs.declared.fault.PreError.TheVariants.{Memory, Fault}
 use Rattle.c_pre.specs.declared.directive.LineKind.{LineKind}
+use Rattle.c_pre.specs.declared.expansion.Expanded.{Expanded}
 use Rattle.c_pre.specs.declared.directive.LineKind.TheVariants as k
 use Rattle.c_pre.specs.declared.preprocessor.Preprocessor.{Preprocessor}
 use Rattle.c_pre.specs.Limits.{max_expanded_tokens}
@@ -42,6 +43,15 @@ abbrev pub Steps : {A X : Type 0} → Trace A → (X → A) → Result X PreErro
 Steps t view (Ok x) = t ≡ quiet (view x)
 Steps t view (Err error) = Stops t error
 
+abbrev pub EndsBy : {A : Type 0} → Trace A → PreError → Type 0
+EndsBy t Memory = ⊤
+EndsBy t (Fault fault) = t.end ≡ Err fault
+
+-- of a call that keeps what is given
+abbrev pub Expands : Trace ℕ → Result Expanded PreError → Type 0
+Expands t (Ok x) = t ≡ record { given = x.tokens.items; end = Ok x.room }
+Expands t (Err error) = EndsBy t error
+
 abbrev pub Refuses : {A : Type 0} → PreError → Result A PreFault → Type 0
 Refuses Memory wanted = ⊤
 Refuses (Fault fault) wanted = wanted ≡ Err fault
@@ -66,6 +76,8 @@ abbrev pub line_of_kind : LineKind → d.Line
 line_of_kind k.Text = d.text_line
 line_of_kind (k.IfDefined name wanted) = d.if_defined name wanted
 line_of_kind k.IfOther = d.if_other
+line_of_kind (k.If condition) = d.if_condition condition.tokens.now
+line_of_kind (k.Elif condition) = d.elif condition.tokens.now
 line_of_kind (k.Else well_formed) = d.else_group well_formed
 line_of_kind (k.Endif well_formed) = d.endif_line well_formed
 line_of_kind (k.Define definition) = d.define definition.name (macro_of definition.meaning)

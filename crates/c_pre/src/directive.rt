@@ -5,6 +5,7 @@ ghost use Rattle.c_pre.specs.Directives as spec;
 ghost use Rattle.c_pre.specs.Reading as reading;
 ghost use Rattle.c_pre.specs.Outcomes.{close_index, line_of_kind};
 
+use crate::condition::Condition;
 use crate::definition::{Definition, Macro};
 use crate::header::Header;
 use crate::name::MacroName;
@@ -26,6 +27,8 @@ pub enum DirectiveName {
     Ifndef,
     /// `if`
     If,
+    /// `elif`
+    Elif,
     /// `else`
     Else,
     /// `endif`
@@ -39,8 +42,12 @@ pub enum LineKind<'t, 'a> {
     Text,
     /// `#ifdef` of a name, which is to be defined, or `#ifndef`.
     IfDefined(MacroName<'a>, bool),
-    /// Begins an if-section, which only a skipped group may have: `#if`, and `#ifdef` and `#ifndef` without one name.
+    /// `#ifdef` or `#ifndef` without one name, which only a skipped group may have.
     IfOther,
+    /// `#if`, with the tokens behind the directive's name.
+    If(Condition<'t, 'a>),
+    /// `#elif`, with the tokens behind the directive's name.
+    Elif(Condition<'t, 'a>),
     /// `#else`, and whether nothing stands behind it.
     Else(bool),
     /// `#endif`, and whether nothing stands behind it.
@@ -225,6 +232,8 @@ impl DirectiveName {
             Some(DirectiveName::Ifndef)
         } else if name == b"if".as_slice() {
             Some(DirectiveName::If)
+        } else if name == b"elif".as_slice() {
+            Some(DirectiveName::Elif)
         } else if name == b"else".as_slice() {
             Some(DirectiveName::Else)
         } else if name == b"endif".as_slice() {
@@ -244,7 +253,8 @@ impl DirectiveName {
             DirectiveName::Include => inclusion(tokens),
             DirectiveName::Ifdef => opening(tokens, true),
             DirectiveName::Ifndef => opening(tokens, false),
-            DirectiveName::If => LineKind::IfOther,
+            DirectiveName::If => LineKind::If(Condition { tokens }),
+            DirectiveName::Elif => LineKind::Elif(Condition { tokens }),
             DirectiveName::Else => LineKind::Else(tokens.is_empty()),
             DirectiveName::Endif => LineKind::Endif(tokens.is_empty()),
         }

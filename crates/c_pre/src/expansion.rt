@@ -2,7 +2,7 @@
 
 ghost use Rattle.std.specs.Prelude.{◌≡◌, ◌≤◌, length, None};
 ghost use Rattle.c_pre.specs.Expansion as expansion;
-ghost use Rattle.c_pre.specs.Outcomes.{Emits, macros_of};
+ghost use Rattle.c_pre.specs.Outcomes.{Emits, Expands, macros_of};
 ghost use Rattle.c_pre.specs.Trace.{gives};
 ghost use Rattle.c_pre.specs.Limits.{max_expanded_tokens};
 
@@ -29,6 +29,41 @@ pub fn give<'a>(out: &mut Vec<Token<'a>>, token: Token<'a>) -> Result<(), PreErr
     }
     out.push(token)?;
     Ok(())
+}
+
+/// Tokens that were expanded by themselves, and how many tokens replacement lists may still put in.
+#[derive(Drop)]
+pub struct Expanded<'a> {
+    /// What was given.
+    pub tokens: Vec<Token<'a>>,
+    /// How many tokens replacement lists may still put in.
+    pub room: usize,
+}
+
+/// Expands tokens by themselves, however many that gives.
+pub fn expand_alone<'t, 'a>(
+    alloc: Global,
+    macros: &MacroTable<'t, 'a>,
+    room: usize,
+    text: &[Token<'a>],
+) -> Result<Expanded<'a>, PreError>
+    ensures { Expands (expansion.trace_of (expansion.expansion (macros_of macros.now) None room
+        (expansion.of_text text.now))) result }
+{
+    let mut expander = Expander::new(alloc, room, text)?;
+    let mut tokens = Vec::new(alloc);
+    for _ in 0..u64::MAX {
+        let mut given = Vec::new(alloc);
+        let goes_on = expander.step(macros, &mut given)?;
+        tokens.append(&mut given)?;
+        if !goes_on {
+            return Ok(Expanded {
+                tokens,
+                room: expander.unread.room,
+            });
+        }
+    }
+    Err(PreError::Memory)
 }
 
 /// Gives the expansion of text lines, and tells how many tokens replacement lists may still put in.

@@ -10,12 +10,12 @@ use std::alloc::{AllocError, AllocFailed};
 pub enum PreFaultKind {
     /// `#include` of anything but one of the five headers, written `<NAME.h>` (C99 6.10.2).
     UnknownInclude,
-    /// A directive that is malformed or not known, in text that is read (6.10). `#if` and `#elif` are so, and a
-    /// function-like macro's definition with `#` or `...`, or with a parameter twice (6.10.3).
+    /// A directive that is malformed or not known, in text that is read (6.10). A function-like macro's definition with
+    /// `#` or `...`, or with a parameter twice, is so (6.10.3).
     UnknownDirective,
     /// An if-section that is still open at the end of the text (6.10.1).
     Unclosed,
-    /// `#else` or `#endif` with no if-section open, or a second `#else` (6.10.1).
+    /// `#elif`, `#else` or `#endif` with no if-section open, or `#elif` or `#else` behind an `#else` (6.10.1).
     StrayEnd,
     /// A definition of a macro that is defined with other parameters or tokens (6.10.3 paragraph 2).
     MacroRedefined,
@@ -24,12 +24,15 @@ pub enum PreFaultKind {
     /// A call of a function-like macro whose `)` does not stand before the next directive or the end, or with another
     /// number of arguments than the macro has parameters (6.10.3 paragraph 4).
     BadCall,
+    /// A condition that is read and is no conditional expression of at most 200 levels over constants, or that divides by
+    /// zero in an operand that is evaluated (6.10.1).
+    BadCondition,
 }
 
 impl PreFaultKind {
     ghost use Rattle.c_pre.specs.Faults.{number_of};
 
-    /// The number by which the fault is told, 1 to 7.
+    /// The number by which the fault is told, 1 to 8.
     #[tactic(auto, unfolding(crate::specs::Faults::number_of))]
     pub fn number(self) -> u8
         ensures { result ≡ number_of self }
@@ -42,6 +45,7 @@ impl PreFaultKind {
             PreFaultKind::MacroRedefined => 5,
             PreFaultKind::TooMany => 6,
             PreFaultKind::BadCall => 7,
+            PreFaultKind::BadCondition => 8,
         }
     }
 }

@@ -1,9 +1,10 @@
 //! Directives and macros of a C source text (C99 6.10): from the tokens of the text to those that are compiled.
 //!
-//! Headers are built in, and there is no `#if`.
+//! Headers are built in.
 #![tactic(auto)]
 
 pub mod arguments;
+pub mod condition;
 pub mod definition;
 pub mod directive;
 pub mod expander;

@@ -13,6 +13,7 @@ ghost use Rattle.c_pre.specs.InnerFirst.{inner_first};
 ghost use Rattle.c_pre.specs.Outcomes.{Emits, Steps, state_of, line_of_kind, macro_of};
 
 use crate::MAX_REPLACEMENT_TOKENS;
+use crate::condition::{Condition, judge};
 use crate::definition::{Definition, Macro};
 use crate::directive::LineKind;
 use crate::expansion::{MacroTable, expand_run};
@@ -26,7 +27,11 @@ use crate::section::IfSection;
 use c_lexer::Token;
 use indexmap::IndexMap;
 use sb_base::Line;
+use smallvec::SmallVec;
 use std::alloc::Global;
+
+/// How many open if-sections take no memory of their own.
+const OPEN_INLINE: usize = 8;
 
 /// What was read so far.
 #[derive(Drop)]
@@ -38,7 +43,7 @@ pub struct Preprocessor<'t, 'a> {
     /// The macros that are defined.
     pub macros: MacroTable<'t, 'a>,
     /// The if-sections that are open, the innermost last.
-    pub sections: Vec<IfSection>,
+    pub sections: SmallVec<IfSection, OPEN_INLINE>,
     /// How many tokens replacement lists may still put in.
     pub room: usize,
 }
@@ -98,7 +103,7 @@ impl<'t, 'a> Preprocessor<'t, 'a> {
             alloc,
             headers,
             macros: IndexMap::new(alloc),
-            sections: Vec::new(alloc),
+            sections: SmallVec::new(alloc),
             room: MAX_REPLACEMENT_TOKENS,
         }
     }
@@ -120,6 +125,37 @@ impl<'t, 'a> Preprocessor<'t, 'a> {
         ensures { Steps (quiet (sections.with_section section (state_of self.old))) (λ _. state_of self.new) result }
     {
         self.sections.push(section)?;
+        Ok(())
+    }
+
+    /// `#if`.
+    fn begin_if(&mut self, at: Line, condition: Condition<'t, 'a>) -> Result<(), PreError>
+        ensures { Steps (spec.if_at at condition.entry.tokens.now (state_of self.old)) (λ _. state_of self.new) result }
+    {
+        let judged = judge(self.alloc, at, &self.macros, self.room, condition.tokens)?;
+        self.room = judged.room;
+        self.open(IfSection::opened(at, judged.holds))
+    }
+
+    /// `#elif`.
+    #[tactic(auto, using(crate::proofs::Stacks::last_is_inner))]
+    fn begin_elif(&mut self, at: Line, condition: Condition<'t, 'a>) -> Result<(), PreError>
+        ensures { Steps (spec.elif_at at condition.entry.tokens.now (state_of self.old) (inner_first self.old.sections.items))
+            (λ _. state_of self.new) result }
+    {
+        let Some(section) = self.sections.pop() else {
+            return Err(fault(PreFaultKind::StrayEnd, at));
+        };
+        if section.has_else {
+            return Err(fault(PreFaultKind::StrayEnd, at));
+        }
+        if section.is_taken {
+            self.sections.push(section.passed())?;
+            return Ok(());
+        }
+        let judged = judge(self.alloc, at, &self.macros, self.room, condition.tokens)?;
+        self.room = judged.room;
+        self.sections.push(section.tried(judged.holds))?;
         Ok(())
     }
 
@@ -224,6 +260,8 @@ impl<'t, 'a> Preprocessor<'t, 'a> {
                 let holds = self.macros.contains_key(&name) == wanted;
                 self.open(IfSection::opened(at, holds))
             }
+            LineKind::If(condition) => self.begin_if(at, condition),
+            LineKind::Elif(condition) => self.begin_elif(at, condition),
             LineKind::Else(well_formed) => self.begin_else(at, well_formed),
             LineKind::Endif(well_formed) => self.close(at, well_formed),
             LineKind::Define(definition) => self.define(at, definition),
@@ -245,7 +283,10 @@ impl<'t, 'a> Preprocessor<'t, 'a> {
             result }
     {
         match kind {
-            LineKind::IfDefined(_, _) | LineKind::IfOther => self.open(IfSection::skipped(at)),
+            LineKind::IfDefined(_, _) | LineKind::IfOther | LineKind::If(_) => {
+                self.open(IfSection::skipped(at))
+            }
+            LineKind::Elif(condition) => self.begin_elif(at, condition),
             LineKind::Else(well_formed) => self.begin_else(at, well_formed),
             LineKind::Endif(well_formed) => self.close(at, well_formed),
             _ => Ok(()),

@@ -1,6 +1,6 @@
 -- The values of conditions (C99 6.10.1 paragraph 4, 6.6). Each has one of the two widest types, `long` or `unsigned
 -- long`, and a word, its number modulo 2 ^ 64, unless an operand that is evaluated divides by zero.
-use Rattle.std.specs.Prelude.{ℕ, ◌-◌, ◌^◌, ◌||◌, ◌==◌, nat_lt, if◌then◌else◌, List, Option, Some, None, option_map}
+use Rattle.std.specs.Prelude.{⊤, ℕ, ◌-◌, ◌^◌, ◌||◌, ◌==◌, nat_lt, if◌then◌else◌, List, Option, Some, None, option_map}
 use Rattle.std.specs.List.{list_any}
 use Rattle.c_lexer.specs.declared.integer.IntegerConstant.{IntegerConstant}
 use Rattle.c_lexer.specs.Constants.{is_u, constant_of}
@@ -109,3 +109,9 @@ value_of (t.binary a w at b) = operator_of w >>= λ op. value_of a >>= λ x. val
 value_of (t.conditional c q a colon b) =
     value_of c >>= λ z. value_of a >>= λ x. value_of b >>= λ y. Some (conditional z x y)
 value_of _ = None
+
+-- the types that values have
+abbrev pub IsWidest : IntType → Type 0
+IsWidest Long = ⊤
+IsWidest UnsignedLong = ⊤
+IsWidest _ = ⊥

@@ -43,7 +43,7 @@ use Rattle.c_pre.specs.Origin.{ComesFrom, StandsIn}
 use Rattle.c_pre.specs.Reading.{redefined, with_macro, may_be, defined, define_line, define_lines, holds, obeyed}
 use Rattle.c_pre.specs.Reading.{followed, leaving_room, read_text_line, is_text, read_line, read_lines, start}
 use Rattle.c_pre.specs.Reading.{before_run, runs, expanded_tokens, with_condition, with_alternative, elif_at}
-use Rattle.c_pre.specs.Sections.{State, is_read, opened, skipped, with_section, else_at, endif_at, finished}
+use Rattle.c_pre.specs.Sections.{State, is_read, else_at, endif_at, finished}
 use Rattle.c_pre.specs.Trace.{Trace, goes_on, ◌>>=◌, quiet, gives, fails, fault_at, line_of, ended, answer}
 
 all_append : {A : Type 0} (P : A → Type 0) (xs ys : List A) → AllByRecursion P xs → AllByRecursion P ys

@@ -50,7 +50,7 @@ pub struct Call<'t, 'a> {
 
 impl<'t, 'a> Call<'t, 'a> {
     /// Ends the present argument.
-    fn end_argument(&mut self, alloc: Global) -> Result<(), PreError>
+    fn end_argument(&mut self, alloc: Global) -> Result<(), AllocError>
         ensures { OnOk result (progress.ArgumentEnds self.old self.new) }
     {
         let given = mem::replace(&mut self.given, Vec::new(alloc));

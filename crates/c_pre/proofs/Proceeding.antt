@@ -65,12 +65,15 @@ pub argument_given_sound : (sets : HideSets) (call : declared.Call) (given : Vec
     → IsKnown sets x.hidden → SoundIn sets (call ∷ outer) tokens
     → SoundIn sets (record call { given = given } ∷ outer) tokens
 argument_given_sound sets call given outer x tokens e known sound = record {
-  calls = (record {
-        hidden = sound.calls.0.hidden;
-        done = sound.calls.0.done;
-        given = subst (λ items. AreKnown sets items) (sym e)
-            (all_both _ call.given.items (x ∷ []) sound.calls.0.given (known, tt));
-      }, sound.calls.1);
+  calls = (
+    record {
+      hidden = sound.calls.0.hidden;
+      done = sound.calls.0.done;
+      given = subst (λ items. AreKnown sets items) (sym e)
+          (all_both _ call.given.items (x ∷ []) sound.calls.0.given (known, tt));
+    },
+    sound.calls.1,
+  );
   unread = sound.unread;
   closed = (sound.closed.0, sound.closed.1);
 }

@@ -21,7 +21,7 @@ use Rattle.c_pre.specs.Pending.{Frame, Left, left_in, left, above, hiding, all_h
 use Rattle.c_pre.specs.Pending.{resumed, comes_to, AreKnown, CallIsKnown, IsClosed, SoundIn, IsSound}
 use Rattle.c_pre.specs.Limits.{max_expanded_tokens}
 use Rattle.c_pre.specs.Outcomes.{Fails, Emits}
-use Rattle.c_pre.specs.Progress.{Steps, GoesOn, GivesOn, Goes, Comes, StopsAt}
+use Rattle.c_pre.specs.Progress.{Steps, GoesOn, GivesOn, Goes, Comes, Reads, StopsAt}
 use Rattle.c_pre.specs.PutIn.{Puts, PutsIn}
 use Rattle.c_pre.specs.SharedSets.{IsKnown, Grows, names_of}
 use Rattle.c_pre.specs.Trace.{Trace, after, answer, fault_at, gives, ◌>>=◌}
@@ -65,12 +65,15 @@ pub argument_given_sound : (sets : HideSets) (call : declared.Call) (given : Vec
     → IsKnown sets x.hidden → SoundIn sets (call ∷ outer) tokens
     → SoundIn sets (record call { given = given } ∷ outer) tokens
 argument_given_sound sets call given outer x tokens e known sound = record {
-  calls = (record {
-        hidden = sound.calls.0.hidden;
-        done = sound.calls.0.done;
-        given = subst (λ items. AreKnown sets items) (sym e)
-            (all_both _ call.given.items (x ∷ []) sound.calls.0.given (known, tt));
-      }, sound.calls.1);
+  calls = (
+    record {
+      hidden = sound.calls.0.hidden;
+      done = sound.calls.0.done;
+      given = subst (λ items. AreKnown sets items) (sym e)
+          (all_both _ call.given.items (x ∷ []) sound.calls.0.given (known, tt));
+    },
+    sound.calls.1,
+  );
   unread = sound.unread;
   closed = (sound.closed.0, sound.closed.1);
 }
@@ -196,3 +199,26 @@ text_goes whole t new before now token (Err error) h e f sound = λ macros.
 pub empty_list : {A : Type 0} (xs : List A) → length xs ≡ 0 → xs ≡ []
 empty_list [] e = refl
 empty_list (x ∷ xs) e = absurd (omega arith)
+
+pub reads_steps : {X : Type 0} (whole : Expansion) (w : Macros → Expansion) (macros : Macros) (new : declared_expander.Expander)
+    (before : Tokens) (result : Result X PreError) → length before ≤ max_expanded_tokens → whole ≡ w macros
+    → Steps w new result → Reads macros whole new before before result
+reads_steps whole w macros new before (Ok x) few e s = record {
+  same = ap (λ t. after before (trace_of t)) (e ∙ s.same macros);
+  sound = s.sound;
+  few = few;
+}
+reads_steps whole w macros new before (Err Memory) few e s = tt
+reads_steps whole w macros new before (Err (Fault fault)) few e s =
+    ap (λ t. answer (after before (trace_of t))) (e ∙ s macros) ∙ fault_here ℕ before fault.line fault.kind few
+
+pub steps_memory : {X : Type 0} (whole : Macros → Expansion) (new : declared_expander.Expander) (result : Result X PreError)
+    (error : PreError) → result ≡ Err error → error ≡ Memory → Steps whole new result
+steps_memory {X} whole new result error e memory =
+    subst (λ (r : Result X PreError). Steps whole new r) (sym (e ∙ ap Err memory)) (λ macros. tt)
+
+pub fails_by : (whole other : Expansion) (before : Tokens) (error : PreError) → length before ≤ max_expanded_tokens
+    → whole ≡ other → StopsAt other error → Fails (after before (trace_of whole)) error
+fails_by whole other before Memory few e s = tt
+fails_by whole other before (Fault fault) few e s =
+    ap (λ t. answer (after before (trace_of t))) (e ∙ s) ∙ fault_here ℕ before fault.line fault.kind few

@@ -149,17 +149,19 @@ module _ (line : ℕ) (here : HideSet) (argument : List Hiding) (a b c d : Unrea
       → PutsIn {X = X} (put_token line (names_of c.sets hidden) x.token None) c d line (Err error)
       → PutsIn {X = Y} (put_argument line (names_of a.sets here) (all_hiding a.sets argument)) a e line (Err error)
   argument_refused X Y Memory e q = q
-  argument_refused X Y (Fault fault) e q =
-      (q.0, omega (
-        arith,
-        q.1,
-        p.room,
-        room,
-        ap length one,
-        length-append (put_token line (names_of c.sets hidden) x.token None)
-            (put_argument line (names_of a.sets here) (all_hiding a.sets (drop n argument))),
-        drop_fits (n - 1),
-      ))
+  argument_refused X Y (Fault fault) e q = (
+    q.0,
+    omega (
+      arith,
+      q.1,
+      p.room,
+      room,
+      ap length one,
+      length-append (put_token line (names_of c.sets hidden) x.token None)
+          (put_argument line (names_of a.sets here) (all_hiding a.sets (drop n argument))),
+      drop_fits (n - 1),
+    ),
+  )
     where
       drop_fits : (k : ℕ)
           → length (put_argument line (names_of a.sets here) (all_hiding a.sets (drop k argument)))
@@ -198,17 +200,19 @@ module _ (line : ℕ) (here : HideSet) (parameters : Names) (arguments : List (L
       → tokens ≡ put_token line (names_of a.sets here) t o → PutsIn {X = X} tokens b c line (Err error)
       → PutsIn {X = Y} (put_in line (names_of a.sets here) parameters arguments list) a d line (Err error)
   list_refused X Y tokens Memory d e q = q
-  list_refused X Y tokens (Fault fault) d e q =
-      (q.0, omega (
-        arith,
-        q.1,
-        p.room,
-        ap length e,
-        ap length list_one,
-        length-append (put_token line (names_of a.sets here) t o)
-            (put_in line (names_of a.sets here) parameters arguments (drop n list)),
-        rest_fits line (names_of a.sets here) parameters arguments (n - 1) list,
-      ))
+  list_refused X Y tokens (Fault fault) d e q = (
+    q.0,
+    omega (
+      arith,
+      q.1,
+      p.room,
+      ap length e,
+      ap length list_one,
+      length-append (put_token line (names_of a.sets here) t o)
+          (put_in line (names_of a.sets here) parameters arguments (drop n list)),
+      rest_fits line (names_of a.sets here) parameters arguments (n - 1) list,
+    ),
+  )
 
 -- which argument is whose
 abbrev pub at_place : {A : Type 0} → List A → Option ℕ → Option A

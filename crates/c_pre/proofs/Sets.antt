@@ -100,7 +100,7 @@ module _ (old new : HideSets) (node : HideNode) (pushed : new.nodes.items ≡ ol
       → names_of new made ≡ node.name ∷ names_of old node.others
   made_names made e known =
       let at : slice_get new.nodes.items (length old.nodes.items) ≡ Some node =
-          ap (λ nodes. slice_get nodes (length old.nodes.items)) pushed ∙ slice_get-last old.nodes.items node in
+      ap (λ nodes. slice_get nodes (length old.nodes.items)) pushed ∙ slice_get-last old.nodes.items node in
       let below : node.others.number < made.number = omega (arith, known.below) in
       names_taken new made node.others (length old.nodes.items) node e at (sym (earlier_is made.number node.others.number below))
       ∙ ap (λ names. node.name ∷ names) (grows_by.same node.others known)
@@ -151,7 +151,6 @@ common_included (name ∷ names) other a =
 
 pub common_itself : (names : Names) → common names names ≡ names
 common_itself names = common_included names names (includes_itself names)
-
 
 pub earlier_less : (n number : ℕ) → 0 < n → earlier n number < n
 earlier_less zero number h = absurd (omega arith)

@@ -50,7 +50,7 @@ pub struct Call<'t, 'a> {
 
 impl<'t, 'a> Call<'t, 'a> {
     /// Ends the present argument.
-    fn end_argument(&mut self, alloc: Global) -> Result<(), PreError>
+    fn end_argument(&mut self, alloc: Global) -> Result<(), AllocError>
         ensures { OnOk result (progress.ArgumentEnds self.old self.new) }
     {
         let given = mem::replace(&mut self.given, Vec::new(alloc));
@@ -124,11 +124,7 @@ impl<'t, 'a> Expander<'t, 'a> {
     }
 
     /// The macro that replaces a token, if one does.
-    fn macro_for(
-        &self,
-        macros: &MacroTable<'t, 'a>,
-        x: &Hiding<'a>,
-    ) -> Option<Definition<'t, 'a>>
+    fn macro_for(&self, macros: &MacroTable<'t, 'a>, x: &Hiding<'a>) -> Option<Definition<'t, 'a>>
         requires { IsKnown self.now.unread.sets x.now.hidden }
         ensures { option_map (λ m. (m.name, macro_of m.meaning)) result
             ≡ expansion.replacement (macros_of macros.now) (pending.hiding self.now.unread.sets x.now) }
@@ -274,7 +270,8 @@ impl<'t, 'a> Expander<'t, 'a> {
         let shared = self.unread.sets.common(self.alloc, call.hidden, close)?;
         let here = self.unread.sets.with(call.name, shared)?;
         let done = call.done.as_slice();
-        self.unread.put_in(call.line, here, call.parameters, done, call.list)
+        self.unread
+            .put_in(call.line, here, call.parameters, done, call.list)
     }
 
     /// The end of the present argument of the innermost call, which is given.

@@ -136,7 +136,12 @@ impl<'a> HideSets<'a> {
     }
 
     /// The set of the names that both sets have.
-    pub fn common(&mut self, alloc: Global, set: HideSet, other: HideSet) -> Result<HideSet, AllocError>
+    pub fn common(
+        &mut self,
+        alloc: Global,
+        set: HideSet,
+        other: HideSet,
+    ) -> Result<HideSet, AllocError>
         requires set { IsKnown self.old set }
         requires other { IsKnown self.old other }
         ensures names { IfOk result (λ made. names_of self.new made

@@ -16,7 +16,7 @@ returns c =
     let is_end = subst (λ low. EndIs u low c.argument_end.result) c.end-outer.ensures c.argument_end.ensures in
     let here = rw c.in-Some.is at is_end in
     let new : inner_first c.push.new.self.items ≡ call ∷ outer =
-        ap inner_first c.in_ok-push.ensures.items ∙ last_is_inner c.args.self.now.calls.items call in
+    ap inner_first c.in_ok-push.ensures.items ∙ last_is_inner c.args.self.now.calls.items call in
     record {
       same = λ macros. other_argument u.sets outer u.tokens.items call here.0.0 here.0.1 here.0.2 here.1
           c.requires.closed macros u.room c.requires.given

@@ -54,9 +54,9 @@ returns c =
     let closed = subst (λ low. is_some (taken zero (above low u.sets u.tokens.items)) ≡ true) c.end-outer.ensures
     (sym c.if-not-is_closed.ensures) in
     let new : inner_first c.push.new.self.items ≡ call ∷ outer =
-        ap inner_first c.in_ok-push.ensures.items ∙ last_is_inner c.args.self.now.calls.items call in
+    ap inner_first c.in_ok-push.ensures.items ∙ last_is_inner c.args.self.now.calls.items call in
     let empty : nat_eq end c.len.result ≡ nat_eq here.0.0 0 =
-        same_empty end here.0.0 c.len.result (omega (arith, here.0.1, c.len.ensures)) in
+    same_empty end here.0.0 c.len.result (omega (arith, here.0.1, c.len.ensures)) in
     let with_line : Macros → ℕ → Expansion = λ macros n. resumed (expansion macros) l.frames
     (with_call (expansion macros) l.line (record {
       name = c.args.name;

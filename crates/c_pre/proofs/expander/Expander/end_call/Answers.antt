@@ -27,9 +27,9 @@ returns-then-not-fits c = λ macros.
     let f = frame sets call l.line [] in
     let done = map (λ v. all_hiding sets v.items) call.done.items in
     let no : fits (length f.parameters) f.is_empty (length done) ≡ false =
-        ap (fits (length f.parameters) f.is_empty) (length_map (λ v. all_hiding sets v.items) call.done.items
-        ∙ (let e : length call.done.items ≡ c.len.result = omega (arith, c.len.ensures) in e))
-        ∙ ap (λ n. fits n f.is_empty c.len.result) (sym c.count.ensures) ∙ sym c.if-not-fits.ensures in
+    ap (fits (length f.parameters) f.is_empty) (length_map (λ v. all_hiding sets v.items) call.done.items
+    ∙ (let e : length call.done.items ≡ c.len.result = omega (arith, c.len.ensures) in e))
+    ∙ ap (λ n. fits n f.is_empty c.len.result) (sym c.count.ensures) ∙ sym c.if-not-fits.ensures in
     rw c.bad_call.ensures
     (ap (resumed (expansion macros) l.frames)
     (call_does_not_fit (expansion macros) f done l.room (names_of sets c.args.close) l.tokens no)
@@ -66,18 +66,18 @@ returns c =
     let grows = grows_twice sets c.common.new.self made c.in_ok-shared.ensures.grows c.in_ok-here.ensures.grows in
     let tokens = put_in call.line here parameters (map (λ v. all_hiding made v.items) call.done.items) call.list.now in
     let yes : fits (length parameters) call.is_empty (length done) ≡ true =
-        ap (fits (length parameters) call.is_empty)
-        (length_map (λ v. all_hiding sets v.items) call.done.items
-        ∙ (let e : length call.done.items ≡ c.len.result = omega (arith, c.len.ensures) in e))
-        ∙ ap (λ n. fits n call.is_empty c.len.result) (sym c.count.ensures) ∙ sym c.if-not-fits.ensures in
+    ap (fits (length parameters) call.is_empty)
+    (length_map (λ v. all_hiding sets v.items) call.done.items
+    ∙ (let e : length call.done.items ≡ c.len.result = omega (arith, c.len.ensures) in e))
+    ∙ ap (λ n. fits n call.is_empty c.len.result) (sym c.count.ensures) ∙ sym c.if-not-fits.ensures in
     let again : List HidingToken → Macros → Expansion = λ ts macros. resumed (expansion macros) l.frames
     (read_again (expansion macros) l.line call.line l.room ts l.tokens) in
     let same : put_in call.line (call.name ∷ common (names_of sets call.hidden) close) parameters done call.list.now
-        ≡ tokens =
-        ap (λ h. put_in call.line h parameters done call.list.now)
-        (sym (c.in_ok-here.ensures.names ∙ ap (λ ns. call.name ∷ ns) c.in_ok-shared.ensures.names))
-        ∙ ap (λ d. put_in call.line here parameters d call.list.now)
-        (sym (same_done sets made grows (λ v. v.items) call.done.items c.requires.call.done)) in
+    ≡ tokens =
+    ap (λ h. put_in call.line h parameters done call.list.now)
+    (sym (c.in_ok-here.ensures.names ∙ ap (λ ns. call.name ∷ ns) c.in_ok-shared.ensures.names))
+    ∙ ap (λ d. put_in call.line here parameters d call.list.now)
+    (sym (same_done sets made grows (λ v. v.items) call.done.items c.requires.call.done)) in
     put_steps tokens u c.put_in.new.self (inner_first c.args.self.now.calls.items) c.requires.sound c.requires.within
     (λ macros. last_argument macros c.args.self.now call c.args.close) call.line _ c.put_in.result refl refl
     (λ macros. ap (resumed (expansion macros) l.frames)

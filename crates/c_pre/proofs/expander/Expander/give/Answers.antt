@@ -15,7 +15,7 @@ returns-then-depth-eq0 c =
     let u = c.args.self.now.unread in
     let x = c.args.x in
     let old : inner_first c.args.self.now.calls.items ≡ [] =
-        ap inner_first (empty_list c.args.self.now.calls.items (omega (arith, c.len-depth.ensures, c.if-depth-eq0.true))) in
+    ap inner_first (empty_list c.args.self.now.calls.items (omega (arith, c.len-depth.ensures, c.if-depth-eq0.true))) in
     text_goes (λ macros. staying macros c.args.self.now x)
     (λ macros. comes_to macros (left_in u.sets (inner_first c.args.self.now.calls.items) u.tokens.items u.room)) _
     c.args.out.now.items c.give.new.out.items x.token c.give.result c.give.ensures
@@ -34,10 +34,10 @@ returns c =
     let given = c.push.new.self in
     let outer = inner_first c.pop.new.self.items in
     let old : inner_first c.args.self.now.calls.items ≡ call ∷ outer =
-        ap inner_first c.in-Some.ensures.items ∙ last_is_inner c.pop.new.self.items call in
+    ap inner_first c.in-Some.ensures.items ∙ last_is_inner c.pop.new.self.items call in
     let after_call : declared.Call = record call { given = given } in
     let new : inner_first c.push-2.new.self.items ≡ after_call ∷ outer =
-        ap inner_first c.in_ok-push-2.ensures.items ∙ last_is_inner c.pop.new.self.items after_call in
+    ap inner_first c.in_ok-push-2.ensures.items ∙ last_is_inner c.pop.new.self.items after_call in
     record {
       same = λ macros. ap (λ t. after c.args.out.now.items (trace_of t))
           (ap (λ cs. resumed (expansion macros) (left_in u.sets cs u.tokens.items u.room).frames

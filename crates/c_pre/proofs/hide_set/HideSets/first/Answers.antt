@@ -13,7 +13,7 @@ returns c =
     let at : slice_get items place ≡ Some node = slice_get_read items (length items) place node refl
     (omega (arith, c.if-set-eq0.false, c.requires.below)) c.index-node.ensures in
     let less : c.earlier-others.result.number < set.number =
-        rw c.earlier-others.ensures (earlier_less set.number node.others.number (omega (arith, c.if-set-eq0.false))) in
+    rw c.earlier-others.ensures (earlier_less set.number node.others.number (omega (arith, c.if-set-eq0.false))) in
     rw c.again.ensures (
       names_taken c.args.self.now set c.earlier-others.result place node is at c.earlier-others.ensures,
       less,

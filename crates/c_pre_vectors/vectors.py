@@ -132,7 +132,7 @@ CONDITIONS = [
     "(1 ? 0 : 1) ? 2 : 3", "0 ? 1 : 0 ? 2 : 3", "1 || 0 && 0", "1 | 2 == 3", "(1 | 2) == 3", "4 ^ 5 & 6", "1 + 2 << 3 == 24", "1 << 2 + 1 == 8", "3 - 2 - 1", "8 / 4 / 2", "5 & 3 == 3",
     "1 < 2 < 3", "3 > 2 > 1", "3 > 2 == 1", "-1 == 0xffffffffffffffff", "2 & 1 || 2 ^ 3", "01 + 010 + 0x10 == 25", "10l + 10L + 1ll + 1LL == 22", "1ul + 1UL + 1lu + 1ULL == 4",
     "((((((((((1))))))))))", "0 ? x : y ? z : 4", "F(A, 2) == 6", "F(A, A) - C", "F", "F + 1", "defined F", "defined(F) && F(1, 0)", "F(F(1, 2), 3) == 6", "F(1)", "F(1, 2", "F(1, 2, 3)",
-    "F(1 +, 2)", "F(defined A, 2)", "0 && F(1)", "F(int, 1)",
+    "0 && F(1)", "F(int, 1)",
 ]
 
 # What stands before each of them.
@@ -393,6 +393,9 @@ ALL = [
     # A character constant is an int of a value from 0 to 255, and so no unsigned one.
     ("#if '\\377' == 255 && '\\377' - 256 < 0\nx\n#endif", "x end 3"),
     ("#define D defined A\n#if 1 || D\n#endif", "fault 8 line 2"),
+    # gcc tells the line of the definition here, and refuses a `defined` in an argument.
+    ("#define F(x) ((x) * 2)\n#if F(1 +)\n#endif", "fault 8 line 2"),
+    ("#define F(x) ((x) * 2)\n#define A\n#if F(defined A) == 2\nx\n#endif", "x end 5"),
     ("#if L'a'\n#endif", "fault 8 line 1"),
     ("#if " + "(" * 200 + "1" + ")" * 200 + "\nx\n#endif", "x end 3"),
     ("#if " + "(" * 201 + "1" + ")" * 201 + "\nx\n#endif", "fault 8 line 1"),

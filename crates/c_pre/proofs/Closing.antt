@@ -1,8 +1,13 @@
 -- The first `)` behind the parameters of a macro.
 use Rattle.std.proofs.Common.{◌≡◌, ℕ, zero, suc, ◌+◌, Bool, true, false, List, [], ◌∷◌, length, take, drop, Option, Some}
-use Rattle.std.proofs.Common.{None, option_map, refl, sym, ap, ◌∙◌, arith, if◌then◌else◌}
+use Rattle.std.proofs.Common.{None, option_map, refl, sym, ap, ◌∙◌, arith, if◌then◌else◌, ◌-◌}
+use Rattle.std.specs.List.{list_any}
+use Rattle.std.specs.Prelude.{not, ◌&&◌}
 use Rattle.c_lexer.specs.declared.token.Token.{Token}
-use Rattle.c_pre.specs.Directives.{is_close, to_close}
+use Rattle.c_pre.specs.Directives.{Line, define, unknown_directive, is_close, is_left_out, to_close, are_parameters}
+use Rattle.c_pre.specs.Directives.{names_among, function_like}
+use Rattle.c_pre.specs.Names.{Name}
+use Rattle.c_pre.proofs.Cutting.{tail_is}
 use Rattle.c_pre.specs.Lines.{Tokens}
 use Rattle.c_pre.specs.Outcomes.{close_index}
 
@@ -47,3 +52,36 @@ parted [] = refl
 parted (token ∷ more) =
     by_first token more (is_close token.kind) _ (close_index more)
     (is_longer token (to_close more) ∙ ap (longer token) (parted more)) _ refl
+
+-- a definition whose parameters end before the place n
+module _ (name : Name) (tokens : Tokens) (n at : ℕ) (place : close_index tokens ≡ Some n) (at-is : at ≡ suc n) where
+  abbrev list : Tokens
+  list = take (length tokens - at) (drop at tokens)
+
+  list_is : list ≡ drop (suc n) tokens
+  list_is = tail_is tokens at ∙ ap (λ k. drop k tokens) at-is
+
+  to_is : to_close tokens ≡ Some (take n tokens, list)
+  to_is = parted tokens ∙ ap (parted_at tokens) place
+      ∙ ap (λ (l : Tokens). Some (take n tokens, l)) (sym list_is)
+
+  by_tests : (names left_out fits : Bool) → names ≡ are_parameters (take n tokens)
+      → left_out ≡ list_any (λ token. is_left_out token.kind) list → (names && not left_out) ≡ fits
+      → (if fits then define name (record { parameters = Some (names_among (take n tokens)); list = list })
+      else unknown_directive) ≡ function_like name (to_close tokens)
+  by_tests names left_out fits p q e =
+      ap (λ b. if b then define name (record { parameters = Some (names_among (take n tokens)); list = list })
+      else unknown_directive)
+      (sym e ∙ ap (λ x. x && not left_out) p ∙ ap (λ x. are_parameters (take n tokens) && not x) q)
+      ∙ ap (function_like name) (sym to_is)
+
+  pub not_defined : (names left_out : Bool) → names ≡ are_parameters (take n tokens)
+      → left_out ≡ list_any (λ token. is_left_out token.kind) list → (names && not left_out) ≡ false
+      → unknown_directive ≡ function_like name (to_close tokens)
+  not_defined names left_out p q e = by_tests names left_out false p q e
+
+  pub defined : (names left_out : Bool) → names ≡ are_parameters (take n tokens)
+      → left_out ≡ list_any (λ token. is_left_out token.kind) list → (names && not left_out) ≡ true
+      → define name (record { parameters = Some (names_among (take n tokens)); list = list })
+      ≡ function_like name (to_close tokens)
+  defined names left_out p q e = by_tests names left_out true p q e

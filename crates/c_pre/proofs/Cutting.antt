@@ -100,6 +100,7 @@ directive_not_text (Some d.Ifdef) more =
 directive_not_text (Some d.Ifndef) more =
     named_not_text (λ name. if_defined name false) if_other (only_name more) (λ _. refl) refl
 directive_not_text (Some d.If) more = refl
+directive_not_text (Some d.Elif) more = refl
 directive_not_text (Some d.Else) more = refl
 directive_not_text (Some d.Endif) more = refl
 
@@ -147,19 +148,28 @@ hash_run t more e =
     ∙ before_directive (t ∷ take (line_rest more) more) (runs (lines (drop (line_rest more) more)))
     (not_text t (take (line_rest more) more) e)
 
+from_zero : (n : ℕ) → n ≡ 0 + n
+from_zero n = omega arith
+
 run_rest_line : (more : Tokens) → run_rest more ≡ line_rest more + run_rest (drop (line_rest more) more)
 run_rest_line [] = refl
 run_rest_line (u ∷ more) = by u.begins_line refl (run_rest_line more)
   where
     by : (b : Bool) → u.begins_line ≡ b → run_rest more ≡ line_rest more + run_rest (drop (line_rest more) more)
         → run_rest (u ∷ more) ≡ line_rest (u ∷ more) + run_rest (drop (line_rest (u ∷ more)) (u ∷ more))
-    by true e ih = rw e refl
-    by false e ih = rw e (ap suc ih)
+    by true e ih = rw e (from_zero (if is_hash u.kind then 0 else suc (run_rest more)))
+    by false e ih =
+        let n = run_rest (drop (line_rest more) more) in
+        let same : suc (run_rest more) ≡ suc (line_rest more) + n = omega (arith, ih) in
+        rw e same
+
+no_take : (n : ℕ) → take {A = Token} n [] ≡ []
+no_take zero = refl
+no_take (suc n) = refl
 
 take_sum : (k r : ℕ) (xs : Tokens) → take (k + r) xs ≡ take k xs ++ take r (drop k xs)
 take_sum zero r xs = ap (λ n. take n xs) (let e : 0 + r ≡ r = omega arith in e)
-take_sum (suc k) zero [] = refl
-take_sum (suc k) (suc r) [] = ap (λ n. take n []) (let e : suc k + suc r ≡ suc (k + suc r) = omega arith in e)
+take_sum (suc k) r [] = no_take (suc k + r) ∙ sym (no_take r)
 take_sum (suc k) r (x ∷ xs) =
     ap (λ n. take n (x ∷ xs)) (let e : suc k + r ≡ suc (k + r) = omega arith in e)
     ∙ ap (λ l. x ∷ l) (take_sum k r xs)
@@ -184,8 +194,11 @@ begins_behind (x ∷ more) u rest e = by x.begins_line refl (λ f. begins_behind
   where
     by : (b : Bool) → x.begins_line ≡ b → (drop (line_rest more) more ≡ u ∷ rest → u.begins_line ≡ true)
         → u.begins_line ≡ true
-    by true b ih = let f : x ∷ more ≡ u ∷ rest = subst (λ c. drop (if c then 0 else suc (line_rest more)) (x ∷ more)
-    ≡ u ∷ rest) b e in let same : x ≡ u = cc in sym (ap (λ (w : Token). w.begins_line) same) ∙ b
+    by true b ih =
+        let f : x ∷ more ≡ u ∷ rest =
+            subst (λ c. drop (if c then 0 else suc (line_rest more)) (x ∷ more) ≡ u ∷ rest) b e in
+        let same : x ≡ u = cc in
+        sym (ap (λ (w : Token). w.begins_line) same) ∙ b
     by false b ih = ih (subst (λ c. drop (if c then 0 else suc (line_rest more)) (x ∷ more) ≡ u ∷ rest) b e)
 
 if_hash : (t : Token) (more : Tokens) (u : Token) (m : Tokens) (k : ℕ) → is_hash t.kind ≡ false → drop k more ≡ u ∷ m

@@ -261,7 +261,7 @@ module _ (P : Token → Type 0) (moves : (line : ℕ) (t : Token) → P t → P 
     turn_is outer x (Some r) room follow f p b =
         replaced_is outer (use_of outer x r.0 r.1) r.1.parameters x room follow (f r refl) p b
 
-  unwrapped : Option (Name × Macro) → Macro → Macro
+  abbrev unwrapped : Option (Name × Macro) → Macro → Macro
   unwrapped None d = d
   unwrapped (Some q) d = q.1
 
@@ -344,10 +344,10 @@ module _ (P : Token → Type 0) (moves : (line : ℕ) (t : Token) → P t → P 
   LineIs (define name macro) = AllByRecursion P macro.list
   LineIs _ = Unit {0}
 
-  named_is : (found : Name → Line) (other : Line) (o : Option Name) → ((name : Name) → LineIs (found name))
-      → LineIs other → LineIs (named_or found other o)
-  named_is found other None f g = g
-  named_is found other (Some name) f g = f name
+  named_is : (found : Name → Line) (unnamed : Line) (o : Option Name) → ((name : Name) → LineIs (found name))
+      → LineIs unnamed → LineIs (named_or found unnamed o)
+  named_is found unnamed None f g = g
+  named_is found unnamed (Some name) f g = f name
 
   if_line : (b : Bool) (x y : Line) → LineIs x → LineIs y → LineIs (if b then x else y)
   if_line true x y p q = p

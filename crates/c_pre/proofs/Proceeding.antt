@@ -1,7 +1,8 @@
 -- The steps of the code, against what is left to do.
 use Rattle.std.proofs.Common.{◌≡◌, ℕ, zero, suc, ◌+◌, ◌-◌, ◌≤◌, ◌<◌, Bool, true, false, List, [], ◌∷◌, ◌++◌, map, length}
 use Rattle.std.proofs.Common.{take, drop, refl, sym, ap, subst, ◌∙◌, append_assoc, append-nil, arith, Option, Some, None}
-use Rattle.std.proofs.Common.{option_map, is_some, Result, Ok, Err, Vec, Global, if◌then◌else◌}
+use Rattle.std.proofs.Common.{option_map, is_some, Result, Ok, Err, Vec, Global, if◌then◌else◌, nat_le, length-append}
+use Rattle.std.proofs.lemmas.Bool.{le-leb}
 use Rattle.std.specs.List.{AllByRecursion}
 use Rattle.c_lexer.specs.declared.token.Token.{Token}
 use Rattle.c_pre.specs.declared.expander.Call as declared
@@ -20,13 +21,13 @@ use Rattle.c_pre.specs.Names.{Macros}
 use Rattle.c_pre.specs.Pending.{Frame, Left, left_in, left, above, hiding, all_hiding, end_of, line_of_calls, frame, frames}
 use Rattle.c_pre.specs.Pending.{resumed, comes_to, AreKnown, CallIsKnown, IsClosed, SoundIn, IsSound}
 use Rattle.c_pre.specs.Limits.{max_expanded_tokens}
-use Rattle.c_pre.specs.Outcomes.{Fails, Emits}
-use Rattle.c_pre.specs.Progress.{Steps, GoesOn, GivesOn, Goes, Comes, Reads, StopsAt}
+use Rattle.c_pre.specs.Outcomes.{Fails, Emits, EndsBy}
+use Rattle.c_pre.specs.Progress.{Steps, GoesOn, GivesOn, Goes, Comes, Reads, StopsAt, StopsBehind}
 use Rattle.c_pre.specs.PutIn.{Puts, PutsIn}
 use Rattle.c_pre.specs.SharedSets.{IsKnown, Grows, names_of}
 use Rattle.c_pre.specs.Trace.{Trace, after, answer, fault_at, gives, ◌>>=◌}
 use Rattle.c_pre.proofs.Sets.{grows_twice}
-use Rattle.c_pre.proofs.Traces.{fault_here, bind_read, bind_failed}
+use Rattle.c_pre.proofs.Traces.{fault_here, bind_read, bind_failed, after_after}
 use Rattle.c_pre.proofs.Heights.{map_append, all_both}
 use Rattle.c_pre.proofs.Lefts.{put_frames, left_put, enough_room, calls_still_known}
 use Rattle.c_pre.proofs.Steps.{resumed_given, resumed_stops, again_goes, again_stops}
@@ -161,16 +162,18 @@ pub goes_by : {X : Type 0} (whole : Macros → Expansion) (new : declared_expand
 goes_by whole new given (Ok x) few s =
     record { same = λ macros. ap (λ t. after given (trace_of t)) (s.same macros); sound = s.sound; few = few }
 goes_by whole new given (Err Memory) few s = λ macros. tt
-goes_by whole new given (Err (Fault fault)) few s = λ macros.
-    ap (λ t. answer (after given (trace_of t))) (s macros) ∙ fault_here ℕ given fault.line fault.kind few
+goes_by whole new given (Err (Fault fault)) few s = λ macros. (
+  ap (λ t. answer (after given (trace_of t))) (s macros) ∙ fault_here ℕ given fault.line fault.kind few,
+  λ h. s macros,
+)
 
 -- one step, from that of all macros
 pub advances : (X : Type 0) (whole : Macros → Expansion) (macros : Macros) (all : Expansion) (new : declared_expander.Expander)
     (before now : Tokens) (error : PreError) → all ≡ whole macros
-    → Goes {X = X} whole new before now (Err error) → Fails (after before (trace_of all)) error
+    → Goes {X = X} whole new before now (Err error) → StopsBehind before all error
 advances X whole macros all new before now Memory e g = tt
 advances X whole macros all new before now (Fault fault) e g =
-    ap (λ t. answer (after before (trace_of t))) e ∙ g macros
+    let s = g macros in (ap (λ t. answer (after before (trace_of t))) e ∙ s.0, λ h. e ∙ s.1 h)
 
 pub comes : (whole : Macros → Expansion) (macros : Macros) (all : Expansion) (new : declared_expander.Expander)
     (before now : Tokens) → all ≡ whole macros → GivesOn whole new before now → Comes all macros new before now
@@ -179,6 +182,25 @@ comes whole macros all new before now e g = record {
   sound = g.sound;
   few = g.few;
 }
+
+-- a token for which there is a place
+one_more : (before : Tokens) (token : Token) → length before < max_expanded_tokens
+    → answer (after before (gives token)) ≡ Ok (before ++ token ∷ [])
+unfolding answer
+one_more before token h =
+    let b : nat_le (length (before ++ token ∷ [])) max_expanded_tokens ≡ true =
+    le-leb (length (before ++ token ∷ [])) max_expanded_tokens (omega (arith, length-append before (token ∷ []))) in
+    rw b refl
+
+-- so a token that could not be given was one too many
+given_stops : (whole : Expansion) (t : Trace ℕ) (before : Tokens) (token : Token) (error : PreError)
+    → trace_of whole ≡ (gives token >>= λ _. t) → Fails (after before (gives token)) error
+    → StopsBehind before whole error
+given_stops whole t before token Memory e f = tt
+given_stops whole t before token (Fault fault) e f = (
+  ap (λ (u : Trace ℕ). answer (after before u)) e ∙ bind_failed before (gives token) (λ _. t) (Fault fault) f,
+  λ h. let never : Ok (before ++ token ∷ []) ≡ Err fault = sym (one_more before token h) ∙ f in absurd (cc),
+)
 
 -- a token that stays is given to the text, or is one too many
 pub text_goes : (whole t : Macros → Expansion) (new : declared_expander.Expander) (before now : Tokens) (token : Token)
@@ -193,8 +215,7 @@ text_goes whole t new before now token (Ok x) h e f sound = record {
   few = h.1;
 }
 text_goes whole t new before now token (Err error) h e f sound = λ macros.
-    subst (λ tr. Fails (after before tr) error) (sym (e macros))
-    (bind_failed before (gives token) (λ _. trace_of (t macros)) error h)
+    given_stops (whole macros) (trace_of (t macros)) before token error (e macros) h
 
 pub empty_list : {A : Type 0} (xs : List A) → length xs ≡ 0 → xs ≡ []
 empty_list [] e = refl
@@ -209,8 +230,10 @@ reads_steps whole w macros new before (Ok x) few e s = record {
   few = few;
 }
 reads_steps whole w macros new before (Err Memory) few e s = tt
-reads_steps whole w macros new before (Err (Fault fault)) few e s =
-    ap (λ t. answer (after before (trace_of t))) (e ∙ s macros) ∙ fault_here ℕ before fault.line fault.kind few
+reads_steps whole w macros new before (Err (Fault fault)) few e s = (
+  ap (λ t. answer (after before (trace_of t))) (e ∙ s macros) ∙ fault_here ℕ before fault.line fault.kind few,
+  λ h. e ∙ s macros,
+)
 
 pub steps_memory : {X : Type 0} (whole : Macros → Expansion) (new : declared_expander.Expander) (result : Result X PreError)
     (error : PreError) → result ≡ Err error → error ≡ Memory → Steps whole new result
@@ -218,7 +241,32 @@ steps_memory {X} whole new result error e memory =
     subst (λ (r : Result X PreError). Steps whole new r) (sym (e ∙ ap Err memory)) (λ macros. tt)
 
 pub fails_by : (whole other : Expansion) (before : Tokens) (error : PreError) → length before ≤ max_expanded_tokens
-    → whole ≡ other → StopsAt other error → Fails (after before (trace_of whole)) error
+    → whole ≡ other → StopsAt other error → StopsBehind before whole error
 fails_by whole other before Memory few e s = tt
-fails_by whole other before (Fault fault) few e s =
-    ap (λ t. answer (after before (trace_of t))) (e ∙ s) ∙ fault_here ℕ before fault.line fault.kind few
+fails_by whole other before (Fault fault) few e s = (
+  ap (λ t. answer (after before (trace_of t))) (e ∙ s) ∙ fault_here ℕ before fault.line fault.kind few,
+  λ h. e ∙ s,
+)
+
+-- the whole of a run stops
+pub run_failed : (t : Trace ℕ) (whole : Expansion) (before : Tokens) (error : PreError)
+    → t ≡ after before (trace_of whole) → StopsBehind before whole error → Fails t error
+run_failed t whole before Memory e s = tt
+run_failed t whole before (Fault fault) e s = ap answer e ∙ s.0
+
+-- what is expanded by itself: each step gives to a vector of its own, which is put behind what was given before
+pub alone_goes : (t u v : Trace ℕ) (done now new : Tokens) → t ≡ after done u → after [] u ≡ after now v
+    → new ≡ done ++ now → t ≡ after new v
+alone_goes t u v done now new e f g =
+    e ∙ ap (after done) f ∙ after_after done now v ∙ ap (λ (given : Tokens). after given v) (sym g)
+
+pub alone_done : (t u : Trace ℕ) (done now new : Tokens) (room : ℕ) → t ≡ after done u
+    → after [] u ≡ record { given = now; end = Ok room } → new ≡ done ++ now → t ≡ record { given = new; end = Ok room }
+alone_done t u done now new room e f g =
+    e ∙ ap (after done) f ∙ ap (λ (given : Tokens). record { given = given; end = Ok room }) (sym g)
+
+pub alone_failed : (t : Trace ℕ) (whole : Expansion) (done : Tokens) (error : PreError)
+    → t ≡ after done (trace_of whole) → StopsBehind [] whole error → EndsBy t error
+alone_failed t whole done Memory e s = tt
+alone_failed t whole done (Fault fault) e s =
+    ap (λ (u : Trace ℕ). u.end) e ∙ ap (λ (w : Expansion). w.end) (s.1 (omega arith))

@@ -14,14 +14,14 @@ use Rattle.c_pre.specs.Trace.{Trace, after, goes_on, quiet, ◌>>=◌, ended, an
 use Rattle.c_pre.specs.Outcomes.{Fails, Stops, Steps, Emits}
 
 -- what was given before two parts stands before both
-after-after : {A : Type 0} (a b : Tokens) (t : Trace A) → after a (after b t) ≡ after (a ++ b) t
-after-after a b t = ap (λ given. record { given = given; end = t.end }) (sym (append_assoc a b t.given))
+pub after_after : {A : Type 0} (a b : Tokens) (t : Trace A) → after a (after b t) ≡ after (a ++ b) t
+after_after a b t = ap (λ given. record { given = given; end = t.end }) (sym (append_assoc a b t.given))
 
 pub after_bind : {A B : Type 0} (a : Tokens) (t : Trace A) (go : A → Trace B) → after a (t >>= go) ≡ (after a t >>= go)
 after_bind a t go = by_end t.given t.end
   where
     by_end : (given : Tokens) (end : Result _ PreFault) → after a (goes_on given end go) ≡ goes_on (a ++ given) end go
-    by_end given (Ok x) = after-after a given (go x)
+    by_end given (Ok x) = after_after a given (go x)
     by_end given (Err fault) = refl
 
 -- a part that was read to its end

@@ -1,5 +1,5 @@
 -- What the steps of the code do: each leaves something that comes to the same.
-use Rattle.std.specs.Prelude.{◌≡◌, ℕ, zero, ◌≤◌, Bool, true, false, List, [], ◌∷◌, ◌++◌, length, map, Option, Some, None, Result}
+use Rattle.std.specs.Prelude.{◌≡◌, ℕ, zero, ◌≤◌, ◌<◌, Bool, true, false, List, [], ◌∷◌, ◌++◌, length, map, Option, Some, None, Result}
 use Rattle.std.specs.Prelude.{Ok, Err, option_map, ⊤}
 use Rattle.c_pre.specs.declared.expander.Call as declared
 use Rattle.c_pre.specs.declared.expander.Expander as declared_expander
@@ -15,10 +15,9 @@ use Rattle.c_pre.specs.HideSets.{HidingToken}
 use Rattle.c_pre.specs.Limits.{max_expanded_tokens}
 use Rattle.c_pre.specs.Lines.{Tokens}
 use Rattle.c_pre.specs.Names.{Name, Names, Macros}
-use Rattle.c_pre.specs.Outcomes.{Fails}
 use Rattle.c_pre.specs.Pending.{Left, left, hiding, all_hiding, resumed, rest_of_call, frame, comes_to, IsSound}
 use Rattle.c_pre.specs.SharedSets.{names_of}
-use Rattle.c_pre.specs.Trace.{Trace, after}
+use Rattle.c_pre.specs.Trace.{Trace, after, answer}
 
 -- what is left behind a token, if that comes to this
 abbrev pub behind : Macros → Left → Expansion → Expansion
@@ -84,6 +83,13 @@ abbrev pub StopsAt : Expansion → PreError → Type 0
 StopsAt t Memory = ⊤
 StopsAt t (Fault fault) = t ≡ stops fault
 
+-- of a step that stops, behind tokens that were given: the answer for the whole text is this fault. Where a token more
+-- may be given, it stands at the start.
+abbrev pub StopsBehind : Tokens → Expansion → PreError → Type 0
+StopsBehind before whole Memory = ⊤
+StopsBehind before whole (Fault fault) = (answer (after before (trace_of whole)) ≡ Err fault)
+    × (length before < max_expanded_tokens → whole ≡ stops fault)
+
 -- a step that gives no token
 abbrev pub Steps : {X : Type 0} → (Macros → Expansion) → declared_expander.Expander → Result X PreError → Type 0
 Steps whole new (Ok x) = GoesOn whole new
@@ -98,7 +104,7 @@ pub record GivesOn (whole : Macros → Expansion) (new : declared_expander.Expan
 abbrev pub Goes : {X : Type 0} → (Macros → Expansion) → declared_expander.Expander → Tokens → Tokens → Result X PreError
     → Type 0
 Goes whole new before now (Ok x) = GivesOn whole new before now
-Goes whole new before now (Err error) = (macros : Macros) → Fails (after before (trace_of (whole macros))) error
+Goes whole new before now (Err error) = (macros : Macros) → StopsBehind before (whole macros) error
 
 -- one step
 pub record Comes (whole : Expansion) (macros : Macros) (new : declared_expander.Expander) (before now : Tokens) : Type 0 where
@@ -113,7 +119,7 @@ pub record IsDone (whole : Expansion) (new : declared_expander.Expander) (before
 abbrev pub Advances : Expansion → Macros → declared_expander.Expander → Tokens → Tokens → Result Bool PreError → Type 0
 Advances whole macros new before now (Ok true) = Comes whole macros new before now
 Advances whole macros new before now (Ok false) = IsDone whole new before now
-Advances whole macros new before now (Err error) = Fails (after before (trace_of whole)) error
+Advances whole macros new before now (Err error) = StopsBehind before whole error
 
 -- a token is read
 abbrev pub reading : Macros → declared_expander.Expander → Hiding → Expansion
@@ -124,4 +130,4 @@ reading macros e x = behind macros (left e)
 abbrev pub Reads : {X : Type 0} → Macros → Expansion → declared_expander.Expander → Tokens → Tokens → Result X PreError
     → Type 0
 Reads macros whole new before now (Ok x) = Comes whole macros new before now
-Reads macros whole new before now (Err error) = Fails (after before (trace_of whole)) error
+Reads macros whole new before now (Err error) = StopsBehind before whole error

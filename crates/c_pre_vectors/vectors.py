@@ -23,11 +23,21 @@ OPTIONS = ["-E", "-std=c99", "-undef", "-nostdinc"]
 TOKEN = re.compile(r'[A-Za-z_]\w*|\d\w*|"(?:[^"\\]|\\.)*"|\'(?:[^\'\\]|\\.)*\'|\.\.\.|<<=|>>=|->|\+\+|--|<<|>>|[<>=!]=|&&|\|\||[-+*/%&^|]=|\S')
 
 FAULTS = [
+    (r"unterminated argument list|macro \"\w+\" (requires|passed) \d+ argument", 7),
+    (r"duplicate macro parameter|expected parameter name|expected '[,)]'|expected comma|may not be used as a parameter", 2),
     (r"invalid preprocessing directive|macro names must be identifiers|no macro name given|extra tokens at end of #", 2),
     (r"unterminated #", 3),
-    (r"#(else|endif) without #if|#else after #else", 4),
+    (r"#(elif|else|endif) without #if|#(elif|else) after #else", 4),
     (r'"\w+" redefined', 5),
+    (
+        r"in #if|in operand of #if|#(el)?if with no expression|missing binary operator|missing expression between|missing '[()]' in expression"
+        r"|not valid in preprocessor expressions|has no (left|right) operand|without following ':'|without preceding '\?'",
+        8,
+    ),
 ]
+
+# An error of `-pedantic-errors` that is none of C99: what a sum or a product beyond intmax_t is, C99 leaves open, and here it wraps.
+NO_FAULT = r"integer overflow in preprocessor expression"
 
 TEXTS = [
     "int main(void) { return 0; }\n",
@@ -76,6 +86,76 @@ TEXTS = [
     "#define LOOP for (i = 0; i < N; i++)\n#define N 10\nvoid f(void) { int i; LOOP g(i); }\n",
 ]
 
+# Macros with parameters.
+CALLS = [
+    "#define SQ(x) ((x)*(x))\nint main(void){return SQ(3+1);}\n", "#define f(x) (x+f)\nint main(void){int f=2;return f(1);}\n",
+    "#define SQ(x) x\nint main(void){return SQ(1,2);}\n",
+    "#define max(a, b) ((a) > (b) ? (a) : (b))\nmax(max(1,2),max(3,4))\n",
+    "#define f(a) a*g\n#define g(a) f(a)\nf(2)(9)\n", "#define f(a) a*g\n#define g(a) f(a)\ng(2)(9)\n", "#define f(x) x f\nf(f)(1)\n", "#define f(x) x\nf(f)(1)\n",
+    "#define f() 1\nf() f( ) f () f\n", "#define f() 1\nf(1)\n", "#define e\n#define f() 1\nf(e)\n", "#define f(x) [x]\nf() f( ) f(())\n", "#define f(x,y) [x|y]\nf(,) f(1,) f(,2)\n",
+    "#define f(x,y) [x|y]\nf()\n", "#define f(x,y) [x|y]\nf(1)\n", "#define f(x,y) [x|y]\nf(1,2,3)\n", "#define f(x,y) [x|y]\nf((1,2),3) f((,),(,))\n", "#define c ,\n#define f(x) [x]\nf(c) f(1 c 2)\n",
+    "#define c ,\n#define f(x) g(x)\n#define g(x,y) [x|y]\nf(1 c 2)\n", "#define c ,\n#define f(x) g(x)\n#define g(x,y) [x|y]\nf(1)\n",
+    "#define f(x) [x]\nf(1\n", "#define f(x) [x]\nf((1)\n", "#define f(x) [x]\nx\nf\n", "#define f(x) [x]\nf f f(1) f\n", "#define f(x) [x]\n#define g f\ng(1) g g (2)\n",
+    "#define f(x) [x]\n#define g f (\ng 1) g(2))\n", "#define f(x) [x]\n#define g f (\nf(g)\n", "#define f(x) [x]\n#define g f (\ng\n", "#define f(x) [x]\n#define p )\nf(1 p\n", "#define f(x) [x]\n#define p )\nf(1 p )\n",
+    "#define f(x) [x]\n#define o (\nf o 1)\n", "#define f(x) [x]\n#define o (\n#define g(x) x\ng(f o 1))\n", "#define f(x) x(1)\n#define g(x) [x]\nf(g) f(f)\n", "#define f(x) x (1)\n#define g(x) [x] f\nf(g)(g)\n",
+    "#define f(x) x+x\n#define g(x) f(x)*f(x)\ng(f(1))\n", "#define f(a,b,c) c b a\nf(f(1,2,3),f(4,5,6),f(7,8,9))\n", "#define x 1\n#define f(x) x\nf(2) x f(x)\n", "#define f(int) int+int\nf(1) int\n",
+    "#define while(if) if while\nwhile(1) while (2)\n", "#define f (x) y\nf(1)\n", "#define f( x , y ) x-y\nf(1,2)\n", "#define f(x)x\nf(1)\n", "#define f(x)(x)\nf(1)\n", "#define f(x)\nf(1) f(f(1)) 2\n",
+    "#define f(x) 1\n#define f(x) 1\nf(2)\n", "#define f(x) 1\n#define f( x )  1\nf(2)\n", "#define f(x) x\n#define f(y) y\n", "#define f(x) 1\n#define f(y) 1\n", "#define f(x) x\n#define f(x,y) x\n", "#define f(x) x\n#define f x\n",
+    "#define f x\n#define f(x) x\n", "#define f() 1\n#define f(x) 1\n", "#define f(x) x\n#undef f\n#define f(y) y+y\nf(1)\n", "#define f(x) x\n#undef f\nf(1)\n",
+    "#define f(x,x) x\n", "#define f(x,y,x) x\n", "#define f(x\n", "#define f(\n", "#define f(x,) x\n", "#define f(,x) x\n", "#define f(x y) x\n", "#define f(1) x\n", "#define f(x,,y) x\n", "#define f((x)) x\n", "#define f(+) x\n",
+    "#ifdef A\n#define f(x,x) #\n#else\n1\n#endif\n", "#define f(x) x\n#ifdef f\n1\n#endif\n", "#define f(x) x\n#ifdef A\nf(\n#endif\n2\n",
+    "#define f(x) [x]\n#define g(x) f(x) f\ng(1)(2)\n", "#define f(x) [x] g\n#define g(x) {x} f\nf(1)(2)(3)(4)\n", "#define a a b\n#define f(x) x a\nf(a)\n", "#define a f(a)\n#define f(x) [x]\na\n", "#define a f\n#define f(x) a(x)\na(1) f(1)\n",
+    "#define f(x) x\n#define a f(b)\n#define b f(a)\na b f(a) f(b)\n", "#define E(x) x\n#define f(x) E(E)(x)\nf(1)\n", "#define L (\n#define R )\n#define f(x) [x]\n#define g(x) x\ng(f L 1 R)\n",
+    "#define NIL(xxx) xxx\n#define G_0(arg) NIL(G_1)(arg)\n#define G_1(arg) NIL(arg)\nG_0(42)\n",
+]
+
+# Calls over lines: of these all tokens are told, behind the word of such rows.
+OVER_LINES = [
+    # C99 6.10.3.5, without its examples of # and ##
+    "#define x 3\n#define f(a) f(x * (a))\n#undef x\n#define x 2\n#define g f\n#define z z[0]\n#define h g(~\n#define m(a) a(w)\n#define w 0,1\n#define t(a) a\n"
+    "f(y+1) + f(f(z)) % t(t(g)(0) + t)(1);\ng(x+(3,4)-w) | h 5) & m\n(f)^m(m);\n",
+    "#define f(x) [x]\nf\n(\n1\n)\n2\n", "#define f(x,y) [x|y]\nf(1,\n2) f(\n\n3\n,4\n)\n", "#define f(x) [x]\nf\n\n\n1 f\n(2)\n", "#define f(x) [x]\n#define g f\ng\n(1)\n", "#define f(x) x\nf(f\n)(1)\nf\n",
+    "#define f(x) [x]\nf(a /* c\n */ b) // d\n", "#define f(x) [x]\nf(1) f(\n2) # f(3\n)\n",
+]
+
+# Conditions, each of which decides between two words.
+CONDITIONS = [
+    "0xFFFFFFFF>-1", "0 && 1/0", "1?2:1/0", "-1<0u", "'a'", "1,2", "()", "", "1/0", "0 || 1/0", "1 || 1/0", "1 && 1%0", "0 ? 1/0 : 3", "1 ? 1/0 : 3",
+    "2*3==6&&!(-1<0u)", "1 ? -1 : 0u", "(1 ? -1 : 0u) > 0", "(0 ? 0u : -1) > 0", "(1/1 ? 2 : 1/0) == 2", "(0 && 1/0) + 1u > -1", "!1u - 2 < 0", "(1u < 2) - 2 < 0",
+    "(1u && 1) - 2 < 0", "(1u || 1) - 2 < 0", "(1u == 1) - 2 < 0", "~0u == -1", "~0 < 0", "~0u < 0", "-1u > 0", "+0u - 1 > 0", "0x8000000000000000 > 0",
+    "0x8000000000000000 - 1 > 0", "-0x8000000000000000 > 0", "9223372036854775807 + 1 < 0", "0x7fffffffffffffff * 2 == -2", "18446744073709551615u == -1",
+    "-1 >> 63", "(-1 >> 63) == -1", "(-1u >> 63) == 1", "(1 << 63) < 0", "(1u << 63) > 0", "(-1 << 1u) < 0", "(1 << 2u) - 5 < 0", "-7 / 2 == -3", "-7 % 2 == -1",
+    "-7 / 2u == -3", "7 % -2 == 1", "-1 / 1u > 0", "'\\0'", "'a' == 97", "'\\x7f' - 128 < 0", "'\\''", "x", "!x", "int", "int == 0 && while == 0", "sizeof",
+    "sizeof 1", "(int)1", "sizeof(int)", "defined A", "defined(A)", "defined B", "!defined(B)", "defined int", "defined ( A ) + defined A == 2", "defined A && A == 3", "A", "B",
+    "A - 3", "(A)", "C == 5", "C", "D", "E", "E == 0", "S", "defined defined", "1 2", "1 +", "+", ")", "(1", "(1))", "1 ? 2", "1 : 2", "1 ? : 2", "? 1 : 2", "1 = 1", "1 += 1",
+    "\"a\"", "1 \"a\"", "1[0]", "f(1)", "1(2)", "*1", "&1", "1 & & 1", "1++", "++1", "- - 1 == 1", "-+-1 == 1", "!!2 == 1", "1 . x", "1->x", "{1}", "1;", "1 ? 0 : 1 ? 2 : 3",
+    "(1 ? 0 : 1) ? 2 : 3", "0 ? 1 : 0 ? 2 : 3", "1 || 0 && 0", "1 | 2 == 3", "(1 | 2) == 3", "4 ^ 5 & 6", "1 + 2 << 3 == 24", "1 << 2 + 1 == 8", "3 - 2 - 1", "8 / 4 / 2", "5 & 3 == 3",
+    "1 < 2 < 3", "3 > 2 > 1", "3 > 2 == 1", "-1 == 0xffffffffffffffff", "2 & 1 || 2 ^ 3", "01 + 010 + 0x10 == 25", "10l + 10L + 1ll + 1LL == 22", "1ul + 1UL + 1lu + 1ULL == 4",
+    "((((((((((1))))))))))", "0 ? x : y ? z : 4", "F(A, 2) == 6", "F(A, A) - C", "F", "F + 1", "defined F", "defined(F) && F(1, 0)", "F(F(1, 2), 3) == 6", "F(1)", "F(1, 2", "F(1, 2, 3)",
+    "0 && F(1)", "F(int, 1)",
+]
+
+# What stands before each of them.
+MACROS = "#define A 3\n#define C A + 2\n#define D C *\n#define E\n#define S sizeof\n#define F(x, y) ((x) * y)\n"
+
+SECTIONS = [
+    "#if 1\n1\n#elif 1\n2\n#elif 0\n3\n#else\n4\n#endif\n5\n", "#if 0\n1\n#elif 1\n2\n#elif 1\n3\n#else\n4\n#endif\n5\n",
+    "#if 0\n1\n#elif 0\n2\n#elif 7\n3\n#else\n4\n#endif\n5\n", "#if 0\n1\n#elif 0\n2\n#elif 0\n3\n#else\n4\n#endif\n5\n",
+    "#if 0\n1\n#elif 0\n2\n#endif\n3\n", "#if 1\n1\n#elif 1/0\n2\n#elif\n3\n#elif (\n4\n#endif\n5\n", "#if 0\n#elif 1\n1\n#elif 1/0\n#else\n2\n#endif\n",
+    "#if 0\n1\n#elif 1/0\n2\n#endif\n", "#if 0\n1\n#elif\n2\n#endif\n", "#if 0\n1\n#elif 1 2\n2\n#endif\n", "#if\n#endif\n", "x\n#if 1 +\n#endif\ny\n",
+    "#ifdef A\n1\n#elif 1\n2\n#endif\n", "#ifndef A\n1\n#elif 1/0\n2\n#else\n3\n#endif\n", "#ifdef A\n1\n#elif defined A\n2\n#elif !defined A\n3\n#endif\n",
+    "#elif 1\n", "x\n#elif\n", "#if 1\n#else\n#elif 1\n#endif\n", "#if 0\n#else\n#elif 1\n#endif\n", "#if 0\n#elif 1\n#else\n#elif 1/0\n#endif\n", "#if 1\n#endif\n#elif 1\n",
+    "#if 0\n#if 1\n#else\n#elif 1\n#endif\n#endif\n", "#if 0\n#elif 0\n#else\n#else\n#endif\n", "#if 1\n1\n", "#if 0\n#elif 1\n1\n", "#if 1\n#if 0\n#elif 1\n1\n#endif\n",
+    "#if 0\n#if 1/0\n1\n#elif\n2\n#elif )\n3\n#else\n4\n#endif\n5\n#else\n6\n#endif\n7\n", "#if 1\n#if 0\n1\n#elif 1\n2\n#else\n3\n#endif\n4\n#elif 1\n5\n#endif\n6\n",
+    "#if 0\n#ifdef A\n1\n#elif 1\n2\n#endif\n3\n#elif 1\n#ifdef A\n4\n#elif 1\n5\n#endif\n6\n#endif\n7\n",
+    "#if 1\n#define A 1\n#elif 1\n#define A 2\n#endif\nA\n", "#if 0\n#define A 1\n#elif 1\n#define A 2\n#else\n#define A 3\n#endif\nA\n",
+    "#define A 0\n#if A\n1\n#elif A + 1\n2\n#endif\n#undef A\n#if A + 1\n3\n#endif\n", "#define A B\n#define B A\n#if A\n1\n#else\n2\n#endif\n",
+    "#define if else\n#if 1\n1\n#endif\nif\n", "#define defined_ 1\n#if defined_\n1\n#endif\n",
+    "#if 1 /* c\n */ + 1\n1\n#endif\n", "#if 1 \\\n - 1\n1\n#else\n2\n#endif\n", "# if 1 // c\n1\n# endif\n", "#if 0 // c \\\n 1\n1\n#endif\n2\n", "#if 0\n#elif 1 // c\n1\n#endif\n",
+    "#if 1\n#else x\n#endif\n", "#if 0\n#elif 1\n#endif x\n", "#if 1/0\n#else\n#else\n", "#else\n#if 1/0\n", "#if 0\n#foo\n#elif 1\n#foo\n#endif\n", "#if 1\n#if 1\n#if 1\n#if 1\n#if 1\n#if 1\n#if 1\n#if 1\n#if 1\n#if 1\n1\n" + "#endif\n" * 10,
+    "#if 1\n#if 1\n#if 1\n#if 1\n#if 1\n#if 1\n#if 1\n#if 1\n#if 1\n#if 0\n1\n" + "#elif 1\n2\n#endif\n" * 10,
+]
+
 NAMES = ["a", "b", "c", "d", "e", "f"]
 OTHERS = ["1", "2", "+", "-", "(", ")", "x", "y", ";", ",", "int", '"s"', "->", "<<", "'c'"]
 
@@ -108,11 +188,96 @@ def random_lines(r, depth):
             yield random_list(r, 6)
 
 
+def balanced(r, words, counts, depth):
+    """Words, and calls of names with mostly as many arguments as their macros have parameters."""
+    parts = []
+    for _ in range(r.randint(1, 3)):
+        word = r.choice(words)
+        parts.append(word)
+        if r.random() < (0.8 if counts.get(word) is not None else 0.1) and depth < 3:
+            count = counts.get(word) if r.random() < 0.93 else r.randint(0, 2)
+            inner = [balanced(r, words, counts, depth + 1) for _ in range(1 if count is None else count)]
+            parts.append("(" + " , ".join(inner) + ")")
+    return " ".join(parts)
+
+
+def random_calls(seed=44, count=420):
+    """Texts of macros with parameters, all of which their lists name, and of a line that uses them; the same for a seed."""
+    r = random.Random(seed)
+    for _ in range(count):
+        counts = {name: r.choice([None, 0, 1, 1, 2, 2]) for name in ["f", "g", "h", "k", "u", "v"][: r.randint(2, 6)]}
+        lines = []
+        for name, count in counts.items():
+            parameters = ["a", "b"][: count or 0]
+            words = list(counts) + ["x", "1"] + parameters * 3
+            if r.random() < 0.85:
+                body = balanced(r, words, counts, 1)
+            else:
+                body = " ".join(r.choice(words + ["(", ")", ","]) for _ in range(r.randint(0, 6)))
+            body = " ".join([body] + [p for p in parameters if p not in body.split()])
+            lines.append(f"#define {name}{'' if count is None else '(' + ','.join(parameters) + ')'} {body}")
+        lines.append(balanced(r, list(counts) + ["x", "1"], counts, 0) + " " + balanced(r, list(counts) + ["2"], counts, 0))
+        yield "\n".join(lines) + "\n"
+
+
 def random_texts():
     """Texts of random lines, the same each time."""
     r = random.Random(10)
     for _ in range(240):
         yield "\n".join(list(random_lines(r, 0)) + [" ".join(NAMES)]) + "\n"
+
+
+CONSTANTS = [
+    "0", "1", "2", "3", "7", "8", "0u", "1u", "2u", "10", "0x10", "017", "1ul", "5l", "'a'", "'\\0'", "'\\177'", "0x7fffffffffffffff", "0x8000000000000000",
+    "0xffffffffffffffff", "9223372036854775807", "18446744073709551615u", "4294967295", "4294967296u",
+]
+BETWEEN = ["*", "/", "%", "+", "-", "<", ">", "<=", ">=", "==", "!=", "&", "^", "|", "&&", "||"]
+
+
+def random_operand(r, depth):
+    kind = r.random()
+    if depth == 0 or kind < 0.25:
+        return [r.choice(CONSTANTS)]
+    if kind < 0.35:
+        return [r.choice(["A", "B", "C", "while"])]
+    if kind < 0.45:
+        return r.choice([["defined", "A"], ["defined", "B"], ["defined", "(", "C", ")"], ["defined", "(", "int", ")"]])
+    if kind < 0.65:
+        return [r.choice(["+", "-", "~", "!"])] + random_operand(r, depth - 1)
+    return ["("] + random_condition(r, depth - 1) + [")"]
+
+
+def random_condition(r, depth):
+    """The tokens of a condition. A shift goes by a constant, of less than 64, since C99 leaves other shifts open."""
+    kind = r.random()
+    if depth == 0 or kind < 0.2:
+        return random_operand(r, depth)
+    if kind < 0.3:
+        return random_operand(r, depth - 1) + ["?"] + random_condition(r, depth - 1) + [":"] + random_condition(r, depth - 1)
+    if kind < 0.4:
+        return ["("] + random_operand(r, depth - 1) + [r.choice(["<<", ">>"]), r.choice(["0", "1", "8", "31u", "63"]), ")"]
+    return random_condition(r, depth - 1) + [r.choice(BETWEEN)] + random_condition(r, depth - 1)
+
+
+def broken(r, tokens):
+    """The tokens with one more, one fewer or another one; none of them behind `defined`, where C99 leaves the answer open."""
+    at = r.randrange(len(tokens))
+    if "defined" in tokens[max(0, at - 3): at + 1]:
+        return tokens
+    other = r.choice(["(", ")", "?", ":", "1", "x", "=", "*", "!", '"s"', "++", "["])
+    return tokens[:at] + r.choice([[], [other], [tokens[at], other]]) + tokens[at + 1:]
+
+
+def deciding(condition):
+    return f"{MACROS}#if {condition}\n1\n#else\n0\n#endif\n"
+
+
+def random_conditions(count):
+    """Conditions of random tokens, the same each time."""
+    r = random.Random(44)
+    for _ in range(count):
+        tokens = random_condition(r, 4)
+        yield deciding(" ".join(broken(r, tokens) if r.random() < 0.2 else tokens))
 
 
 def run(command, text):
@@ -145,22 +310,43 @@ def fault(errors):
     for m in re.finditer(r"^[^\n]*?\.c:(\d+):(?:\d+:)? error: ([^\n]*)$", errors, re.M):
         if m[2] == "the conditional began here":
             continue
+        if re.search(NO_FAULT, m[2]):
+            continue
         kinds = [kind for pattern, kind in FAULTS if re.search(pattern, m[2])]
         if not kinds:
             raise ValueError(m[2])
         found.append((kinds[0] == 3, int(m[1]), kinds[0]))
+    if not found:
+        return None
     unclosed, line, kind = min(found)
     return f"fault {kind} line {line}\n"
 
 
 def expected(text):
     gcc = run(["gcc", "-pedantic-errors"], text)
-    if gcc.returncode != 0:
-        return fault(gcc.stderr)
+    told = fault(gcc.stderr)
+    if told is not None:
+        return told
     clang = run(["clang"], text)
     if clang.returncode != 0 or shown(clang.stdout) != shown(gcc.stdout):
         raise ValueError("clang differs")
     return shown(gcc.stdout)
+
+
+def all_tokens(command, text):
+    """The tokens of a preprocessor's output."""
+    output = run(command, text)
+    if output.returncode != 0:
+        raise ValueError(output.stderr)
+    return [token for row in output.stdout.split("\n") if not row.startswith("#") for token in TOKEN.findall(row)]
+
+
+def over_lines(text):
+    """All tokens of a text, and the line of its end."""
+    gcc = all_tokens(["gcc", "-pedantic-errors"], text)
+    if gcc != all_tokens(["clang"], text):
+        raise ValueError("clang differs")
+    return " ".join(gcc + ["end", str(text.count("\n") + 1)]) + "\n"
 
 
 def too_many():
@@ -169,8 +355,8 @@ def too_many():
     return "\n".join(lines) + "\n", "fault 6 line 41\n"
 
 
-# Texts and what they expand to, by C99 6.10 and by the rules that the subset adds: `#if`, parameters, other headers and other forms
-# are faults. Behind the tokens stands the line of the end.
+# Texts and what they expand to, by C99 6.10 and by the rules that the subset adds: `#if`, `#` and `...` in a macro with
+# parameters, an argument that is wrong though nothing names its parameter, other headers and other forms are faults. Behind the tokens stands the line of the end.
 ALL = [
     ("#define N 72\nputchar(N);", "putchar ( 72 ) ; end 2"),
     ("#ifdef A\nreturn 2;\n#else\nreturn 3;\n#endif\n", "return 3 ; end 6"),
@@ -194,8 +380,42 @@ ALL = [
     ("#include <stdio.h>\n#include <stdlib.h>\n#include <string.h>\n#include <stddef.h>\nNULL", "( ( void * ) 0 ) end 5"),
     ("#include <stdlib.h>\nEXIT_SUCCESS EXIT_FAILURE EOF", "0 1 EOF end 2"),
     ("#foo", "fault 2 line 1"),
-    ("#if 1\n#endif", "fault 2 line 1"),
-    ("#define f(x) x", "fault 2 line 1"),
+    ("#if 1\nx\n#endif", "x end 3"),
+    # Commas, which C99 allows in an operand that is not evaluated; a `defined` that C99 leaves open; wide constants; levels; what C99
+    # leaves open of operators.
+    ("#if 0 && (1,2)\n#endif", "fault 8 line 1"),
+    ("#if defined\nx\n#else\ny\n#endif", "y end 5"),
+    ("#if defined 1\n#endif", "fault 8 line 1"),
+    ("#if defined ()\n#endif", "fault 8 line 1"),
+    ("#if defined (A\n#endif", "fault 8 line 1"),
+    ("#define D defined\n#define A 1\n#if D A\n#endif", "fault 8 line 3"),
+    ("#define D defined\n#if D\nx\n#endif", "end 4"),
+    # A character constant is an int of a value from 0 to 255, and so no unsigned one.
+    ("#if '\\377' == 255 && '\\377' - 256 < 0\nx\n#endif", "x end 3"),
+    ("#define D defined A\n#if 1 || D\n#endif", "fault 8 line 2"),
+    # gcc tells the line of the definition here, and refuses a `defined` in an argument.
+    ("#define F(x) ((x) * 2)\n#if F(1 +)\n#endif", "fault 8 line 2"),
+    ("#define F(x) ((x) * 2)\n#define A\n#if F(defined A) == 2\nx\n#endif", "x end 5"),
+    ("#if L'a'\n#endif", "fault 8 line 1"),
+    ("#if " + "(" * 200 + "1" + ")" * 200 + "\nx\n#endif", "x end 3"),
+    ("#if " + "(" * 201 + "1" + ")" * 201 + "\nx\n#endif", "fault 8 line 1"),
+    ("#if 1" + "+1" * 200 + "\nx\n#endif", "x end 3"),
+    ("#if 1" + "+1" * 201 + "\nx\n#endif", "fault 8 line 1"),
+    ("#if (1 << 64) == 1 && (1 << -1) < 0 && (1u << 65) == 2\nx\n#endif", "x end 3"),
+    ("#if (-9223372036854775807-1) / -1 < 0 && (-9223372036854775807-1) % -1 == 0\nx\n#endif", "x end 3"),
+    ("#include <limits.h>\n#if LONG_MAX == 9223372036854775807 && LONG_MIN < 0 && ULONG_MAX > 0 && CHAR_MAX == 255\nx\n#endif", "x end 4"),
+    ("#ifdef A\n#if ) x\n#endif\n#endif", "end 4"),
+    ("#define f(x) x", "end 1"),
+    ("#define f(x) #x", "fault 2 line 1"),
+    ("#define f(x) x##x", "fault 2 line 1"),
+    ("#define f(...) 1", "fault 2 line 1"),
+    ("#define f(x, ...) x", "fault 2 line 1"),
+    ("#define f(x) (...)", "fault 2 line 1"),
+    ("#define f(x) g\n#define g(x,y) 1\nf(\ng(1))", "fault 7 line 3"),
+    ("#define f(x) x\nx\nf(1\n#undef f\n)", "fault 7 line 3"),
+    ("#define f(x) x\nf\n#undef f\n(1)", "f ( 1 ) end 4"),
+    ("#define f(x) x\nf(1,\nf(2", "fault 7 line 2"),
+    ("#define f(x) x\n1\n2 f(\nf(3,4)\n)", "fault 7 line 3"),
     ("#define f (x) y\nf", "( x ) y end 2"),
     ("#define int long\nint", "long end 2"),
     ("#define 1", "fault 2 line 1"),
@@ -245,13 +465,15 @@ def main():
         sys.exit(__doc__)
     here = os.path.dirname(os.path.abspath(__file__))
     rows = []
-    for text in dict.fromkeys(TEXTS + list(random_texts())):
+    conditions = [deciding(condition) for condition in CONDITIONS] + SECTIONS + list(random_conditions(300))
+    for text in dict.fromkeys(TEXTS + list(random_texts()) + CALLS + list(random_calls()) + conditions):
         try:
             rows.append((text, expected(text)))
         except ValueError as error:
             print("left out:", error, repr(text), file=sys.stderr)
+    rows += [("%all\n\n" + text, over_lines("\n" + text)) for text in OVER_LINES]
     rows.append(too_many())
-    assert not any(text.startswith("%") for text, _ in rows)
+    assert not any(text.startswith("%") and not text.startswith("%all\n") for text, _ in rows)
     others = list(written())
     rows += others
     assert all("%%" not in text for text, _ in rows)

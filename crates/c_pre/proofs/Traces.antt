@@ -1,7 +1,7 @@
 -- A part of a text, and then the rest of it.
 use Rattle.std.proofs.Common.{◌≡◌, ℕ, zero, suc, ◌≤◌, ◌<◌, true, false, [], ◌∷◌, ◌++◌, length, drop, Result, Ok, Err}
 use Rattle.std.proofs.Common.{refl, sym, ap, ◌∙◌, append_assoc, append-nil, nat_le, length-append, arith, if◌then◌else◌}
-use Rattle.std.proofs.Common.{⊎_elim}
+use Rattle.std.proofs.Common.{⊎_elim, subst}
 use Rattle.std.proofs.lemmas.Bool.{leb-false, lt-leb, le-leb, cases_Bool}
 use Rattle.c_pre.specs.declared.fault.PreFault.{PreFault}
 use Rattle.c_pre.specs.declared.fault.PreFaultKind.{PreFaultKind}
@@ -10,18 +10,18 @@ use Rattle.c_pre.specs.declared.fault.PreError.{PreError}
 use Rattle.c_pre.specs.declared.fault.PreError.TheVariants.{Memory, Fault}
 use Rattle.c_pre.specs.Limits.{max_expanded_tokens}
 use Rattle.c_pre.specs.Lines.{Tokens}
-use Rattle.c_pre.specs.Trace.{Trace, after, goes_on, ◌>>=◌, ended, answer, line_of, fault_at, fails}
+use Rattle.c_pre.specs.Trace.{Trace, after, goes_on, quiet, ◌>>=◌, ended, answer, line_of, fault_at, fails}
 use Rattle.c_pre.specs.Outcomes.{Fails, Stops, Steps, Emits}
 
 -- what was given before two parts stands before both
-after-after : {A : Type 0} (a b : Tokens) (t : Trace A) → after a (after b t) ≡ after (a ++ b) t
-after-after a b t = ap (λ given. record { given = given; end = t.end }) (sym (append_assoc a b t.given))
+pub after_after : {A : Type 0} (a b : Tokens) (t : Trace A) → after a (after b t) ≡ after (a ++ b) t
+after_after a b t = ap (λ given. record { given = given; end = t.end }) (sym (append_assoc a b t.given))
 
 pub after_bind : {A B : Type 0} (a : Tokens) (t : Trace A) (go : A → Trace B) → after a (t >>= go) ≡ (after a t >>= go)
 after_bind a t go = by_end t.given t.end
   where
     by_end : (given : Tokens) (end : Result _ PreFault) → after a (goes_on given end go) ≡ goes_on (a ++ given) end go
-    by_end given (Ok x) = after-after a given (go x)
+    by_end given (Ok x) = after_after a given (go x)
     by_end given (Err fault) = refl
 
 -- a part that was read to its end
@@ -82,3 +82,19 @@ pub quiet_follows : {A X : Type 0} (t : Trace A) (view : X → A) (old : Tokens)
 quiet_follows t view old (Ok x) few h =
     (ap (after old) h ∙ ap (λ given. record { given = given; end = Ok (view x) }) (append-nil old), few)
 quiet_follows t view old (Err error) few h = stopped t old error few h
+
+-- a part that gives no tokens, what it makes of its value, and the rest
+pub bind_bind : {A B C : Type 0} (t : Trace A) (next : A → Trace B) (go : B → Trace C) (made : A → B)
+    → ((x : A) → next x ≡ quiet (made x)) → ((t >>= next) >>= go) ≡ (t >>= λ x. go (made x))
+bind_bind {A} {B} {C} t next go made e = by_end t.given t.end
+  where
+    by_value : (given : Tokens) (u : Trace B) (x : A) → u ≡ quiet (made x)
+        → goes_on (given ++ u.given) u.end go ≡ after given (go (made x))
+    by_value given u x h = subst (λ u. goes_on (given ++ u.given) u.end go ≡ after given (go (made x))) (sym h)
+        (ap (λ g. after g (go (made x))) (append-nil given))
+
+    by_end : (given : Tokens) (end : Result A PreFault)
+        → goes_on (goes_on given end next).given (goes_on given end next).end go
+        ≡ goes_on given end (λ x. go (made x))
+    by_end given (Ok x) = by_value given (next x) x (e x)
+    by_end given (Err fault) = refl

@@ -10,3 +10,5 @@ number_of f.Unclosed = 3
 number_of f.StrayEnd = 4
 number_of f.MacroRedefined = 5
 number_of f.TooMany = 6
+number_of f.BadCall = 7
+number_of f.BadCondition = 8

@@ -33,6 +33,14 @@ chosen line = record { line = line; in_read_text = true; is_taken = true; has_el
 abbrev pub with_section : IfSection → State → State
 with_section section s = record s { sections = section ∷ s.sections }
 
+-- one of which a group was read, where another group begins
+abbrev pub passed : IfSection → IfSection
+passed section = record section { is_reading = false }
+
+-- one of which no group was read, behind an `#elif` whose condition holds or not
+abbrev pub tried : Bool → IfSection → IfSection
+tried holds section = record section { is_taken = holds; is_reading = holds }
+
 -- `#else`: its group is read where no group of the section was
 abbrev pub else_at : ℕ → Bool → State → List IfSection → Trace State
 else_at line well_formed s [] = fails line StrayEnd

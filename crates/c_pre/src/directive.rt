@@ -1,13 +1,15 @@
 //! What a line of a text is (C99 6.10 paragraph 1).
 
-ghost use Rattle.std.specs.Prelude.{◌≡◌};
+ghost use Rattle.std.specs.Prelude.{◌≡◌, ◌<◌, length, IfSome};
 ghost use Rattle.c_pre.specs.Directives as spec;
 ghost use Rattle.c_pre.specs.Reading as reading;
-ghost use Rattle.c_pre.specs.Outcomes.{line_of_kind};
+ghost use Rattle.c_pre.specs.Outcomes.{close_index, line_of_kind};
 
-use crate::definition::Definition;
+use crate::condition::Condition;
+use crate::definition::{Definition, Macro};
 use crate::header::Header;
 use crate::name::MacroName;
+use crate::parameters::{are_parameters, has_left_out};
 use c_lexer::{Punctuator, Token, TokenKind};
 
 /// The name of a directive.
@@ -25,6 +27,8 @@ pub enum DirectiveName {
     Ifndef,
     /// `if`
     If,
+    /// `elif`
+    Elif,
     /// `else`
     Else,
     /// `endif`
@@ -38,13 +42,17 @@ pub enum LineKind<'t, 'a> {
     Text,
     /// `#ifdef` of a name, which is to be defined, or `#ifndef`.
     IfDefined(MacroName<'a>, bool),
-    /// Begins an if-section, which only a skipped group may have: `#if`, and `#ifdef` and `#ifndef` without one name.
+    /// `#ifdef` or `#ifndef` without one name, which only a skipped group may have.
     IfOther,
+    /// `#if`, with the tokens behind the directive's name.
+    If(Condition<'t, 'a>),
+    /// `#elif`, with the tokens behind the directive's name.
+    Elif(Condition<'t, 'a>),
     /// `#else`, and whether nothing stands behind it.
     Else(bool),
     /// `#endif`, and whether nothing stands behind it.
     Endif(bool),
-    /// `#define` of a name with its replacement list.
+    /// `#define` of a name.
     Define(Definition<'t, 'a>),
     /// `#undef` of a name.
     Undef(MacroName<'a>),
@@ -82,6 +90,54 @@ fn begins_parameters(tokens: &[Token<'_>]) -> bool
     }
 }
 
+/// Whether a token is `)`.
+fn is_close(token: &Token<'_>) -> bool
+    ensures { result ≡ spec.is_close token.now.kind }
+{
+    match token.kind {
+        TokenKind::Punctuator(Punctuator::RightParenthesis) => true,
+        _ => false,
+    }
+}
+
+/// How many tokens stand before the first `)`, if there is one.
+#[tactic(auto, using(crate::proofs::Closing::behind_more, crate::proofs::Closing::behind_none))]
+fn close_at(tokens: &[Token<'_>]) -> Option<usize>
+    ensures place { result ≡ close_index tokens.now }
+    ensures within { IfSome result (λ n. n < length tokens.now) }
+{
+    let mut n = 0;
+    let mut rest = tokens;
+    while let [token, more @ ..] = rest {
+        if is_close(token) {
+            return Some(n);
+        }
+        n += 1;
+        rest = more;
+    }
+    None
+}
+
+/// What `#define` of this name with these tokens behind the `(` of its parameters is.
+#[tactic(auto, using(crate::proofs::Closing::parted))]
+fn function_like<'t, 'a>(name: MacroName<'a>, tokens: &'t [Token<'a>]) -> LineKind<'t, 'a>
+    ensures { line_of_kind result ≡ spec.function_like name.entry (spec.to_close tokens.now) }
+{
+    let Some(close) = close_at(tokens) else {
+        return LineKind::UnknownDirective;
+    };
+    let parameters = &tokens[..close];
+    let list = &tokens[close + 1..];
+    if !are_parameters(parameters) || has_left_out(list) {
+        return LineKind::UnknownDirective;
+    }
+    let meaning = Macro {
+        parameters: Some(parameters),
+        list,
+    };
+    LineKind::Define(Definition { name, meaning })
+}
+
 /// What `#define` with these tokens behind it is.
 fn definition_of<'t, 'a>(tokens: &'t [Token<'a>]) -> LineKind<'t, 'a>
     ensures { line_of_kind result ≡ spec.definition tokens.now }
@@ -93,9 +149,13 @@ fn definition_of<'t, 'a>(tokens: &'t [Token<'a>]) -> LineKind<'t, 'a>
         return LineKind::UnknownDirective;
     };
     if begins_parameters(list) {
-        return LineKind::UnknownDirective;
+        return function_like(name, &list[1..]);
     }
-    LineKind::Define(Definition { name, list })
+    let meaning = Macro {
+        parameters: None,
+        list,
+    };
+    LineKind::Define(Definition { name, meaning })
 }
 
 /// What `#undef` with these tokens behind it is.
@@ -172,6 +232,8 @@ impl DirectiveName {
             Some(DirectiveName::Ifndef)
         } else if name == b"if".as_slice() {
             Some(DirectiveName::If)
+        } else if name == b"elif".as_slice() {
+            Some(DirectiveName::Elif)
         } else if name == b"else".as_slice() {
             Some(DirectiveName::Else)
         } else if name == b"endif".as_slice() {
@@ -191,7 +253,8 @@ impl DirectiveName {
             DirectiveName::Include => inclusion(tokens),
             DirectiveName::Ifdef => opening(tokens, true),
             DirectiveName::Ifndef => opening(tokens, false),
-            DirectiveName::If => LineKind::IfOther,
+            DirectiveName::If => LineKind::If(Condition { tokens }),
+            DirectiveName::Elif => LineKind::Elif(Condition { tokens }),
             DirectiveName::Else => LineKind::Else(tokens.is_empty()),
             DirectiveName::Endif => LineKind::Endif(tokens.is_empty()),
         }

@@ -10,23 +10,29 @@ use std::alloc::{AllocError, AllocFailed};
 pub enum PreFaultKind {
     /// `#include` of anything but one of the five headers, written `<NAME.h>` (C99 6.10.2).
     UnknownInclude,
-    /// A directive that is malformed or not known, in text that is read. `#if`, `#elif` and definitions with parameters
-    /// are so (6.10).
+    /// A directive that is malformed or not known, in text that is read (6.10). A function-like macro's definition with
+    /// `#` or `...`, or with a parameter twice, is so (6.10.3).
     UnknownDirective,
     /// An if-section that is still open at the end of the text (6.10.1).
     Unclosed,
-    /// `#else` or `#endif` with no if-section open, or a second `#else` (6.10.1).
+    /// `#elif`, `#else` or `#endif` with no if-section open, or `#elif` or `#else` behind an `#else` (6.10.1).
     StrayEnd,
-    /// A definition of a macro that is defined by other tokens (6.10.3 paragraph 2).
+    /// A definition of a macro that is defined with other parameters or tokens (6.10.3 paragraph 2).
     MacroRedefined,
     /// More expanded tokens, or more tokens put in by replacement lists, than there may be.
     TooMany,
+    /// A call of a function-like macro whose `)` does not stand before the next directive or the end, or with another
+    /// number of arguments than the macro has parameters (6.10.3 paragraph 4).
+    BadCall,
+    /// A condition that is read and is no conditional expression of at most 200 levels over constants, or that divides by
+    /// zero in an operand that is evaluated (6.10.1).
+    BadCondition,
 }
 
 impl PreFaultKind {
     ghost use Rattle.c_pre.specs.Faults.{number_of};
 
-    /// The number by which the fault is told, 1 to 6.
+    /// The number by which the fault is told, 1 to 8.
     #[tactic(auto, unfolding(crate::specs::Faults::number_of))]
     pub fn number(self) -> u8
         ensures { result ≡ number_of self }
@@ -38,12 +44,14 @@ impl PreFaultKind {
             PreFaultKind::StrayEnd => 4,
             PreFaultKind::MacroRedefined => 5,
             PreFaultKind::TooMany => 6,
+            PreFaultKind::BadCall => 7,
+            PreFaultKind::BadCondition => 8,
         }
     }
 }
 
 /// A fault, and the line to which it belongs: that of the directive, of the if-section that was opened first, of the
-/// token that is one too many, or of the macro's use.
+/// token that is one too many, or of the macro's use: inside of a call that of the outermost macro's name.
 #[derive(Clone, Copy, Debug, PartialEq, Eq)]
 pub struct PreFault {
     /// What is wrong.

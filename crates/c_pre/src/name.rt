@@ -40,6 +40,13 @@ impl<'a> MacroName<'a> {
         }
     }
 
+    /// Whether these bytes spell it.
+    pub fn is(&self, bytes: &[u8]) -> bool
+        ensures { result ≡ bytes_eq self.now bytes.now }
+    {
+        self.bytes == bytes
+    }
+
     /// The same name once more.
     pub fn again(&self) -> Self
         ensures { result ≡ self.now }

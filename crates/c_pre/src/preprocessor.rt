@@ -9,23 +9,29 @@ ghost use Rattle.c_pre.specs.Names as names;
 ghost use Rattle.c_pre.specs.Trace.{quiet, line_of};
 ghost use Rattle.c_pre.specs.Sections as sections;
 ghost use Rattle.c_pre.specs.Reading as spec;
-ghost use Rattle.c_pre.specs.Pending.{inner_first};
-ghost use Rattle.c_pre.specs.Outcomes.{Emits, Steps, state_of, line_of_kind};
+ghost use Rattle.c_pre.specs.InnerFirst.{inner_first};
+ghost use Rattle.c_pre.specs.Outcomes.{Emits, Steps, state_of, line_of_kind, macro_of};
 
 use crate::MAX_REPLACEMENT_TOKENS;
-use crate::definition::Definition;
+use crate::condition::{Condition, judge};
+use crate::definition::{Definition, Macro};
 use crate::directive::LineKind;
-use crate::expansion::{MacroTable, expand_line};
+use crate::expansion::{MacroTable, expand_run};
 use crate::fault::{PreError, PreFault, PreFaultKind};
 use crate::header::Header;
 use crate::headers::Headers;
 use crate::lines::line_len;
 use crate::name::MacroName;
+use crate::parameters::same_names;
 use crate::section::IfSection;
 use c_lexer::Token;
 use indexmap::IndexMap;
 use sb_base::Line;
+use smallvec::SmallVec;
 use std::alloc::Global;
+
+/// How many open if-sections take no memory of their own.
+const OPEN_INLINE: usize = 8;
 
 /// What was read so far.
 #[derive(Drop)]
@@ -37,7 +43,7 @@ pub struct Preprocessor<'t, 'a> {
     /// The macros that are defined.
     pub macros: MacroTable<'t, 'a>,
     /// The if-sections that are open, the innermost last.
-    pub sections: Vec<IfSection>,
+    pub sections: SmallVec<IfSection, OPEN_INLINE>,
     /// How many tokens replacement lists may still put in.
     pub room: usize,
 }
@@ -68,6 +74,26 @@ fn same_list(a: &[Token<'_>], b: &[Token<'_>]) -> bool
     b.is_empty()
 }
 
+/// Whether two macros have the same parameters in the same order, or both none.
+fn same_parameters(a: &Macro<'_, '_>, b: &Macro<'_, '_>) -> bool
+    ensures { result ≡ names.same_parameters (macro_of a.now).parameters (macro_of b.now).parameters }
+{
+    match a.parameters {
+        None => b.parameters.is_none(),
+        Some(names) => match b.parameters {
+            None => false,
+            Some(others) => same_names(names, others),
+        },
+    }
+}
+
+/// Whether two definitions are the same.
+fn same_macro(a: &Macro<'_, '_>, b: &Macro<'_, '_>) -> bool
+    ensures { result ≡ names.same_macro (macro_of a.now) (macro_of b.now) }
+{
+    same_parameters(a, b) && same_list(a.list, b.list)
+}
+
 impl<'t, 'a> Preprocessor<'t, 'a> {
     /// Begins a text: no name is defined.
     pub fn new(alloc: Global, headers: &'t Headers<'a>) -> Self
@@ -77,7 +103,7 @@ impl<'t, 'a> Preprocessor<'t, 'a> {
             alloc,
             headers,
             macros: IndexMap::new(alloc),
-            sections: Vec::new(alloc),
+            sections: SmallVec::new(alloc),
             room: MAX_REPLACEMENT_TOKENS,
         }
     }
@@ -99,6 +125,37 @@ impl<'t, 'a> Preprocessor<'t, 'a> {
         ensures { Steps (quiet (sections.with_section section (state_of self.old))) (λ _. state_of self.new) result }
     {
         self.sections.push(section)?;
+        Ok(())
+    }
+
+    /// `#if`.
+    fn begin_if(&mut self, at: Line, condition: Condition<'t, 'a>) -> Result<(), PreError>
+        ensures { Steps (spec.if_at at condition.entry.tokens.now (state_of self.old)) (λ _. state_of self.new) result }
+    {
+        let judged = judge(self.alloc, at, &self.macros, self.room, condition.tokens)?;
+        self.room = judged.room;
+        self.open(IfSection::opened(at, judged.holds))
+    }
+
+    /// `#elif`.
+    #[tactic(auto, using(crate::proofs::Stacks::last_is_inner))]
+    fn begin_elif(&mut self, at: Line, condition: Condition<'t, 'a>) -> Result<(), PreError>
+        ensures { Steps (spec.elif_at at condition.entry.tokens.now (state_of self.old) (inner_first self.old.sections.items))
+            (λ _. state_of self.new) result }
+    {
+        let Some(section) = self.sections.pop() else {
+            return Err(fault(PreFaultKind::StrayEnd, at));
+        };
+        if section.has_else {
+            return Err(fault(PreFaultKind::StrayEnd, at));
+        }
+        if section.is_taken {
+            self.sections.push(section.passed())?;
+            return Ok(());
+        }
+        let judged = judge(self.alloc, at, &self.macros, self.room, condition.tokens)?;
+        self.room = judged.room;
+        self.sections.push(section.tried(judged.holds))?;
         Ok(())
     }
 
@@ -145,15 +202,16 @@ impl<'t, 'a> Preprocessor<'t, 'a> {
     /// `#define`.
     #[tactic(auto, using(crate::proofs::Tables::redefines))]
     fn define(&mut self, at: Line, definition: Definition<'t, 'a>) -> Result<(), PreError>
-        ensures { Steps (spec.defined (state_of self.old) at definition.entry.name definition.entry.list.now)
+        ensures { Steps (spec.defined (state_of self.old) at definition.entry.name
+            (macro_of definition.entry.meaning))
             (λ _. state_of self.new) result }
     {
         if let Some(old) = self.macros.get(&definition.name).copied() {
-            if !same_list(old, definition.list) {
+            if !same_macro(&old, &definition.meaning) {
                 return Err(fault(PreFaultKind::MacroRedefined, at));
             }
         }
-        self.macros.insert(definition.name, definition.list)?;
+        self.macros.insert(definition.name, definition.meaning)?;
         Ok(())
     }
 
@@ -202,6 +260,8 @@ impl<'t, 'a> Preprocessor<'t, 'a> {
                 let holds = self.macros.contains_key(&name) == wanted;
                 self.open(IfSection::opened(at, holds))
             }
+            LineKind::If(condition) => self.begin_if(at, condition),
+            LineKind::Elif(condition) => self.begin_elif(at, condition),
             LineKind::Else(well_formed) => self.begin_else(at, well_formed),
             LineKind::Endif(well_formed) => self.close(at, well_formed),
             LineKind::Define(definition) => self.define(at, definition),
@@ -223,7 +283,10 @@ impl<'t, 'a> Preprocessor<'t, 'a> {
             result }
     {
         match kind {
-            LineKind::IfDefined(_, _) | LineKind::IfOther => self.open(IfSection::skipped(at)),
+            LineKind::IfDefined(_, _) | LineKind::IfOther | LineKind::If(_) => {
+                self.open(IfSection::skipped(at))
+            }
+            LineKind::Elif(condition) => self.begin_elif(at, condition),
             LineKind::Else(well_formed) => self.begin_else(at, well_formed),
             LineKind::Endif(well_formed) => self.close(at, well_formed),
             _ => Ok(()),
@@ -240,7 +303,7 @@ impl<'t, 'a> Preprocessor<'t, 'a> {
         ensures { Emits (spec.read_text_line (state_of self.old) line.now) (λ _. state_of self.new) out.old.items
             out.new.items result }
     {
-        self.room = expand_line(self.alloc, &self.macros, self.room, line, out)?;
+        self.room = expand_run(self.alloc, &self.macros, self.room, line, out)?;
         Ok(())
     }
 

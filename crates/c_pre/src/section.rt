@@ -1,4 +1,4 @@
-//! If-sections (C99 6.10.1): what stands from `#ifdef` or `#ifndef` to its `#endif`.
+//! If-sections (C99 6.10.1): what stands from `#if`, `#ifdef` or `#ifndef` to its `#endif`.
 
 use sb_base::Line;
 
@@ -19,7 +19,7 @@ pub struct IfSection {
 
 impl IfSection {
     ghost use Rattle.std.specs.Prelude.{◌≡◌};
-    ghost use Rattle.c_pre.specs.Sections.{opened, skipped};
+    ghost use Rattle.c_pre.specs.Sections.{opened, passed, skipped, tried};
 
     /// One in text that is read, whose first group is read where its condition holds.
     pub fn opened(line: Line, holds: bool) -> Self
@@ -30,6 +30,32 @@ impl IfSection {
             in_read_text: true,
             is_taken: holds,
             has_else: false,
+            is_reading: holds,
+        }
+    }
+
+    /// One of which a group was read, where another group begins.
+    pub fn passed(self) -> Self
+        ensures { result ≡ passed self }
+    {
+        IfSection {
+            line: self.line,
+            in_read_text: self.in_read_text,
+            is_taken: self.is_taken,
+            has_else: self.has_else,
+            is_reading: false,
+        }
+    }
+
+    /// One of which no group was read, behind an `#elif` whose condition holds or not.
+    pub fn tried(self, holds: bool) -> Self
+        ensures { result ≡ tried holds self }
+    {
+        IfSection {
+            line: self.line,
+            in_read_text: self.in_read_text,
+            is_taken: holds,
+            has_else: self.has_else,
             is_reading: holds,
         }
     }
@@ -45,5 +71,12 @@ impl IfSection {
             has_else: false,
             is_reading: false,
         }
+    }
+}
+
+impl Default for IfSection {
+    /// What stands in the unused places of a short list.
+    fn default() -> Self {
+        IfSection::skipped(Line::first())
     }
 }

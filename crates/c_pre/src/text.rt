@@ -7,7 +7,7 @@ ghost use Rattle.c_pre.specs.Outcomes.{Gives};
 
 use crate::fault::PreError;
 use crate::headers::Headers;
-use crate::lines::line_len;
+use crate::lines::run_len;
 use crate::preprocessor::Preprocessor;
 use c_lexer::{Token, Tokens};
 use std::alloc::Global;
@@ -23,7 +23,7 @@ fn expand_tokens<'a>(alloc: Global, tokens: &[Token<'a>]) -> Result<Vec<Token<'a
     let mut at = 0;
     while at < tokens.len() {
         let rest = &tokens[at..];
-        let len = line_len(rest);
+        let len = run_len(rest);
         preprocessor.read_line(&rest[..len], &mut out)?;
         at += len;
     }

@@ -9,11 +9,11 @@
 //
 // `stdin` and `stdout` are made by gcc 12.2.0 and clang 14.0.6 (Debian 12), which agree, as `vectors.py` beside them
 // says, where the rows with words stand with what C99 and the rules of the subset give. Left out of the compilers' are
-// texts in which the subset of C differs: `#if`, `#elif` and the directives that it lacks in text that is read, macros
-// with parameters, headers, `##`, a replacement list that no white space parts from the name, a definition that differs
-// from an older one in white space alone, and `#` before a number, which gcc takes for the line of another text. The
-// last of them puts in more tokens than may be: gcc has no such limit, and what is to be printed there follows from the
-// limit.
+// texts in which the subset of C differs: the directives that it lacks in text that is read, `#` and `...` in macros
+// with parameters, parameters that a list never names, headers, `##`, a replacement list that no white space parts from
+// the name, a definition that differs from an older one in white space alone, `#` before a number, which gcc takes for
+// the line of another text, and a `defined` that C99 leaves open. The last of them puts in more tokens than may be: gcc
+// has no such limit, and what is to be printed there follows from the limit.
 #![tactic(auto)]
 
 mod doubled;

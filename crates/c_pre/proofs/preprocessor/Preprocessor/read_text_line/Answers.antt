@@ -12,7 +12,7 @@ returns-in_err-self c =
 
 pub returns : goal.returns
 returns c = (
-  text_line_read (state_of c.args.self.now) c.args.line.now c.args.out.now.items c.expand_line.new.out.items
+  text_line_read (state_of c.args.self.now) c.args.line.now c.args.out.now.items c.expand_run.new.out.items
       c.in_ok-self.field-0 c.in_ok-self.ensures.0,
   c.in_ok-self.ensures.1,
 )

@@ -1,0 +1,13 @@
+use Rattle.std.proofs.Common.{◌≡◌, None}
+use Rattle.c_pre.specs.Expansion.{expansion, of_text, trace_of}
+use Rattle.c_pre.specs.Outcomes.{macros_of}
+use Rattle.c_pre.specs.Pending.{comes_to, left, IsSound}
+use Rattle.c_pre.specs.Trace.{after}
+use Rattle.c_pre.proofs.expansion.expand_alone.Given as goal
+
+abbrev pub invariant-loop : goal.invariant-loop
+invariant-loop l = record {
+  same : trace_of (expansion (macros_of l.macros) None l.fn.room (of_text l.text))
+      ≡ after l.tokens.items (trace_of (comes_to (macros_of l.macros) (left l.expander)));
+  sound : IsSound l.expander;
+}

@@ -19,6 +19,7 @@ pub mod Holding
 pub mod Inline
 pub mod Leaving
 pub mod Library
+pub mod LibraryRuns
 pub mod Members
 pub mod Moving
 pub mod Named
@@ -38,6 +39,7 @@ pub mod Simulating
 pub mod Standing
 pub mod StartData
 pub mod StartFile
+pub mod Statuses
 pub mod StoredParts
 pub mod StoredTexts
 pub mod Straight

@@ -19,6 +19,7 @@ pub mod Holding
 pub mod Inline
 pub mod Leaving
 pub mod Library
+pub mod LibraryArguments
 pub mod LibraryRuns
 pub mod Members
 pub mod Moving

@@ -20,6 +20,7 @@ pub mod Inline
 pub mod Leaving
 pub mod Library
 pub mod LibraryArguments
+pub mod LibraryCalls
 pub mod LibraryRuns
 pub mod Members
 pub mod Moving

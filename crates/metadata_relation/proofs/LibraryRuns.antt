@@ -13,6 +13,7 @@ use Rattle.obj_memory.specs.declared.value.Place.{Place}
 use Rattle.obj_memory.specs.declared.value.Tag.{Tag}
 use Rattle.obj_memory.specs.declared.value.Tag.TheVariants.{Untagged, OfFunction, OfObject}
 use Rattle.obj_memory.specs.declared.value.Value.{Value}
+use Rattle.obj_memory.specs.Heap.{block_count}
 use Rattle.obj_memory.specs.Integers.{fit}
 use Rattle.obj_memory.specs.Judgement.{moved, named, named_in}
 use Rattle.obj_memory.specs.Objects.{ObjectState, Objects, object_at, pointer_to}
@@ -471,11 +472,11 @@ counts_from b l ks s s1 (Gives a s') le h = let more = h.work in omega arith
 counts_from b l ks s s1 (Ended e s') le h = tt
 counts_from b l ks s s1 (Paused s') le h = tt
 
-counts_behind : {A B : Type 0} (b l : ℕ) (ks : List ReturnStatus) (s : State) (o : Outcome A) (f : A → Run B)
-    → CountsBy 1 s o → ((a : A) → Serves b l ks (f a)) → CountsBy 1 s (on o f)
-counts_behind b l ks s (Gives a s') f h g = counts_from b l ks s s' (f a s') h ((g a).by s')
-counts_behind b l ks s (Ended e s') f h g = tt
-counts_behind b l ks s (Paused s') f h g = tt
+counts_behind : {A B : Type 0} (b l : ℕ) (ks : List ReturnStatus) (Q : A → Type 0) (s : State) (o : Outcome A)
+    (f : A → Run B) → CountsBy 1 s o → GivesBy Q o → ((a : A) → Q a → Serves b l ks (f a)) → CountsBy 1 s (on o f)
+counts_behind b l ks Q s (Gives a s') f h i g = counts_from b l ks s s' (f a s') h ((g a i).by s')
+counts_behind b l ks Q s (Ended e s') f h i g = tt
+counts_behind b l ks Q s (Paused s') f h i g = tt
 
 counts_more : {A : Type 0} (s s1 : State) (o : Outcome A) → s.work ≤ s1.work → CountsBy 1 s1 o → CountsBy 1 s o
 counts_more s s1 (Gives a s') le h = omega arith
@@ -487,3 +488,74 @@ counts_then : {A B : Type 0} (b l : ℕ) (ks : List ReturnStatus) (s : State) (o
 counts_then b l ks s (Gives a s') f h g = counts_more s s' (f a s') h.work ((g a).counts s')
 counts_then b l ks s (Ended e s') f h g = tt
 counts_then b l ks s (Paused s') f h g = tt
+
+counts_choose : {A : Type 0} (units : ℕ) (c : Bool) {r q : Run A} → Counts units r → Counts units q
+    → Counts units (choose c r q)
+counts_choose units true h g = h
+counts_choose units false h g = g
+
+module _ (g : Setting) (l : ℕ) where
+  allocate_counts : (size : ℕ) → Counts 1 (allocate g size l)
+  allocate_counts size = record {
+    counts = λ s.
+        (let sought : State = record s { work = s.work + (1 + block_count s.objects) } in
+        counts_from g.sizes.budgets.keys l (statuses_of library.Malloc) s sought
+        (make_block g size l (block_place g size s.objects) sought) (omega arith)
+        ((make_block_serves g l (statuses_of library.Malloc) (inl refl) size (block_place g size s.objects)).by sought));
+  }
+
+  replace_counts : (n size : ℕ) → Counts 1 (replace_block g n size l)
+  replace_counts n size = record {
+    counts = λ s. counts_behind g.sizes.budgets.keys l (statuses_of library.Realloc) IsNullOrObject s (allocate g size l s)
+        (λ v. choose (is_zero v) (done v) (move_block n v size l >> (release n >> done v)))
+        ((allocate_counts size).counts s) ((allocate_gives g size l).by s)
+        (λ v i. replaced_serves g l (statuses_of library.Realloc) (inl refl) (inr (inl refl)) (inr (inr (inl refl))) n size v
+        (is_zero v) refl i);
+  }
+
+  realloc_counts : (old size : Value) → Counts 1 (realloc g old size l)
+  realloc_counts old size =
+      counts_choose 1 (is_zero old) (allocate_counts size.word)
+      (record {
+        counts = λ s. counts_then g.sizes.budgets.keys l (statuses_of library.Realloc) s (freed old l s)
+            (λ n. replace_block g n size.word l)
+            ((freed_by_serves g.sizes.budgets.keys l (statuses_of library.Realloc) (inl refl) (inr (inl refl)) old.tag
+            old.word).by s)
+            (λ n. replace_counts n size.word);
+      })
+
+-- what a routine counts at least
+abbrev pub least_count : LibraryFunction → ℕ
+least_count library.Realloc = 1
+least_count f = 0
+
+counts_none : {A : Type 0} (b l : ℕ) (ks : List ReturnStatus) (s : State) (o : Outcome A) → ServesBy b l ks s o
+    → CountsBy 0 s o
+counts_none b l ks s (Gives a s') h = let more = h.work in omega arith
+counts_none b l ks s (Ended e s') h = tt
+counts_none b l ks s (Paused s') h = tt
+
+nothing_counted : (g : Setting) (f : LibraryFunction) (vs : List Value) (line : ℕ)
+    → Counts 0 (routine g (routine_of f) vs line)
+nothing_counted g f vs line = record {
+  counts = λ s. counts_none g.sizes.budgets.keys line (statuses_of f) s (routine g (routine_of f) vs line s)
+      ((routine_serves g f vs line).by s);
+}
+
+pub routine_counts : (g : Setting) (f : LibraryFunction) (vs : List Value) (line : ℕ)
+    → Counts (least_count f) (routine g (routine_of f) vs line)
+routine_counts g library.Realloc vs line = realloc_counts g line (argument 0 vs) (argument 1 vs)
+routine_counts g library.Malloc vs line = nothing_counted g library.Malloc vs line
+routine_counts g library.Calloc vs line = nothing_counted g library.Calloc vs line
+routine_counts g library.Free vs line = nothing_counted g library.Free vs line
+routine_counts g library.Memcpy vs line = nothing_counted g library.Memcpy vs line
+routine_counts g library.Memmove vs line = nothing_counted g library.Memmove vs line
+routine_counts g library.Memset vs line = nothing_counted g library.Memset vs line
+routine_counts g library.Memcmp vs line = nothing_counted g library.Memcmp vs line
+routine_counts g library.Strlen vs line = nothing_counted g library.Strlen vs line
+routine_counts g library.Strcmp vs line = nothing_counted g library.Strcmp vs line
+routine_counts g library.Strcpy vs line = nothing_counted g library.Strcpy vs line
+routine_counts g library.Strncpy vs line = nothing_counted g library.Strncpy vs line
+routine_counts g library.Strcat vs line = nothing_counted g library.Strcat vs line
+routine_counts g library.Strchr vs line = nothing_counted g library.Strchr vs line
+routine_counts g library.Puts vs line = nothing_counted g library.Puts vs line

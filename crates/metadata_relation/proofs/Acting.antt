@@ -41,7 +41,7 @@ use Rattle.metadata_plan.specs.Expanded.{Leads}
 use Rattle.metadata_plan.specs.Operators.{Computes}
 use Rattle.metadata_plan.proofs.Flat.{Comes, leads_comes, weight_small, words_kept}
 use Rattle.metadata_plan.proofs.Numbers.{scaled}
-use Rattle.metadata_relation.specs.Registers.{variables_end, tops_end, temporary_register, first_free}
+use Rattle.metadata_relation.specs.Registers.{variables_end, tops_end, temporary_register, moved_register, first_free}
 use Rattle.metadata_relation.specs.Blocks.{top_cell}
 use Rattle.metadata_relation.specs.Holding.{World, GoesOn, IsHeldAt, Holds}
 use Rattle.metadata_relation.specs.Scopes.{context_at}
@@ -49,7 +49,7 @@ use Rattle.metadata_relation.specs.Stages.{factor, Compiled, map_of, views, name
 use Rattle.metadata_relation.specs.Stages.{activation, level, IsAt, MatchesBy}
 use Rattle.metadata_relation.specs.Steps.{IsCompiled}
 use Rattle.metadata_relation.specs.Waiting.{IsEnteredAs, IsBodyAs, Layout, AllWait}
-use Rattle.metadata_relation.proofs.Holding.{gives_temporary, holds_on}
+use Rattle.metadata_relation.proofs.Holding.{gives_called, holds_on}
 use Rattle.metadata_relation.proofs.Standing.{good_then, IsNode, fewer, none_more, none_less, Result}
 use Rattle.metadata_relation.proofs.Waiting.{waits_on, waits_at}
 
@@ -321,6 +321,25 @@ module _ (c : Compiled) (IsGood : Bytes → Type 0) (right : IsCompiled c IsGood
       → (object_at s'.objects o).is_live ≡ true
   homes_live s' keys v' a o live held = a.leaves.lives.live o (live_made s.objects o live) held live
 
+  -- an action behind which a temporary has a value without contents; arguments of its call may have moved
+  pub acts_called : (i : Instruction) → IsNode c u n h.code i → (d next : ℕ) (value : Value) (s' : State) (keys : Keys)
+      (v' : flat.State) (most : ℕ) → given i ≡ Some d → LeadsTo i next → d < most_temporaries h.code.code
+      → ReachesNode next v' most → HasActed (behind_action s s') keys v'
+      → ((y : ℕ) → y < moved_register h.code 0 → (y < temporary_register h.code d) ⊎ (temporary_register h.code d + 5 ≤ y)
+      → v'.values y ≡ v.values y)
+      → IsHeldAt (world c keys (behind_action s s') v') (c.layout.expansion.entries u next d) value
+      (temporary_register h.code d) v'.values
+      → most + factor * s.work ≤ factor * s'.work
+      → Gives (Stands u next (with_temp temps d (rvalue value)) ws (behind_action s s'))
+  acts_called i nd d next value s' keys v' most gives leads low k a others held cost =
+      acts next (with_temp temps d (rvalue value)) (behind_action s s') keys v' most k a refl refl
+      (gives_called (views c) h.keys keys s.objects s'.objects v.memory v'.memory a.goes (activation c h.code u n s)
+      (c.layout.expansion.entries u next) (c.layout.expansion.contents u next) (λ i. false) temps s.plain s.frame v.values
+      v'.values d (rvalue value) low (fewer c IsGood right u n temps ws s v xs h i nd d next gives leads)
+      (λ x o home live is. homes_live (behind_action s s') keys v' a o live is) others
+      (record { by = held; none = λ e. refl }) h.holds)
+      (λ r from to. others r (omega arith) (inl (omega arith))) cost
+
   -- an action behind which a temporary has a value without contents
   pub acts_giving : (i : Instruction) → IsNode c u n h.code i → (d next : ℕ) (value : Value) (s' : State) (keys : Keys)
       (v' : flat.State) (most : ℕ) → given i ≡ Some d → LeadsTo i next → d < most_temporaries h.code.code
@@ -332,13 +351,7 @@ module _ (c : Compiled) (IsGood : Bytes → Type 0) (right : IsCompiled c IsGood
       → most + factor * s.work ≤ factor * s'.work
       → Gives (Stands u next (with_temp temps d (rvalue value)) ws (behind_action s s'))
   acts_giving i nd d next value s' keys v' most gives leads low k a others held cost =
-      acts next (with_temp temps d (rvalue value)) (behind_action s s') keys v' most k a refl refl
-      (gives_temporary (views c) h.keys keys s.objects s'.objects v.memory v'.memory a.goes (activation c h.code u n s)
-      (c.layout.expansion.entries u next) (c.layout.expansion.contents u next) (λ i. false) temps s.plain s.frame v.values
-      v'.values d (rvalue value) low (fewer c IsGood right u n temps ws s v xs h i nd d next gives leads)
-      (λ x o home live is. homes_live (behind_action s s') keys v' a o live is) others
-      (record { by = held; none = λ e. refl }) h.holds)
-      (λ r from to. others r (omega arith) (inl (omega arith))) cost
+      acts_called i nd d next value s' keys v' most gives leads low k a (λ y lt out. others y (omega arith) out) held cost
 
   -- an action behind which registers of the block's own alone have other values
   pub acts_alone : (i : Instruction) → IsNode c u n h.code i → (next : ℕ) (s' : State) (keys : Keys) (v' : flat.State)

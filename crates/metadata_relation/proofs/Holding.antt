@@ -35,7 +35,7 @@ use Rattle.area_routines.proofs.Areas.{area_kept, area_same}
 use Rattle.runtime_functions.specs.Library.{held_from}
 use Rattle.metadata_plan.specs.Registers.{all_variables, most_temporaries}
 use Rattle.metadata_relation.specs.Registers.{entry_from, variable_register, variables_end, home_register, homes_end}
-use Rattle.metadata_relation.specs.Registers.{temporary_register, first_free}
+use Rattle.metadata_relation.specs.Registers.{temporary_register, moved_register, first_free}
 use Rattle.metadata_relation.specs.Holding.{World, GoesOn, world_of, IsHeldAt, area_of, IsContentsAt, IsRvalueAt, IsTemporary}
 use Rattle.metadata_relation.specs.Holding.{is_pointer_type, IsPlain, IsHome, HasHomes, Activation, Holds}
 use Rattle.metadata_relation.proofs.Registers.{count_of, count_in, few_in, some_in, variable_low, variables_apart}
@@ -277,16 +277,20 @@ module _ (g : Views) (k k' : Keys) (old new : Objects) (m m' : Bytes) (on : Goes
       (area_of g.sizes a.tac a.code a.charged i) (temporary_register a.code i) values after (area_first g.sizes a i)
       (λ j lt. same j (omega arith)) (h i lt (fewer.known i ne known)))
 
-  -- One temporary gets a value, in its registers alone.
-  pub gives_temporary : (entries' contents' unknown' : ℕ → Bool) (temps : Temps) (plain : List Value) (frame : List Home)
+  -- all but some below the registers of arguments that are moved
+  abbrev pub StayBelow : (register count : ℕ) → (values after : flat.Values) → Type 0
+  StayBelow r n values after = (q : ℕ) → q < moved_register a.code 0 → (q < r) ⊎ (r + n ≤ q) → after q ≡ values q
+
+  -- One temporary gets a value, in its registers alone; arguments of calls may have moved.
+  pub gives_called : (entries' contents' unknown' : ℕ → Bool) (temps : Temps) (plain : List Value) (frame : List Home)
       (values after : flat.Values) (d : ℕ) (v : Rvalue) → d < most_temporaries a.code.code
       → AreFewer d a entries' contents' unknown'
-      → LiveOn g k k' old new m m' on frame → StayBut (temporary_register a.code d) 5 values after
+      → LiveOn g k k' old new m m' on frame → StayBelow (temporary_register a.code d) 5 values after
       → IsTemporary (world_of g k' new m') (entries' d) (contents' d) v (greatest_structure a.tac a.code.code d)
       (area_of g.sizes a.tac a.code a.charged d) (temporary_register a.code d) after
       → Holds (world_of g k old m) a temps plain frame values
       → Holds (world_of g k' new m') (at_node a entries' contents' unknown') (with_temp temps d v) plain frame after
-  gives_temporary entries' contents' unknown' temps plain frame values after d v low fewer lives same given h = record {
+  gives_called entries' contents' unknown' temps plain frame values after d v low fewer lives same given h = record {
     temporaries = λ i lt known. by i lt known (i == d) refl;
     variables = variables_on plain values after (λ r lt. same r (omega arith) (inl (omega arith))) h.variables;
     homes = homes_on g k k' old new m m' on a.code frame values after lives
@@ -307,6 +311,19 @@ module _ (g : Views) (k k' : Keys) (old new : Objects) (m m' : Bytes) (on : Goes
           (λ j few. same (temporary_register a.code i + j) (omega arith)
           (⊎_elim (λ below. inl (omega arith)) (λ above. inr (omega arith)) (temporaries_apart a.code i d ne)))
           h.temporaries known
+
+  -- One temporary gets a value, in its registers alone.
+  pub gives_temporary : (entries' contents' unknown' : ℕ → Bool) (temps : Temps) (plain : List Value) (frame : List Home)
+      (values after : flat.Values) (d : ℕ) (v : Rvalue) → d < most_temporaries a.code.code
+      → AreFewer d a entries' contents' unknown'
+      → LiveOn g k k' old new m m' on frame → StayBut (temporary_register a.code d) 5 values after
+      → IsTemporary (world_of g k' new m') (entries' d) (contents' d) v (greatest_structure a.tac a.code.code d)
+      (area_of g.sizes a.tac a.code a.charged d) (temporary_register a.code d) after
+      → Holds (world_of g k old m) a temps plain frame values
+      → Holds (world_of g k' new m') (at_node a entries' contents' unknown') (with_temp temps d v) plain frame after
+  gives_temporary entries' contents' unknown' temps plain frame values after d v low fewer lives same given h =
+      gives_called entries' contents' unknown' temps plain frame values after d v low fewer lives
+      (λ q lt out. same q (omega arith) out) given h
 
   -- No register below the free ones changes.
   pub holds_on : (entries' contents' : ℕ → Bool) (temps : Temps) (plain : List Value) (frame : List Home)

@@ -20,6 +20,10 @@ pub mod Holding
 pub mod Inline
 pub mod Leaving
 pub mod Library
+pub mod LibraryArguments
+pub mod LibraryCalls
+pub mod LibraryRuns
+pub mod LibraryStatuses
 pub mod Members
 pub mod Moving
 pub mod Named

@@ -53,7 +53,7 @@ pub record IsPlacedIn (into from count : ℕ) (values after : flat.Values) : Typ
   pub at : (j : ℕ) → j < count → after (into + j) ≡ values (from + j)
   pub below : (y : ℕ) → y < into → after y ≡ values y
 
-value_packed : (p : Passed) (r a : ℕ) (values : flat.Values) → a + 5 ≤ r
+pub value_packed : (p : Passed) (r a : ℕ) (values : flat.Values) → a + 5 ≤ r
     → IsPlacedIn r a (register_count p) values (assigned (pack_value p r a) values)
 value_packed NoValue r a values low = record { at = λ j lt. absurd (omega arith); below = λ y lt. refl }
 value_packed OneWord r a values low = record {
@@ -80,7 +80,7 @@ value_packed WithEntry r a values low =
     five (suc (suc (suc (suc zero)))) lt after e0 e1 e2 e3 e4 = e4
     five (suc (suc (suc (suc (suc j))))) lt after e0 e1 e2 e3 e4 = absurd (omega arith)
 
-value_assigns : (p : Passed) (r a : ℕ)
+pub value_assigns : (p : Passed) (r a : ℕ)
     → (are_assignments (pack_value p r a) ≡ true) × (length (pack_value p r a) ≤ 5)
 value_assigns NoValue r a = (refl, omega arith)
 value_assigns OneWord r a = (refl, omega arith)

@@ -61,8 +61,8 @@ use Rattle.runtime_functions.specs.declared.library.LibraryFunction.{LibraryFunc
 use Rattle.runtime_functions.specs.declared.library.LibraryFunction.TheVariants as library
 use Rattle.runtime_functions.specs.declared.status.ReturnStatus.{ReturnStatus}
 use Rattle.runtime_functions.specs.declared.status.ReturnStatus.TheVariants.{Spatial as SpatialStatus, Temporal as TemporalStatus}
-use Rattle.runtime_functions.specs.declared.status.ReturnStatus.TheVariants.{BadCall, BadFree, Divide, Stack as StackSpent}
-use Rattle.runtime_functions.specs.declared.status.ReturnStatus.TheVariants.{Keys as KeysSpent, Abort as Aborted}
+use Rattle.runtime_functions.specs.declared.status.ReturnStatus.TheVariants.{BadFree, Stack as StackSpent}
+use Rattle.runtime_functions.specs.declared.status.ReturnStatus.TheVariants.{Keys as KeysSpent}
 use Rattle.runtime_functions.specs.Library.{Passed, NoValue, OneWord, WithEntry, register_count, held_from, signature}
 use Rattle.runtime_functions.specs.Status.{status_number, ending_at}
 use Rattle.metadata_plan.specs.Blocks.{call_tests}
@@ -404,8 +404,13 @@ status_tests r line (k ∷ ks) =
 abbrev pub status_code : (register line : ℕ) → List ReturnStatus → List FlatInstruction
 status_code r line ks = Branch Beq r (Number 0) (length (status_tests r line ks)) ∷ status_tests r line ks
 
-abbrev pub all_statuses : List ReturnStatus
-all_statuses = SpatialStatus ∷ TemporalStatus ∷ BadCall ∷ BadFree ∷ Divide ∷ StackSpent ∷ KeysSpent ∷ Aborted ∷ []
+-- those with which a routine of the library may be left that has not done its work
+abbrev pub statuses_of : LibraryFunction → List ReturnStatus
+statuses_of library.Malloc = KeysSpent ∷ []
+statuses_of library.Calloc = KeysSpent ∷ []
+statuses_of library.Free = TemporalStatus ∷ BadFree ∷ []
+statuses_of library.Realloc = TemporalStatus ∷ BadFree ∷ KeysSpent ∷ []
+statuses_of f = SpatialStatus ∷ TemporalStatus ∷ []
 
 -- those with which the objects of a block are not made
 abbrev pub enter_statuses : List ReturnStatus
@@ -434,7 +439,7 @@ runtime_call t c f line d b =
     let s = first_free c in
     pack c (signature f).takes r d
     ++ (Call (runtime_number t (library_place f)) r s
-    ∷ (status_code s line all_statuses ++ unpack (signature f).gives b (temporary_register c d) (s + 1)))
+    ∷ (status_code s line (statuses_of f) ++ unpack (signature f).gives b (temporary_register c d) (s + 1)))
 
 -- a routine of the library: the argument of the first three stands in the register that gets the result
 abbrev pub library_code : InlineCode → Tac → CodeFunction → Routine → (line first : ℕ) → (with_entry : Bool)

@@ -160,7 +160,7 @@ module _ (c : Compiled) (IsGood : Bytes → Type 0) (right : IsCompiled c IsGood
           (record { live = live; address = refl; size = sym size_is }) in
           let d = completes c IsGood h.keys zeroing_interface site_is 2 0 1 paid (zeroing o 1 vs) served (integer 0) zeroed refl in
           let y = d.state in
-          let bound = work_of_call 2 0 2 (steps_of zeroing_interface (zeroing o 1 vs) paid) in
+          let bound = work_of_call 2 0 1 (steps_of zeroing_interface (zeroing o 1 vs) paid) in
           let acted = acted_then c IsGood right u n temps ws s v xs h Nowhere (free + 2) paid.work (integer 0) paid zeroed
           h.keys v2 y begun d.given leaves h.steady.keys in
           let z = record zeroed { work = zeroed.work + 3 * (zeroed.work - paid.work) } in

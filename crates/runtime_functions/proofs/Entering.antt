@@ -16,6 +16,7 @@ use Rattle.flat_meaning.specs.State.{State, Stage}
 use Rattle.flat_routines.specs.Registers.{IsNoneOf}
 use Rattle.flat_routines.specs.Routine.{Outcome, Continues, Halts}
 use Rattle.flat_routines.specs.Laws.{work_of as work_left, report_length}
+use Rattle.flat_routines.specs.InputOutput.{IsWithoutInputOutput}
 use Rattle.flat_routines.specs.Metadata.{View}
 use Rattle.flat_routines.specs.Objects.StandsFor.{Views, Keys}
 use Rattle.flat_actions.specs.Actions.{views_of, IsFor, work_of}
@@ -26,13 +27,13 @@ use Rattle.runtime_functions.specs.Actions.{price_of, work_of_call, ComesBehind}
 use Rattle.runtime_functions.specs.Runtime.{entered_registers}
 use Rattle.runtime_functions.specs.Entering.{IsToEnter, IsBlockServed, entering_steps, ServesBlock}
 use Rattle.runtime_functions.proofs.Actions.{serves_in_runtime, begins_for, argument_is, status_is_zero, result_is, memory_is}
-use Rattle.runtime_functions.proofs.LibraryCalls.{price_at_most}
+use Rattle.runtime_functions.proofs.LibraryCalls.{price_alone}
 use Rattle.runtime_functions.proofs.Actions.{returned_for, behind, told, same_state}
 
 module _ (m : MapSizes) (entry : View) (IsGood : Bytes → Type 0) (p : FlatProgram) (s : CallSite) (fn : FlatFunction)
     (r : List FlatInstruction) (h : CallsRuntime m p s fn r 2 4)
-    (does : IsEnterRoutine m entry IsGood 0 1 entered_registers 1 7 r) (set : Setting) (sizes : set.sizes ≡ m)
-    (functions : ℕ) (types : ℕ → ℕ) (k : Keys) (x : Source) (vs : List Variable) (line : ℕ) where
+    (does : IsEnterRoutine m entry IsGood 0 1 entered_registers 1 7 r) (alone : IsWithoutInputOutput r) (set : Setting)
+    (sizes : set.sizes ≡ m) (functions : ℕ) (types : ℕ → ℕ) (k : Keys) (x : Source) (vs : List Variable) (line : ℕ) where
   abbrev g : Views
   g = views_of m functions types entry
 
@@ -43,7 +44,7 @@ module _ (m : MapSizes) (entry : View) (IsGood : Bytes → Type 0) (p : FlatProg
   steps = entering_steps set vs 1 x
 
   abbrev cost : ℕ
-  cost = work_of_call 2 4 2 steps
+  cost = work_of_call 2 4 1 steps
 
   abbrev Q : Completed Block → Stage → Type 0
   Q = IsBlockServed g k IsGood s cost line x
@@ -53,7 +54,7 @@ module _ (m : MapSizes) (entry : View) (IsGood : Bytes → Type 0) (p : FlatProg
 
   entered : (b : Block) (x' : Source) (z : State) (stage : Stage)
       → HasEntered g k IsGood entered_registers 7 x f b.homes x' z → HasReturned s 2 4 (z.values 2) z stage
-      → z.work ≤ f.work + (2 * steps + 0) → Q (Gives b x') stage
+      → z.work ≤ f.work + (1 * steps + 0) → Q (Gives b x') stage
   entered b x' z stage e back work =
       let result = result_is s 2 4 (z.values 2) z stage back in
       let first = result 3 (omega arith, omega arith) in
@@ -81,11 +82,11 @@ module _ (m : MapSizes) (entry : View) (IsGood : Bytes → Type 0) (p : FlatProg
 
   by_outcome : (o : Completed Block) (out : Outcome) (stage : Stage)
       → IsEntered g k IsGood entered_registers 7 x f o out
-      → work_left out ≤ f.work + (2 * steps + report_length out) → IsCalled s 2 4 out stage
+      → work_left out ≤ f.work + (1 * steps + report_length out) → IsCalled s 2 4 out stage
       → Q (outcome_at line o) stage
   by_outcome (Gives b x') (Continues z) stage l w called = entered b x' z stage l called w
   by_outcome (Ended e x') (Halts status report z) stage l w called =
-      told s 2 4 line (2 * steps) e x' status report z stage l called w
+      told s 2 4 line (1 * steps) e x' status report z stage l called w
   by_outcome (Gives b x') (Halts status report z) stage l w called = absurd l
   by_outcome (Ended e x') (Continues z) stage l w called = absurd l
   by_outcome (Paused x') out stage l w called = absurd l
@@ -105,7 +106,7 @@ module _ (m : MapSizes) (entry : View) (IsGood : Bytes → Type 0) (p : FlatProg
         ready.can,
       ) in
       let work = t.work in
-      let price : price_of r * steps ≤ 2 * steps = mul-le _ _ _ _ (price_at_most r) (omega arith) in
+      let price : price_of r * steps ≤ 1 * steps = mul-le _ _ _ _ (price_alone r alone) (omega arith) in
       record {
         steps = t.comes.steps;
         within = t.comes.within;
@@ -122,7 +123,7 @@ module _ (m : MapSizes) (entry : View) (IsGood : Bytes → Type 0) (p : FlatProg
       ap (λ o. (state_of o).work - x.work) same
       ∙ ap (λ (y : Source). y.work - x.work) (same_state line (enter_block set vs 1 x)) in
       subst (λ o. ComesBehind m p s (entering_steps set vs line x + 3) (IsBlockServed g k IsGood s
-      (work_of_call 2 4 2 (entering_steps set vs line x)) line x o)) (sym same)
+      (work_of_call 2 4 1 (entering_steps set vs line x)) line x o)) (sym same)
       (subst (λ w. ComesBehind m p s (100 + 40 * w + 3) (IsBlockServed g k IsGood s
-      (work_of_call 2 4 2 (100 + 40 * w)) line x (outcome_at line (enter_block set vs 1 x))))
+      (work_of_call 2 4 1 (100 + 40 * w)) line x (outcome_at line (enter_block set vs 1 x))))
       (sym work) (at_one ready))

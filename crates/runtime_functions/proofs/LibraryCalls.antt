@@ -1,6 +1,6 @@
 -- Routines of the library by their contracts.
-use Rattle.std.proofs.Common.{◌≡◌, ℕ, ◌+◌, ◌≤◌, Bool, true, false, List, [], ◌∷◌, arith, sym, subst}
-use Rattle.std.specs.Prelude.{if◌then◌else◌}
+use Rattle.std.proofs.Common.{◌≡◌, ℕ, ◌+◌, ◌≤◌, Bool, true, false, List, [], ◌∷◌, arith, sym, ap, subst}
+use Rattle.std.specs.Prelude.{if◌then◌else◌, IfOk, Result, Ok, Err}
 use Rattle.addr_map.specs.Places.{MapSizes}
 use Rattle.obj_memory.specs.declared.value.Value.{Value}
 use Rattle.source_meaning.specs.State.{State as Source, Setting}
@@ -14,7 +14,7 @@ use Rattle.flat_meaning.specs.State.{State}
 use Rattle.flat_meaning.specs.Meaning.{Context}
 use Rattle.flat_routines.specs.Routine.{Does, Outcome}
 use Rattle.flat_routines.specs.Metadata.{View}
-use Rattle.flat_routines.specs.InputOutput.{has_input_output}
+use Rattle.flat_routines.specs.InputOutput.{has_input_output, IsWithoutInputOutput}
 use Rattle.flat_routines.specs.Shape.{HasShape}
 use Rattle.flat_routines.proofs.Shape.{more}
 use Rattle.runtime_functions.specs.Sizes.{most_registers}
@@ -63,6 +63,11 @@ pub runtime_code_of_same : (map : MapSizes) (entry : View) (IsGood : Bytes → T
 runtime_code_of_same map entry IsGood line f same items e h =
     subst (λ f. IsRuntimeCode map entry IsGood f line items) (sym e) h
 
+-- code is two things where it is both
+pub both_of : {A E : Type 0} (P Q : A → Type 0) (r : Result A E) → IfOk r P → IfOk r Q → IfOk r (λ x. P x × Q x)
+both_of P Q (Ok x) p q = (p, q)
+both_of P Q (Err e) p q = q
+
 -- a shape of fewer instructions and registers, by which function it is
 pub within : (f same : RuntimeFunction) (items : List FlatInstruction) (n m : ℕ) → f ≡ same → n ≤ most_instructions same
     → m ≤ most_registers → HasShape items n m → HasShape items (most_instructions f) most_registers
@@ -92,6 +97,10 @@ price_at_most r = by (has_input_output r)
     by : (b : Bool) → (if b then 2 else 1) ≤ 2
     by true = omega arith
     by false = omega arith
+
+-- and 1 where no input is taken and no output put
+pub price_alone : (r : List FlatInstruction) → IsWithoutInputOutput r → price_of r ≤ 1
+price_alone r alone = (let price : price_of r ≡ 1 = ap (λ b. if b then 2 else 1) alone.none in omega arith)
 
 parameters_hold : (first a : ℕ) (v : Passed) → first + register_count v ≤ a
     → AreParameters a (registers_of (holder_from first v))

@@ -31,7 +31,7 @@ use Rattle.runtime_functions.specs.Actions.{IsReady, ServesCall, IsActionFunctio
 use Rattle.runtime_functions.specs.Runtime.{IsOfRuntime}
 use Rattle.runtime_functions.specs.Zeroing.{zeroing, IsToZeroObject, zeroing_interface}
 use Rattle.runtime_functions.proofs.Actions.{served}
-use Rattle.runtime_functions.proofs.LibraryCalls.{price_at_most}
+use Rattle.runtime_functions.proofs.LibraryCalls.{price_alone}
 
 -- the source's state after an object of some bytes was set to zero
 abbrev with_zeros : (n size : ℕ) → Source → Source
@@ -124,8 +124,8 @@ module _ (map : MapSizes) (mapped : AreMapped map) (entry : View) (IsGood : Byte
   act = record {
     routine = of.routine;
     is = of.is;
-    does = zeroes_words map mapped entry IsGood n of.routine of.code;
-    priced = price_at_most of.routine;
+    does = zeroes_words map mapped entry IsGood n of.routine of.code.0;
+    priced = price_alone of.routine of.code.1;
     laid = record { taken = ((omega arith, tt), ((omega arith, tt), tt)); given = tt; own = omega arith };
   }
 

@@ -62,4 +62,4 @@ abbrev pub ServesBlock : MapSizes → FlatProgram → Views → Keys → (Bytes 
     → (line : ℕ) → Source → Type 0
 ServesBlock m p g k IsGood s set vs line x =
     ComesBehind m p s (entering_steps set vs line x + 3)
-    (IsBlockServed g k IsGood s (work_of_call 2 4 2 (entering_steps set vs line x)) line x (enter_block set vs line x))
+    (IsBlockServed g k IsGood s (work_of_call 2 4 1 (entering_steps set vs line x)) line x (enter_block set vs line x))

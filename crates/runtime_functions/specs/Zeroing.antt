@@ -27,5 +27,5 @@ zeroing_interface = record {
   scratch = 3;
   constant = 16;
   factor = 4;
-  price = 2;
+  price = 1;
 }

@@ -4,7 +4,7 @@ use Rattle.runtime_functions.specs.Sizes.{most_registers}
 use Rattle.runtime_functions.specs.Runtime.{most_instructions}
 use Rattle.runtime_functions.specs.declared.runtime.RuntimeFunction.TheVariants.{Library}
 use Rattle.runtime_functions.proofs.Sizes.{short_list, few_instructions}
-use Rattle.runtime_functions.proofs.LibraryCalls.{runtime_code_of_same, within}
+use Rattle.runtime_functions.proofs.LibraryCalls.{runtime_code_of_same, within, both_of}
 use Rattle.runtime_functions.proofs.runtime.runtime_code.Goals as goal
 
 pub returns-in-Library-clause-code : goal.returns-in-Library-clause-code
@@ -40,7 +40,7 @@ returns-in-Zero-clause-code g c =
     let a = c.args in
     IfOk-weaker _ _ _
     (λ r h. runtime_code_of_same a.map.now g.S.ShadowForm.entry (g.S.ShadowForm.IsGood a.map.now) a.line _ _ _
-    c.in-Zero.is h) c.zero.ensures.does
+    c.in-Zero.is h) (both_of _ _ _ c.zero.ensures.does c.zero.ensures.computes)
 
 pub returns-in-CopyTagged-clause-code : goal.returns-in-CopyTagged-clause-code
 returns-in-CopyTagged-clause-code g c =
@@ -54,7 +54,7 @@ returns-in-Enter-clause-code g c =
     let a = c.args in
     IfOk-weaker _ _ _
     (λ r h. runtime_code_of_same a.map.now g.S.ShadowForm.entry (g.S.ShadowForm.IsGood a.map.now) a.line _ _ _
-    c.in-Enter.is h) c.enter.ensures.does
+    c.in-Enter.is h) (both_of _ _ _ c.enter.ensures.does c.enter.ensures.computes)
 
 pub returns-in-ZeroArea-clause-code : goal.returns-in-ZeroArea-clause-code
 returns-in-ZeroArea-clause-code g c =

@@ -1,7 +1,7 @@
 -- Calls: their arguments begin, and end.
-use Rattle.std.proofs.Common.{◌≡◌, ℕ, zero, suc, ◌+◌, ◌-◌, ◌≤◌, ◌<◌, Bool, true, false, List, [], ◌∷◌, ◌++◌, map, length}
-use Rattle.std.proofs.Common.{take, drop, refl, sym, ap, subst, ◌∙◌, append-nil, arith, Option, Some, None, nat_eq}
-use Rattle.std.proofs.Common.{option_map, is_some, Result, Ok, Err, if◌then◌else◌}
+use Rattle.std.proofs.Common.{◌≡◌, ℕ, zero, ◌+◌, ◌<◌, Bool, true, false, List, [], ◌∷◌, ◌++◌, map, length}
+use Rattle.std.proofs.Common.{take, refl, sym, ap, subst, ◌∙◌, arith, Option, Some, None, nat_eq}
+use Rattle.std.proofs.Common.{option_map, is_some}
 use Rattle.std.proofs.Math.Dec.{eqb-suc-zero}
 use Rattle.std.proofs.lemmas.Bool.{eqb-true, eqb-false}
 use Rattle.std.specs.List.{AllByRecursion}
@@ -11,13 +11,12 @@ use Rattle.c_pre.specs.declared.hiding.Hiding.{Hiding}
 use Rattle.c_pre.specs.Arguments.{Call, taken, with_argument, begins_empty}
 use Rattle.c_pre.specs.Directives.{names_among}
 use Rattle.c_pre.specs.Ends.{argument_length}
-use Rattle.c_pre.specs.Expansion.{Expansion, Used, stops, with_call, expansion}
+use Rattle.c_pre.specs.Expansion.{with_call, expansion}
 use Rattle.c_pre.specs.HideSets.{HidingToken}
 use Rattle.c_pre.specs.Names.{Macros}
 use Rattle.c_pre.specs.Pending.{Frame, left_in, above, all_hiding, end_of, line_of_calls, used_in, frame, frames}
-use Rattle.c_pre.specs.Pending.{resumed, rest_of_call, comes_to, behind_argument, CallIsKnown, AreKnown, IsClosed, SoundIn}
-use Rattle.c_pre.specs.SharedSets.{IsKnown, names_of}
-use Rattle.c_pre.proofs.Heights.{above_two, length_above, take_take, map_append}
+use Rattle.c_pre.specs.Pending.{resumed, rest_of_call, comes_to, behind_argument, CallIsKnown, IsClosed, SoundIn}
+use Rattle.c_pre.proofs.Heights.{above_two, length_above, take_take}
 use Rattle.c_pre.proofs.Splitting.{with_first, first_taken, mapped_some}
 use Rattle.c_pre.proofs.Steps.{call_begins, next_begins}
 

@@ -1,10 +1,10 @@
 -- The first `)` behind the parameters of a macro.
-use Rattle.std.proofs.Common.{◌≡◌, ℕ, zero, suc, ◌+◌, Bool, true, false, List, [], ◌∷◌, length, take, drop, Option, Some}
+use Rattle.std.proofs.Common.{◌≡◌, ℕ, suc, ◌+◌, Bool, true, false, [], ◌∷◌, length, take, drop, Option, Some}
 use Rattle.std.proofs.Common.{None, option_map, refl, sym, ap, ◌∙◌, arith, if◌then◌else◌, ◌-◌}
 use Rattle.std.specs.List.{list_any}
 use Rattle.std.specs.Prelude.{not, ◌&&◌}
 use Rattle.c_lexer.specs.declared.token.Token.{Token}
-use Rattle.c_pre.specs.Directives.{Line, define, unknown_directive, is_close, is_left_out, to_close, are_parameters}
+use Rattle.c_pre.specs.Directives.{define, unknown_directive, is_close, is_left_out, to_close, are_parameters}
 use Rattle.c_pre.specs.Directives.{names_among, function_like}
 use Rattle.c_pre.specs.Names.{Name}
 use Rattle.c_pre.proofs.Cutting.{tail_is}

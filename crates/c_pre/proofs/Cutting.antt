@@ -196,7 +196,7 @@ begins_behind (x ∷ more) u rest e = by x.begins_line refl (λ f. begins_behind
         → u.begins_line ≡ true
     by true b ih =
         let f : x ∷ more ≡ u ∷ rest =
-            subst (λ c. drop (if c then 0 else suc (line_rest more)) (x ∷ more) ≡ u ∷ rest) b e in
+        subst (λ c. drop (if c then 0 else suc (line_rest more)) (x ∷ more) ≡ u ∷ rest) b e in
         let same : x ≡ u = cc in
         sym (ap (λ (w : Token). w.begins_line) same) ∙ b
     by false b ih = ih (subst (λ c. drop (if c then 0 else suc (line_rest more)) (x ∷ more) ≡ u ∷ rest) b e)

@@ -1,5 +1,5 @@
 -- The end of an argument.
-use Rattle.std.proofs.Common.{◌≡◌, ℕ, zero, suc, ◌≤◌, List, [], ◌∷◌, ◌++◌, map, length, take, refl, sym, ap, subst, ◌∙◌}
+use Rattle.std.proofs.Common.{◌≡◌, ℕ, zero, ◌≤◌, List, [], ◌∷◌, ◌++◌, map, length, take, refl, sym, ap, subst, ◌∙◌}
 use Rattle.std.proofs.Common.{append-nil, Option, Some, None, Ok, option_map}
 use Rattle.c_pre.specs.declared.expander.Call as declared
 use Rattle.c_pre.specs.declared.hide_set.HideSets.{HideSets}
@@ -12,7 +12,7 @@ use Rattle.c_pre.specs.Lines.{Tokens}
 use Rattle.c_pre.specs.Pending.{Frame, left_in, above, hiding, all_hiding, end_of, line_of_calls, frame, frames, resumed}
 use Rattle.c_pre.specs.Pending.{rest_of_call, comes_to, AreKnown, IsClosed, SoundIn}
 use Rattle.c_pre.specs.Ends.{Popped, Stays}
-use Rattle.c_pre.specs.Trace.{Trace, after}
+use Rattle.c_pre.specs.Trace.{after}
 use Rattle.c_pre.specs.Progress.{ArgumentEnds}
 use Rattle.c_pre.specs.declared.unread.Unread.{Unread}
 use Rattle.std.specs.List.{AllByRecursion}

@@ -1,13 +1,12 @@
 -- Tokens above a height of a vector.
-use Rattle.std.proofs.Common.{◌≡◌, ℕ, zero, suc, ◌+◌, ◌-◌, ◌≤◌, ◌<◌, Bool, true, false, List, [], ◌∷◌, ◌++◌, map, length}
-use Rattle.std.proofs.Common.{take, drop, get_or, refl, sym, ap, ◌∙◌, append_assoc, append-nil, length-append, length-drop, arith}
+use Rattle.std.proofs.Common.{◌≡◌, ℕ, zero, suc, ◌-◌, ◌≤◌, ◌<◌, List, [], ◌∷◌, ◌++◌, map, length}
+use Rattle.std.proofs.Common.{take, drop, get_or, refl, sym, ap, ◌∙◌, append_assoc, length-drop, arith}
 use Rattle.std.specs.List.{AllByRecursion}
 use Rattle.c_pre.specs.declared.hide_set.HideSets.{HideSets}
 use Rattle.c_pre.specs.declared.hiding.Hiding.{Hiding}
-use Rattle.c_pre.specs.HideSets.{HidingToken}
 use Rattle.c_pre.specs.InnerFirst.{onto, inner_first}
 use Rattle.c_pre.specs.Pending.{above, hiding, all_hiding, AreKnown}
-use Rattle.c_pre.specs.SharedSets.{IsKnown, Grows, names_of}
+use Rattle.c_pre.specs.SharedSets.{Grows}
 use Rattle.c_pre.proofs.Sets.{still_known}
 use Rattle.c_pre.proofs.Stacks.{length_inner}
 

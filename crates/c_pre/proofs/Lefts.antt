@@ -1,21 +1,18 @@
 -- What is left to do, where more sets or tokens were made.
-use Rattle.std.proofs.Common.{◌≡◌, ℕ, zero, suc, ◌+◌, ◌-◌, ◌≤◌, ◌<◌, Bool, true, false, List, [], ◌∷◌, ◌++◌, map, length}
-use Rattle.std.proofs.Common.{take, drop, refl, sym, ap, subst, ◌∙◌, arith, Option, Some, None}
+use Rattle.std.proofs.Common.{◌≡◌, ℕ, ◌-◌, ◌≤◌, List, [], ◌∷◌, ◌++◌, map, length}
+use Rattle.std.proofs.Common.{take, refl, sym, ap, ◌∙◌, arith, Option}
 use Rattle.std.specs.List.{AllByRecursion}
 use Rattle.c_pre.specs.declared.expander.Call as declared
-use Rattle.c_pre.specs.declared.expander.Expander as declared_expander
 use Rattle.c_pre.specs.declared.hide_set.HideSets.{HideSets}
 use Rattle.c_pre.specs.declared.hiding.Hiding.{Hiding}
 use Rattle.c_pre.specs.declared.unread.Unread.{Unread}
 use Rattle.c_pre.specs.Directives.{names_among}
-use Rattle.c_pre.specs.Expansion.{Used}
 use Rattle.c_pre.specs.HideSets.{HidingToken}
-use Rattle.c_pre.specs.InnerFirst.{inner_first}
 use Rattle.c_pre.specs.Names.{Names}
-use Rattle.c_pre.specs.Pending.{Frame, Left, left_in, left, above, all_hiding, end_of, line_of_calls, used_in, frame, frames}
-use Rattle.c_pre.specs.Pending.{AreKnown, CallIsKnown, IsClosed, IsSound}
+use Rattle.c_pre.specs.Pending.{Frame, Left, left_in, above, all_hiding, end_of, line_of_calls, frame, frames}
+use Rattle.c_pre.specs.Pending.{AreKnown, CallIsKnown}
 use Rattle.c_pre.specs.PutIn.{Puts}
-use Rattle.c_pre.specs.SharedSets.{IsKnown, Grows, names_of}
+use Rattle.c_pre.specs.SharedSets.{Grows, names_of}
 use Rattle.c_pre.proofs.Sets.{still_known}
 use Rattle.c_pre.proofs.Heights.{take_take, above_two, same_above, same_hiding, still_are_known, all_take, all_weaker}
 use Rattle.c_pre.proofs.Putting.{longer}

@@ -1,6 +1,6 @@
 -- What holds of the tokens of the text and of the headers, on whatever line, holds of each expanded token.
-use Rattle.std.proofs.Common.{◌≡◌, ℕ, zero, suc, ◌+◌, ◌-◌, Bool, true, false, cond, List, [], ◌∷◌, ◌++◌, length, Option}
-use Rattle.std.proofs.Common.{Some, None, Result, Ok, Err, get_or, refl, sym, ap, ◌∙◌, subst, inl, inr, nat_le}
+use Rattle.std.proofs.Common.{◌≡◌, ℕ, zero, suc, ◌+◌, ◌-◌, Bool, true, false, List, [], ◌∷◌, ◌++◌, length, Option}
+use Rattle.std.proofs.Common.{Some, None, Result, Ok, Err, get_or, refl, ap, subst, inl, inr, nat_le}
 use Rattle.std.proofs.Common.{if◌then◌else◌, option_map, map}
 use Rattle.std.specs.List.{list_any}
 use Rattle.std.specs.Prelude.{All, IfOk, Contains, bytes_eq, not, ◌&&◌}
@@ -26,12 +26,12 @@ use Rattle.c_pre.specs.Directives.{define, undef}
 use Rattle.c_pre.specs.Directives.{include, null_directive, unknown_include, unknown_directive, named_or, only_name}
 use Rattle.c_pre.specs.Directives.{is_empty, begins_parameters, behind_first, is_close, to_close, is_left_out, are_parameters}
 use Rattle.c_pre.specs.Directives.{function_like, define_named, definition, header_of, included}
-use Rattle.c_pre.specs.Directives.{directive_named, directive_by, directive_or_unknown, directive, line_by, line_kind}
+use Rattle.c_pre.specs.Directives.{directive_named, directive_or_unknown, directive, line_by, line_kind}
 use Rattle.c_pre.specs.declared.fault.PreFaultKind.TheVariants.{TooMany, BadCall}
 use Rattle.c_pre.specs.HideSets.{HidingToken, common}
 use Rattle.c_pre.specs.Arguments.{Role, opens, closes, parts, other, Call, role, first_begins, with_token, with_argument}
 use Rattle.c_pre.specs.Arguments.{taken_by, taken, behind_open, opened, begins_empty, fits}
-use Rattle.c_pre.specs.Expansion.{Expansion, Expander, Expanded, Used, stops, of_text, with_macro_of, macro_named}
+use Rattle.c_pre.specs.Expansion.{Expander, Expanded, Used, stops, of_text, with_macro_of, macro_named}
 use Rattle.c_pre.specs.Expansion.{replacement, argument_named, argument_of, put_argument, put_token, put_in, read_again}
 use Rattle.c_pre.specs.Expansion.{before_others, then_others, each_expanded, with_arguments, with_call, called, replaced}
 use Rattle.c_pre.specs.Expansion.{use_of, turn, expand_by, expansion, trace_of}
@@ -40,11 +40,11 @@ use Rattle.c_pre.specs.Limits.{max_expanded_tokens}
 use Rattle.c_pre.specs.Lines.{Tokens, begins, before, lines}
 use Rattle.c_pre.specs.Names.{Name, Names, Macro, Macros, name_of, member}
 use Rattle.c_pre.specs.Origin.{ComesFrom, StandsIn}
-use Rattle.c_pre.specs.Reading.{redefined, with_macro, may_be, defined, define_line, define_lines, holds, obeyed}
+use Rattle.c_pre.specs.Reading.{redefined, may_be, defined, define_line, define_lines, obeyed}
 use Rattle.c_pre.specs.Reading.{followed, leaving_room, read_text_line, is_text, read_line, read_lines, start}
 use Rattle.c_pre.specs.Reading.{before_run, runs, expanded_tokens, with_condition, with_alternative, elif_at}
 use Rattle.c_pre.specs.Sections.{State, is_read, else_at, endif_at, finished}
-use Rattle.c_pre.specs.Trace.{Trace, goes_on, ◌>>=◌, quiet, gives, fails, fault_at, line_of, ended, answer}
+use Rattle.c_pre.specs.Trace.{Trace, goes_on, ◌>>=◌, quiet, fails, fault_at, line_of, ended, answer}
 
 all_append : {A : Type 0} (P : A → Type 0) (xs ys : List A) → AllByRecursion P xs → AllByRecursion P ys
     → AllByRecursion P (xs ++ ys)

@@ -1,7 +1,7 @@
 -- The steps of the code, against what is left to do.
-use Rattle.std.proofs.Common.{◌≡◌, ℕ, zero, suc, ◌+◌, ◌-◌, ◌≤◌, ◌<◌, Bool, true, false, List, [], ◌∷◌, ◌++◌, map, length}
-use Rattle.std.proofs.Common.{take, drop, refl, sym, ap, subst, ◌∙◌, append_assoc, append-nil, arith, Option, Some, None}
-use Rattle.std.proofs.Common.{option_map, is_some, Result, Ok, Err, Vec, Global, if◌then◌else◌, nat_le, length-append}
+use Rattle.std.proofs.Common.{◌≡◌, ℕ, ◌≤◌, ◌<◌, true, List, [], ◌∷◌, ◌++◌, map, length}
+use Rattle.std.proofs.Common.{take, refl, sym, ap, subst, ◌∙◌, append_assoc, arith, Some}
+use Rattle.std.proofs.Common.{Result, Ok, Err, Vec, Global, nat_le, length-append}
 use Rattle.std.proofs.lemmas.Bool.{le-leb}
 use Rattle.std.specs.List.{AllByRecursion}
 use Rattle.c_lexer.specs.declared.token.Token.{Token}
@@ -9,22 +9,22 @@ use Rattle.c_pre.specs.declared.expander.Call as declared
 use Rattle.c_pre.specs.declared.expander.Expander as declared_expander
 use Rattle.c_pre.specs.declared.fault.PreError.{PreError}
 use Rattle.c_pre.specs.declared.fault.PreError.TheVariants.{Memory, Fault}
-use Rattle.c_pre.specs.declared.fault.PreFaultKind.TheVariants.{TooMany, BadCall}
+use Rattle.c_pre.specs.declared.fault.PreFaultKind.TheVariants.{TooMany}
 use Rattle.c_pre.specs.declared.hide_set.HideSets.{HideSets}
 use Rattle.c_pre.specs.declared.hiding.Hiding.{Hiding}
 use Rattle.c_pre.specs.declared.unread.Unread.{Unread}
-use Rattle.c_pre.specs.Expansion.{Expansion, Used, gives_first, read_again, stops, expansion, trace_of}
+use Rattle.c_pre.specs.Expansion.{Expansion, gives_first, read_again, stops, expansion, trace_of}
 use Rattle.c_pre.specs.HideSets.{HidingToken}
 use Rattle.c_pre.specs.InnerFirst.{inner_first}
 use Rattle.c_pre.specs.Lines.{Tokens}
 use Rattle.c_pre.specs.Names.{Macros}
 use Rattle.c_pre.specs.Pending.{Frame, Left, left_in, left, above, hiding, all_hiding, end_of, line_of_calls, frame, frames}
-use Rattle.c_pre.specs.Pending.{resumed, comes_to, AreKnown, CallIsKnown, IsClosed, SoundIn, IsSound}
+use Rattle.c_pre.specs.Pending.{resumed, comes_to, AreKnown, IsClosed, SoundIn, IsSound}
 use Rattle.c_pre.specs.Limits.{max_expanded_tokens}
 use Rattle.c_pre.specs.Outcomes.{Fails, Emits, EndsBy}
-use Rattle.c_pre.specs.Progress.{Steps, GoesOn, GivesOn, Goes, Comes, Reads, StopsAt, StopsBehind}
+use Rattle.c_pre.specs.Progress.{Steps, GivesOn, Goes, Comes, Reads, StopsAt, StopsBehind}
 use Rattle.c_pre.specs.PutIn.{Puts, PutsIn}
-use Rattle.c_pre.specs.SharedSets.{IsKnown, Grows, names_of}
+use Rattle.c_pre.specs.SharedSets.{IsKnown, Grows}
 use Rattle.c_pre.specs.Trace.{Trace, after, answer, fault_at, gives, ◌>>=◌}
 use Rattle.c_pre.proofs.Sets.{grows_twice}
 use Rattle.c_pre.proofs.Traces.{fault_here, bind_read, bind_failed, after_after}

@@ -1,6 +1,6 @@
 -- Tokens that are put in.
-use Rattle.std.proofs.Common.{◌≡◌, ℕ, zero, suc, ◌+◌, ◌-◌, ◌≤◌, ◌<◌, Bool, true, false, List, [], ◌∷◌, ◌++◌, map, length}
-use Rattle.std.proofs.Common.{take, drop, refl, sym, ap, subst, ◌∙◌, append_assoc, append-nil, length-append, arith, Option, Some, None}
+use Rattle.std.proofs.Common.{◌≡◌, ℕ, zero, suc, ◌-◌, ◌≤◌, ◌<◌, Bool, true, false, List, [], ◌∷◌, ◌++◌, map, length}
+use Rattle.std.proofs.Common.{take, drop, refl, sym, ap, subst, ◌∙◌, length-append, arith, Option, Some, None}
 use Rattle.std.proofs.Common.{get_or, slice_get, option_map, Err, if◌then◌else◌}
 use Rattle.std.specs.Prelude.{bytes_eq}
 use Rattle.std.specs.List.{AllByRecursion}
@@ -16,13 +16,12 @@ use Rattle.c_pre.specs.HideSets.{HidingToken, joined}
 use Rattle.c_pre.specs.Expansion.{of_text, put_argument, put_token, put_in, argument_named, argument_of}
 use Rattle.c_pre.specs.Lines.{Tokens}
 use Rattle.c_pre.specs.Names.{Name, Names, name_of}
-use Rattle.c_pre.specs.InnerFirst.{inner_first}
 use Rattle.c_pre.specs.Pending.{above, hiding, all_hiding, AreKnown}
 use Rattle.c_pre.specs.PutIn.{Puts, PutsIn}
 use Rattle.c_pre.specs.SharedSets.{IsKnown, Grows, names_of}
 use Rattle.c_pre.proofs.Sets.{grows_not, grows_twice, still_known, names_none}
-use Rattle.c_pre.proofs.Heights.{take_all, take_take, take_and_drop, above_none, above_append, above_push, above_two, same_above}
-use Rattle.c_pre.proofs.Heights.{still_are_known, same_hiding, all_drop, drop_one, drop_map}
+use Rattle.c_pre.proofs.Heights.{take_all, take_take, above_none, above_push, above_two, same_above}
+use Rattle.c_pre.proofs.Heights.{still_are_known, all_drop, drop_one, drop_map}
 
 -- nothing
 pub puts_none : (u : Unread) → AreKnown u.sets u.tokens.items → Puts [] u u

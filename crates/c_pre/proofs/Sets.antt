@@ -1,5 +1,5 @@
 -- Hide sets that share their names.
-use Rattle.std.proofs.Common.{◌≡◌, ℕ, zero, suc, ◌+◌, ◌≤◌, ◌<◌, Bool, true, false, List, [], ◌∷◌, ◌++◌, length, Option}
+use Rattle.std.proofs.Common.{◌≡◌, ℕ, zero, suc, ◌≤◌, ◌<◌, Bool, true, false, List, [], ◌∷◌, ◌++◌, length, Option}
 use Rattle.std.proofs.Common.{Some, None, refl, sym, ap, subst, ◌∙◌, nat_lt, slice_get, length-append, arith, if◌then◌else◌}
 use Rattle.std.proofs.lemmas.Bool.{lt-ltb, le-ltb, ltb-true}
 use Rattle.std.specs.Prelude.{bytes_eq, ◌||◌}
@@ -9,8 +9,8 @@ use Rattle.c_pre.specs.declared.hide_set.HideNode.{HideNode}
 use Rattle.c_pre.specs.declared.hide_set.HideSet.{HideSet}
 use Rattle.c_pre.specs.declared.hide_set.HideSets.{HideSets}
 use Rattle.c_pre.specs.Names.{Name, Names, member}
-use Rattle.c_pre.specs.HideSets.{common, joined, with_name}
-use Rattle.c_pre.specs.SharedSets.{earlier, names_by, names_in, names_of, IsKnown, Grows, FirstIs}
+use Rattle.c_pre.specs.HideSets.{common, joined}
+use Rattle.c_pre.specs.SharedSets.{earlier, names_by, names_in, names_of, IsKnown, Grows}
 
 earlier_is : (n number : ℕ) → number < n → earlier n number ≡ number
 earlier_is n number h = let e : nat_lt number n ≡ true = lt-ltb number n h in rw e refl

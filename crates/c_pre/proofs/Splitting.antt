@@ -1,7 +1,7 @@
 -- Arguments, one after the other.
-use Rattle.std.proofs.Common.{◌≡◌, ℕ, zero, suc, ◌+◌, Bool, true, false, List, [], ◌∷◌, ◌++◌, length, Option, Some, None}
-use Rattle.std.proofs.Common.{option_map, is_some, unwrap_or, refl, sym, ap, ◌∙◌, arith}
-use Rattle.c_pre.specs.Arguments.{Role, opens, closes, parts, other, Call, role, with_token, with_argument, closed}
+use Rattle.std.proofs.Common.{◌≡◌, ℕ, zero, suc, false, List, [], ◌∷◌, ◌++◌, length, Option, Some, None}
+use Rattle.std.proofs.Common.{option_map, is_some, unwrap_or, refl, ap, ◌∙◌, arith}
+use Rattle.c_pre.specs.Arguments.{Role, opens, closes, parts, other, Call, role, with_token, with_argument}
 use Rattle.c_pre.specs.Arguments.{taken_by, taken}
 use Rattle.c_pre.specs.Ends.{length_by, argument_length}
 use Rattle.c_pre.specs.HideSets.{HidingToken}

@@ -1,5 +1,5 @@
 -- Vectors whose last item is the innermost, against lists whose first is.
-use Rattle.std.proofs.Common.{◌≡◌, ℕ, suc, ◌+◌, List, [], ◌∷◌, ◌++◌, length, map, refl, ap, ◌∙◌, arith}
+use Rattle.std.proofs.Common.{◌≡◌, ℕ, ◌+◌, List, [], ◌∷◌, ◌++◌, length, refl, ap, ◌∙◌, arith}
 use Rattle.c_pre.specs.declared.section.IfSection.{IfSection}
 use Rattle.c_pre.specs.declared.fault.PreFaultKind.TheVariants.{Unclosed}
 use Rattle.c_pre.specs.Trace.{fails}

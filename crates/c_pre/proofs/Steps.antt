@@ -1,13 +1,13 @@
 -- What is left to do, step by step.
-use Rattle.std.proofs.Common.{◌≡◌, ℕ, zero, suc, ◌+◌, ◌-◌, ◌≤◌, ◌<◌, Bool, true, false, List, [], ◌∷◌, ◌++◌, map, length}
-use Rattle.std.proofs.Common.{take, drop, refl, sym, ap, subst, ◌∙◌, append_assoc, append-nil, length-append, arith, Option}
-use Rattle.std.proofs.Common.{Some, None, option_map, is_some, Result, Ok, Err, nat_le, if◌then◌else◌}
+use Rattle.std.proofs.Common.{◌≡◌, ℕ, zero, ◌-◌, ◌≤◌, ◌<◌, Bool, true, false, List, [], ◌∷◌, ◌++◌, length}
+use Rattle.std.proofs.Common.{refl, sym, ap, ◌∙◌, append_assoc, append-nil, Option}
+use Rattle.std.proofs.Common.{Some, None, Result, Ok, Err, nat_le, if◌then◌else◌}
 use Rattle.std.proofs.lemmas.Bool.{lt-leb, le-leb}
 use Rattle.c_pre.specs.declared.fault.PreFault.{PreFault}
 use Rattle.c_pre.specs.declared.fault.PreFaultKind.TheVariants.{TooMany, BadCall}
 use Rattle.c_pre.specs.HideSets.{HidingToken, common}
 use Rattle.c_pre.specs.Arguments.{Call, taken, with_argument, begins_empty, fits}
-use Rattle.c_pre.specs.Expansion.{Expansion, Expander, Expanded, Used, ends, stops, gives_first, read_again, before_others}
+use Rattle.c_pre.specs.Expansion.{Expansion, Expander, Expanded, Used, stops, gives_first, read_again, before_others}
 use Rattle.c_pre.specs.Expansion.{then_others, each_expanded, with_arguments, with_call, put_in}
 use Rattle.c_pre.specs.Names.{Names}
 use Rattle.c_pre.specs.Pending.{Frame, other_arguments, after_done, rest_of_call, behind_argument, resumed}

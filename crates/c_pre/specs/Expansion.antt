@@ -4,7 +4,6 @@ use Rattle.std.specs.Prelude.{Err, if◌then◌else◌, nat_le, bytes_eq}
 use Rattle.c_lexer.specs.declared.token.Token.{Token}
 use Rattle.c_lexer.specs.Spelled.{on_line}
 use Rattle.c_pre.specs.declared.fault.PreFault.{PreFault}
-use Rattle.c_pre.specs.declared.fault.PreFaultKind.{PreFaultKind}
 use Rattle.c_pre.specs.declared.fault.PreFaultKind.TheVariants.{TooMany, BadCall}
 use Rattle.c_pre.specs.Lines.{Tokens}
 use Rattle.c_pre.specs.Names.{Name, Names, Macro, Macros, name_of, member}

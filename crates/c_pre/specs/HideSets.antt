@@ -1,5 +1,5 @@
 -- Hide sets (C99 6.10.3.4): the names by which a token is not replaced.
-use Rattle.std.specs.Prelude.{ℕ, List, [], ◌∷◌, if◌then◌else◌}
+use Rattle.std.specs.Prelude.{[], ◌∷◌, if◌then◌else◌}
 use Rattle.c_lexer.specs.declared.token.Token.{Token}
 use Rattle.c_pre.specs.Names.{Name, Names, member}
 

@@ -1,6 +1,6 @@
 -- What the code keeps in place of expansions inside of one another: the calls whose arguments are being expanded, and
 -- all unread tokens in one vector.
-use Rattle.std.specs.Prelude.{◌≡◌, ℕ, zero, ◌≤◌, ◌-◌, Bool, true, is_some, List, [], ◌∷◌, ◌++◌, map, length, take, drop, Option, Some, None, Result}
+use Rattle.std.specs.Prelude.{◌≡◌, ℕ, zero, Bool, true, is_some, List, [], ◌∷◌, ◌++◌, map, take, drop, Option, Some, None, Result}
 use Rattle.std.specs.Prelude.{Ok, Err}
 use Rattle.std.specs.List.{AllByRecursion}
 use Rattle.c_pre.specs.declared.expander.Call as declared
@@ -11,7 +11,7 @@ use Rattle.c_pre.specs.declared.hide_set.HideSets.{HideSets}
 use Rattle.c_pre.specs.declared.hiding.Hiding.{Hiding}
 use Rattle.c_pre.specs.Arguments.{Call, taken}
 use Rattle.c_pre.specs.Directives.{names_among}
-use Rattle.c_pre.specs.Expansion.{Expansion, Expander, Expanded, Used, ends, stops, with_arguments, each_expanded}
+use Rattle.c_pre.specs.Expansion.{Expansion, Expander, Expanded, Used, stops, with_arguments, each_expanded}
 use Rattle.c_pre.specs.Expansion.{expansion}
 use Rattle.c_pre.specs.HideSets.{HidingToken}
 use Rattle.c_pre.specs.InnerFirst.{inner_first}

@@ -1,5 +1,5 @@
 -- What the steps of the code do: each leaves something that comes to the same.
-use Rattle.std.specs.Prelude.{◌≡◌, ℕ, zero, ◌≤◌, ◌<◌, Bool, true, false, List, [], ◌∷◌, ◌++◌, length, map, Option, Some, None, Result}
+use Rattle.std.specs.Prelude.{◌≡◌, zero, ◌≤◌, ◌<◌, Bool, true, false, [], ◌∷◌, ◌++◌, length, map, Option, Some, None, Result}
 use Rattle.std.specs.Prelude.{Ok, Err, option_map, ⊤}
 use Rattle.c_pre.specs.declared.expander.Call as declared
 use Rattle.c_pre.specs.declared.expander.Expander as declared_expander
@@ -11,13 +11,12 @@ use Rattle.c_pre.specs.Arguments.{taken, with_argument}
 use Rattle.c_pre.specs.Directives.{names_among}
 use Rattle.c_pre.specs.Expansion.{Expansion, Used, stops, gives_first, replaced, with_call, line_at, turn, replacement, expansion}
 use Rattle.c_pre.specs.Expansion.{trace_of}
-use Rattle.c_pre.specs.HideSets.{HidingToken}
 use Rattle.c_pre.specs.Limits.{max_expanded_tokens}
 use Rattle.c_pre.specs.Lines.{Tokens}
 use Rattle.c_pre.specs.Names.{Name, Names, Macros}
 use Rattle.c_pre.specs.Pending.{Left, left, hiding, all_hiding, resumed, rest_of_call, frame, comes_to, IsSound}
 use Rattle.c_pre.specs.SharedSets.{names_of}
-use Rattle.c_pre.specs.Trace.{Trace, after, answer}
+use Rattle.c_pre.specs.Trace.{after, answer}
 
 -- what is left behind a token, if that comes to this
 abbrev pub behind : Macros → Left → Expansion → Expansion

@@ -1,4 +1,4 @@
-use Rattle.std.proofs.Common.{◌≡◌, ◌+◌, ◌-◌, length, take, drop, Some, refl, sym, ap, ◌∙◌, arith, false, true}
+use Rattle.std.proofs.Common.{◌+◌, ◌-◌, length, take, drop, refl, sym, ◌∙◌, arith, false, true}
 use Rattle.std.specs.List.{list_any}
 use Rattle.c_pre.specs.Directives.{is_left_out}
 use Rattle.c_pre.proofs.Closing.{not_defined, defined}
@@ -11,7 +11,7 @@ returns-then-not-are_parameters c =
     let tokens = c.args.tokens.now in
     let n = c.in-Some.close in
     elim c.then-not-are_parameters.branch [
-      then-not-are_parameters-via-then-not-are_parameters w ↦
+      | then-not-are_parameters-via-then-not-are_parameters w ↦
           not_defined c.args.name tokens n (n + 1) (sym c.close_at.ensures.place ∙ c.in-Some.is) (omega arith)
           false (list_any (λ token. is_left_out token.kind) (take (length tokens - (n + 1)) (drop (n + 1) tokens)))
           w.if-not-are_parameters.ensures refl refl

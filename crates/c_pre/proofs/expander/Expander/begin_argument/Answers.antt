@@ -1,7 +1,7 @@
-use Rattle.std.proofs.Common.{◌≡◌, ◌<◌, List, [], ◌∷◌, refl, sym, ap, subst, ◌∙◌}
+use Rattle.std.proofs.Common.{◌≡◌, List, ◌∷◌, sym, ap, subst, ◌∙◌}
 use Rattle.c_pre.specs.declared.expander.Call as declared
 use Rattle.c_pre.specs.InnerFirst.{inner_first}
-use Rattle.c_pre.specs.Pending.{left_in, end_of, comes_to, SoundIn}
+use Rattle.c_pre.specs.Pending.{left_in, comes_to, SoundIn}
 use Rattle.c_pre.specs.Ends.{EndIs}
 use Rattle.c_pre.proofs.Stacks.{last_is_inner}
 use Rattle.c_pre.proofs.Calling.{other_argument, sound_call}

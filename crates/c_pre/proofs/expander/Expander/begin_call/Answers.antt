@@ -1,11 +1,11 @@
-use Rattle.std.proofs.Common.{◌≡◌, List, [], ◌∷◌, ℕ, zero, is_some, true, false, nat_eq, refl, sym, ap, subst, ◌∙◌, ◌+◌, arith}
+use Rattle.std.proofs.Common.{◌≡◌, List, ◌∷◌, ℕ, zero, is_some, true, false, nat_eq, sym, ap, subst, ◌∙◌, arith}
 use Rattle.std.specs.List.{AllByRecursion}
 use Rattle.c_pre.specs.declared.expander.Call as declared
 use Rattle.c_pre.specs.declared.fault.PreFaultKind.TheVariants.{BadCall}
 use Rattle.c_pre.specs.Arguments.{taken}
 use Rattle.c_pre.specs.Directives.{names_among}
 use Rattle.c_pre.specs.Ends.{EndIs}
-use Rattle.c_pre.specs.Expansion.{Expansion, Used, expansion, stops, with_call}
+use Rattle.c_pre.specs.Expansion.{Expansion, expansion, stops, with_call}
 use Rattle.c_pre.specs.InnerFirst.{inner_first}
 use Rattle.c_pre.specs.Names.{Macros}
 use Rattle.c_pre.specs.Pending.{left, left_in, above, resumed, comes_to, AreKnown, SoundIn}

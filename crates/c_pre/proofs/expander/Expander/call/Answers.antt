@@ -1,6 +1,6 @@
-use Rattle.std.proofs.Common.{◌≡◌, Some, subst}
+use Rattle.std.proofs.Common.{subst}
 use Rattle.c_pre.specs.Directives.{names_among}
-use Rattle.c_pre.specs.Ends.{Popped, OpenIs}
+use Rattle.c_pre.specs.Ends.{OpenIs}
 use Rattle.c_pre.specs.InnerFirst.{inner_first}
 use Rattle.c_pre.specs.Pending.{left}
 use Rattle.c_pre.specs.Expansion.{Expansion, line_at}

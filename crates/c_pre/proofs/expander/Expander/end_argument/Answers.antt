@@ -1,10 +1,9 @@
-use Rattle.std.proofs.Common.{◌≡◌, [], ◌∷◌, Some, None, option_map, subst, sym, ap, ◌∙◌}
+use Rattle.std.proofs.Common.{[], ◌∷◌, Some, option_map, subst, sym, ap, ◌∙◌}
 use Rattle.std.proofs.lemmas.Result.{err_from_is_err_and}
-use Rattle.c_pre.specs.Arguments.{Call, taken, with_argument}
+use Rattle.c_pre.specs.Arguments.{taken, with_argument}
 use Rattle.c_pre.specs.Ends.{Popped, role_of}
 use Rattle.c_pre.specs.InnerFirst.{inner_first}
 use Rattle.c_pre.specs.Pending.{above, end_of, hiding, left_in, comes_to}
-use Rattle.c_pre.specs.Progress.{last_argument, next_argument}
 use Rattle.c_pre.specs.SharedSets.{names_of}
 use Rattle.c_pre.proofs.Ending.{token_known, behind_sound, ends_by, closed_by, parted_by}
 use Rattle.c_pre.proofs.Proceeding.{steps_by, steps_memory}

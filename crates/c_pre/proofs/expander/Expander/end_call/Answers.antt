@@ -2,7 +2,7 @@ use Rattle.std.proofs.Common.{◌≡◌, List, [], ◌∷◌, map, length, true,
 use Rattle.c_pre.specs.declared.fault.PreFaultKind.TheVariants.{BadCall}
 use Rattle.c_pre.specs.Arguments.{fits}
 use Rattle.c_pre.specs.Directives.{names_among}
-use Rattle.c_pre.specs.Expansion.{Expansion, expansion, stops, put_in, read_again}
+use Rattle.c_pre.specs.Expansion.{Expansion, expansion, put_in, read_again}
 use Rattle.c_pre.specs.HideSets.{HidingToken, common}
 use Rattle.c_pre.specs.InnerFirst.{inner_first}
 use Rattle.c_pre.specs.Pending.{left, all_hiding, frame, resumed}

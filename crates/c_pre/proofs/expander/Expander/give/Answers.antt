@@ -1,8 +1,7 @@
-use Rattle.std.proofs.Common.{◌≡◌, List, [], ◌∷◌, ◌++◌, Vec, Global, refl, sym, ap, subst, ◌∙◌, length, arith}
+use Rattle.std.proofs.Common.{◌≡◌, List, [], ◌∷◌, refl, sym, ap, subst, ◌∙◌, arith}
 use Rattle.c_pre.specs.declared.expander.Call as declared
 use Rattle.c_pre.specs.Expansion.{gives_first, expansion, trace_of}
 use Rattle.c_pre.specs.InnerFirst.{inner_first}
-use Rattle.c_pre.specs.Names.{Macros}
 use Rattle.c_pre.specs.Pending.{left_in, hiding, resumed, comes_to, SoundIn}
 use Rattle.c_pre.specs.Progress.{staying}
 use Rattle.c_pre.specs.Trace.{after, gives, ◌>>=◌}

@@ -1,5 +1,5 @@
-use Rattle.std.proofs.Common.{◌≡◌, Option, Some, option_map, ap, sym, ◌∙◌}
-use Rattle.c_pre.specs.Expansion.{expansion, replaced, use_of, turn, replacement}
+use Rattle.std.proofs.Common.{option_map, ap, sym, ◌∙◌}
+use Rattle.c_pre.specs.Expansion.{expansion, replaced, use_of, turn}
 use Rattle.c_pre.specs.Directives.{names_among}
 use Rattle.c_pre.specs.Outcomes.{macro_of, macros_of}
 use Rattle.c_pre.specs.Pending.{left, hiding, resumed}

@@ -1,8 +1,7 @@
-use Rattle.std.proofs.Common.{◌≡◌, List, [], ◌∷◌, map, Some, None, refl, sym, ap, ◌∙◌}
-use Rattle.c_pre.specs.Directives.{names_among}
-use Rattle.c_pre.specs.Expansion.{put_in, read_again, expansion, line_at}
+use Rattle.std.proofs.Common.{[], ◌∷◌, refl, sym, ap, ◌∙◌}
+use Rattle.c_pre.specs.Expansion.{put_in, read_again, expansion}
 use Rattle.c_pre.specs.InnerFirst.{inner_first}
-use Rattle.c_pre.specs.Pending.{left, above, all_hiding, end_of, line_of_calls, frames, resumed}
+use Rattle.c_pre.specs.Pending.{left, resumed}
 use Rattle.c_pre.specs.Progress.{object_like}
 use Rattle.c_pre.specs.SharedSets.{names_of}
 use Rattle.c_pre.proofs.Proceeding.{put_steps, sets_then_put}

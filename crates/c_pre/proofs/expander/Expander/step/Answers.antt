@@ -1,9 +1,9 @@
-use Rattle.std.proofs.Common.{◌≡◌, ◌≤◌, ◌∷◌, length, subst, ap, ◌∙◌, arith}
+use Rattle.std.proofs.Common.{◌≤◌, ◌∷◌, length, subst, ap, ◌∙◌, arith}
 use Rattle.std.proofs.lemmas.Result.{err_from_is_err_and}
 use Rattle.c_pre.specs.Ends.{Popped}
 use Rattle.c_pre.specs.Expansion.{trace_of}
 use Rattle.c_pre.specs.InnerFirst.{inner_first}
-use Rattle.c_pre.specs.Outcomes.{Fails, macros_of}
+use Rattle.c_pre.specs.Outcomes.{macros_of}
 use Rattle.c_pre.specs.Pending.{comes_to, left_in}
 use Rattle.c_pre.specs.Trace.{after}
 use Rattle.c_pre.proofs.Ending.{token_known, popped_sound, popped_reads, nothing_left, innermost}

@@ -1,4 +1,3 @@
-use Rattle.std.proofs.Common.{◌≡◌}
 use Rattle.c_pre.specs.SharedSets.{names_of, IsKnown}
 use Rattle.c_pre.proofs.Sets.{Includes}
 use Rattle.c_pre.proofs.hide_set.HideSets.is_within.Given as goal

@@ -1,4 +1,4 @@
-use Rattle.std.proofs.Common.{◌≡◌, suc, [], ◌∷◌, length, length-append, ap, arith}
+use Rattle.std.proofs.Common.{[], ◌∷◌, length, length-append, ap, arith}
 use Rattle.c_pre.specs.declared.hide_set.HideNode.{HideNode}
 use Rattle.c_pre.proofs.Sets.{grows_by, made_names}
 use Rattle.c_pre.proofs.hide_set.HideSets.with.Goals as goal

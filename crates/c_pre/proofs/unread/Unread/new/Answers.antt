@@ -1,4 +1,4 @@
-use Rattle.std.proofs.Common.{◌≤◌, ◌-◌, ◌∙◌, refl, sym, subst, [], ◌∷◌, length, arith}
+use Rattle.std.proofs.Common.{refl, sym, subst, [], ◌∷◌, arith}
 use Rattle.c_pre.specs.Pending.{AreKnown}
 use Rattle.c_pre.specs.declared.hiding.Hiding.{Hiding}
 use Rattle.c_pre.proofs.Heights.{all_both}

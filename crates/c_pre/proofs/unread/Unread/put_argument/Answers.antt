@@ -1,4 +1,4 @@
-use Rattle.std.proofs.Common.{◌≤◌, ◌-◌, refl, arith}
+use Rattle.std.proofs.Common.{refl, arith}
 use Rattle.std.proofs.lemmas.Result.{err_from_is_err_and}
 use Rattle.c_pre.specs.declared.unread.Unread.{Unread}
 use Rattle.c_pre.proofs.Putting.{argument_step, argument_refused}

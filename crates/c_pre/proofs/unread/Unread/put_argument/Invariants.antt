@@ -1,4 +1,4 @@
-use Rattle.std.proofs.Common.{◌≡◌, ◌≤◌, length, drop}
+use Rattle.std.proofs.Common.{◌≤◌, length, drop}
 use Rattle.c_pre.specs.Expansion.{put_argument}
 use Rattle.c_pre.specs.Pending.{all_hiding}
 use Rattle.c_pre.specs.PutIn.{Puts}

@@ -1,4 +1,4 @@
-use Rattle.std.proofs.Common.{◌≡◌, ◌≤◌, ◌-◌, map, Some, None, sym, ap, ◌∙◌, arith}
+use Rattle.std.proofs.Common.{map, None, ap, ◌∙◌, arith}
 use Rattle.std.proofs.lemmas.Result.{err_from_is_err_and}
 use Rattle.c_pre.specs.Directives.{names_among}
 use Rattle.c_pre.specs.Expansion.{put_argument, put_token}

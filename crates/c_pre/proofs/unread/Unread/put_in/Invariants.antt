@@ -1,4 +1,4 @@
-use Rattle.std.proofs.Common.{◌≡◌, ◌≤◌, length, drop, map}
+use Rattle.std.proofs.Common.{◌≤◌, length, drop, map}
 use Rattle.c_pre.specs.Directives.{names_among}
 use Rattle.c_pre.specs.Expansion.{put_in}
 use Rattle.c_pre.specs.Pending.{all_hiding}

@@ -45,6 +45,7 @@ pub mod Statuses
 pub mod StoredParts
 pub mod StoredTexts
 pub mod Straight
+pub mod ToldEndings
 pub mod TopCell
 pub mod UpdateSteps
 pub mod UpdatedPlaces

@@ -16,13 +16,15 @@ use Rattle.obj_memory.specs.declared.value.Value.{Value}
 use Rattle.obj_memory.specs.Sound.{IsSoundTag}
 use Rattle.c_tree.specs.declared.expression.Kind.{Kind}
 use Rattle.c_tree.specs.declared.expression.Kind.TheVariants.{Void}
+use Rattle.c_tree.specs.declared.expression.Routine.{Routine}
+use Rattle.c_tree.specs.declared.expression.Routine.TheVariants as routine
 use Rattle.c_tree.specs.Kinds.{routine_signature}
 use Rattle.source_meaning.specs.State.{Ended, Gives, on, Outcome, Paused, Run, State}
 use Rattle.source_meaning.specs.Acting.{state_of}
 use Rattle.source_meaning.specs.Actions.{integer}
 use Rattle.source_meaning.specs.Calls.{header_of}
 use Rattle.source_meaning.specs.Good.{After, AreGiven, function_count, IsGiven, IsOfKind, Leaves}
-use Rattle.source_meaning.specs.Library.{routine}
+use Rattle.source_meaning.specs.Library.{routine as routine_run}
 use Rattle.source_meaning.specs.Structures.{give, rvalue, values_of}
 use Rattle.source_meaning.specs.Working.{CountsBy}
 use Rattle.source_meaning.proofs.Lines.{lines_routine}
@@ -80,6 +82,7 @@ use Rattle.metadata_relation.proofs.Assigning.{assigned, assigns}
 use Rattle.metadata_relation.proofs.Finishing.{acted_as, acted_then, acted_worked, AreFew, beside_ne, ends_with}
 use Rattle.metadata_relation.proofs.Finishing.{integer_cleared, integer_few, integer_moved, IsPlacedIn, move_few}
 use Rattle.metadata_relation.proofs.Finishing.{nothing_done, tagged_in, untagged_few, value_moved}
+use Rattle.metadata_relation.proofs.Library.{library_step}
 use Rattle.metadata_relation.proofs.LibraryArguments.{are_packed, are_scalars, AreMoved, arguments_held, arguments_kinds}
 use Rattle.metadata_relation.proofs.LibraryArguments.{arguments_sound, pack_length}
 use Rattle.metadata_relation.proofs.LibraryRuns.{free_gives, GivesBy, IsToldBy, KeepsCaller, least_count, routine_counts}
@@ -90,7 +93,8 @@ use Rattle.metadata_relation.proofs.Registers.{temporary_free}
 use Rattle.metadata_relation.proofs.RuntimeCalls.{runtime_call, site}
 use Rattle.metadata_relation.proofs.Setting.{functions_same}
 use Rattle.metadata_relation.proofs.Standing.{ends, good_now, IsNode, node, Result}
-use Rattle.metadata_relation.proofs.Statuses.{all_end, done_passes, has_report, status_ends, tells}
+use Rattle.metadata_relation.proofs.Statuses.{AllEnd, status_ends, status_passed}
+use Rattle.metadata_relation.proofs.ToldEndings.{has_report, tells, told_among, told_status}
 
 -- ---- the routines
 
@@ -164,22 +168,22 @@ listed library.Strchr = refl
 listed library.Puts = refl
 
 -- all statuses tell endings
-all_told : (f : LibraryFunction) → all_end (statuses_of f) ≡ true
-all_told library.Malloc = refl
-all_told library.Calloc = refl
-all_told library.Free = refl
-all_told library.Realloc = refl
-all_told library.Memcpy = refl
-all_told library.Memmove = refl
-all_told library.Memset = refl
-all_told library.Memcmp = refl
-all_told library.Strlen = refl
-all_told library.Strcmp = refl
-all_told library.Strcpy = refl
-all_told library.Strncpy = refl
-all_told library.Strcat = refl
-all_told library.Strchr = refl
-all_told library.Puts = refl
+all_told : (f : LibraryFunction) (line : ℕ) → AllEnd (statuses_of f) line
+all_told library.Malloc line = (refl, tt)
+all_told library.Calloc line = (refl, tt)
+all_told library.Free line = (refl, (refl, tt))
+all_told library.Realloc line = (refl, (refl, (refl, tt)))
+all_told library.Memcpy line = (refl, (refl, tt))
+all_told library.Memmove line = (refl, (refl, tt))
+all_told library.Memset line = (refl, (refl, tt))
+all_told library.Memcmp line = (refl, (refl, tt))
+all_told library.Strlen line = (refl, (refl, tt))
+all_told library.Strcmp line = (refl, (refl, tt))
+all_told library.Strcpy line = (refl, (refl, tt))
+all_told library.Strncpy line = (refl, (refl, tt))
+all_told library.Strcat line = (refl, (refl, tt))
+all_told library.Strchr line = (refl, (refl, tt))
+all_told library.Puts line = (refl, (refl, tt))
 
 -- what is given in one word has no tag
 word_untagged : (f : LibraryFunction) (functions : ℕ) (v : Value) → (signature f).gives ≡ OneWord
@@ -192,7 +196,7 @@ word_untagged f functions v e is = cc
 
 -- where nothing is given, 0 stands for it
 nothing_given : (f : LibraryFunction) (c : Compiled) (vs : List Value) (line : ℕ) (x : State)
-    → (signature f).gives ≡ NoValue → GivesBy (λ v. v ≡ integer 0) (routine c.setting (routine_of f) vs line x)
+    → (signature f).gives ≡ NoValue → GivesBy (λ v. v ≡ integer 0) (routine_run c.setting (routine_of f) vs line x)
 nothing_given library.Free c vs line x e = (free_gives c.setting vs line).by x
 nothing_given f c vs line x e = cc
 
@@ -257,13 +261,6 @@ as_behind b s x' k =
       stacked = s.stacked;
       turns = z;
     }) k.turns
-
--- what is told has a status
-told_status : (ks : List ReturnStatus) (line : ℕ) (e : Ending) → IsToldBy ks line e
-    → (k : ReturnStatus) × (return_status e ≡ Some k)
-told_status [] line e told = absurd told
-told_status (k ∷ ks) line e (inl here) = (k, tells k line e here)
-told_status (k ∷ ks) line e (inr more) = told_status ks line e more
 
 -- ---- the result
 
@@ -343,7 +340,7 @@ module _ (c : Compiled) (IsGood : Bytes → Type 0) (right : IsCompiled c IsGood
     paid = spent 12 s
 
     abbrev does : Run Value
-    does = routine c.setting (routine_of f) (values_of (gathered temps d count)) line
+    does = routine_run c.setting (routine_of f) (values_of (gathered temps d count)) line
 
     -- ---- the block
 
@@ -423,7 +420,7 @@ module _ (c : Compiled) (IsGood : Bytes → Type 0) (right : IsCompiled c IsGood
       same : (y : ℕ) → y < moved_register h.code 0 → between.values y ≡ v.values y
       serves : ServesCall (map_of c) c.layout.program (views c) h.keys IsGood (library_interface f) (site_at between)
           (parameters_of f) (results_of f) line (spent 12 s)
-          (routine c.setting (routine_of f) (values_of (gathered temps d count)) line)
+          (routine_run c.setting (routine_of f) (values_of (gathered temps d count)) line)
 
     called : IsCalled
     called =
@@ -499,7 +496,7 @@ module _ (c : Compiled) (IsGood : Bytes → Type 0) (right : IsCompiled c IsGood
     abbrev bound : ℕ
     bound = work_of_call (parameters_of f) (results_of f) 2
         (routine_steps (library_interface f)
-        (routine c.setting (routine_of f) (values_of (gathered temps d count)) line) (spent 12 s))
+        (routine_run c.setting (routine_of f) (values_of (gathered temps d count)) line) (spent 12 s))
 
     -- what it counts
     abbrev counted : State → ℕ
@@ -579,7 +576,7 @@ module _ (c : Compiled) (IsGood : Bytes → Type 0) (right : IsCompiled c IsGood
           let q1 = at_call + 1 in
           let q2 = at_call + 1 + length tests in
           let rest = has_call.1 in
-          let tested = done_passes m p u xs q1 S line (statuses_of f) y (has_front body q1 tests ended_by rest) done.status in
+          let tested = status_passed m p u xs S line q1 (statuses_of f) y (has_front body q1 tests ended_by rest) done.status in
           let passed = reached_next m p u xs pc q1 q2 v y y (2 * parameters_of f + bound) 2 come_behind tested in
           let y2 : flat.State = record y { work = y.work + tested.work } in
           let end = ends_with c IsGood right u n temps ws s v xs h q2 (2 * parameters_of f + bound + 2) 5 next y2 ended_by
@@ -630,8 +627,9 @@ module _ (c : Compiled) (IsGood : Bytes → Type 0) (right : IsCompiled c IsGood
               let q1 = at_call + 1 in
               let come = reached_then m p u xs pc at_call q1 v q.between y (2 * parameters_of f) bound q.come
               (record { steps = q.serves.steps; comes = q.serves.comes ∙ t.behind.at; few = t.behind.work }) in
-              let end = status_ends m p u xs q1 S line (statuses_of f) y t.kind e (all_told f)
-              (has_front body q1 tests ended_by has_call.1) t.status t.ending_is told.0 in
+              let end = status_ends m p u xs S line (statuses_of f) t.kind q1 y e
+              (has_front body q1 tests ended_by has_call.1) (all_told f line) t.status
+              (told_among (statuses_of f) t.kind line e told.0 t.ending_is) t.ending_is in
               let z : State = spent (3 * (x'.work - (s.work + 12))) x' in
               let some = has_report e t.kind (tells t.kind line e t.ending_is) in
               let few = affords_end f (x'.work - (s.work + 12)) (length (report_of e)) some in
@@ -663,9 +661,38 @@ module _ (c : Compiled) (IsGood : Bytes → Type 0) (right : IsCompiled c IsGood
     library_call = by (does paid) refl
       where
         by : (o : Outcome Value)
-            → routine c.setting (routine_of f) (values_of (gathered temps d count)) line (spent 12 s) ≡ o
+            → routine_run c.setting (routine_of f) (values_of (gathered temps d count)) line (spent 12 s) ≡ o
             → Result c IsGood (came (fourfold (s.work + 12) (on o (λ z. give z))) (given_in u next temps d ws))
             (flat.Stands u (c.layout.address u n) v xs)
         by (Gives value x') e = gave called value x' e
         by (Ended ending x') e = stopped called ending x' e
         by (Paused x') e = absurd (served_by (Paused x') e)
+
+  -- whatever the routine
+  pub routine_step : (r : Routine) (line d count next : ℕ)
+      → slice_get h.code.code n ≡ Some (tac.Library r line d count next)
+      → are_passed (routine_signature r).parameters (gathered temps d count) ≡ true
+      → Follows (effect c.setting (expansion_of c).code (tac.Library r line d count next) u temps ws (spent 12 s))
+  routine_step routine.Malloc line d count next at fits = library_call library.Malloc line d count next at fits
+  routine_step routine.Calloc line d count next at fits = library_call library.Calloc line d count next at fits
+  routine_step routine.Free line d count next at fits = library_call library.Free line d count next at fits
+  routine_step routine.Realloc line d count next at fits = library_call library.Realloc line d count next at fits
+  routine_step routine.Memcpy line d count next at fits = library_call library.Memcpy line d count next at fits
+  routine_step routine.Memmove line d count next at fits = library_call library.Memmove line d count next at fits
+  routine_step routine.Memset line d count next at fits = library_call library.Memset line d count next at fits
+  routine_step routine.Memcmp line d count next at fits = library_call library.Memcmp line d count next at fits
+  routine_step routine.Strlen line d count next at fits = library_call library.Strlen line d count next at fits
+  routine_step routine.Strcmp line d count next at fits = library_call library.Strcmp line d count next at fits
+  routine_step routine.Strcpy line d count next at fits = library_call library.Strcpy line d count next at fits
+  routine_step routine.Strncpy line d count next at fits = library_call library.Strncpy line d count next at fits
+  routine_step routine.Strcat line d count next at fits = library_call library.Strcat line d count next at fits
+  routine_step routine.Strchr line d count next at fits = library_call library.Strchr line d count next at fits
+  routine_step routine.Puts line d count next at fits = library_call library.Puts line d count next at fits
+  routine_step routine.Putchar line d count next at fits =
+      library_step c IsGood right u n temps ws s v xs h words routine.Putchar line d count next refl at fits
+  routine_step routine.Getchar line d count next at fits =
+      library_step c IsGood right u n temps ws s v xs h words routine.Getchar line d count next refl at fits
+  routine_step routine.Exit line d count next at fits =
+      library_step c IsGood right u n temps ws s v xs h words routine.Exit line d count next refl at fits
+  routine_step routine.Abort line d count next at fits =
+      library_step c IsGood right u n temps ws s v xs h words routine.Abort line d count next refl at fits

@@ -1,246 +1,219 @@
--- The status of a function of the runtime is tested behind its call: where its work is done the code goes on, and what it
--- tells ends the run at the line of the call.
-use Rattle.std.proofs.Common.{◌≡◌, ◌⊎◌, inl, inr, ℕ, suc, ◌+◌, ◌*◌, ◌<◌, ◌≤◌, Bool, true, false, not, ◌==◌, ◌&&◌, List, []}
-use Rattle.std.proofs.Common.{◌∷◌, ◌++◌, length, get_or, Option, Some, None, refl, sym, ap, ◌∙◌, subst, arith}
-use Rattle.std.proofs.Common.{mul-le-mul_right}
-use Rattle.std.proofs.lemmas.Bool.{and_parts, eq-eqb, eqb-true}
-use Rattle.std.proofs.lemmas.Option.{same_Some}
+-- Behind a call of the runtime a status tells how the run goes on: by 0 past the tests, else it ends as the status says.
+use Rattle.std.proofs.Common.{◌≡◌, ℕ, ◌+◌, ◌*◌, ◌≤◌, true, false, not, if◌then◌else◌, Bool, List, [], ◌∷◌}
+use Rattle.std.proofs.Common.{◌⊎◌, inl, inr, length, mul-le-mul_right, Option, Some, None, refl, sym, ap, ◌∙◌, subst, arith}
+use Rattle.std.specs.Prelude.{◌==◌}
+use Rattle.std.proofs.lemmas.Bool.{eq-eqb, eqb-true}
 use Rattle.behaviours.specs.Steps.{run}
 use Rattle.behaviours.proofs.Running.{run_add}
 use Rattle.addr_map.specs.Places.{MapSizes}
-use Rattle.rv_isa.specs.declared.instruction.BranchOp.TheVariants.{Beq, Bne}
-use Rattle.rv_isa.specs.Results.{branch_taken}
 use Rattle.sb_base.specs.declared.ending.Ending.{Ending}
 use Rattle.sb_base.specs.declared.ending.Ending.TheVariants as ending
-use Rattle.sb_base.specs.Endings.{code_of, report_of, report_at}
+use Rattle.sb_base.specs.Endings.{code_of, report_of}
+use Rattle.rv_isa.specs.declared.instruction.BranchOp.TheVariants.{Beq, Bne}
+use Rattle.rv_isa.specs.Results.{branch_taken}
+use Rattle.words.specs.TwosComplement.{low_bits}
+use Rattle.flat_meaning.specs.declared.instruction.RightOperand.TheVariants.{Number}
 use Rattle.flat_meaning.specs.declared.instruction.FlatInstruction.{FlatInstruction}
 use Rattle.flat_meaning.specs.declared.instruction.FlatInstruction.TheVariants.{End}
-use Rattle.flat_meaning.specs.declared.instruction.RightOperand.TheVariants.{Number}
 use Rattle.flat_meaning.specs.declared.function.FlatProgram.{FlatProgram}
 use Rattle.flat_meaning.specs.Calls.{function_in}
-use Rattle.flat_meaning.specs.Meaning.{body_of, right_value, step, weight_of}
+use Rattle.flat_meaning.specs.Meaning.{body_of, instruction_at, step, weight_of}
 use Rattle.flat_meaning.specs.State as flat
 use Rattle.flat_routines.specs.Routine.{HasAt}
-use Rattle.flat_routines.proofs.Steps.{has_back}
+use Rattle.flat_routines.proofs.Steps.{has_back, has_front}
 use Rattle.runtime_functions.specs.declared.status.ReturnStatus.{ReturnStatus}
-use Rattle.runtime_functions.specs.declared.status.ReturnStatus.TheVariants.{Completed, Spatial, Temporal, BadCall}
-use Rattle.runtime_functions.specs.declared.status.ReturnStatus.TheVariants.{BadFree, Divide, Stack, Keys, Abort}
-use Rattle.runtime_functions.specs.Status.{ending_at, return_status, status_number}
+use Rattle.runtime_functions.specs.declared.status.ReturnStatus.TheVariants as told
+use Rattle.runtime_functions.specs.Status.{ending_at, status_number}
 use Rattle.metadata_plan.proofs.Flat.{at_place, branch_passed_comes, branch_taken_comes, Comes, end_step, weight_small}
 use Rattle.metadata_relation.specs.Blocks.{end_code, status_code, status_tests}
-use Rattle.metadata_relation.proofs.LibraryRuns.{IsToldBy}
 
--- ---- statuses
+-- ---- numbers
 
--- each has its number
-number_is : (k : ReturnStatus) (values : flat.Values) → right_value (Number (status_number k)) values ≡ status_number k
-number_is Completed values = refl
-number_is Spatial values = refl
-number_is Temporal values = refl
-number_is BadCall values = refl
-number_is BadFree values = refl
-number_is Divide values = refl
-number_is Stack values = refl
-number_is Keys values = refl
-number_is Abort values = refl
+-- the ending that the number of a status tells
+ending_by : (number line : ℕ) → Option Ending
+ending_by n line =
+    if n == 1 then Some (ending.Spatial line)
+    else if n == 2 then Some (ending.Temporal line)
+    else if n == 3 then Some (ending.BadCall line)
+    else if n == 4 then Some (ending.BadFree line)
+    else if n == 5 then Some (ending.Divide line)
+    else if n == 6 then Some (ending.Stack line)
+    else if n == 7 then Some (ending.Keys line)
+    else if n == 8 then Some (ending.Abort line)
+    else None
 
--- an ending is told by one status
-tells_by : (k : ReturnStatus) (x e : Ending) → Some x ≡ Some e → return_status x ≡ Some k → return_status e ≡ Some k
-tells_by k x e same is = subst (λ z. return_status z ≡ Some k) (same_Some x e same) is
+by_number : (k : ReturnStatus) (line : ℕ) → ending_at k line ≡ ending_by (status_number k) line
+unfolding ending_by
+by_number told.Completed line = refl
+by_number told.Spatial line = refl
+by_number told.Temporal line = refl
+by_number told.BadCall line = refl
+by_number told.BadFree line = refl
+by_number told.Divide line = refl
+by_number told.Stack line = refl
+by_number told.Keys line = refl
+by_number told.Abort line = refl
 
-pub tells : (k : ReturnStatus) (line : ℕ) (e : Ending) → ending_at k line ≡ Some e → return_status e ≡ Some k
-tells Completed line e is = cc
-tells Spatial line e is = tells_by Spatial (ending.Spatial line) e is refl
-tells Temporal line e is = tells_by Temporal (ending.Temporal line) e is refl
-tells BadCall line e is = tells_by BadCall (ending.BadCall line) e is refl
-tells BadFree line e is = tells_by BadFree (ending.BadFree line) e is refl
-tells Divide line e is = tells_by Divide (ending.Divide line) e is refl
-tells Stack line e is = tells_by Stack (ending.Stack line) e is refl
-tells Keys line e is = tells_by Keys (ending.Keys line) e is refl
-tells Abort line e is = tells_by Abort (ending.Abort line) e is refl
+-- two statuses of a number tell the same ending
+same_ending : (j k : ReturnStatus) (line : ℕ) → status_number j ≡ status_number k → ending_at j line ≡ ending_at k line
+same_ending j k line e = by_number j line ∙ ap (λ n. ending_by n line) e ∙ sym (by_number k line)
 
-same_status : (j k : ReturnStatus) (line : ℕ) (e : Ending) → ending_at j line ≡ Some e → ending_at k line ≡ Some e → j ≡ k
-same_status j k line e p q = same_Some j k (sym (tells j line e p) ∙ tells k line e q)
+-- the number is that of one of these
+abbrev pub IsAmong : ℕ → List ReturnStatus → Type 0
+IsAmong n [] = ⊥
+IsAmong n (k ∷ ks) = (n ≡ status_number k) ⊎ IsAmong n ks
 
--- and by its number
-status_at : (number : ℕ) → ReturnStatus
-status_at n =
-    get_or (Completed ∷ Spatial ∷ Temporal ∷ BadCall ∷ BadFree ∷ Divide ∷ Stack ∷ Keys ∷ Abort ∷ []) n Completed
+-- each of them tells an ending
+abbrev pub AllEnd : List ReturnStatus → (line : ℕ) → Type 0
+AllEnd [] line = Unit {0}
+AllEnd (k ∷ ks) line = (length (end_code (ending_at k line)) ≡ 1) × AllEnd ks line
 
-numbered : (k : ReturnStatus) → status_at (status_number k) ≡ k
-unfolding status_at
-numbered Completed = refl
-numbered Spatial = refl
-numbered Temporal = refl
-numbered BadCall = refl
-numbered BadFree = refl
-numbered Divide = refl
-numbered Stack = refl
-numbered Keys = refl
-numbered Abort = refl
-
-same_number : (j k : ReturnStatus) → status_number j ≡ status_number k → j ≡ k
-same_number j k e = sym (numbered j) ∙ ap status_at e ∙ numbered k
-
--- one that tells an ending is not that of work that is done
-not_done : (k : ReturnStatus) (line : ℕ) (e : Ending) → ending_at k line ≡ Some e → (status_number k == 0) ≡ false
-not_done Completed line e is = cc
-not_done Spatial line e is = refl
-not_done Temporal line e is = refl
-not_done BadCall line e is = refl
-not_done BadFree line e is = refl
-not_done Divide line e is = refl
-not_done Stack line e is = refl
-not_done Keys line e is = refl
-not_done Abort line e is = refl
-
--- all of some statuses tell endings
-abbrev pub all_end : List ReturnStatus → Bool
-all_end [] = true
-all_end (k ∷ ks) = not (status_number k == 0) && all_end ks
-
-one_end : (k : ReturnStatus) (line : ℕ) → not (status_number k == 0) ≡ true → length (end_code (ending_at k line)) ≡ 1
-one_end Completed line e = cc
-one_end Spatial line e = refl
-one_end Temporal line e = refl
-one_end BadCall line e = refl
-one_end BadFree line e = refl
-one_end Divide line e = refl
-one_end Stack line e = refl
-one_end Keys line e = refl
-one_end Abort line e = refl
-
--- what is told has a report
-some_report : (what : List ℕ) (line : ℕ) → 1 ≤ length (report_at what line)
-unfolding report_at
-some_report what line = omega arith
-
-pub has_report : (e : Ending) (k : ReturnStatus) → return_status e ≡ Some k → 1 ≤ length (report_of e)
-has_report (ending.Exit status) k is = cc
-has_report (ending.Spatial line) k is = some_report _ line
-has_report (ending.Temporal line) k is = some_report _ line
-has_report (ending.BadCall line) k is = some_report _ line
-has_report (ending.BadFree line) k is = some_report _ line
-has_report (ending.Divide line) k is = some_report _ line
-has_report (ending.Stack line) k is = some_report _ line
-has_report (ending.Keys line) k is = some_report _ line
-has_report (ending.Abort line) k is = some_report _ line
-
--- ---- branches
-
-equal : (x y : ℕ) (b : Bool) → (x == y) ≡ b → branch_taken Beq x y ≡ b
-unfolding branch_taken
-equal x y b e = e
-
-unequal : (x y : ℕ) (b : Bool) → (x == y) ≡ b → branch_taken Bne x y ≡ not b
-unfolding branch_taken
-unequal x y b e = ap not e
+-- ---- the tests
 
 module _ (m : MapSizes) (p : FlatProgram) (u : ℕ) (xs : List flat.Frame) where
-  -- the run ends
-  pub record EndsWith (place : ℕ) (v : flat.State) (e : Ending) (most : ℕ) : Type 0 where
+  abbrev body : List FlatInstruction
+  body = body_of (function_in p u)
+
+  -- from a place the run ends, with at most so much work besides that of the report
+  pub record EndsFrom (pc : ℕ) (v : flat.State) (e : Ending) (most : ℕ) : Type 0 where
     pub steps : ℕ
     pub work : ℕ
     pub few : work ≤ most + 2 * length (report_of e)
-    pub comes : run (step m p) steps (flat.Stands u place v xs)
+    pub comes : run (step m p) steps (flat.Stands u pc v xs)
         ≡ flat.Over (code_of e) (report_of e) (record v { work = v.work + work })
 
-  ends_behind : (q r : ℕ) (v : flat.State) (e : Ending) (a b : ℕ) → (h : Comes m p u q v xs r v a)
-      → EndsWith r (record v { work = v.work + h.work }) e b → EndsWith q v e (a + b)
-  ends_behind q r v e a b h k = record {
-    steps = h.steps + k.steps;
-    work = h.work + k.work;
-    few = omega (arith, h.few, k.few);
-    comes =
-        let sum : v.work + h.work + k.work ≡ v.work + (h.work + k.work) = omega arith in
-        run_add (step m p) h.steps k.steps (flat.Stands u q v xs) ∙ ap (run (step m p) k.steps) h.comes ∙ k.comes
-        ∙ ap (λ w. flat.Over (code_of e) (report_of e) (record v { work = w })) sum;
-  }
-
-  ends_here : (q : ℕ) (v : flat.State) (e : Ending) (rest : List FlatInstruction)
-      → HasAt (body_of (function_in p u)) q (End e ∷ rest) → EndsWith q v e 2
-  ends_here q v e rest has =
-      let light = mul-le-mul_right (1 + length (report_of e)) (weight_small (function_in p u)) in
+  end_comes : (pc : ℕ) (v : flat.State) (e : Ending) → instruction_at p u pc ≡ Some (End e) → EndsFrom pc v e 2
+  end_comes pc v e at =
+      let w = weight_of (function_in p u) in
+      let l = length (report_of e) in
+      let le : w * (1 + l) ≤ 2 * (1 + l) = mul-le-mul_right (1 + l) (weight_small (function_in p u)) in
       record {
         steps = 1;
         work = weight_of (function_in p u) * (1 + length (report_of e));
-        few = omega arith;
-        comes = end_step m p u q v xs e has.0;
+        few = omega (arith, le);
+        comes = end_step m p u pc v xs e at;
       }
 
-  -- the work is done
-  pub done_passes : (q r line : ℕ) (ks : List ReturnStatus) (v : flat.State)
-      → HasAt (body_of (function_in p u)) q (status_code r line ks) → v.values r ≡ 0
-      → Comes m p u q v xs (q + length (status_code r line ks)) v 2
-  done_passes q r line ks v has is =
-      at_place m p u q v xs (q + 1 + length (status_tests r line ks)) (q + length (status_code r line ks)) v 2
-      (branch_taken_comes m p u q v xs Beq r (Number 0) (length (status_tests r line ks)) has.0
-      (equal (v.values r) 0 true (eq-eqb (v.values r) 0 is)))
-      (omega arith)
+  pub then_ends : (pc q : ℕ) (v v' : flat.State) (e : Ending) (a b : ℕ) → (h : Comes m p u pc v xs q v' a)
+      → EndsFrom q (record v' { work = v.work + h.work }) e b
+      → (steps : ℕ) × ((work : ℕ) × ((work ≤ a + b + 2 * length (report_of e))
+      × (run (step m p) steps (flat.Stands u pc v xs)
+      ≡ flat.Over (code_of e) (report_of e) (record v' { work = v.work + work }))))
+  then_ends pc q v v' e a b h k =
+      let sum : v.work + h.work + k.work ≡ v.work + (h.work + k.work) = omega arith in
+      let one = h.few in
+      let two = k.few in (
+        h.steps + k.steps,
+        (
+          h.work + k.work,
+          (
+            omega arith,
+            run_add (step m p) h.steps k.steps (flat.Stands u pc v xs) ∙ ap (run (step m p) k.steps) h.comes ∙ k.comes
+                ∙ ap (λ w. flat.Over (code_of e) (report_of e) (record v' { work = w })) sum,
+          ),
+        ),
+      )
 
-  tests_end : (q r line : ℕ) (ks : List ReturnStatus) (v : flat.State) (told : ReturnStatus) (e : Ending)
-      → all_end ks ≡ true → HasAt (body_of (function_in p u)) q (status_tests r line ks)
-      → v.values r ≡ status_number told → ending_at told line ≡ Some e → IsToldBy ks line e
-      → EndsWith q v e (2 * length ks + 2)
-  tests_end q r line [] v told e fine has is tells among = absurd among
-  tests_end q r line (k ∷ ks) v told e fine has is tells among =
-      by (status_number told == status_number k) refl
-      (λ w behind more. tests_end (q + 1 + 1) r line ks (record v { work = w }) told e
-      (and_parts (not (status_number k == 0)) (all_end ks) fine).1 behind is tells more)
-    where
-      fine_is : (not (status_number k == 0) ≡ true) × (all_end ks ≡ true)
-      fine_is = and_parts (not (status_number k == 0)) (all_end ks) fine
+  further : (pc q : ℕ) (v : flat.State) (e : Ending) (a b : ℕ) → Comes m p u pc v xs q v a
+      → ((w : ℕ) → EndsFrom q (record v { work = w }) e b) → EndsFrom pc v e (a + b)
+  further pc q v e a b h k =
+      let t = then_ends pc q v v e a b h (k (v.work + h.work)) in
+      record { steps = t.0; work = t.1.0; few = t.1.1.0; comes = t.1.1.1 }
 
-      compared : (b : Bool) → (status_number told == status_number k) ≡ b
-          → (v.values r == right_value (Number (status_number k)) v.values) ≡ b
-      compared b same =
-          ap (λ z. z == right_value (Number (status_number k)) v.values) is
-          ∙ ap (λ z. status_number told == z) (number_is k v.values) ∙ same
+  more : (pc : ℕ) (v : flat.State) (e : Ending) (a b : ℕ) → a ≤ b → EndsFrom pc v e a → EndsFrom pc v e b
+  more pc v e a b le h =
+      let few = h.few in
+      record { steps = h.steps; work = h.work; few = omega arith; comes = h.comes }
 
-      rest_of : IsToldBy (k ∷ ks) line e → (told ≡ k → ⊥) → IsToldBy ks line e
-      rest_of (inl here) other = absurd (other (same_status told k line e tells here))
-      rest_of (inr more) other = more
+  module _ (r line : ℕ) where
+    -- a status of 0 goes past the tests
+    pub status_passed : (pc : ℕ) (ks : List ReturnStatus) (v : flat.State) → HasAt body pc (status_code r line ks)
+        → v.values r ≡ 0 → Comes m p u pc v xs (pc + length (status_code r line ks)) v 2
+    unfolding branch_taken
+    status_passed pc ks v has is =
+        at_place m p u pc v xs (pc + 1 + length (status_tests r line ks)) (pc + length (status_code r line ks)) v 2
+        (branch_taken_comes m p u pc v xs Beq r (Number 0) (length (status_tests r line ks)) has.0
+        (eq-eqb (v.values r) (low_bits 64 0) (is ∙ omega arith))) (omega arith)
 
-      by : (b : Bool) → (status_number told == status_number k) ≡ b
-          → ((w : ℕ) → HasAt (body_of (function_in p u)) (q + 1 + 1) (status_tests r line ks) → IsToldBy ks line e
-          → EndsWith (q + 1 + 1) (record v { work = w }) e (2 * length ks + 2))
-          → EndsWith q v e (2 * length (k ∷ ks) + 2)
-      by true same rest =
-          let one : told ≡ k = same_number told k (eqb-true (status_number told) (status_number k) same) in
-          let passed = branch_passed_comes m p u q v xs Bne r (Number (status_number k)) 1 has.0
-          (unequal (v.values r) (right_value (Number (status_number k)) v.values) true (compared true same)) in
-          let own : ending_at k line ≡ Some e = ap (λ z. ending_at z line) (sym one) ∙ tells in
-          let ended = ends_behind q (q + 1) v e 2 2 passed
-          (ends_here (q + 1) (record v { work = v.work + passed.work }) e (status_tests r line ks)
-          (subst (λ z. HasAt (body_of (function_in p u)) (q + 1) (end_code z ++ status_tests r line ks)) own has.1)) in
-          let few = ended.few in
-          record { steps = ended.steps; work = ended.work; few = omega arith; comes = ended.comes }
-      by false same rest =
-          let passed = branch_taken_comes m p u q v xs Bne r (Number (status_number k)) 1 has.0
-          (unequal (v.values r) (right_value (Number (status_number k)) v.values) false (compared false same)) in
-          let front = end_code (ending_at k line) in
-          let back = has_back (body_of (function_in p u)) (q + 1) front (status_tests r line ks) has.1 in
-          let other : told ≡ k → ⊥ = λ one. false_true (sym same ∙ eq-eqb (status_number told) (status_number k)
-          (ap status_number one)) in
-          let ended = ends_behind q (q + 1 + 1) v e 2 (2 * length ks + 2) passed
-          (rest (v.work + passed.work)
-          (subst (λ z. HasAt (body_of (function_in p u)) (q + 1 + z) (status_tests r line ks)) (one_end k line fine_is.0)
-          back) (rest_of among other)) in
-          let few = ended.few in
-          record { steps = ended.steps; work = ended.work; few = omega arith; comes = ended.comes }
-        where
-          false_true : false ≡ true → ⊥
-          false_true e = cc
+    small_status : (k : ReturnStatus) → status_number k ≡ low_bits 64 (status_number k)
+    small_status told.Completed = omega arith
+    small_status told.Spatial = omega arith
+    small_status told.Temporal = omega arith
+    small_status told.BadCall = omega arith
+    small_status told.BadFree = omega arith
+    small_status told.Divide = omega arith
+    small_status told.Stack = omega arith
+    small_status told.Keys = omega arith
+    small_status told.Abort = omega arith
 
-  -- it is not, and the run ends as one of the statuses tells
-  pub status_ends : (q r line : ℕ) (ks : List ReturnStatus) (v : flat.State) (told : ReturnStatus) (e : Ending)
-      → all_end ks ≡ true → HasAt (body_of (function_in p u)) q (status_code r line ks)
-      → v.values r ≡ status_number told → ending_at told line ≡ Some e → IsToldBy ks line e
-      → EndsWith q v e (2 * length ks + 4)
-  status_ends q r line ks v told e fine has is tells among =
-      let passed = branch_passed_comes m p u q v xs Beq r (Number 0) (length (status_tests r line ks)) has.0
-      (equal (v.values r) 0 false (ap (λ z. z == 0) is ∙ not_done told line e tells)) in
-      let ended = ends_behind q (q + 1) v e 2 (2 * length ks + 2) passed
-      (tests_end (q + 1) r line ks (record v { work = v.work + passed.work }) told e fine has.1 is tells among) in
-      let few = ended.few in
-      record { steps = ended.steps; work = ended.work; few = omega arith; comes = ended.comes }
+    ends_here : (pc : ℕ) (v : flat.State) (e : Ending) (o : Option Ending) → o ≡ Some e
+        → HasAt body pc (end_code o) → EndsFrom pc v e 2
+    ends_here pc v e o is has = end_comes pc v e (subst (λ z. HasAt body pc (end_code z)) is has).0
+
+    -- one that is tested ends the run
+    tests_end : (ks : List ReturnStatus) (k : ReturnStatus) (pc : ℕ) (v : flat.State) (e : Ending)
+        → HasAt body pc (status_tests r line ks) → AllEnd ks line → v.values r ≡ status_number k
+        → IsAmong (status_number k) ks → ending_at k line ≡ Some e → EndsFrom pc v e (2 * length ks + 2)
+    unfolding branch_taken
+    tests_end [] k pc v e has all is among says = absurd among
+    tests_end (j ∷ js) k pc v e has all is among says =
+        by (λ w rest.
+        (let len = all.0 in
+        let place : pc + 1 + length (end_code (ending_at j line)) ≡ pc + 1 + 1 = omega arith in
+        tests_end js k (pc + 1 + 1) (record v { work = w }) e
+        (subst (λ z. HasAt body z (status_tests r line js)) place
+        (has_back body (pc + 1) (end_code (ending_at j line)) (status_tests r line js) has.1))
+        all.1 is rest says)) (v.values r == low_bits 64 (status_number j)) refl
+      where
+        other : (v.values r == low_bits 64 (status_number j)) ≡ false → IsAmong (status_number k) (j ∷ js)
+            → IsAmong (status_number k) js
+        other ne (inl same) =
+            (let yes = eq-eqb (v.values r) (low_bits 64 (status_number j)) (is ∙ same ∙ small_status j) in
+            let both = sym yes ∙ ne in absurd cc)
+        other ne (inr rest) = rest
+
+        by : ((w : ℕ) → IsAmong (status_number k) js
+            → EndsFrom (pc + 1 + 1) (record v { work = w }) e (2 * length js + 2))
+            → (b : Bool) → (v.values r == low_bits 64 (status_number j)) ≡ b
+            → EndsFrom pc v e (2 * length (j ∷ js) + 2)
+        by rest true same =
+            let number = eqb-true (v.values r) (low_bits 64 (status_number j)) same in
+            let one : status_number j ≡ status_number k = small_status j ∙ sym number ∙ is in
+            more pc v e 4 (2 * length (j ∷ js) + 2) (omega arith)
+            (further pc (pc + 1) v e 2 2
+            (branch_passed_comes m p u pc v xs Bne r (Number (status_number j)) 1 has.0 (ap not same))
+            (λ w. ends_here (pc + 1) (record v { work = w }) e (ending_at j line) (same_ending j k line one ∙ says)
+            (has_front body (pc + 1) (end_code (ending_at j line)) (status_tests r line js) has.1)))
+        by rest false ne =
+            more pc v e (2 + (2 * length js + 2)) (2 * length (j ∷ js) + 2) (omega arith)
+            (further pc (pc + 1 + 1) v e 2 (2 * length js + 2)
+            (branch_taken_comes m p u pc v xs Bne r (Number (status_number j)) 1 has.0 (ap not ne))
+            (λ w. rest w (other ne among)))
+
+    pub status_ends : (ks : List ReturnStatus) (k : ReturnStatus) (pc : ℕ) (v : flat.State) (e : Ending)
+        → HasAt body pc (status_code r line ks) → AllEnd ks line → v.values r ≡ status_number k
+        → IsAmong (status_number k) ks → ending_at k line ≡ Some e → EndsFrom pc v e (2 * length ks + 4)
+    unfolding branch_taken
+    status_ends ks k pc v e has all is among says =
+        more pc v e (2 + (2 * length ks + 2)) (2 * length ks + 4) (omega arith)
+        (further pc (pc + 1) v e 2 (2 * length ks + 2)
+        (branch_passed_comes m p u pc v xs Beq r (Number 0) (length (status_tests r line ks)) has.0
+        (no_zero (v.values r == low_bits 64 0) refl))
+        (λ w. tests_end ks k (pc + 1) (record v { work = w }) e has.1 all is among says))
+      where
+        none_zero : (j : ReturnStatus) → status_number j ≡ 0 → ending_at j line ≡ Some e → ⊥
+        none_zero told.Completed zero h = absurd cc
+        none_zero told.Spatial zero h = absurd (omega (arith, zero))
+        none_zero told.Temporal zero h = absurd (omega (arith, zero))
+        none_zero told.BadCall zero h = absurd (omega (arith, zero))
+        none_zero told.BadFree zero h = absurd (omega (arith, zero))
+        none_zero told.Divide zero h = absurd (omega (arith, zero))
+        none_zero told.Stack zero h = absurd (omega (arith, zero))
+        none_zero told.Keys zero h = absurd (omega (arith, zero))
+        none_zero told.Abort zero h = absurd (omega (arith, zero))
+
+        no_zero : (b : Bool) → (v.values r == low_bits 64 0) ≡ b → b ≡ false
+        no_zero false ne = refl
+        no_zero true zero =
+            (let same = eqb-true (v.values r) (low_bits 64 0) zero in
+            absurd (none_zero k (omega (arith, is, same)) says))

@@ -150,7 +150,7 @@ code_is i t c library.Strcat line d b = refl
 code_is i t c library.Strchr line d b = refl
 code_is i t c library.Puts line d b = refl
 
-listed : (f : LibraryFunction) → slice_get runtime_list (library_place f) ≡ Some (Library f)
+pub listed : (f : LibraryFunction) → slice_get runtime_list (library_place f) ≡ Some (Library f)
 listed library.Malloc = refl
 listed library.Calloc = refl
 listed library.Free = refl

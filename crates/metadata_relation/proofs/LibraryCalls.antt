@@ -100,90 +100,27 @@ use Rattle.metadata_relation.proofs.ToldEndings.{has_report, tells, told_among, 
 
 kinds_are : (f : LibraryFunction) → map passed_as (routine_signature (routine_of f)).parameters ≡ (signature f).takes
 kinds_are library.Malloc = refl
-kinds_are library.Calloc = refl
-kinds_are library.Free = refl
-kinds_are library.Realloc = refl
-kinds_are library.Memcpy = refl
-kinds_are library.Memmove = refl
-kinds_are library.Memset = refl
-kinds_are library.Memcmp = refl
-kinds_are library.Strlen = refl
-kinds_are library.Strcmp = refl
-kinds_are library.Strcpy = refl
-kinds_are library.Strncpy = refl
-kinds_are library.Strcat = refl
-kinds_are library.Strchr = refl
-kinds_are library.Puts = refl
+kinds_are f = refl
 
 scalars : (f : LibraryFunction) → are_scalars (routine_signature (routine_of f)).parameters ≡ true
 scalars library.Malloc = refl
-scalars library.Calloc = refl
-scalars library.Free = refl
-scalars library.Realloc = refl
-scalars library.Memcpy = refl
-scalars library.Memmove = refl
-scalars library.Memset = refl
-scalars library.Memcmp = refl
-scalars library.Strlen = refl
-scalars library.Strcmp = refl
-scalars library.Strcpy = refl
-scalars library.Strncpy = refl
-scalars library.Strcat = refl
-scalars library.Strchr = refl
-scalars library.Puts = refl
+scalars f = refl
 
 code_is : (i : InlineCode) (t : Tac) (c : CodeFunction) (f : LibraryFunction) (line d : ℕ) (b : Bool)
     → library_code i t c (routine_of f) line d b ≡ call_list t c f line d b
 code_is i t c library.Malloc line d b = refl
-code_is i t c library.Calloc line d b = refl
-code_is i t c library.Free line d b = refl
-code_is i t c library.Realloc line d b = refl
-code_is i t c library.Memcpy line d b = refl
-code_is i t c library.Memmove line d b = refl
-code_is i t c library.Memset line d b = refl
-code_is i t c library.Memcmp line d b = refl
-code_is i t c library.Strlen line d b = refl
-code_is i t c library.Strcmp line d b = refl
-code_is i t c library.Strcpy line d b = refl
-code_is i t c library.Strncpy line d b = refl
-code_is i t c library.Strcat line d b = refl
-code_is i t c library.Strchr line d b = refl
-code_is i t c library.Puts line d b = refl
+code_is i t c f line d b = refl
 
 pub listed : (f : LibraryFunction) → slice_get runtime_list (library_place f) ≡ Some (Library f)
 listed library.Malloc = refl
-listed library.Calloc = refl
-listed library.Free = refl
-listed library.Realloc = refl
-listed library.Memcpy = refl
-listed library.Memmove = refl
-listed library.Memset = refl
-listed library.Memcmp = refl
-listed library.Strlen = refl
-listed library.Strcmp = refl
-listed library.Strcpy = refl
-listed library.Strncpy = refl
-listed library.Strcat = refl
-listed library.Strchr = refl
-listed library.Puts = refl
+listed f = refl
 
 -- all statuses tell endings
 all_told : (f : LibraryFunction) (line : ℕ) → AllEnd (statuses_of f) line
 all_told library.Malloc line = (refl, tt)
 all_told library.Calloc line = (refl, tt)
-all_told library.Free line = (refl, (refl, tt))
 all_told library.Realloc line = (refl, (refl, (refl, tt)))
-all_told library.Memcpy line = (refl, (refl, tt))
-all_told library.Memmove line = (refl, (refl, tt))
-all_told library.Memset line = (refl, (refl, tt))
-all_told library.Memcmp line = (refl, (refl, tt))
-all_told library.Strlen line = (refl, (refl, tt))
-all_told library.Strcmp line = (refl, (refl, tt))
-all_told library.Strcpy line = (refl, (refl, tt))
-all_told library.Strncpy line = (refl, (refl, tt))
-all_told library.Strcat line = (refl, (refl, tt))
-all_told library.Strchr line = (refl, (refl, tt))
-all_told library.Puts line = (refl, (refl, tt))
+all_told f line = (refl, (refl, tt))
 
 -- what is given in one word has no tag
 word_untagged : (f : LibraryFunction) (functions : ℕ) (v : Value) → (signature f).gives ≡ OneWord
@@ -210,40 +147,14 @@ call_work f w =
 
 -- a call that comes back is paid for
 affords : (f : LibraryFunction) (w : ℕ) → least_count f ≤ w → call_work f w + 2 + 10 + 2 ≤ 252 + 84 * w
-affords library.Malloc w le = omega arith
-affords library.Calloc w le = omega arith
-affords library.Free w le = omega arith
 affords library.Realloc w le = omega arith
-affords library.Memcpy w le = omega arith
-affords library.Memmove w le = omega arith
-affords library.Memset w le = omega arith
-affords library.Memcmp w le = omega arith
-affords library.Strlen w le = omega arith
-affords library.Strcmp w le = omega arith
-affords library.Strcpy w le = omega arith
-affords library.Strncpy w le = omega arith
-affords library.Strcat w le = omega arith
-affords library.Strchr w le = omega arith
-affords library.Puts w le = omega arith
+affords f w le = omega arith
 
 -- and one that ends the run, with its report
 affords_end : (f : LibraryFunction) (w bytes : ℕ) → 1 ≤ bytes
     → call_work f w + (2 * length (statuses_of f) + 4) + 2 * bytes ≤ 252 + 84 * w + 21 * bytes
-affords_end library.Malloc w bytes le = omega arith
-affords_end library.Calloc w bytes le = omega arith
-affords_end library.Free w bytes le = omega arith
 affords_end library.Realloc w bytes le = omega arith
-affords_end library.Memcpy w bytes le = omega arith
-affords_end library.Memmove w bytes le = omega arith
-affords_end library.Memset w bytes le = omega arith
-affords_end library.Memcmp w bytes le = omega arith
-affords_end library.Strlen w bytes le = omega arith
-affords_end library.Strcmp w bytes le = omega arith
-affords_end library.Strcpy w bytes le = omega arith
-affords_end library.Strncpy w bytes le = omega arith
-affords_end library.Strcat w bytes le = omega arith
-affords_end library.Strchr w bytes le = omega arith
-affords_end library.Puts w bytes le = omega arith
+affords_end f w bytes le = omega arith
 
 -- ---- states
 
@@ -688,11 +599,5 @@ module _ (c : Compiled) (IsGood : Bytes → Type 0) (right : IsCompiled c IsGood
   routine_step routine.Strcat line d count next at fits = library_call library.Strcat line d count next at fits
   routine_step routine.Strchr line d count next at fits = library_call library.Strchr line d count next at fits
   routine_step routine.Puts line d count next at fits = library_call library.Puts line d count next at fits
-  routine_step routine.Putchar line d count next at fits =
-      library_step c IsGood right u n temps ws s v xs h words routine.Putchar line d count next refl at fits
-  routine_step routine.Getchar line d count next at fits =
-      library_step c IsGood right u n temps ws s v xs h words routine.Getchar line d count next refl at fits
-  routine_step routine.Exit line d count next at fits =
-      library_step c IsGood right u n temps ws s v xs h words routine.Exit line d count next refl at fits
-  routine_step routine.Abort line d count next at fits =
-      library_step c IsGood right u n temps ws s v xs h words routine.Abort line d count next refl at fits
+  routine_step r line d count next at fits =
+      library_step c IsGood right u n temps ws s v xs h words r line d count next refl at fits

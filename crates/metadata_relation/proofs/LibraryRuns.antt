@@ -545,17 +545,4 @@ nothing_counted g f vs line = record {
 pub routine_counts : (g : Setting) (f : LibraryFunction) (vs : List Value) (line : ℕ)
     → Counts (least_count f) (routine g (routine_of f) vs line)
 routine_counts g library.Realloc vs line = realloc_counts g line (argument 0 vs) (argument 1 vs)
-routine_counts g library.Malloc vs line = nothing_counted g library.Malloc vs line
-routine_counts g library.Calloc vs line = nothing_counted g library.Calloc vs line
-routine_counts g library.Free vs line = nothing_counted g library.Free vs line
-routine_counts g library.Memcpy vs line = nothing_counted g library.Memcpy vs line
-routine_counts g library.Memmove vs line = nothing_counted g library.Memmove vs line
-routine_counts g library.Memset vs line = nothing_counted g library.Memset vs line
-routine_counts g library.Memcmp vs line = nothing_counted g library.Memcmp vs line
-routine_counts g library.Strlen vs line = nothing_counted g library.Strlen vs line
-routine_counts g library.Strcmp vs line = nothing_counted g library.Strcmp vs line
-routine_counts g library.Strcpy vs line = nothing_counted g library.Strcpy vs line
-routine_counts g library.Strncpy vs line = nothing_counted g library.Strncpy vs line
-routine_counts g library.Strcat vs line = nothing_counted g library.Strcat vs line
-routine_counts g library.Strchr vs line = nothing_counted g library.Strchr vs line
-routine_counts g library.Puts vs line = nothing_counted g library.Puts vs line
+routine_counts g f vs line = nothing_counted g f vs line

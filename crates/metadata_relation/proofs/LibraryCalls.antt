@@ -1,9 +1,9 @@
 -- Routines of the library as calls of functions of the runtime: arguments are packed, the function is called, its status is
 -- tested at the line of the call, and the result goes to its temporary.
-use Rattle.std.proofs.Common.{◌≡◌, ◌⊎◌, inl, inr, ℕ, suc, ◌+◌, ◌-◌, ◌*◌, ◌<◌, ◌≤◌, Bool, true, false, ◌&&◌, List, [], ◌∷◌}
-use Rattle.std.proofs.Common.{◌++◌, length, length-append, map, Option, Some, None, refl, sym, ap, ◌∙◌, subst, arith, get_or}
+use Rattle.std.proofs.Common.{◌≡◌, ◌⊎◌, inl, inr, ℕ, ◌+◌, ◌-◌, ◌*◌, ◌<◌, ◌≤◌, Bool, true, List, ◌∷◌}
+use Rattle.std.proofs.Common.{◌++◌, length, length-append, map, Some, None, refl, sym, ap, ◌∙◌, subst, arith, get_or}
 use Rattle.std.proofs.Common.{le-leb, lt-ltb}
-use Rattle.std.proofs.lemmas.Bool.{and_from, and_parts}
+use Rattle.std.proofs.lemmas.Bool.{and_from}
 use Rattle.std.proofs.lemmas.List.{length-map}
 use Rattle.std.specs.Prelude.{slice_get, nat_le, nat_lt}
 use Rattle.behaviours.specs.Steps.{run as steps_of}
@@ -38,7 +38,7 @@ use Rattle.tac_ir.specs.Fitting.{are_passed}
 use Rattle.tac_ir.specs.Meaning.{effect, given_in}
 use Rattle.tac_ir.specs.Stage.{came, Frame, gathered, Over, Stage, Stands, Temps, with_temp}
 use Rattle.flat_meaning.specs.declared.instruction.FlatInstruction.{FlatInstruction}
-use Rattle.flat_meaning.specs.declared.instruction.FlatInstruction.TheVariants.{Call, Constant, Move}
+use Rattle.flat_meaning.specs.declared.instruction.FlatInstruction.TheVariants.{Call}
 use Rattle.flat_meaning.specs.Calls.{function_in}
 use Rattle.flat_meaning.specs.Meaning.{body_of, step}
 use Rattle.flat_meaning.specs.Memory.{Bytes, put}
@@ -46,30 +46,27 @@ use Rattle.flat_meaning.specs.State as flat
 use Rattle.flat_meaning.specs.Words.{HasWords}
 use Rattle.flat_meaning.proofs.Stored.{put_other, put_same}
 use Rattle.flat_routines.specs.Metadata.{metadata_in}
-use Rattle.flat_routines.specs.Objects.StandsFor.{Keys}
 use Rattle.flat_routines.specs.Routine.{HasAt}
 use Rattle.flat_routines.proofs.Steps.{has_back, has_front}
 use Rattle.flat_routines.proofs.Words.{same_metadata}
-use Rattle.flat_actions.specs.Actions.{AreHeldBy, HasGiven, IsFor, IsGivenIn, Nowhere, work_of}
+use Rattle.flat_actions.specs.Actions.{AreHeldBy, IsFor, IsGivenIn, Nowhere}
 use Rattle.object_routines.specs.AllocatingRoutines.Premises.{AreStanding}
 use Rattle.runtime_functions.specs.declared.library.LibraryFunction.{LibraryFunction}
 use Rattle.runtime_functions.specs.declared.library.LibraryFunction.TheVariants as library
 use Rattle.runtime_functions.specs.declared.runtime.RuntimeFunction.TheVariants.{Library}
-use Rattle.runtime_functions.specs.declared.status.ReturnStatus.{ReturnStatus}
 use Rattle.runtime_functions.specs.Actions.{HasCompleted, HasExited, HasTold, IsReady, IsServed, over_registers}
-use Rattle.runtime_functions.specs.Actions.{result_register, ServesCall, steps_of as routine_steps, work_of_call}
+use Rattle.runtime_functions.specs.Actions.{ServesCall, steps_of as routine_steps, work_of_call}
 use Rattle.runtime_functions.specs.Calls.{CallSite}
 use Rattle.runtime_functions.specs.Library.{held_from, holder_from, holders_from, library_interface, NoValue, OneWord}
-use Rattle.runtime_functions.specs.Library.{parameters_of, Passed, results_of, routine_of, signature, total_count}
+use Rattle.runtime_functions.specs.Library.{parameters_of, Passed, results_of, routine_of, signature}
 use Rattle.runtime_functions.specs.Library.{WithEntry}
 use Rattle.runtime_functions.specs.Runtime.{runtime_list}
-use Rattle.runtime_functions.specs.Status.{return_status}
 use Rattle.runtime_functions.proofs.LibraryCalls.{library_served}
 use Rattle.metadata_plan.specs.Entries.{is_among, is_moved_with_entry}
 use Rattle.metadata_plan.specs.Expanded.{Leads}
 use Rattle.metadata_plan.specs.Registers.{most_temporaries}
 use Rattle.metadata_relation.specs.Blocks.{library_code, library_place, pack, runtime_call as call_list, runtime_number}
-use Rattle.metadata_relation.specs.Blocks.{status_code, statuses_of, unpack, untagged}
+use Rattle.metadata_relation.specs.Blocks.{status_code, statuses_of, unpack}
 use Rattle.metadata_relation.specs.Holding.{IsHeldAt, World}
 use Rattle.metadata_relation.specs.InlineCode.{InlineCode}
 use Rattle.metadata_relation.specs.Registers.{first_free, moved_register, passed_as, temporary_register}
@@ -255,11 +252,11 @@ module _ (c : Compiled) (IsGood : Bytes → Type 0) (right : IsCompiled c IsGood
 
     -- ---- the block
 
-    abbrev P : ℕ
-    P = moved_register h.code (5 * d)
+    abbrev first : ℕ
+    first = moved_register h.code (5 * d)
 
-    abbrev S : ℕ
-    S = first_free h.code
+    abbrev into : ℕ
+    into = first_free h.code
 
     abbrev T : ℕ
     T = temporary_register h.code d
@@ -283,16 +280,16 @@ module _ (c : Compiled) (IsGood : Bytes → Type 0) (right : IsCompiled c IsGood
     abbrev at_call : ℕ
     at_call = c.layout.address u n + length (pack h.code (signature f).takes (moved_register h.code (5 * d)) d)
 
-    has : HasAt body pc (packed ++ (Call number P S ∷ (tests ++ ended_by)))
+    has : HasAt body pc (packed ++ (Call number first into ∷ (tests ++ ended_by)))
     has = subst (HasAt body pc)
         (code_is c.layout.expansion.inline c.layout.expansion.code h.code f line d with_entry) nd.put.has
 
-    leads : Leads body (pc + length (packed ++ (Call number P S ∷ (tests ++ ended_by)))) (c.layout.address u next)
+    leads : Leads body (pc + length (packed ++ (Call number first into ∷ (tests ++ ended_by)))) (c.layout.address u next)
     leads = subst (λ (l : List FlatInstruction). Leads body (pc + length l) (c.layout.address u next))
         (code_is c.layout.expansion.inline c.layout.expansion.code h.code f line d with_entry) nd.put.leads
 
-    has_call : HasAt body at_call (Call number P S ∷ (tests ++ ended_by))
-    has_call = has_back body pc packed (Call number P S ∷ (tests ++ ended_by)) has
+    has_call : HasAt body at_call (Call number first into ∷ (tests ++ ended_by))
+    has_call = has_back body pc packed (Call number first into ∷ (tests ++ ended_by)) has
 
     low : d < most_temporaries h.code.code
     low = let most = nd.temporaries_low in omega arith
@@ -341,30 +338,30 @@ module _ (c : Compiled) (IsGood : Bytes → Type 0) (right : IsCompiled c IsGood
         let many = count_passed kinds temps d count fits in
         let takes : length (signature f).takes ≡ length kinds =
         ap length (sym (kinds_are f)) ∙ length-map kinds passed_as in
-        let size = pack_length h.code (signature f).takes P d in
-        let a = assigns m p u xs packed (pack_assigns h.code (signature f).takes P d).0 pc v
-        (has_front body pc packed (Call number P S ∷ (tests ++ ended_by)) has) in
+        let size = pack_length h.code (signature f).takes first d in
+        let a = assigns m p u xs packed (pack_assigns h.code (signature f).takes first d).0 pc v
+        (has_front body pc packed (Call number first into ∷ (tests ++ ended_by)) has) in
         let y : flat.State = record v { values = assigned packed v.values; work = v.work + a.work } in
         let r = reached_by m p u xs pc at_call v (record v { values = assigned packed v.values }) (2 * length packed) a in
         let come : Reached m p u pc v xs at_call y (2 * parameters_of f) =
         record { steps = r.steps; comes = r.comes; few = omega (arith, r.few, size) } in
-        let laid = are_packed h.code (signature f).takes P d v.values v.values (λ z lt. refl)
+        let laid = are_packed h.code (signature f).takes first d v.values v.values (λ z lt. refl)
         (omega (arith, takes, many, most)) (omega arith) in
         let begun = acted_as c IsGood right u n temps ws s v xs h (behind_action s paid) h.keys v y.values y.work
         (acted_worked c IsGood right u n temps ws s v xs h s h.keys v paid.work
         (nothing_done c IsGood right u n temps ws s v xs h)) in
-        let rc = runtime_call c IsGood right u n temps ws s v xs h (library_place f) (Library f) (listed f) at_call P S y
+        let rc = runtime_call c IsGood right u n temps ws s v xs h (library_place f) (Library f) (listed f) at_call first into y
         has_call.0 in
-        let from : P ≡ P + 0 = omega arith in
-        let held = arguments_held (world c h.keys s v) h.code (c.layout.expansion.entries u n) temps v.values y.values P
+        let from : first ≡ first + 0 = omega arith in
+        let held = arguments_held (world c h.keys s v) h.code (c.layout.expansion.entries u n) temps v.values y.values first
         kinds 0 d count (scalars f) fits held_at entry_at
-        (subst (λ ps. AreMoved h.code ps (P + 0) d v.values y.values) (sym (kinds_are f))
+        (subst (λ ps. AreMoved h.code ps (first + 0) d v.values y.values) (sym (kinds_are f))
         (subst (λ z. AreMoved h.code (signature f).takes z d v.values y.values) from laid.moved)) in
         let ready : IsReady (views c) h.keys IsGood (library_interface f) (site_at y) paid vs = record {
           words = reached_words m p u xs pc at_call v y (2 * parameters_of f) words come;
           stands = begun.stands.for;
           held = subst (λ ps. AreHeldBy (views c) h.keys s.objects
-              (map (over_registers (λ q. P + q)) (holders_from 0 ps)) vs y.values) (kinds_are f) held;
+              (map (over_registers (λ q. first + q)) (holders_from 0 ps)) vs y.values) (kinds_are f) held;
         } in
         let standing : AreStanding m paid = record {
           placed = (good_now (names c) u ws s h.steady.good).separate.placed;
@@ -450,7 +447,7 @@ module _ (c : Compiled) (IsGood : Bytes → Type 0) (right : IsCompiled c IsGood
 
       acted_behind : HasActed c IsGood right u n temps ws s v xs h (behind_action s x') done.keys_after done.behind.state
       acted_behind =
-          acted_then c IsGood right u n temps ws s v xs h Nowhere S paid.work value paid x' h.keys q.between
+          acted_then c IsGood right u n temps ws s v xs h Nowhere into paid.work value paid x' h.keys q.between
           done.behind.state q.acted
           (record {
             keys = done.keys_after;
@@ -474,7 +471,7 @@ module _ (c : Compiled) (IsGood : Bytes → Type 0) (right : IsCompiled c IsGood
       placed =
           let room = temporary_free h.code d low in
           unpacked (world c done.keys_after (behind_action s x') done.behind.state) (signature f).gives with_entry value
-          (parameters_of f) S T done.behind.state.values
+          (parameters_of f) into T done.behind.state.values
           (λ nothing. subst (GivesBy (λ z. z ≡ integer 0)) e (nothing_given f c vs line paid nothing))
           (λ word. word_untagged f (function_count (context_at (names c) u ws)) value word (left (Gives value x') e).1.1)
           result_sound (omega (arith, room)) done.given
@@ -487,15 +484,15 @@ module _ (c : Compiled) (IsGood : Bytes → Type 0) (right : IsCompiled c IsGood
           let q1 = at_call + 1 in
           let q2 = at_call + 1 + length tests in
           let rest = has_call.1 in
-          let tested = status_passed m p u xs S line q1 (statuses_of f) y (has_front body q1 tests ended_by rest) done.status in
+          let tested = status_passed m p u xs into line q1 (statuses_of f) y (has_front body q1 tests ended_by rest) done.status in
           let passed = reached_next m p u xs pc q1 q2 v y y (2 * parameters_of f + bound) 2 come_behind tested in
           let y2 : flat.State = record y { work = y.work + tested.work } in
           let end = ends_with c IsGood right u n temps ws s v xs h q2 (2 * parameters_of f + bound + 2) 5 next y2 ended_by
-          passed (unpacked_few (signature f).gives with_entry T (S + 1)) (has_back body q1 tests ended_by rest)
+          passed (unpacked_few (signature f).gives with_entry T (into + 1)) (has_back body q1 tests ended_by rest)
           (subst (λ z. Leads body z (c.layout.address u next))
           (omega (
             arith,
-            length-append packed (Call number P S ∷ (tests ++ ended_by)),
+            length-append packed (Call number first into ∷ (tests ++ ended_by)),
             length-append tests ended_by,
           )) leads) in
           let few = affords f (x'.work - (s.work + 12))
@@ -538,7 +535,7 @@ module _ (c : Compiled) (IsGood : Bytes → Type 0) (right : IsCompiled c IsGood
               let q1 = at_call + 1 in
               let come = reached_then m p u xs pc at_call q1 v q.between y (2 * parameters_of f) bound q.come
               (record { steps = q.serves.steps; comes = q.serves.comes ∙ t.behind.at; few = t.behind.work }) in
-              let end = status_ends m p u xs S line (statuses_of f) t.kind q1 y e
+              let end = status_ends m p u xs into line (statuses_of f) t.kind q1 y e
               (has_front body q1 tests ended_by has_call.1) (all_told f line) t.status
               (told_among (statuses_of f) t.kind line e told.0 t.ending_is) t.ending_is in
               let z : State = spent (3 * (x'.work - (s.work + 12))) x' in

@@ -45,7 +45,7 @@ use Rattle.metadata_relation.proofs.Named.{function_pointer_step, static_pointer
 use Rattle.metadata_relation.proofs.Differences.{difference_step}
 use Rattle.metadata_relation.proofs.Members.{narrow_step, member_step}
 use Rattle.metadata_relation.proofs.Updating.{update_plain_step}
-use Rattle.metadata_relation.proofs.Library.{library_step}
+use Rattle.metadata_relation.proofs.LibraryCalls.{routine_step}
 use Rattle.metadata_relation.proofs.Calls.{call_step}
 use Rattle.metadata_relation.proofs.Returns.{return_step}
 
@@ -181,7 +181,7 @@ module _ (c : Compiled) (IsGood : Bytes → Type 0) (right : IsCompiled c IsGood
       member_step c IsGood right u n temps ws s v xs h words offset size d a m p.0 p.1 p.2
       (not-true (c.layout.expansion.contents u n a) (admitted (tac.Member offset size d a m) at)) at
   instruction (tac.Library r line d count m) at e f =
-      library_step c IsGood right u n temps ws s v xs h words r line d count m e at f
+      routine_step c IsGood right u n temps ws s v xs h words r line d count m at f
   instruction (tac.Call g line d count m) at e f =
       call_step c IsGood right u n temps ws s v xs h g line d count m at f (admitted (tac.Call g line d count m) at)
   instruction (tac.Return a) at e f =

@@ -23,7 +23,6 @@ pub mod Library
 pub mod LibraryArguments
 pub mod LibraryCalls
 pub mod LibraryRuns
-pub mod LibraryStatuses
 pub mod Members
 pub mod Moving
 pub mod Named
@@ -49,6 +48,7 @@ pub mod Statuses
 pub mod StoredParts
 pub mod StoredTexts
 pub mod Straight
+pub mod ToldEndings
 pub mod TopCell
 pub mod UpdateSteps
 pub mod UpdatedPlaces

@@ -1,11 +1,9 @@
 -- The arguments of a routine of the library: packed for the call of its function of the runtime they stand in the
 -- registers of its parameters, and are of its kinds.
-use Rattle.std.proofs.Common.{◌≡◌, ℕ, zero, suc, ◌+◌, ◌*◌, ◌^◌, ◌<◌, ◌≤◌, Bool, true, false, ◌&&◌, List, [], ◌∷◌, ◌++◌}
+use Rattle.std.proofs.Common.{◌≡◌, ℕ, zero, suc, ◌+◌, ◌<◌, ◌≤◌, Bool, true, false, List, [], ◌∷◌}
 use Rattle.std.proofs.Common.{length, length-append, map, refl, sym, ap, ◌∙◌, subst, arith, get_or}
 use Rattle.std.proofs.lemmas.Bool.{and_parts, false≢true}
-use Rattle.obj_memory.specs.declared.value.Scalar.{Scalar}
 use Rattle.obj_memory.specs.declared.value.Scalar.TheVariants.{Integer, Pointer}
-use Rattle.obj_memory.specs.declared.value.Value.{Value}
 use Rattle.obj_memory.specs.Objects.{Objects}
 use Rattle.obj_memory.specs.Sound.{IsSoundTag}
 use Rattle.c_tree.specs.declared.expression.Kind.{Kind}
@@ -69,7 +67,7 @@ are_packed c (p ∷ ps) r d values now same low above =
     (record {
       moved = (
         λ j lt. more.below (r + j) (omega (arith, lt)) ∙ one.at j lt
-        ∙ same (temporary_register c d + j) (omega (arith, low, lt, few)),
+            ∙ same (temporary_register c d + j) (omega (arith, low, lt, few)),
         more.moved,
       );
       below = λ y lt. more.below y (omega (arith, lt)) ∙ one.below y lt;
@@ -120,8 +118,7 @@ module _ (w : World) (c : CodeFunction) (entries : ℕ → Bool) (temps : Temps)
         ap after (omega arith) ∙ same 0 (omega arith) ∙ ap values (omega arith) ∙ held.word
     argument_held (OfScalar Pointer) ks i d e held with_entry same =
         let r = temporary_register c d in
-        let spells = held.entry (with_entry refl) in
-        (
+        let spells = held.entry (with_entry refl) in (
           record {
             word = ap after (omega arith) ∙ same 0 (omega arith) ∙ ap values (omega arith) ∙ spells.word;
             tag = same_metadata
@@ -155,8 +152,7 @@ module _ (w : World) (c : CodeFunction) (entries : ℕ → Bool) (temps : Temps)
     arguments_held (k ∷ ks) i d (suc n) s e held with_entry same =
         let here : d + 0 ≡ d = omega arith in
         let parts = and_parts (is_passed k (temps d)) (are_passed ks (gathered temps (d + 1) n)) e in
-        let place : first + i + register_count (passed_as k) ≡ first + (i + register_count (passed_as k)) = omega arith in
-        (
+        let place : first + i + register_count (passed_as k) ≡ first + (i + register_count (passed_as k)) = omega arith in (
           argument_held k ks i d s (held d (omega arith) (omega arith))
               (λ m. subst (λ z. entries z ≡ true) here (with_entry 0 (omega arith) m)) same.0,
           arguments_held ks (i + register_count (passed_as k)) (d + 1) n (rest_scalars k ks s) parts.1

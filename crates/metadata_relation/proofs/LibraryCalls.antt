@@ -1,9 +1,9 @@
 -- Routines of the library as calls of functions of the runtime: arguments are packed, the function is called, its status is
 -- tested at the line of the call, and the result goes to its temporary.
-use Rattle.std.proofs.Common.{◌≡◌, ◌⊎◌, inl, inr, ℕ, suc, ◌+◌, ◌-◌, ◌*◌, ◌<◌, ◌≤◌, Bool, true, false, ◌&&◌, List, [], ◌∷◌}
-use Rattle.std.proofs.Common.{◌++◌, length, length-append, map, Option, Some, None, refl, sym, ap, ◌∙◌, subst, arith, get_or}
+use Rattle.std.proofs.Common.{◌≡◌, ◌⊎◌, inl, inr, ℕ, ◌+◌, ◌-◌, ◌*◌, ◌<◌, ◌≤◌, Bool, true, List, ◌∷◌}
+use Rattle.std.proofs.Common.{◌++◌, length, length-append, map, Some, None, refl, sym, ap, ◌∙◌, subst, arith, get_or}
 use Rattle.std.proofs.Common.{le-leb, lt-ltb}
-use Rattle.std.proofs.lemmas.Bool.{and_from, and_parts}
+use Rattle.std.proofs.lemmas.Bool.{and_from}
 use Rattle.std.proofs.lemmas.List.{length-map}
 use Rattle.std.specs.Prelude.{slice_get, nat_le, nat_lt}
 use Rattle.behaviours.specs.Steps.{run as steps_of}
@@ -16,13 +16,15 @@ use Rattle.obj_memory.specs.declared.value.Value.{Value}
 use Rattle.obj_memory.specs.Sound.{IsSoundTag}
 use Rattle.c_tree.specs.declared.expression.Kind.{Kind}
 use Rattle.c_tree.specs.declared.expression.Kind.TheVariants.{Void}
+use Rattle.c_tree.specs.declared.expression.Routine.{Routine}
+use Rattle.c_tree.specs.declared.expression.Routine.TheVariants as routine
 use Rattle.c_tree.specs.Kinds.{routine_signature}
 use Rattle.source_meaning.specs.State.{Ended, Gives, on, Outcome, Paused, Run, State}
 use Rattle.source_meaning.specs.Acting.{state_of}
 use Rattle.source_meaning.specs.Actions.{integer}
 use Rattle.source_meaning.specs.Calls.{header_of}
 use Rattle.source_meaning.specs.Good.{After, AreGiven, function_count, IsGiven, IsOfKind, Leaves}
-use Rattle.source_meaning.specs.Library.{routine}
+use Rattle.source_meaning.specs.Library.{routine as routine_run}
 use Rattle.source_meaning.specs.Structures.{give, rvalue, values_of}
 use Rattle.source_meaning.specs.Working.{CountsBy}
 use Rattle.source_meaning.proofs.Lines.{lines_routine}
@@ -36,7 +38,7 @@ use Rattle.tac_ir.specs.Fitting.{are_passed}
 use Rattle.tac_ir.specs.Meaning.{effect, given_in}
 use Rattle.tac_ir.specs.Stage.{came, Frame, gathered, Over, Stage, Stands, Temps, with_temp}
 use Rattle.flat_meaning.specs.declared.instruction.FlatInstruction.{FlatInstruction}
-use Rattle.flat_meaning.specs.declared.instruction.FlatInstruction.TheVariants.{Call, Constant, Move}
+use Rattle.flat_meaning.specs.declared.instruction.FlatInstruction.TheVariants.{Call}
 use Rattle.flat_meaning.specs.Calls.{function_in}
 use Rattle.flat_meaning.specs.Meaning.{body_of, step}
 use Rattle.flat_meaning.specs.Memory.{Bytes, put}
@@ -44,30 +46,27 @@ use Rattle.flat_meaning.specs.State as flat
 use Rattle.flat_meaning.specs.Words.{HasWords}
 use Rattle.flat_meaning.proofs.Stored.{put_other, put_same}
 use Rattle.flat_routines.specs.Metadata.{metadata_in}
-use Rattle.flat_routines.specs.Objects.StandsFor.{Keys}
 use Rattle.flat_routines.specs.Routine.{HasAt}
 use Rattle.flat_routines.proofs.Steps.{has_back, has_front}
 use Rattle.flat_routines.proofs.Words.{same_metadata}
-use Rattle.flat_actions.specs.Actions.{AreHeldBy, HasGiven, IsFor, IsGivenIn, Nowhere, work_of}
+use Rattle.flat_actions.specs.Actions.{AreHeldBy, IsFor, IsGivenIn, Nowhere}
 use Rattle.object_routines.specs.AllocatingRoutines.Premises.{AreStanding}
 use Rattle.runtime_functions.specs.declared.library.LibraryFunction.{LibraryFunction}
 use Rattle.runtime_functions.specs.declared.library.LibraryFunction.TheVariants as library
 use Rattle.runtime_functions.specs.declared.runtime.RuntimeFunction.TheVariants.{Library}
-use Rattle.runtime_functions.specs.declared.status.ReturnStatus.{ReturnStatus}
 use Rattle.runtime_functions.specs.Actions.{HasCompleted, HasExited, HasTold, IsReady, IsServed, over_registers}
-use Rattle.runtime_functions.specs.Actions.{result_register, ServesCall, steps_of as routine_steps, work_of_call}
+use Rattle.runtime_functions.specs.Actions.{ServesCall, steps_of as routine_steps, work_of_call}
 use Rattle.runtime_functions.specs.Calls.{CallSite}
 use Rattle.runtime_functions.specs.Library.{held_from, holder_from, holders_from, library_interface, NoValue, OneWord}
-use Rattle.runtime_functions.specs.Library.{parameters_of, Passed, results_of, routine_of, signature, total_count}
+use Rattle.runtime_functions.specs.Library.{parameters_of, Passed, results_of, routine_of, signature}
 use Rattle.runtime_functions.specs.Library.{WithEntry}
 use Rattle.runtime_functions.specs.Runtime.{runtime_list}
-use Rattle.runtime_functions.specs.Status.{return_status}
 use Rattle.runtime_functions.proofs.LibraryCalls.{library_served}
 use Rattle.metadata_plan.specs.Entries.{is_among, is_moved_with_entry}
 use Rattle.metadata_plan.specs.Expanded.{Leads}
 use Rattle.metadata_plan.specs.Registers.{most_temporaries}
 use Rattle.metadata_relation.specs.Blocks.{library_code, library_place, pack, runtime_call as call_list, runtime_number}
-use Rattle.metadata_relation.specs.Blocks.{status_code, statuses_of, unpack, untagged}
+use Rattle.metadata_relation.specs.Blocks.{status_code, statuses_of, unpack}
 use Rattle.metadata_relation.specs.Holding.{IsHeldAt, World}
 use Rattle.metadata_relation.specs.InlineCode.{InlineCode}
 use Rattle.metadata_relation.specs.Registers.{first_free, moved_register, passed_as, temporary_register}
@@ -80,6 +79,7 @@ use Rattle.metadata_relation.proofs.Assigning.{assigned, assigns}
 use Rattle.metadata_relation.proofs.Finishing.{acted_as, acted_then, acted_worked, AreFew, beside_ne, ends_with}
 use Rattle.metadata_relation.proofs.Finishing.{integer_cleared, integer_few, integer_moved, IsPlacedIn, move_few}
 use Rattle.metadata_relation.proofs.Finishing.{nothing_done, tagged_in, untagged_few, value_moved}
+use Rattle.metadata_relation.proofs.Library.{library_step}
 use Rattle.metadata_relation.proofs.LibraryArguments.{are_packed, are_scalars, AreMoved, arguments_held, arguments_kinds}
 use Rattle.metadata_relation.proofs.LibraryArguments.{arguments_sound, pack_length}
 use Rattle.metadata_relation.proofs.LibraryRuns.{free_gives, GivesBy, IsToldBy, KeepsCaller, least_count, routine_counts}
@@ -90,96 +90,34 @@ use Rattle.metadata_relation.proofs.Registers.{temporary_free}
 use Rattle.metadata_relation.proofs.RuntimeCalls.{runtime_call, site}
 use Rattle.metadata_relation.proofs.Setting.{functions_same}
 use Rattle.metadata_relation.proofs.Standing.{ends, good_now, IsNode, node, Result}
-use Rattle.metadata_relation.proofs.LibraryStatuses.{all_end, done_passes, has_report, status_ends, tells}
+use Rattle.metadata_relation.proofs.Statuses.{AllEnd, status_ends, status_passed}
+use Rattle.metadata_relation.proofs.ToldEndings.{has_report, tells, told_among, told_status}
 
 -- ---- the routines
 
 kinds_are : (f : LibraryFunction) → map passed_as (routine_signature (routine_of f)).parameters ≡ (signature f).takes
 kinds_are library.Malloc = refl
-kinds_are library.Calloc = refl
-kinds_are library.Free = refl
-kinds_are library.Realloc = refl
-kinds_are library.Memcpy = refl
-kinds_are library.Memmove = refl
-kinds_are library.Memset = refl
-kinds_are library.Memcmp = refl
-kinds_are library.Strlen = refl
-kinds_are library.Strcmp = refl
-kinds_are library.Strcpy = refl
-kinds_are library.Strncpy = refl
-kinds_are library.Strcat = refl
-kinds_are library.Strchr = refl
-kinds_are library.Puts = refl
+kinds_are f = refl
 
 scalars : (f : LibraryFunction) → are_scalars (routine_signature (routine_of f)).parameters ≡ true
 scalars library.Malloc = refl
-scalars library.Calloc = refl
-scalars library.Free = refl
-scalars library.Realloc = refl
-scalars library.Memcpy = refl
-scalars library.Memmove = refl
-scalars library.Memset = refl
-scalars library.Memcmp = refl
-scalars library.Strlen = refl
-scalars library.Strcmp = refl
-scalars library.Strcpy = refl
-scalars library.Strncpy = refl
-scalars library.Strcat = refl
-scalars library.Strchr = refl
-scalars library.Puts = refl
+scalars f = refl
 
 code_is : (i : InlineCode) (t : Tac) (c : CodeFunction) (f : LibraryFunction) (line d : ℕ) (b : Bool)
     → library_code i t c (routine_of f) line d b ≡ call_list t c f line d b
 code_is i t c library.Malloc line d b = refl
-code_is i t c library.Calloc line d b = refl
-code_is i t c library.Free line d b = refl
-code_is i t c library.Realloc line d b = refl
-code_is i t c library.Memcpy line d b = refl
-code_is i t c library.Memmove line d b = refl
-code_is i t c library.Memset line d b = refl
-code_is i t c library.Memcmp line d b = refl
-code_is i t c library.Strlen line d b = refl
-code_is i t c library.Strcmp line d b = refl
-code_is i t c library.Strcpy line d b = refl
-code_is i t c library.Strncpy line d b = refl
-code_is i t c library.Strcat line d b = refl
-code_is i t c library.Strchr line d b = refl
-code_is i t c library.Puts line d b = refl
+code_is i t c f line d b = refl
 
-listed : (f : LibraryFunction) → slice_get runtime_list (library_place f) ≡ Some (Library f)
+pub listed : (f : LibraryFunction) → slice_get runtime_list (library_place f) ≡ Some (Library f)
 listed library.Malloc = refl
-listed library.Calloc = refl
-listed library.Free = refl
-listed library.Realloc = refl
-listed library.Memcpy = refl
-listed library.Memmove = refl
-listed library.Memset = refl
-listed library.Memcmp = refl
-listed library.Strlen = refl
-listed library.Strcmp = refl
-listed library.Strcpy = refl
-listed library.Strncpy = refl
-listed library.Strcat = refl
-listed library.Strchr = refl
-listed library.Puts = refl
+listed f = refl
 
 -- all statuses tell endings
-all_told : (f : LibraryFunction) → all_end (statuses_of f) ≡ true
-all_told library.Malloc = refl
-all_told library.Calloc = refl
-all_told library.Free = refl
-all_told library.Realloc = refl
-all_told library.Memcpy = refl
-all_told library.Memmove = refl
-all_told library.Memset = refl
-all_told library.Memcmp = refl
-all_told library.Strlen = refl
-all_told library.Strcmp = refl
-all_told library.Strcpy = refl
-all_told library.Strncpy = refl
-all_told library.Strcat = refl
-all_told library.Strchr = refl
-all_told library.Puts = refl
+all_told : (f : LibraryFunction) (line : ℕ) → AllEnd (statuses_of f) line
+all_told library.Malloc line = (refl, tt)
+all_told library.Calloc line = (refl, tt)
+all_told library.Realloc line = (refl, (refl, (refl, tt)))
+all_told f line = (refl, (refl, tt))
 
 -- what is given in one word has no tag
 word_untagged : (f : LibraryFunction) (functions : ℕ) (v : Value) → (signature f).gives ≡ OneWord
@@ -192,7 +130,7 @@ word_untagged f functions v e is = cc
 
 -- where nothing is given, 0 stands for it
 nothing_given : (f : LibraryFunction) (c : Compiled) (vs : List Value) (line : ℕ) (x : State)
-    → (signature f).gives ≡ NoValue → GivesBy (λ v. v ≡ integer 0) (routine c.setting (routine_of f) vs line x)
+    → (signature f).gives ≡ NoValue → GivesBy (λ v. v ≡ integer 0) (routine_run c.setting (routine_of f) vs line x)
 nothing_given library.Free c vs line x e = (free_gives c.setting vs line).by x
 nothing_given f c vs line x e = cc
 
@@ -206,40 +144,14 @@ call_work f w =
 
 -- a call that comes back is paid for
 affords : (f : LibraryFunction) (w : ℕ) → least_count f ≤ w → call_work f w + 2 + 10 + 2 ≤ 252 + 84 * w
-affords library.Malloc w le = omega arith
-affords library.Calloc w le = omega arith
-affords library.Free w le = omega arith
 affords library.Realloc w le = omega arith
-affords library.Memcpy w le = omega arith
-affords library.Memmove w le = omega arith
-affords library.Memset w le = omega arith
-affords library.Memcmp w le = omega arith
-affords library.Strlen w le = omega arith
-affords library.Strcmp w le = omega arith
-affords library.Strcpy w le = omega arith
-affords library.Strncpy w le = omega arith
-affords library.Strcat w le = omega arith
-affords library.Strchr w le = omega arith
-affords library.Puts w le = omega arith
+affords f w le = omega arith
 
 -- and one that ends the run, with its report
 affords_end : (f : LibraryFunction) (w bytes : ℕ) → 1 ≤ bytes
     → call_work f w + (2 * length (statuses_of f) + 4) + 2 * bytes ≤ 252 + 84 * w + 21 * bytes
-affords_end library.Malloc w bytes le = omega arith
-affords_end library.Calloc w bytes le = omega arith
-affords_end library.Free w bytes le = omega arith
 affords_end library.Realloc w bytes le = omega arith
-affords_end library.Memcpy w bytes le = omega arith
-affords_end library.Memmove w bytes le = omega arith
-affords_end library.Memset w bytes le = omega arith
-affords_end library.Memcmp w bytes le = omega arith
-affords_end library.Strlen w bytes le = omega arith
-affords_end library.Strcmp w bytes le = omega arith
-affords_end library.Strcpy w bytes le = omega arith
-affords_end library.Strncpy w bytes le = omega arith
-affords_end library.Strcat w bytes le = omega arith
-affords_end library.Strchr w bytes le = omega arith
-affords_end library.Puts w bytes le = omega arith
+affords_end f w bytes le = omega arith
 
 -- ---- states
 
@@ -257,13 +169,6 @@ as_behind b s x' k =
       stacked = s.stacked;
       turns = z;
     }) k.turns
-
--- what is told has a status
-told_status : (ks : List ReturnStatus) (line : ℕ) (e : Ending) → IsToldBy ks line e
-    → (k : ReturnStatus) × (return_status e ≡ Some k)
-told_status [] line e told = absurd told
-told_status (k ∷ ks) line e (inl here) = (k, tells k line e here)
-told_status (k ∷ ks) line e (inr more) = told_status ks line e more
 
 -- ---- the result
 
@@ -343,15 +248,15 @@ module _ (c : Compiled) (IsGood : Bytes → Type 0) (right : IsCompiled c IsGood
     paid = spent 12 s
 
     abbrev does : Run Value
-    does = routine c.setting (routine_of f) (values_of (gathered temps d count)) line
+    does = routine_run c.setting (routine_of f) (values_of (gathered temps d count)) line
 
     -- ---- the block
 
-    abbrev P : ℕ
-    P = moved_register h.code (5 * d)
+    abbrev first : ℕ
+    first = moved_register h.code (5 * d)
 
-    abbrev S : ℕ
-    S = first_free h.code
+    abbrev into : ℕ
+    into = first_free h.code
 
     abbrev T : ℕ
     T = temporary_register h.code d
@@ -375,16 +280,16 @@ module _ (c : Compiled) (IsGood : Bytes → Type 0) (right : IsCompiled c IsGood
     abbrev at_call : ℕ
     at_call = c.layout.address u n + length (pack h.code (signature f).takes (moved_register h.code (5 * d)) d)
 
-    has : HasAt body pc (packed ++ (Call number P S ∷ (tests ++ ended_by)))
+    has : HasAt body pc (packed ++ (Call number first into ∷ (tests ++ ended_by)))
     has = subst (HasAt body pc)
         (code_is c.layout.expansion.inline c.layout.expansion.code h.code f line d with_entry) nd.put.has
 
-    leads : Leads body (pc + length (packed ++ (Call number P S ∷ (tests ++ ended_by)))) (c.layout.address u next)
+    leads : Leads body (pc + length (packed ++ (Call number first into ∷ (tests ++ ended_by)))) (c.layout.address u next)
     leads = subst (λ (l : List FlatInstruction). Leads body (pc + length l) (c.layout.address u next))
         (code_is c.layout.expansion.inline c.layout.expansion.code h.code f line d with_entry) nd.put.leads
 
-    has_call : HasAt body at_call (Call number P S ∷ (tests ++ ended_by))
-    has_call = has_back body pc packed (Call number P S ∷ (tests ++ ended_by)) has
+    has_call : HasAt body at_call (Call number first into ∷ (tests ++ ended_by))
+    has_call = has_back body pc packed (Call number first into ∷ (tests ++ ended_by)) has
 
     low : d < most_temporaries h.code.code
     low = let most = nd.temporaries_low in omega arith
@@ -423,7 +328,7 @@ module _ (c : Compiled) (IsGood : Bytes → Type 0) (right : IsCompiled c IsGood
       same : (y : ℕ) → y < moved_register h.code 0 → between.values y ≡ v.values y
       serves : ServesCall (map_of c) c.layout.program (views c) h.keys IsGood (library_interface f) (site_at between)
           (parameters_of f) (results_of f) line (spent 12 s)
-          (routine c.setting (routine_of f) (values_of (gathered temps d count)) line)
+          (routine_run c.setting (routine_of f) (values_of (gathered temps d count)) line)
 
     called : IsCalled
     called =
@@ -433,30 +338,30 @@ module _ (c : Compiled) (IsGood : Bytes → Type 0) (right : IsCompiled c IsGood
         let many = count_passed kinds temps d count fits in
         let takes : length (signature f).takes ≡ length kinds =
         ap length (sym (kinds_are f)) ∙ length-map kinds passed_as in
-        let size = pack_length h.code (signature f).takes P d in
-        let a = assigns m p u xs packed (pack_assigns h.code (signature f).takes P d).0 pc v
-        (has_front body pc packed (Call number P S ∷ (tests ++ ended_by)) has) in
+        let size = pack_length h.code (signature f).takes first d in
+        let a = assigns m p u xs packed (pack_assigns h.code (signature f).takes first d).0 pc v
+        (has_front body pc packed (Call number first into ∷ (tests ++ ended_by)) has) in
         let y : flat.State = record v { values = assigned packed v.values; work = v.work + a.work } in
         let r = reached_by m p u xs pc at_call v (record v { values = assigned packed v.values }) (2 * length packed) a in
         let come : Reached m p u pc v xs at_call y (2 * parameters_of f) =
         record { steps = r.steps; comes = r.comes; few = omega (arith, r.few, size) } in
-        let laid = are_packed h.code (signature f).takes P d v.values v.values (λ z lt. refl)
+        let laid = are_packed h.code (signature f).takes first d v.values v.values (λ z lt. refl)
         (omega (arith, takes, many, most)) (omega arith) in
         let begun = acted_as c IsGood right u n temps ws s v xs h (behind_action s paid) h.keys v y.values y.work
         (acted_worked c IsGood right u n temps ws s v xs h s h.keys v paid.work
         (nothing_done c IsGood right u n temps ws s v xs h)) in
-        let rc = runtime_call c IsGood right u n temps ws s v xs h (library_place f) (Library f) (listed f) at_call P S y
+        let rc = runtime_call c IsGood right u n temps ws s v xs h (library_place f) (Library f) (listed f) at_call first into y
         has_call.0 in
-        let from : P ≡ P + 0 = omega arith in
-        let held = arguments_held (world c h.keys s v) h.code (c.layout.expansion.entries u n) temps v.values y.values P
+        let from : first ≡ first + 0 = omega arith in
+        let held = arguments_held (world c h.keys s v) h.code (c.layout.expansion.entries u n) temps v.values y.values first
         kinds 0 d count (scalars f) fits held_at entry_at
-        (subst (λ ps. AreMoved h.code ps (P + 0) d v.values y.values) (sym (kinds_are f))
+        (subst (λ ps. AreMoved h.code ps (first + 0) d v.values y.values) (sym (kinds_are f))
         (subst (λ z. AreMoved h.code (signature f).takes z d v.values y.values) from laid.moved)) in
         let ready : IsReady (views c) h.keys IsGood (library_interface f) (site_at y) paid vs = record {
           words = reached_words m p u xs pc at_call v y (2 * parameters_of f) words come;
           stands = begun.stands.for;
           held = subst (λ ps. AreHeldBy (views c) h.keys s.objects
-              (map (over_registers (λ q. P + q)) (holders_from 0 ps)) vs y.values) (kinds_are f) held;
+              (map (over_registers (λ q. first + q)) (holders_from 0 ps)) vs y.values) (kinds_are f) held;
         } in
         let standing : AreStanding m paid = record {
           placed = (good_now (names c) u ws s h.steady.good).separate.placed;
@@ -499,7 +404,7 @@ module _ (c : Compiled) (IsGood : Bytes → Type 0) (right : IsCompiled c IsGood
     abbrev bound : ℕ
     bound = work_of_call (parameters_of f) (results_of f) 2
         (routine_steps (library_interface f)
-        (routine c.setting (routine_of f) (values_of (gathered temps d count)) line) (spent 12 s))
+        (routine_run c.setting (routine_of f) (values_of (gathered temps d count)) line) (spent 12 s))
 
     -- what it counts
     abbrev counted : State → ℕ
@@ -542,7 +447,7 @@ module _ (c : Compiled) (IsGood : Bytes → Type 0) (right : IsCompiled c IsGood
 
       acted_behind : HasActed c IsGood right u n temps ws s v xs h (behind_action s x') done.keys_after done.behind.state
       acted_behind =
-          acted_then c IsGood right u n temps ws s v xs h Nowhere S paid.work value paid x' h.keys q.between
+          acted_then c IsGood right u n temps ws s v xs h Nowhere into paid.work value paid x' h.keys q.between
           done.behind.state q.acted
           (record {
             keys = done.keys_after;
@@ -566,7 +471,7 @@ module _ (c : Compiled) (IsGood : Bytes → Type 0) (right : IsCompiled c IsGood
       placed =
           let room = temporary_free h.code d low in
           unpacked (world c done.keys_after (behind_action s x') done.behind.state) (signature f).gives with_entry value
-          (parameters_of f) S T done.behind.state.values
+          (parameters_of f) into T done.behind.state.values
           (λ nothing. subst (GivesBy (λ z. z ≡ integer 0)) e (nothing_given f c vs line paid nothing))
           (λ word. word_untagged f (function_count (context_at (names c) u ws)) value word (left (Gives value x') e).1.1)
           result_sound (omega (arith, room)) done.given
@@ -579,15 +484,15 @@ module _ (c : Compiled) (IsGood : Bytes → Type 0) (right : IsCompiled c IsGood
           let q1 = at_call + 1 in
           let q2 = at_call + 1 + length tests in
           let rest = has_call.1 in
-          let tested = done_passes m p u xs q1 S line (statuses_of f) y (has_front body q1 tests ended_by rest) done.status in
+          let tested = status_passed m p u xs into line q1 (statuses_of f) y (has_front body q1 tests ended_by rest) done.status in
           let passed = reached_next m p u xs pc q1 q2 v y y (2 * parameters_of f + bound) 2 come_behind tested in
           let y2 : flat.State = record y { work = y.work + tested.work } in
           let end = ends_with c IsGood right u n temps ws s v xs h q2 (2 * parameters_of f + bound + 2) 5 next y2 ended_by
-          passed (unpacked_few (signature f).gives with_entry T (S + 1)) (has_back body q1 tests ended_by rest)
+          passed (unpacked_few (signature f).gives with_entry T (into + 1)) (has_back body q1 tests ended_by rest)
           (subst (λ z. Leads body z (c.layout.address u next))
           (omega (
             arith,
-            length-append packed (Call number P S ∷ (tests ++ ended_by)),
+            length-append packed (Call number first into ∷ (tests ++ ended_by)),
             length-append tests ended_by,
           )) leads) in
           let few = affords f (x'.work - (s.work + 12))
@@ -630,8 +535,9 @@ module _ (c : Compiled) (IsGood : Bytes → Type 0) (right : IsCompiled c IsGood
               let q1 = at_call + 1 in
               let come = reached_then m p u xs pc at_call q1 v q.between y (2 * parameters_of f) bound q.come
               (record { steps = q.serves.steps; comes = q.serves.comes ∙ t.behind.at; few = t.behind.work }) in
-              let end = status_ends m p u xs q1 S line (statuses_of f) y t.kind e (all_told f)
-              (has_front body q1 tests ended_by has_call.1) t.status t.ending_is told.0 in
+              let end = status_ends m p u xs into line (statuses_of f) t.kind q1 y e
+              (has_front body q1 tests ended_by has_call.1) (all_told f line) t.status
+              (told_among (statuses_of f) t.kind line e told.0 t.ending_is) t.ending_is in
               let z : State = spent (3 * (x'.work - (s.work + 12))) x' in
               let some = has_report e t.kind (tells t.kind line e t.ending_is) in
               let few = affords_end f (x'.work - (s.work + 12)) (length (report_of e)) some in
@@ -663,9 +569,32 @@ module _ (c : Compiled) (IsGood : Bytes → Type 0) (right : IsCompiled c IsGood
     library_call = by (does paid) refl
       where
         by : (o : Outcome Value)
-            → routine c.setting (routine_of f) (values_of (gathered temps d count)) line (spent 12 s) ≡ o
+            → routine_run c.setting (routine_of f) (values_of (gathered temps d count)) line (spent 12 s) ≡ o
             → Result c IsGood (came (fourfold (s.work + 12) (on o (λ z. give z))) (given_in u next temps d ws))
             (flat.Stands u (c.layout.address u n) v xs)
         by (Gives value x') e = gave called value x' e
         by (Ended ending x') e = stopped called ending x' e
         by (Paused x') e = absurd (served_by (Paused x') e)
+
+  -- whatever the routine
+  pub routine_step : (r : Routine) (line d count next : ℕ)
+      → slice_get h.code.code n ≡ Some (tac.Library r line d count next)
+      → are_passed (routine_signature r).parameters (gathered temps d count) ≡ true
+      → Follows (effect c.setting (expansion_of c).code (tac.Library r line d count next) u temps ws (spent 12 s))
+  routine_step routine.Malloc line d count next at fits = library_call library.Malloc line d count next at fits
+  routine_step routine.Calloc line d count next at fits = library_call library.Calloc line d count next at fits
+  routine_step routine.Free line d count next at fits = library_call library.Free line d count next at fits
+  routine_step routine.Realloc line d count next at fits = library_call library.Realloc line d count next at fits
+  routine_step routine.Memcpy line d count next at fits = library_call library.Memcpy line d count next at fits
+  routine_step routine.Memmove line d count next at fits = library_call library.Memmove line d count next at fits
+  routine_step routine.Memset line d count next at fits = library_call library.Memset line d count next at fits
+  routine_step routine.Memcmp line d count next at fits = library_call library.Memcmp line d count next at fits
+  routine_step routine.Strlen line d count next at fits = library_call library.Strlen line d count next at fits
+  routine_step routine.Strcmp line d count next at fits = library_call library.Strcmp line d count next at fits
+  routine_step routine.Strcpy line d count next at fits = library_call library.Strcpy line d count next at fits
+  routine_step routine.Strncpy line d count next at fits = library_call library.Strncpy line d count next at fits
+  routine_step routine.Strcat line d count next at fits = library_call library.Strcat line d count next at fits
+  routine_step routine.Strchr line d count next at fits = library_call library.Strchr line d count next at fits
+  routine_step routine.Puts line d count next at fits = library_call library.Puts line d count next at fits
+  routine_step r line d count next at fits =
+      library_step c IsGood right u n temps ws s v xs h words r line d count next refl at fits

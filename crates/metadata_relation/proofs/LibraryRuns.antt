@@ -1,7 +1,7 @@
 -- What the routines of the library leave of their caller's state, and with which endings they end.
-use Rattle.std.proofs.Common.{◌≡◌, ◌⊎◌, inl, inr, ℕ, zero, suc, ◌+◌, ◌-◌, ◌*◌, ◌<◌, ◌≤◌, ◌^◌, ◌==◌, Bool, true, false, List, []}
-use Rattle.std.proofs.Common.{◌∷◌, ◌++◌, length, Option, Some, None, refl, sym, ap, ◌∙◌, subst, arith, ltb-true}
-use Rattle.std.specs.Prelude.{nat_lt, min, replicate}
+use Rattle.std.proofs.Common.{◌≡◌, ◌⊎◌, inl, inr, ℕ, zero, suc, ◌+◌, ◌-◌, ◌*◌, ◌≤◌, ◌==◌, Bool, true, false, List, []}
+use Rattle.std.proofs.Common.{◌∷◌, length, Option, Some, None, refl, ◌∙◌, arith, ltb-true}
+use Rattle.std.specs.Prelude.{nat_lt}
 use Rattle.sb_base.specs.declared.ending.Ending.{Ending}
 use Rattle.sb_base.specs.declared.ending.Ending.TheVariants as ending
 use Rattle.obj_memory.specs.declared.int_type.IntType.TheVariants.{Char}
@@ -15,8 +15,8 @@ use Rattle.obj_memory.specs.declared.value.Tag.TheVariants.{Untagged, OfFunction
 use Rattle.obj_memory.specs.declared.value.Value.{Value}
 use Rattle.obj_memory.specs.Heap.{block_count}
 use Rattle.obj_memory.specs.Integers.{fit}
-use Rattle.obj_memory.specs.Judgement.{moved, named, named_in}
-use Rattle.obj_memory.specs.Objects.{ObjectState, Objects, object_at, pointer_to}
+use Rattle.obj_memory.specs.Judgement.{moved, named}
+use Rattle.obj_memory.specs.Objects.{ObjectState, Objects, pointer_to}
 use Rattle.source_meaning.specs.State.{State, Outcome, Gives, Ended, Paused, Run, on, ◌>>=◌, ◌>>◌, done, stop, choose}
 use Rattle.source_meaning.specs.State.{read_state, change, tally, Setting}
 use Rattle.source_meaning.specs.Actions.{integer, is_zero, located, place_or_stop, take_key, make_object, move_bytes}
@@ -545,17 +545,4 @@ nothing_counted g f vs line = record {
 pub routine_counts : (g : Setting) (f : LibraryFunction) (vs : List Value) (line : ℕ)
     → Counts (least_count f) (routine g (routine_of f) vs line)
 routine_counts g library.Realloc vs line = realloc_counts g line (argument 0 vs) (argument 1 vs)
-routine_counts g library.Malloc vs line = nothing_counted g library.Malloc vs line
-routine_counts g library.Calloc vs line = nothing_counted g library.Calloc vs line
-routine_counts g library.Free vs line = nothing_counted g library.Free vs line
-routine_counts g library.Memcpy vs line = nothing_counted g library.Memcpy vs line
-routine_counts g library.Memmove vs line = nothing_counted g library.Memmove vs line
-routine_counts g library.Memset vs line = nothing_counted g library.Memset vs line
-routine_counts g library.Memcmp vs line = nothing_counted g library.Memcmp vs line
-routine_counts g library.Strlen vs line = nothing_counted g library.Strlen vs line
-routine_counts g library.Strcmp vs line = nothing_counted g library.Strcmp vs line
-routine_counts g library.Strcpy vs line = nothing_counted g library.Strcpy vs line
-routine_counts g library.Strncpy vs line = nothing_counted g library.Strncpy vs line
-routine_counts g library.Strcat vs line = nothing_counted g library.Strcat vs line
-routine_counts g library.Strchr vs line = nothing_counted g library.Strchr vs line
-routine_counts g library.Puts vs line = nothing_counted g library.Puts vs line
+routine_counts g f vs line = nothing_counted g f vs line

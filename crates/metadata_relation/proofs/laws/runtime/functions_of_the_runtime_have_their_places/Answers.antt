@@ -1,0 +1,5 @@
+use Rattle.metadata_relation.proofs.LibraryCalls.{listed}
+use Rattle.metadata_relation.proofs.laws.runtime.functions_of_the_runtime_have_their_places.Goals as goal
+
+pub returns-clause-library : goal.returns-clause-library
+returns-clause-library c = listed

@@ -280,11 +280,23 @@ def random_conditions(count):
         yield deciding(" ".join(broken(r, tokens) if r.random() < 0.2 else tokens))
 
 
+# How many characters are read of what a compiler prints of a text. The compilers have no limit of tokens, and say of a fault
+# behind those that may be what is no fault of the text.
+MOST_PRINTED = 1 << 20
+
+
 def run(command, text):
     with tempfile.NamedTemporaryFile("w", suffix=".c", newline="", delete=False) as f:
         f.write(text)
     try:
-        return subprocess.run(command + OPTIONS + [f.name], capture_output=True, text=True, check=False)
+        with tempfile.TemporaryFile("w+") as errors:
+            with subprocess.Popen(command + OPTIONS + [f.name], stdout=subprocess.PIPE, stderr=errors, text=True) as process:
+                output = process.stdout.read(MOST_PRINTED + 1)
+                if len(output) > MOST_PRINTED:
+                    process.kill()
+                    raise ValueError("too many tokens")
+            errors.seek(0)
+            return subprocess.CompletedProcess(process.args, process.returncode, output, errors.read())
     finally:
         os.unlink(f.name)
 
@@ -428,6 +440,13 @@ ALL = [
     ("#ifdef A\n#foo\n#include <x>\n#if 1\n#else x\n#endif y\n#elif z\n#endif\nw", "w end 9"),
     ("#ifdef A\n#else x\n#endif", "fault 2 line 2"),
     ("#define A\n#ifdef A\n#else\n#ifdef B\n#else\nx\n#endif\n#endif y", "fault 2 line 8"),
+    # gcc prints more than 47 million tokens before its first error
+    (
+        "#define f(a) f (g (a h , a a) u (a f)) 1 a\n#define g(a,b) k (x u (b)) a b\n#define h() h () x 1\n"
+        "#define k(a) a a g (1 , k (1 a a) a (a u) u (h h))\n#define u(a) f (u a f (x a)) a a\n"
+        "1 x 2 k (h () u (f (2) u (u))) k (f (u (g) 2 2) f (h ()) g (h () h () h () , u (h f) g (u 2 2 , 2 g h) 2))",
+        "fault 6 line 6",
+    ),
     ("", "end 1"),
     # Values of C99 5.2.4.2.1 for an int of 4 bytes, a long and a long long of 8, and an unsigned char.
     (

@@ -1,12 +1,13 @@
 -- The homes of a block that is entered: where the source places its objects, registers have their entries.
-use Rattle.std.proofs.Common.{◌≡◌, ◌⊎◌, inl, inr, ℕ, zero, suc, ◌+◌, ◌*◌, ◌%◌, ◌<◌, ◌≤◌, Bool, true, false, not, ◌||◌, List}
-use Rattle.std.proofs.Common.{[], ◌∷◌, length, get_or, if◌then◌else◌, refl, sym, ap, ◌∙◌, subst, arith}
+use Rattle.std.proofs.Common.{◌≡◌, ◌≢◌, ◌⊎◌, ⊎_elim, inl, inr, ℕ, zero, suc, ◌+◌, ◌*◌, ◌%◌, ◌<◌, ◌≤◌, Bool, true, false, not, ◌||◌}
+use Rattle.std.proofs.Common.{List, [], ◌∷◌, length, get_or, if◌then◌else◌, refl, sym, ap, ◌∙◌, subst, arith}
 use Rattle.std.specs.Prelude.{nat_le}
-use Rattle.std.proofs.lemmas.Bool.{and_parts, leb-true}
+use Rattle.std.proofs.lemmas.Bool.{and_parts, cases_lt, leb-true}
 use Rattle.addr_map.specs.Places.{MapSizes}
-use Rattle.obj_memory.specs.declared.object.Storage.TheVariants.{Automatic}
+use Rattle.obj_memory.specs.declared.object.Storage.{Storage}
+use Rattle.obj_memory.specs.declared.object.Storage.TheVariants.{Automatic, Static}
 use Rattle.obj_memory.specs.Heap.{rounded_up}
-use Rattle.obj_memory.specs.Objects.{ObjectState, Objects, object_at, new_object, with_new}
+use Rattle.obj_memory.specs.Objects.{ObjectState, Objects, object_at, new_object, pointer_to, with_new}
 use Rattle.obj_memory.proofs.Making.{new_last}
 use Rattle.c_tree.specs.declared.program.Variable.{Variable}
 use Rattle.c_tree.specs.Kinds.{size_of_kind}
@@ -17,16 +18,21 @@ use Rattle.source_meaning.proofs.Holding.{length-new}
 use Rattle.tac_ir.specs.declared.function.CodeFunction.{CodeFunction}
 use Rattle.flat_meaning.specs.declared.function.FlatProgram.{FlatProgram}
 use Rattle.flat_meaning.specs.State as flat
+use Rattle.flat_routines.specs.Metadata.{metadata_in}
+use Rattle.flat_routines.specs.Objects.StandsFor.{Holding, Keys, spell, Views}
+use Rattle.flat_routines.proofs.Words.{same_metadata}
 use Rattle.object_routines.specs.AllocatingRoutines.Entering.{AreSized}
 use Rattle.object_routines.specs.AllocatingRoutines.Premises.{HaveBytes}
 use Rattle.object_routines.proofs.AllocatingRoutines.KeptBytes.{bytes_new}
 use Rattle.object_routines.proofs.AllocatingRoutines.SourceEntries.{homes_from, object_count, placed_from, placed_objects}
 use Rattle.object_routines.proofs.AllocatingRoutines.SourceEntries.{placing_work}
 use Rattle.metadata_plan.specs.Operators.{OperatorCode}
-use Rattle.metadata_relation.specs.Holding.{is_object_in}
-use Rattle.metadata_relation.specs.Registers.{home_register}
+use Rattle.metadata_plan.specs.Registers.{all_variables}
+use Rattle.metadata_relation.specs.Holding.{HasHomes, is_object_in, World}
+use Rattle.metadata_relation.specs.Registers.{entry_from, home_register, homes_end, variables_end}
 use Rattle.metadata_relation.specs.Steps.{are_sized}
-use Rattle.metadata_relation.proofs.PlacedHomes.{HasHomeAt, HaveHomes, IsOutside}
+use Rattle.metadata_relation.proofs.PlacedHomes.{before_grows, HasHomeAt, HaveHomes, IsOutside}
+use Rattle.metadata_relation.proofs.Registers.{home_low}
 
 -- ---- variables
 
@@ -109,7 +115,35 @@ over_is (h ∷ hs) (i ∷ is) zero o e = by h i e
     by a (InObject j) e = inl e
 over_is (h ∷ hs) (i ∷ is) (suc x) o e = over_is hs is x o e
 
+-- so they have the entries of both
+pub homes_both : (w : World) (c : CodeFunction) (outer inner : List Home) (values : flat.Values)
+    → HasHomes w c outer values → HasHomes w c inner values → HasHomes w c (homes_over outer inner) values
+homes_both w c outer inner values a b = record {
+  declared = λ x o is. ⊎_elim (λ t. b.declared x o t) (λ t. a.declared x o t) (over_is outer inner x o is);
+  homes = λ x o is. ⊎_elim (λ t. b.homes x o t) (λ t. a.homes x o t) (over_is outer inner x o is);
+  automatic = λ x o is. ⊎_elim (λ t. b.automatic x o t) (λ t. a.automatic x o t) (over_is outer inner x o is);
+  sizes = λ x o is. ⊎_elim (λ t. b.sizes x o t) (λ t. a.sizes x o t) (over_is outer inner x o is);
+}
+
 -- ---- objects
+
+-- a new object is automatic
+pub new_storage : (address size : ℕ) → (new_object Automatic address size).storage ≡ Automatic
+unfolding new_object
+new_storage address size = refl
+
+pub not_static : (o : Storage) → o ≡ Automatic → o ≡ Static → ⊥
+not_static o e f = (let both = sym e ∙ f in cc)
+
+-- registers have the entry of a pointer to an object
+pub home_spelled : (g : Views) (keys : Keys) (objects : Objects) (o r key lock : ℕ) (values : flat.Values)
+    → values r ≡ (object_at objects o).address → values (r + 1) ≡ (object_at objects o).address + (object_at objects o).size
+    → values (r + 2) ≡ key → values (r + 3) ≡ lock → keys.held o ≡ record { key = key; lock = lock }
+    → metadata_in values (entry_from r) ≡ spell g keys (pointer_to o objects).tag
+unfolding pointer_to
+home_spelled g keys objects o r key lock values base bound key_is lock_is held =
+    same_metadata (metadata_in values (entry_from r)) (spell g keys (pointer_to o objects).tag) base bound
+    (key_is ∙ sym (ap (λ (q : Holding). q.key) held)) (lock_is ∙ sym (ap (λ (q : Holding). q.lock) held))
 
 pub bytes_placed : (vs : List Variable) (top : ℕ) (objects : Objects) → AreSized vs → HaveBytes objects
     → HaveBytes (placed_objects vs top objects)
@@ -141,6 +175,33 @@ module _ (m : MapSizes) (p : FlatProgram) (u : ℕ) (xs : List flat.Frame) (o : 
         (λ y t. (let place : x + suc y ≡ suc x + y = omega arith in
         subst (λ z. (r < home_register c z) ⊎ (home_register c z + 4 ≤ r)) place (h (suc y) t))),
   )
+
+  -- below the homes of all objects
+  pub outside_low : (vs : List Variable) (r : ℕ) → r < variables_end c → IsOutside m p u xs o c first key lock s r 0 vs
+  outside_low vs r lt = outside_by r vs 0 (λ q t. inl (omega arith))
+
+  module _ (vs : List Variable)
+      (own : (q : ℕ) → is_object_in vs q ≡ true → is_object_in (all_variables c) (0 + q) ≡ true) where
+    -- behind them
+    pub outside_high : (r : ℕ) → homes_end c ≤ r → IsOutside m p u xs o c first key lock s r 0 vs
+    outside_high r le = outside_by r vs 0 (λ q t. (let low = home_low c (0 + q) (own q t) in inr (omega arith)))
+
+    -- in that of another object
+    pub outside_home : (x j : ℕ) → is_object_in (all_variables c) x ≡ true
+        → ((q : ℕ) → is_object_in vs q ≡ true → x ≢ q) → j < 4
+        → IsOutside m p u xs o c first key lock s (home_register c x + j) 0 vs
+    outside_home x j object other few =
+        outside_by (home_register c x + j) vs 0 (λ q t. by q t (cases_lt x q) (cases_lt q x))
+      where
+        by : (q : ℕ) → is_object_in vs q ≡ true → (x < q) ⊎ (q ≤ x) → (q < x) ⊎ (x ≤ q)
+            → (home_register c x + j < home_register c (0 + q)) ⊎ (home_register c (0 + q) + 4 ≤ home_register c x + j)
+        by q t (inl lt) second =
+            let more = before_grows (all_variables c) x (0 + q) object (omega arith) in
+            inl (omega arith)
+        by q t (inr le) (inl lt) =
+            let more = before_grows (all_variables c) (0 + q) x (own q t) (omega arith) in
+            inr (omega arith)
+        by q t (inr le) (inr ge) = absurd (other q t (omega arith))
 
   -- the object of a variable lives, is automatic, and has the bytes of its kind; registers have the entry of a pointer to it
   pub record IsHomed (x : ℕ) (v : Variable) (k l : ℕ) (object : ObjectState) (values : flat.Values) : Type 0 where

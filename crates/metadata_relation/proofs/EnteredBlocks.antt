@@ -1,21 +1,19 @@
 -- A block is entered: a function of the runtime makes its objects, whose homes are placed, and the object stack ends
 -- behind them; or the run ends, where they have no room or no key.
 use Rattle.std.proofs.Common.{◌≡◌, ◌≢◌, ◌⊎◌, inl, inr, ℕ, suc, ◌+◌, ◌-◌, ◌*◌, ◌%◌, ◌^◌, ◌<◌, ◌≤◌, Bool, true, false}
-use Rattle.std.proofs.Common.{List, [], ◌∷◌, ◌++◌, length, length-append, get_or, Option, Some, None, refl, sym, ap, ◌∙◌}
+use Rattle.std.proofs.Common.{List, ◌∷◌, ◌++◌, length, length-append, get_or, Some, refl, sym, ap, ◌∙◌}
 use Rattle.std.proofs.Common.{subst, arith}
 use Rattle.std.specs.Prelude.{◌&&◌, slice_get, nat_le, nat_lt}
-use Rattle.std.proofs.lemmas.Bool.{and_parts, cases_lt, leb-true, ltb-true}
+use Rattle.std.proofs.lemmas.Bool.{and_parts, leb-true, ltb-true}
 use Rattle.behaviours.specs.Steps.{run}
 use Rattle.behaviours.proofs.Running.{run_add}
 use Rattle.sb_base.specs.declared.ending.Ending.{Ending}
 use Rattle.sb_base.specs.declared.ending.Ending.TheVariants as ending
 use Rattle.sb_base.specs.Endings.{code_of, report_of}
-use Rattle.addr_map.specs.declared.region.Region.TheVariants.{Stack}
-use Rattle.addr_map.specs.Places.{AreMapped, MapSizes, region_end, region_size, region_start}
+use Rattle.addr_map.specs.Places.{MapSizes}
 use Rattle.obj_memory.specs.Heap.{is_allocated, rounded_up}
-use Rattle.obj_memory.specs.declared.object.Storage.{Storage}
-use Rattle.obj_memory.specs.declared.object.Storage.TheVariants.{Automatic, Static}
-use Rattle.obj_memory.specs.Objects.{new_object, object_at, Objects, ObjectState, pointer_to}
+use Rattle.obj_memory.specs.declared.object.Storage.TheVariants.{Automatic}
+use Rattle.obj_memory.specs.Objects.{object_at, ObjectState}
 use Rattle.obj_memory.proofs.Continuing.{continues_then}
 use Rattle.c_tree.specs.declared.program.Variable.{Variable}
 use Rattle.c_tree.specs.Kinds.{size_of_kind}
@@ -43,11 +41,9 @@ use Rattle.flat_meaning.specs.Memory.{Bytes, load, put, store}
 use Rattle.flat_meaning.specs.State as flat
 use Rattle.flat_meaning.specs.Words.{HasWords, IsOfWords}
 use Rattle.flat_meaning.proofs.Stored.{load_stored, put_other, put_same, store_beside}
-use Rattle.flat_routines.specs.Metadata.{metadata_in}
-use Rattle.flat_routines.specs.Objects.StandsFor.{Holding, Keys, spell, Views}
+use Rattle.flat_routines.specs.Objects.StandsFor.{Holding, Keys}
 use Rattle.flat_routines.specs.Routine.{HasAt}
 use Rattle.flat_routines.proofs.Steps.{has_back, has_front}
-use Rattle.flat_routines.proofs.Words.{same_metadata}
 use Rattle.flat_actions.specs.Actions.{IsFor}
 use Rattle.flat_actions.proofs.Standing.{for_worked}
 use Rattle.object_routines.specs.AllocatingRoutines.Entering.{AreOfLock, AreSized, block_bytes}
@@ -56,13 +52,9 @@ use Rattle.object_routines.proofs.AllocatingRoutines.SourceEntries.{home_between
 use Rattle.object_routines.proofs.AllocatingRoutines.SourceEntries.{placed_count, placed_from}
 use Rattle.object_routines.proofs.AllocatingRoutines.OuterBlocks.{still_of_lock}
 use Rattle.runtime_functions.specs.declared.runtime.RuntimeFunction.TheVariants.{Enter}
-use Rattle.runtime_functions.specs.declared.status.ReturnStatus.{ReturnStatus}
-use Rattle.runtime_functions.specs.declared.status.ReturnStatus.TheVariants as told
-use Rattle.runtime_functions.specs.Status.{ending_at, return_status, status_number}
 use Rattle.runtime_functions.specs.Actions.{ComesBehind, HasExited, HasTold, work_of_call}
 use Rattle.runtime_functions.specs.Calls.{CallSite}
-use Rattle.runtime_functions.specs.Entering.{HasEnteredBlock, IsBlockServed, ServesBlock}
-use Rattle.runtime_functions.proofs.Calls.{some_report}
+use Rattle.runtime_functions.specs.Entering.{HasEnteredBlock, IsBlockServed}
 use Rattle.runtime_functions.proofs.Entering.{entered_at_line}
 use Rattle.metadata_plan.specs.Expanded.{Leads}
 use Rattle.metadata_plan.specs.Registers.{all_variables}
@@ -70,97 +62,32 @@ use Rattle.metadata_plan.proofs.Flat.{at_place, Comes, move_comes}
 use Rattle.metadata_relation.specs.Blocks.{enter_place, enter_statuses, place_homes, read_top, runtime_number}
 use Rattle.metadata_relation.specs.Blocks.{status_code, top_cell, write_top}
 use Rattle.metadata_relation.specs.Holding.{GoesOn, HasHomes, Holds, IsHome, is_object_in, World}
-use Rattle.metadata_relation.specs.Registers.{block_top_register, entry_from, first_free, home_register, homes_end, tops_end}
+use Rattle.metadata_relation.specs.Registers.{block_top_register, first_free, home_register, homes_end, tops_end}
 use Rattle.metadata_relation.specs.Registers.{body_top_register, first_object, lock_register, temporary_register}
 use Rattle.metadata_relation.specs.Registers.{variables_end}
 use Rattle.metadata_relation.specs.Scopes.{base_of, context_at, numbers_in, variables_at}
-use Rattle.metadata_relation.specs.Stages.{activation, Compiled, expansion_of, factor, IsAt, IsSteady, level}
+use Rattle.metadata_relation.specs.Stages.{activation, Compiled, expansion_of, IsAt, IsSteady, level}
 use Rattle.metadata_relation.specs.Stages.{map_of, MatchesBy, names, StandsIn, views, world}
 use Rattle.metadata_relation.specs.Steps.{are_sized, can_be_entered, IsCompiled}
 use Rattle.metadata_relation.specs.Waiting.{AllWait}
 use Rattle.metadata_relation.proofs.Acting.{placed_static, Reached, reached_by, reached_computed, reached_next, reached_then}
-use Rattle.metadata_relation.proofs.Acting.{reached_on, reached_words}
+use Rattle.metadata_relation.proofs.Acting.{reached_on, reached_words, stands_as}
 use Rattle.metadata_relation.proofs.Behind.{for_behind}
+use Rattle.metadata_relation.proofs.BlockEndings.{EndsEntering, no_key_ends, no_room_ends}
 use Rattle.metadata_relation.proofs.BlockHomes.{bytes_placed, count_work, has_home_in, home_at_least, homed, IsHomed}
-use Rattle.metadata_relation.proofs.BlockHomes.{object_by_home, outside_by, over_is, sized_by, some_counted}
+use Rattle.metadata_relation.proofs.BlockHomes.{homes_both, home_spelled, new_storage, not_static, object_by_home}
+use Rattle.metadata_relation.proofs.BlockHomes.{outside_high, outside_home, outside_low, sized_by, some_counted}
 use Rattle.metadata_relation.proofs.BlockVariables.{block_inside, declared_as, declares, first_is_object, fresh}
-use Rattle.metadata_relation.proofs.RuntimeCalls.{runtime_call, RuntimeCall, site}
+use Rattle.metadata_relation.proofs.RuntimeCalls.{runtime_call, site}
 use Rattle.metadata_relation.proofs.Holding.{home_on, temporaries_on, variables_on}
 use Rattle.metadata_relation.proofs.OuterBlocks.{are_over, waits_around}
-use Rattle.metadata_relation.proofs.PlacedHomes.{are_apart, before_grows, IsOutside, Places, places}
+use Rattle.metadata_relation.proofs.PlacedHomes.{are_apart, IsOutside, Places, places}
 use Rattle.metadata_relation.proofs.Registers.{home_low, temporary_free}
 use Rattle.metadata_relation.proofs.Standing.{ends, good_now, good_then, IsNode, leaves_same, node}
 use Rattle.metadata_relation.proofs.Standing.{none_less, none_more, Result}
-use Rattle.metadata_relation.proofs.Statuses.{AllEnd, IsAmong, status_ends, status_passed}
-use Rattle.metadata_relation.proofs.TopCell.{cell_place, top_read, top_written}
+use Rattle.metadata_relation.proofs.Statuses.{status_ends, status_passed}
+use Rattle.metadata_relation.proofs.TopCell.{cell_place, stack_low, top_read, top_written}
 use Rattle.metadata_relation.proofs.Waiting.{lock_same, waits_by}
-
--- ---- endings
-
--- how entering a block may end the run
-pub record EndsEntering (line : ℕ) (e : Ending) : Type 0 where
-  pub some : return_status e ≡ None → ⊥
-  pub among : (q : ReturnStatus) → ending_at q line ≡ Some e → IsAmong (status_number q) enter_statuses
-  pub report : 1 ≤ length (report_of e)
-
-no_room_ends : (line : ℕ) → EndsEntering line (ending.Stack line)
-no_room_ends line = record {
-  some = λ h. cc;
-  among = λ q is. by q is;
-  report = some_report (ending.Stack line) told.Stack refl;
-}
-  where
-    by : (q : ReturnStatus) → ending_at q line ≡ Some (ending.Stack line) → IsAmong (status_number q) enter_statuses
-    by told.Stack is = inl refl
-    by told.Completed is = absurd cc
-    by told.Spatial is = absurd cc
-    by told.Temporal is = absurd cc
-    by told.BadCall is = absurd cc
-    by told.BadFree is = absurd cc
-    by told.Divide is = absurd cc
-    by told.Keys is = absurd cc
-    by told.Abort is = absurd cc
-
-no_key_ends : (line : ℕ) → EndsEntering line (ending.Keys line)
-no_key_ends line = record {
-  some = λ h. cc;
-  among = λ q is. by q is;
-  report = some_report (ending.Keys line) told.Keys refl;
-}
-  where
-    by : (q : ReturnStatus) → ending_at q line ≡ Some (ending.Keys line) → IsAmong (status_number q) enter_statuses
-    by told.Keys is = inr (inl refl)
-    by told.Completed is = absurd cc
-    by told.Spatial is = absurd cc
-    by told.Temporal is = absurd cc
-    by told.BadCall is = absurd cc
-    by told.BadFree is = absurd cc
-    by told.Divide is = absurd cc
-    by told.Stack is = absurd cc
-    by told.Abort is = absurd cc
-
--- the object stack ends low
-stack_low : (m : MapSizes) → AreMapped m → region_end m Stack ≤ 1610612736
-unfolding region_size region_start
-stack_low m h = omega (arith, h.globals, h.budgets.stack.greatest)
-
--- a new object is automatic
-new_storage : (address size : ℕ) → (new_object Automatic address size).storage ≡ Automatic
-unfolding new_object
-new_storage address size = refl
-
-not_static : (o : Storage) → o ≡ Automatic → o ≡ Static → ⊥
-not_static o e f = (let both = sym e ∙ f in cc)
-
--- registers have the entry of a pointer to an object
-home_spelled : (g : Views) (keys : Keys) (objects : Objects) (o r key lock : ℕ) (values : flat.Values)
-    → values r ≡ (object_at objects o).address → values (r + 1) ≡ (object_at objects o).address + (object_at objects o).size
-    → values (r + 2) ≡ key → values (r + 3) ≡ lock → keys.held o ≡ record { key = key; lock = lock }
-    → metadata_in values (entry_from r) ≡ spell g keys (pointer_to o objects).tag
-unfolding pointer_to
-home_spelled g keys objects o r key lock values base bound key_is lock_is held =
-    same_metadata (metadata_in values (entry_from r)) (spell g keys (pointer_to o objects).tag) base bound
-    (key_is ∙ sym (ap (λ (q : Holding). q.key) held)) (lock_is ∙ sym (ap (λ (q : Holding). q.lock) held))
 
 module _ (c : Compiled) (IsGood : Bytes → Type 0) (right : IsCompiled c IsGood) (u n : ℕ) (temps : Temps)
     (ws : List Frame) (s : State) (v : flat.State) (xs : List flat.Frame)
@@ -267,25 +194,14 @@ module _ (c : Compiled) (IsGood : Bytes → Type 0) (right : IsCompiled c IsGood
       }) in
       let v3 : flat.State = record v2 { values = made.after; work = v2.work + made.work } in
       let r3 = reached_computed m p u xs pc (pc + 1 + 1 + 1) at_call (free + 1) (block_bytes vs) (free + 2) v v2 6 5 r2 made in
-      let shown = h.stands.for.shown in
       let loaded : v1.values top ≡ s.stacked =
-      put_same (put v.values top cell) top (load 8 v.memory cell) ∙ h.stands.top in
-      (
+      put_same (put v.values top cell) top (load 8 v.memory cell) ∙ h.stands.top in (
         record v2 { values = made.after; work = v2.work + made.work },
         record {
           reached = r3;
           as_words = reached_words m p u xs pc at_call v v3 16 words r3;
-          stands = record {
-            objects = h.stands.for.objects;
-            spaces = h.stands.for.spaces;
-            keys = h.stands.for.keys;
-            shown = record {
-              input = shown.input;
-              output = shown.output;
-              taken = shown.taken;
-              accesses = shown.accesses;
-            };
-          };
+          stands = for_worked (views c) h.keys IsGood s paid.work (record v2 { values = made.after; work = v2.work + made.work })
+              (stands_as c IsGood h.keys s v made.after (v2.work + made.work) h.stands).for;
           top_is = made.others free (omega arith) (λ e. omega arith) ∙ put_same v1.values free (v1.values top) ∙ loaded;
           bytes = made.gives;
           kept = made.others top (omega arith) (λ e. omega arith)
@@ -396,9 +312,6 @@ module _ (c : Compiled) (IsGood : Bytes → Type 0) (right : IsCompiled c IsGood
     abbrev z : State
     z = spent (3 * (made.work - paid.work)) made
 
-    gives : enter_block c.setting vs line paid ≡ Gives entry made
-    gives = enters_block c.setting vs line paid space some spare
-
     within : objects_end vs s.stacked ≤ 1610612736
     within =
         let low = stack_low (map_of c) right.mapped in
@@ -416,7 +329,8 @@ module _ (c : Compiled) (IsGood : Bytes → Type 0) (right : IsCompiled c IsGood
     entered =
         subst (EntersBy (base_of (names c) u) (map_of c) (variables_in (code_in c.layout.expansion.code u))
         (variables_at (names c) u ws) (numbers_in (code_in c.layout.expansion.code u) k) paid)
-        (ap (λ o. enter_block c.setting (objects_in o k) line paid) h.there ∙ gives)
+        (ap (λ o. enter_block c.setting (objects_in o k) line paid) h.there
+        ∙ enters_block c.setting vs line paid space some spare)
         (source_enters (base_of (names c) u) (map_of c) (variables_in (code_in c.layout.expansion.code u))
         (variables_at (names c) u ws) (numbers_in (code_in c.layout.expansion.code u) k) c.setting right.sizes right.mapped
         line paid (good_now (names c) u ws s h.steady.good))
@@ -435,7 +349,7 @@ module _ (c : Compiled) (IsGood : Bytes → Type 0) (right : IsCompiled c IsGood
                 since = record { good = l.good; lives = l.lives; frame = l.frame; ended = l.ended };
               },
               (good_then (names c) u ws s paid
-              (record { good = b.good; lives = b.lives; frame = b.frame; ended = b.ended }) h.steady.good).by,
+                  (record { good = b.good; lives = b.lives; frame = b.frame; ended = b.ended }) h.steady.good).by,
             );
           };
           bytes = bytes_placed vs s.stacked s.objects sized h.steady.bytes;
@@ -547,37 +461,20 @@ module _ (c : Compiled) (IsGood : Bytes → Type 0) (right : IsCompiled c IsGood
       -- ---- registers
 
       low_outside : (r : ℕ) → r < variables_end h.code → IsOutsideHomes r
-      low_outside r lt =
-          outside_by (map_of c) c.layout.program u xs c.layout.expansion.inline.operators h.code (free + 3) (free + 5)
-          (free + 6) (free + 7) r vs 0 (λ q t. inl (omega arith))
+      low_outside = outside_low (map_of c) c.layout.program u xs c.layout.expansion.inline.operators h.code (free + 3)
+          (free + 5) (free + 6) (free + 7) vs
 
       high_outside : (r : ℕ) → homes_end h.code ≤ r → IsOutsideHomes r
-      high_outside r le =
-          outside_by (map_of c) c.layout.program u xs c.layout.expansion.inline.operators h.code (free + 3) (free + 5)
-          (free + 6) (free + 7) r vs 0
-          (λ q t. (let low = home_low h.code (0 + q) (object_here q t) in inr (omega arith)))
+      high_outside = outside_high (map_of c) c.layout.program u xs c.layout.expansion.inline.operators h.code (free + 3)
+          (free + 5) (free + 6) (free + 7) vs object_here
 
       home_outside : (x o j : ℕ) → get_or s.frame x NoObject ≡ InObject o → j < 4
           → IsOutsideHomes (home_register h.code x + j)
       home_outside x o j is few =
-          outside_by (map_of c) c.layout.program u xs c.layout.expansion.inline.operators h.code (free + 3) (free + 5)
-          (free + 6) (free + 7) (home_register h.code x + j) vs 0
-          (λ q t. by q t (cases_lt x q) (cases_lt q x))
-        where
-          by : (q : ℕ) → is_object_in vs q ≡ true → (x < q) ⊎ (q ≤ x) → (q < x) ⊎ (x ≤ q)
-              → (home_register h.code x + j < home_register h.code (0 + q))
-              ⊎ (home_register h.code (0 + q) + 4 ≤ home_register h.code x + j)
-          by q t (inl lt) other =
-              let more = before_grows (all_variables h.code) x (0 + q) (h.holds.homes.declared x o is) (omega arith) in
-              inl (omega arith)
-          by q t (inr le) (inl lt) =
-              let more = before_grows (all_variables h.code) (0 + q) x (object_here q t) (omega arith) in
-              inr (omega arith)
-          by q t (inr le) (inr ge) =
-              let one : x ≡ q = omega arith in
-              let both : InObject o ≡ NoObject =
-              sym is ∙ ap (λ i. get_or s.frame i NoObject) one ∙ fresh h.code k s.frame none q t in
-              absurd cc
+          outside_home (map_of c) c.layout.program u xs c.layout.expansion.inline.operators h.code (free + 3) (free + 5)
+          (free + 6) (free + 7) vs object_here x j (h.holds.homes.declared x o is)
+          (λ q t same. (let both : InObject o ≡ NoObject =
+          sym is ∙ ap (λ i. get_or s.frame i NoObject) same ∙ fresh h.code k s.frame none q t in cc)) few
 
       same : (r : ℕ) → r < first_free h.code → r ≢ block_top_register h.code k → IsOutsideHomes r
           → (after 0).values r ≡ v.values r
@@ -702,33 +599,14 @@ module _ (c : Compiled) (IsGood : Bytes → Type 0) (right : IsCompiled c IsGood
           }
 
       all_homes : HasHomes (after_world 0) h.code made.frame (after 0).values
-      all_homes = record {
-        declared = λ x o is. declared_by x o (over_is s.frame entry.homes x o is);
-        homes = λ x o is. home_by x o (over_is s.frame entry.homes x o is);
-        automatic = λ x o is. automatic_by x o (over_is s.frame entry.homes x o is);
-        sizes = λ x o is. size_by x o (over_is s.frame entry.homes x o is);
-      }
-        where
-          declared_by : (x o : ℕ) → (get_or entry.homes x NoObject ≡ InObject o) ⊎ (get_or s.frame x NoObject ≡ InObject o)
-              → is_object_in (all_variables h.code) x ≡ true
-          declared_by x o (inl t) = declares h.code k x (own x o t).object
-          declared_by x o (inr t) = around.declared x o t
-
-          home_by : (x o : ℕ) → (get_or entry.homes x NoObject ≡ InObject o) ⊎ (get_or s.frame x NoObject ≡ InObject o)
-              → IsHome (after_world 0) o (home_register h.code x) (after 0).values
-          home_by x o (inl t) = (own x o t).home
-          home_by x o (inr t) = around.homes x o t
-
-          automatic_by : (x o : ℕ)
-              → (get_or entry.homes x NoObject ≡ InObject o) ⊎ (get_or s.frame x NoObject ≡ InObject o)
-              → (object_at made.objects o).storage ≡ Automatic
-          automatic_by x o (inl t) = (own x o t).automatic
-          automatic_by x o (inr t) = around.automatic x o t
-
-          size_by : (x o : ℕ) → (get_or entry.homes x NoObject ≡ InObject o) ⊎ (get_or s.frame x NoObject ≡ InObject o)
-              → (object_at made.objects o).size ≡ size_of_kind (at_number (all_variables h.code) x).kind
-          size_by x o (inl t) = (own x o t).size_is
-          size_by x o (inr t) = around.sizes x o t
+      all_homes =
+          homes_both (after_world 0) h.code s.frame entry.homes (after 0).values around
+          (record {
+            declared = λ x o is. declares h.code k x (own x o is).object;
+            homes = λ x o is. (own x o is).home;
+            automatic = λ x o is. (own x o is).automatic;
+            sizes = λ x o is. (own x o is).size_is;
+          })
 
       holds : (w : ℕ) → Holds (after_world w) (activation c h.code u next z) temps s.plain made.frame (after w).values
       holds w = record {
@@ -875,9 +753,6 @@ module _ (c : Compiled) (IsGood : Bytes → Type 0) (right : IsCompiled c IsGood
             });
           }
 
-    enters_with : Follows (Stands u next temps (Entered k entry ∷ ws) z)
-    enters_with = stands to_call.0 to_call.1 (subst (Serves to_call.0) gives (served to_call.0 to_call.1))
-
   -- ---- by the tests
 
   abbrev Behind : Completed Block → Stage
@@ -886,7 +761,9 @@ module _ (c : Compiled) (IsGood : Bytes → Type 0) (right : IsCompiled c IsGood
   by_keys : nat_le (objects_end vs paid.stacked) (stack_end c.setting) ≡ true → (b : Bool)
       → nat_lt paid.keys c.setting.sizes.budgets.keys ≡ b → Follows (Behind (enter_block c.setting vs line paid))
   by_keys space true e =
-      subst (λ o. Follows (Behind o)) (sym (enters_block c.setting vs line paid space some e)) (enters_with space e)
+      subst (λ o. Follows (Behind o)) (sym (enters_block c.setting vs line paid space some e))
+      (stands space e to_call.0 to_call.1 (subst (Serves to_call.0)
+      (enters_block c.setting vs line paid space some e) (served to_call.0 to_call.1)))
   by_keys space false e =
       let is = no_more_keys c.setting vs line paid space some e in
       subst (λ o. Follows (Behind o)) (sym is) (ended (ending.Keys line) (no_key_ends line) is)

@@ -4,6 +4,7 @@ pub mod Altering
 pub mod Assigning
 pub mod Begins
 pub mod Behind
+pub mod BlockEndings
 pub mod BlockHomes
 pub mod BlockVariables
 pub mod CallHolds

@@ -1,9 +1,11 @@
 -- Which variables a block of a function enters: objects of the function, which have no homes before.
-use Rattle.std.proofs.Common.{◌≡◌, ℕ, zero, suc, ◌+◌, Bool, true, false, ◌||◌, if◌then◌else◌, List, [], ◌∷◌}
-use Rattle.std.proofs.Common.{get_or, map, refl, sym, ap, ◌∙◌, Some, arith}
+use Rattle.std.proofs.Common.{◌≡◌, ℕ, zero, suc, ◌+◌, ◌<◌, Bool, true, false, ◌||◌, if◌then◌else◌, List, [], ◌∷◌}
+use Rattle.std.proofs.Common.{get_or, length, map, refl, sym, ap, ◌∙◌, Option, Some, None, arith}
 use Rattle.std.specs.Prelude.{◌==◌, slice_get}
 use Rattle.std.proofs.lemmas.Bool.{and_parts, eqb-true}
+use Rattle.std.proofs.lemmas.Option.{slice_get_within}
 use Rattle.c_tree.specs.declared.program.Variable.{Variable}
+use Rattle.c_tree.specs.Valid.{at_number}
 use Rattle.c_tree.specs.Blocks.{closed, is_among, no_variable, opened}
 use Rattle.source_meaning.specs.Blocks.{has_objects}
 use Rattle.source_meaning.specs.State.{Home, InObject, NoObject}
@@ -41,6 +43,21 @@ opened_object numbers n (d ∷ ds) (suc y) e =
     let place : n + suc y ≡ suc n + y = omega arith in
     (r.0, ap (is_among numbers) place ∙ r.1)
 
+-- and it is that variable
+opened_number : (numbers : List ℕ) (n : ℕ) (all : List Variable) (y : ℕ)
+    → is_object_in (opened numbers n all (map closed all)) y ≡ true
+    → at_number (opened numbers n all (map closed all)) y ≡ at_number all y
+opened_number numbers n [] y e = absurd cc
+opened_number numbers n (d ∷ ds) zero e = by (is_among numbers n) refl
+  where
+    by : (b : Bool) → is_among numbers n ≡ b → (if is_among numbers n then d else closed d) ≡ d
+    by true t = ap (λ b. if b then d else closed d) t
+    by false t =
+        let is : (closed d).is_object ≡ true = ap (λ b. (if b then d else closed d).is_object) (sym t) ∙ e in
+        let both : false ≡ true = sym (closed_is_none d) ∙ is in
+        absurd cc
+opened_number numbers n (d ∷ ds) (suc y) e = opened_number numbers (suc n) ds y e
+
 none_is : (m : Home) → has_no_home m ≡ true → m ≡ NoObject
 none_is NoObject e = refl
 none_is (InObject o) e = absurd cc
@@ -72,6 +89,25 @@ first_is_object (v ∷ vs) e = by (λ t. first_is_object vs t) v.is_object refl 
 module _ (c : CodeFunction) (k : ℕ) where
   pub declares : (y : ℕ) → is_object_in (objects_in (Some c) k) y ≡ true → is_object_in (all_variables c) y ≡ true
   declares y e = (opened_object (if_there (slice_get (blocks_in (Some c)) k)) 0 (all_variables c) y e).0
+
+  pub declared_as : (y : ℕ) → is_object_in (objects_in (Some c) k) y ≡ true
+      → at_number (objects_in (Some c) k) y ≡ at_number (all_variables c) y
+  declared_as y e = opened_number (if_there (slice_get (blocks_in (Some c)) k)) 0 (all_variables c) y e
+
+  -- a block that has objects is one of the function's
+  pub block_inside : has_objects (objects_in (Some c) k) ≡ true → k < length c.blocks
+  block_inside e = by (slice_get c.blocks k) refl
+    where
+      by : (o : Option (List ℕ)) → slice_get c.blocks k ≡ o → k < length c.blocks
+      by (Some numbers) is = slice_get_within c.blocks k numbers is
+      by None is =
+          let y = first_object (objects_in (Some c) k) in
+          let t = opened_object (if_there (slice_get c.blocks k)) 0 (all_variables c) y
+          (first_is_object (objects_in (Some c) k) e) in
+          let none : is_among (if_there (slice_get c.blocks k)) (0 + y) ≡ false =
+          ap (λ o. is_among (if_there o) (0 + y)) is in
+          let both : false ≡ true = sym none ∙ t.1 in
+          absurd cc
 
   -- the objects of a block that is entered have no homes before
   pub fresh : (frame : List Home) → have_no_homes frame (if_there (slice_get (blocks_in (Some c)) k)) ≡ true

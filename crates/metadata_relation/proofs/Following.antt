@@ -32,6 +32,7 @@ use Rattle.metadata_relation.proofs.Moving.{convert_pointer}
 use Rattle.metadata_relation.proofs.Setting.{set_plain_step}
 use Rattle.metadata_relation.proofs.Pointers.{home_pointer, offset}
 use Rattle.metadata_relation.proofs.Checking.{judge}
+use Rattle.metadata_relation.proofs.EnteredBlocks.{enter_step}
 use Rattle.metadata_relation.proofs.Leaving.{leave_step}
 use Rattle.metadata_relation.proofs.StoredParts.{store_part}
 use Rattle.metadata_relation.proofs.StoredTexts.{store_text}
@@ -158,6 +159,8 @@ module _ (c : Compiled) (IsGood : Bytes → Type 0) (right : IsCompiled c IsGood
       store_text c IsGood right u n temps ws s v xs h words t x offset m at (fine (tac.StoreText t x offset m) at)
   instruction (tac.Zero x m) at e f =
       zero_step c IsGood right u n temps ws s v xs h words x m at (fine (tac.Zero x m) at)
+  instruction (tac.EnterBlock b line m) at e f =
+      enter_step c IsGood right u n temps ws s v xs h words b line m at e f
   instruction (tac.LeaveBlock b m) at e f =
       leave_step c IsGood right u n temps ws s v xs h words b m at (fine (tac.LeaveBlock b m) at)
   instruction (tac.Branch a x y) at e f = branch c IsGood right u n temps ws s v xs h words.0 a x y at

@@ -4,6 +4,8 @@ pub mod Altering
 pub mod Assigning
 pub mod Begins
 pub mod Behind
+pub mod BlockEndings
+pub mod BlockHomes
 pub mod BlockVariables
 pub mod CallHolds
 pub mod CallStates
@@ -11,6 +13,7 @@ pub mod Calls
 pub mod Checking
 pub mod Comparing
 pub mod Differences
+pub mod EnteredBlocks
 pub mod Entering
 pub mod Finishing
 pub mod FiveRegisters

@@ -19,7 +19,7 @@ use Rattle.flat_meaning.specs.Calls.{function_in}
 use Rattle.flat_meaning.specs.Meaning.{body_of}
 use Rattle.flat_meaning.specs.Memory.{put}
 use Rattle.flat_meaning.specs.State as flat
-use Rattle.object_routines.proofs.AllocatingRoutines.SourceEntries.{grows}
+use Rattle.object_routines.proofs.AllocatingRoutines.SourceEntries.{grows, object_count}
 use Rattle.flat_meaning.proofs.Stored.{put_other, put_same}
 use Rattle.flat_routines.specs.Routine.{HasAt}
 use Rattle.flat_routines.proofs.Steps.{has_back, has_front}
@@ -34,7 +34,7 @@ use Rattle.metadata_relation.proofs.Comparing.{short_code, short_operand}
 use Rattle.metadata_relation.proofs.StoredParts.{sum_is}
 
 -- homes of objects are one behind the other
-before_grows : (vs : List Variable) (x y : ℕ) → is_object_in vs x ≡ true → x < y
+pub before_grows : (vs : List Variable) (x y : ℕ) → is_object_in vs x ≡ true → x < y
     → before home_words x vs + 4 ≤ before home_words y vs
 before_grows [] x y e lt = absurd cc
 before_grows (v ∷ vs) zero zero e lt = absurd (omega (arith, lt))
@@ -205,11 +205,11 @@ module _ (m : MapSizes) (p : FlatProgram) (u : ℕ) (xs : List flat.Frame) (o : 
   pub record Places (x : ℕ) (vs : List Variable) (offset pc : ℕ) (v : flat.State) : Type 0 where
     pub after : flat.Values
     pub comes : Comes m p u pc v xs (pc + length (place_homes o c x vs offset first key lock s))
-        (record v { values = after }) (8 * length vs)
+        (record v { values = after }) (8 * object_count vs)
     pub homes : HaveHomes x vs offset (v.values first) (v.values key) (v.values lock) after
     pub others : (r : ℕ) → IsOutside r x vs → after r ≡ v.values r
 
-  home_same : (x address size k l : ℕ) (values after : flat.Values)
+  pub home_same : (x address size k l : ℕ) (values after : flat.Values)
       → ((j : ℕ) → j < 4 → after (home_register c x + j) ≡ values (home_register c x + j))
       → HasHomeAt x address size k l values → HasHomeAt x address size k l after
   home_same x address size k l values after same h =
@@ -269,10 +269,10 @@ module _ (m : MapSizes) (p : FlatProgram) (u : ℕ) (xs : List flat.Frame) (o : 
         record {
           after = rest.after;
           comes = weaker m p u pc v xs (pc + length (place_homes o c x (z ∷ vs) offset first key lock s))
-              (record v { values = rest.after }) (8 * length vs) (8 * length (z ∷ vs))
+              (record v { values = rest.after }) (8 * object_count vs) (8 * object_count (z ∷ vs))
               (at_place m p u pc v xs (pc + length (place_homes o c (suc x) vs offset first key lock s))
               (pc + length (place_homes o c x (z ∷ vs) offset first key lock s)) (record v { values = rest.after })
-              (8 * length vs) rest.comes place) (omega arith);
+              (8 * object_count vs) rest.comes place) (omega arith);
           homes = (
             λ t. (let both = sym t ∙ e in absurd cc),
             subst (λ b. HaveHomes (suc x) vs b (v.values first) (v.values key) (v.values lock) rest.after)
@@ -303,16 +303,18 @@ module _ (m : MapSizes) (p : FlatProgram) (u : ℕ) (xs : List flat.Frame) (o : 
         let same_first = outside_home v.values x off size first (inr f) in
         let same_key = outside_home v.values x off size key (inr k) in
         let same_lock = outside_home v.values x off size lock (inr l) in
+        let one_more : object_count (z ∷ vs) ≡ 1 + object_count vs =
+        ap (λ b. (if b then 1 else 0) + object_count vs) e in
         let all = then_comes m p u pc v xs (pc + 4) (pc + 4 + length tail)
-        (record v { values = placed v.values x off size }) (record v { values = rest.after }) 8 (8 * length vs) h
+        (record v { values = placed v.values x off size }) (record v { values = rest.after }) 8 (8 * object_count vs) h
         (record { steps = t.steps; work = t.work; few = t.few; comes = t.comes }) in
         record {
           after = rest.after;
           comes = weaker m p u pc v xs (pc + length (place_homes o c x (z ∷ vs) offset first key lock s))
-              (record v { values = rest.after }) (8 + 8 * length vs) (8 * length (z ∷ vs))
+              (record v { values = rest.after }) (8 + 8 * object_count vs) (8 * object_count (z ∷ vs))
               (at_place m p u pc v xs (pc + 4 + length tail)
               (pc + length (place_homes o c x (z ∷ vs) offset first key lock s)) (record v { values = rest.after })
-              (8 + 8 * length vs) all place) (omega arith);
+              (8 + 8 * object_count vs) all place) (omega (arith, one_more));
           homes = (
             λ t. home_same x (v.values first + off) size (v.values key) (v.values lock) (placed v.values x off size)
                 rest.after (λ j few. rest.others (home_register c x + j) (near.1 j few)) (has_home v.values x off size),

@@ -5,7 +5,7 @@ use Rattle.std.specs.Prelude.{nat_le}
 use Rattle.std.proofs.lemmas.Bool.{lt-leb}
 use Rattle.std.proofs.Math.Bool.{and-false}
 use Rattle.behaviours.specs.Shown.{Read, Write}
-use Rattle.addr_map.specs.declared.region.Region.TheVariants.{Cells, Heap, StructureValues}
+use Rattle.addr_map.specs.declared.region.Region.TheVariants.{Cells, Heap, Stack, StructureValues}
 use Rattle.addr_map.specs.Places.{AreMapped, MapSizes, objects_begin, region_end, region_size, region_start, spaces_begin}
 use Rattle.rv_isa.specs.declared.instruction.LoadOp.TheVariants.{Ld}
 use Rattle.rv_isa.specs.declared.instruction.StoreOp.TheVariants.{Sd}
@@ -44,6 +44,11 @@ cell_place m h = record {
   heap = omega (arith, h.globals, h.budgets.stack.greatest, h.budgets.heap.greatest);
   small = (let small = (table_laid_out m h).small in omega arith);
 }
+
+-- the object stack ends low
+pub stack_low : (m : MapSizes) → AreMapped m → region_end m Stack ≤ 1610612736
+unfolding region_size region_start
+stack_low m h = omega (arith, h.globals, h.budgets.stack.greatest)
 
 module _ (m : MapSizes) (mapped : AreMapped m) (p : FlatProgram) (u : ℕ) (xs : List flat.Frame) where
   -- it is no byte of an object, and may be used

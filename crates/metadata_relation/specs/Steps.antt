@@ -7,6 +7,7 @@ use Rattle.obj_memory.specs.declared.value.Scalar.{Scalar}
 use Rattle.c_tree.specs.declared.expression.Kind.{Kind}
 use Rattle.c_tree.specs.declared.expression.Kind.TheVariants.{Void, Scalar as OfScalar, Structure, Array}
 use Rattle.c_tree.specs.declared.program.Variable.{Variable}
+use Rattle.c_tree.specs.Kinds.{size_of_kind}
 use Rattle.c_tree.specs.ValidProgram.{is_valid_program}
 use Rattle.c_tree.specs.declared.expression.Routine.{Routine}
 use Rattle.c_tree.specs.declared.expression.Routine.TheVariants as routine
@@ -23,12 +24,13 @@ use Rattle.tac_ir.specs.declared.instruction.Mode.TheVariants.{Named, Unchecked,
 use Rattle.tac_ir.specs.declared.function.CodeFunction.{CodeFunction}
 use Rattle.tac_ir.specs.declared.function.Tac.{Tac}
 use Rattle.tac_ir.specs.Fitting.{is_word}
-use Rattle.tac_ir.specs.Meaning.{function_in, header_of_code, objects_before}
+use Rattle.tac_ir.specs.Meaning.{function_in, header_of_code, objects_before, objects_in}
 use Rattle.tac_ir.specs.Stage.{Stage}
 use Rattle.flat_meaning.specs.Memory.{Bytes}
 use Rattle.flat_meaning.specs.State as flat
 use Rattle.flat_routines.specs.Metadata.{IsObjectWord, KeepsShadow}
 use Rattle.flat_meaning.specs.Meaning.{step}
+use Rattle.object_routines.specs.AllocatingRoutines.Entering.{block_bytes}
 use Rattle.metadata_plan.specs.Registers.{all_variables}
 use Rattle.metadata_relation.specs.Blocks.{is_short, objects_of_body, result_of}
 use Rattle.metadata_relation.specs.InlineCode.{IsInlineCode}
@@ -93,6 +95,15 @@ is_inline_routine routine.Exit = true
 is_inline_routine routine.Abort = true
 is_inline_routine r = false
 
+-- each object has a byte
+abbrev pub are_sized : List Variable → Bool
+are_sized [] = true
+are_sized (v ∷ vs) = (not v.is_object || nat_le 1 (size_of_kind v.kind)) && are_sized vs
+
+-- what a block enters: there are objects, each with a byte, and a register holds how many bytes they take
+abbrev pub can_be_entered : List Variable → Bool
+can_be_entered vs = has_objects vs && (are_sized vs && is_word (block_bytes vs))
+
 -- the instructions whose steps are known
 abbrev pub covers : CodeFunction → Instruction → Bool
 covers c (tac.Skip m) = true
@@ -112,6 +123,7 @@ covers c (tac.Judge test size line key a m) = nat_le 1 size && is_word size
 covers c (tac.StorePart (OfScalar k) line x offset a m) = is_word offset
 covers c (tac.StoreText n x offset m) = true
 covers c (tac.Zero x m) = true
+covers c (tac.EnterBlock b line m) = can_be_entered (objects_in (Some c) b)
 covers c (tac.LeaveBlock b m) = true
 covers c (tac.Branch a x y) = true
 covers c (tac.Case a w x y) = is_word w

@@ -9,6 +9,7 @@ pub mod BlockHomes
 pub mod BlockVariables
 pub mod CallHolds
 pub mod CallStates
+pub mod CalleeTests
 pub mod Calls
 pub mod Checking
 pub mod Comparing
@@ -18,6 +19,7 @@ pub mod Entering
 pub mod Finishing
 pub mod FiveRegisters
 pub mod Following
+pub mod FunctionTypes
 pub mod Giving
 pub mod Holding
 pub mod Inline
@@ -39,6 +41,7 @@ pub mod Ranges
 pub mod Reading
 pub mod Registers
 pub mod Returns
+pub mod RoomTests
 pub mod Routines
 pub mod RuntimeCalls
 pub mod Setting

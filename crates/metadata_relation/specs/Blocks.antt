@@ -1,6 +1,6 @@
 -- The flat code of each instruction of three-address code.
 use Rattle.std.specs.Prelude.{ℕ, zero, suc, ◌+◌, ◌-◌, ◌*◌, ◌^◌, min, max, Bool, true, false, ◌==◌, nat_le, nat_lt}
-use Rattle.std.specs.Prelude.{if◌then◌else◌, List, [], ◌∷◌, ◌++◌, map, length, get_or, Option, Some, None}
+use Rattle.std.specs.Prelude.{if◌then◌else◌, List, [], ◌∷◌, ◌++◌, map, length, get_or, slice_get, Option, Some, None}
 use Rattle.sb_base.specs.declared.ending.Ending.{Ending}
 use Rattle.sb_base.specs.declared.ending.Ending.TheVariants.{Stack, BadCall as BadCallAt, Abort as AbortAt}
 use Rattle.sb_base.specs.declared.ending.Ending.TheVariants.{Spatial as SpatialAt}
@@ -41,7 +41,7 @@ use Rattle.tac_ir.specs.declared.key.Key.{Key}
 use Rattle.tac_ir.specs.declared.function.CodeFunction.{CodeFunction}
 use Rattle.tac_ir.specs.declared.function.Tac.{Tac}
 use Rattle.tac_ir.specs.Meaning.{function_in, text_in, header_of_code, objects_in, placed_data}
-use Rattle.rv_isa.specs.declared.instruction.RegOp.TheVariants.{Add, Sub}
+use Rattle.rv_isa.specs.declared.instruction.RegOp.TheVariants.{Add, And, Sll, Srl, Sub}
 use Rattle.rv_isa.specs.declared.instruction.LoadOp.TheVariants.{Ld}
 use Rattle.rv_isa.specs.declared.instruction.StoreOp.TheVariants.{Sb, Sd}
 use Rattle.rv_isa.specs.declared.instruction.BranchOp.TheVariants.{Beq, Bne, Bltu}
@@ -50,7 +50,7 @@ use Rattle.flat_meaning.specs.declared.instruction.RightOperand.TheVariants.{Reg
 use Rattle.flat_meaning.specs.declared.instruction.FlatInstruction.{FlatInstruction}
 use Rattle.flat_meaning.specs.declared.instruction.FlatInstruction.TheVariants.{Constant, Move, Operate, Load, Store}
 use Rattle.flat_meaning.specs.declared.instruction.FlatInstruction.TheVariants.{Branch, Turn, Call, Return, Get, Put, Exit}
-use Rattle.flat_meaning.specs.declared.instruction.FlatInstruction.TheVariants.{End}
+use Rattle.flat_meaning.specs.declared.instruction.FlatInstruction.TheVariants.{CallAddress, Charged, End}
 use Rattle.flat_routines.specs.declared.registers.Entry.{Entry}
 use Rattle.object_routines.specs.declared.accesses.held.HeldScalar.{HeldScalar}
 use Rattle.object_routines.specs.declared.accesses.held.HeldScalar.TheVariants.{Integer as HeldInteger, Pointer as HeldPointer}
@@ -70,8 +70,9 @@ use Rattle.metadata_plan.specs.Entries.{Entries, pointer_of, key_in, can_compare
 use Rattle.metadata_plan.specs.Registers.{all_variables}
 use Rattle.metadata_plan.specs.Operators.{OperatorCode}
 use Rattle.metadata_relation.specs.Contents.{Contents}
+use Rattle.metadata_relation.specs.FunctionTypes.{first_of_type}
 use Rattle.metadata_relation.specs.InlineCode.{InlineCode}
-use Rattle.metadata_relation.specs.Registers.{passed_as, parameters_end, variable_words, total}
+use Rattle.metadata_relation.specs.Registers.{passed_as, parameters_end, area_words, result_words, variable_words, total}
 use Rattle.metadata_relation.specs.Registers.{variable_register, home_register, home_entry, body_top_register}
 use Rattle.metadata_relation.specs.Registers.{block_top_register, lock_register, temporary_register, moved_register}
 use Rattle.metadata_relation.specs.Registers.{first_free}
@@ -544,6 +545,78 @@ call_of m t c None f line d n b = End (BadCallAt line) ∷ []
 call_of m t c (Some callee) f line d n b =
     if length callee.parameters == n then call_code m t c callee f line d b else End (AbortAt line) ∷ []
 
+-- ---- calls through pointers
+
+-- The function is one of the type (C99 6.5.2.2): the key of the pointer has the highest bit, as that of a function has
+-- alone, and the number of the type, and the pointer is still where the function is.
+abbrev pub callee_tests : (kind line pointer scratch : ℕ) → List FlatInstruction
+callee_tests kind line r s =
+    Operate Srl s (held_from r).tag.key (Number 63)
+    ∷ Branch Bne s (Number 0) 1
+    ∷ End (BadCallAt line)
+    ∷ Operate And s (held_from r).tag.key (Number (2 ^ 12 - 1))
+    ∷ Branch Beq s (Number kind) 1
+    ∷ End (BadCallAt line)
+    ∷ Branch Beq r (Register (held_from r).tag.base) 1
+    ∷ End (BadCallAt line)
+    ∷ []
+
+-- the charge, with the room of the callee from its key
+abbrev pub room_tests : MapSizes → (key line scratch : ℕ) → List FlatInstruction
+room_tests m key line s =
+    Turn
+    ∷ Charged s
+    ∷ Operate Srl (s + 1) key (Number 31)
+    ∷ Operate And (s + 1) (s + 1) (Number (2 ^ 25 - 1))
+    ∷ Operate Add s s (Register (s + 1))
+    ∷ Branch Bltu s (Number (m.budgets.calls + 1)) 1
+    ∷ End (Stack line)
+    ∷ []
+
+-- objects of so many units of 16 bytes, a number in the register behind the first: there is room on the object stack, and
+-- a key
+abbrev pub units_tests : MapSizes → (line scratch : ℕ) → List FlatInstruction
+units_tests m line s =
+    Operate Sll (s + 1) (s + 1) (Number 4)
+    ∷ (read_top m s
+    ++ (round_code s s
+    ++ (Operate Add s s (Register (s + 1))
+    ∷ Constant (s + 1) (region_end m StackRegion + 1)
+    ∷ Branch Bltu s (Register (s + 1)) 1
+    ∷ End (Stack line)
+    ∷ (keys_code m s (s + 1) ++ key_test s line))))
+
+-- the objects of the callee, with their units from its key; where it has none nothing is tested
+abbrev pub unknown_object_tests : MapSizes → (key line scratch : ℕ) → List FlatInstruction
+unknown_object_tests m key line s =
+    Operate Srl (s + 1) key (Number 12)
+    ∷ Operate And (s + 1) (s + 1) (Number (2 ^ 19 - 1))
+    ∷ Branch Beq (s + 1) (Number 0) (length (units_tests m line s))
+    ∷ units_tests m line s
+
+-- What stands before a call by name stands before one through a pointer, once it is known that the callee is of the type.
+-- All functions of a type take and give values of the same kinds, those of one of them; arguments stand behind the
+-- pointer.
+abbrev pub through_code : MapSizes → Tac → CodeFunction → (one : CodeFunction) → (kind line first : ℕ)
+    → (with_entry : Bool) → List FlatInstruction
+through_code m t c one kind line d b =
+    let s = first_free c in
+    let r = temporary_register c d in
+    let q = moved_register c (5 * (d + 1)) in
+    callee_tests kind line r s
+    ++ (room_tests m (held_from r).tag.key line s
+    ++ (unknown_object_tests m (held_from r).tag.key line s
+    ++ (pack c (map (λ v. passed_as v.kind) one.parameters) q (d + 1)
+    ++ (CallAddress r q (parameters_end one + area_words (result_of t one)) r (result_words (result_of t one))
+    ∷ result_entry (result_of t one) b r))))
+
+-- where no function has the type no call is one, and one with other arguments is never reached
+abbrev pub through_of : MapSizes → Tac → CodeFunction → Option CodeFunction → (kind line first count : ℕ)
+    → (with_entry : Bool) → List FlatInstruction
+through_of m t c None kind line d n b = End (BadCallAt line) ∷ []
+through_of m t c (Some one) kind line d n b =
+    if length one.parameters == n then through_code m t c one kind line d b else End (AbortAt line) ∷ []
+
 -- ---- the block of an instruction
 
 -- An instruction that is not covered ends the run, so that code never falls through its block.
@@ -614,6 +687,9 @@ block e u c (tac.Turn counted m) = Turn ∷ []
 block e u c (tac.Library r line d n m) = library_code e.inline e.code c r line d (e.entries u m d)
 block e u c (tac.Call f line d n m) =
     call_of e.map e.code c (function_in e.code f) f line d n (e.entries u m d)
+block e u c (tac.CallThrough type_number line d n m) =
+    let kind = first_of_type e.code.functions type_number in
+    through_of e.map e.code c (slice_get e.code.functions kind) kind line d n (e.entries u m d)
 block e u c (tac.EnterBlock b line m) =
     enter_code e.inline.operators e.map e.code c (objects_in (Some c) b) line (block_top_register c b)
 block e u c (tac.LeaveBlock b m) = leave_code e.inline e.map c (objects_in (Some c) b) (block_top_register c b)

@@ -16,6 +16,7 @@ use Rattle.runtime_functions.specs.Runtime.{runtime_list, IsOfRuntime}
 use Rattle.metadata_plan.specs.Entries.{AreAllClosed}
 use Rattle.metadata_plan.specs.Expanded.{Leads, LeadOn}
 use Rattle.metadata_relation.specs.Contents.{AreKept}
+use Rattle.metadata_relation.specs.FunctionTypes.{HaveTypeKeys}
 use Rattle.metadata_relation.specs.Registers.{parameters_end, result_words, area_words}
 use Rattle.metadata_relation.specs.Blocks.{Expansion, block, prologue, entry_code, result_of, runtime_number}
 use Rattle.metadata_relation.specs.Waiting.{Layout}
@@ -58,13 +59,15 @@ abbrev pub EntersAt : Expansion → Option FlatFunction → Type 0
 EntersAt e None = ⊥
 EntersAt e (Some f) = IsEntry e f
 
--- The functions of the text have their numbers, and those of the runtime stand behind them.
+-- The functions of the text have their numbers, and those of the runtime stand behind them. Pointers to functions tell
+-- their types by their keys.
 pub record IsExpanded (l : Layout) (entry : View) (IsGood : Bytes → Type 0) : Type 0 where
   pub functions : (u : ℕ) (c : CodeFunction) → slice_get l.expansion.code.functions u ≡ Some c
       → ExpandsAt l.expansion u c (l.address u) (function_in l.program u)
   pub runtime : (k : ℕ) (f : RuntimeFunction) → slice_get runtime_list k ≡ Some f
       → IsRuntimeAt l.expansion.map entry IsGood f (function_in l.program (runtime_number l.expansion.code k))
   pub enters : EntersAt l.expansion (function_in l.program l.program.entry)
+  pub types : HaveTypeKeys l.expansion.code.functions l.expansion.types
   pub closed : AreAllClosed l.expansion.code l.expansion.entries
   pub kept : (u : ℕ) (c : CodeFunction) → slice_get l.expansion.code.functions u ≡ Some c
       → AreKept c (l.expansion.contents u)

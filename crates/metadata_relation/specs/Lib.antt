@@ -1,6 +1,7 @@
 pub mod Blocks
 pub mod Contents
 pub mod Expanded
+pub mod FunctionTypes
 pub mod Holding
 pub mod InlineCode
 pub mod InlineLists

@@ -6,7 +6,8 @@ use Rattle.c_pre.specs.declared.header.Header.TheVariants as h
 use Rattle.c_pre.specs.Lines.{Tokens}
 
 -- a line of definition for each macro: 7.19.1, 7.20, 7.21.1, 7.17 and 5.2.4.2.1, where int has 4 bytes, long and long
--- long have 8, and char is unsigned
+-- long
+-- have 8, and char is unsigned
 unfoldable pub header_text : Header → List ℕ
 header_text h.Stdio =
     codes "#define NULL ((void*)0)\n"

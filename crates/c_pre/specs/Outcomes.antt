@@ -27,7 +27,8 @@ Fails t Memory = ⊤
 Fails t (Fault fault) = answer t ≡ Err fault
 
 -- of a call that gives tokens, with those given before and those given now: it gave those of the trace; or the answer
--- for the whole text is this fault, whatever follows
+-- for
+-- the whole text is this fault, whatever follows
 abbrev pub Emits : {A X : Type 0} → Trace A → (X → A) → Tokens → Tokens → Result X PreError → Type 0
 Emits t view old new (Ok x) = (after old t ≡ record { given = new; end = Ok (view x) })
     × (length new ≤ max_expanded_tokens)

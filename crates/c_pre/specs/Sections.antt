@@ -6,7 +6,8 @@ use Rattle.c_pre.specs.Names.{Macros}
 use Rattle.c_pre.specs.Trace.{Trace, quiet, fails}
 
 -- the if-sections that are open, the innermost first; what each name is defined as; how many tokens replacement lists
--- may still put in
+-- may
+-- still put in
 pub record State : Type 0 where
   pub sections : List IfSection
   pub macros : Macros

@@ -80,8 +80,8 @@ impl<'a> Unread<'a> {
         }
     }
 
-    /// The end of the argument that begins with the next token: how many tokens are unread from the comma or `)` on
-    /// that ends it, if that stands above `end` tokens.
+    /// The end of the argument that begins with the next token: how many tokens are unread from the comma or `)` on that
+    /// ends it, if that stands above `end` tokens.
     pub fn argument_end(&self, end: usize) -> Option<usize>
         ensures { EndIs self.now end result }
     {
@@ -134,8 +134,7 @@ impl<'a> Unread<'a> {
     fn put(&mut self, line: Line, token: &Token<'a>, hidden: HideSet) -> Result<(), PreError>
         requires known { AreKnown self.old.sets self.old.tokens.items }
         requires set { IsKnown self.old.sets hidden }
-        ensures { PutsIn (expansion.put_token line
-            (names_of self.old.sets hidden) token.now None) self.old self.new line
+        ensures { PutsIn (expansion.put_token line (names_of self.old.sets hidden) token.now None) self.old self.new line
             result }
     {
         if self.room == 0 {

@@ -1,5 +1,4 @@
-use Rattle.std.proofs.Common.{◌≡◌, List, [], ◌∷◌, map, length, true, false, refl, sym, ap, subst, Vec, Global, ◌∙◌}
-use Rattle.std.proofs.Common.{arith}
+use Rattle.std.proofs.Common.{◌≡◌, List, [], ◌∷◌, map, length, true, false, refl, sym, ap, subst, Vec, Global, ◌∙◌, arith}
 use Rattle.c_pre.specs.declared.fault.PreFaultKind.TheVariants.{BadCall}
 use Rattle.c_pre.specs.Arguments.{fits}
 use Rattle.c_pre.specs.Directives.{names_among}

@@ -188,7 +188,7 @@ module _ (c : Compiled) (IsGood : Bytes → Type 0) (right : IsCompiled c IsGood
   instruction (tac.Call g line d count m) at e f =
       call_step c IsGood right u n temps ws s v xs h g line d count m at f (admitted (tac.Call g line d count m) at)
   instruction (tac.Return a) at e f =
-      return_step c IsGood right u n temps ws s v xs h a at (not-true (has_objects (objects_of_body h.code)) e) f
+      return_step c IsGood right u n temps ws s v xs h words a at f
       (admitted (tac.Return a) at) (fine (tac.Return a) at)
   instruction i at e f = cc
 

@@ -51,11 +51,11 @@ use Rattle.metadata_relation.proofs.Standing.{good_now, good_then, IsNode, node,
 use Rattle.metadata_relation.proofs.TopCell.{cell_place, top_written}
 use Rattle.metadata_relation.proofs.Waiting.{lock_same, waits_at, waits_left, waits_same}
 
-static_automatic : {P : Type 0} (o : Storage) → o ≡ Static → o ≡ Automatic → P
+pub static_automatic : {P : Type 0} (o : Storage) → o ≡ Static → o ≡ Automatic → P
 static_automatic o e f = (let both = sym e ∙ f in cc)
 
 -- no object is made where a block is left
-none_made : (homes : List Home) (objects : Objects) → EndsMade objects (without_homes homes objects)
+pub none_made : (homes : List Home) (objects : Objects) → EndsMade objects (without_homes homes objects)
 none_made homes objects n le live =
     let made = live_made (without_homes homes objects) n live in
     let count = count_without homes objects in

@@ -1,13 +1,15 @@
 -- The objects of a block die where it is left, and the object stack ends where it did: what that leaves of memory,
 -- objects and registers.
-use Rattle.std.proofs.Common.{◌≡◌, ◌≢◌, inl, ℕ, ◌+◌, ◌<◌, ◌≤◌, true, false, List, [], ◌∷◌, ◌++◌}
+use Rattle.std.proofs.Common.{◌≡◌, ◌≢◌, inl, ℕ, ◌+◌, ◌<◌, true, false, List, []}
 use Rattle.std.proofs.Common.{length, length-append, refl, sym, ap, ◌∙◌, subst, arith}
-use Rattle.obj_memory.specs.declared.object.Storage.TheVariants.{Static}
+use Rattle.obj_memory.specs.declared.object.Storage.{Storage}
+use Rattle.obj_memory.specs.declared.object.Storage.TheVariants.{Automatic, Static}
 use Rattle.obj_memory.specs.Heap.{is_allocated}
-use Rattle.obj_memory.specs.Objects.{object_at, ObjectState}
+use Rattle.obj_memory.specs.Objects.{object_at, Objects, ObjectState}
 use Rattle.c_tree.specs.declared.program.Variable.{Variable}
 use Rattle.source_meaning.specs.State.{State, Home}
 use Rattle.source_meaning.specs.Blocks.{Block, leave_block, without_homes}
+use Rattle.source_meaning.specs.Good.{EndsMade}
 use Rattle.source_meaning.specs.Places.{statics_first}
 use Rattle.source_meaning.proofs.ActionsAct.{continues_without}
 use Rattle.source_meaning.proofs.Holding.{live_made}
@@ -35,9 +37,18 @@ use Rattle.metadata_relation.specs.Steps.{IsCompiled}
 use Rattle.metadata_relation.specs.Waiting.{AreBetween, IsBlockAt}
 use Rattle.metadata_relation.proofs.Acting.{bytes_on, placed_static, Reached, reached_next}
 use Rattle.metadata_relation.proofs.Behind.{for_behind}
-use Rattle.metadata_relation.proofs.Leaving.{none_made, static_automatic}
 use Rattle.metadata_relation.proofs.Routines.{passes, Passes}
 use Rattle.metadata_relation.proofs.TopCell.{cell_place, top_written}
+
+static_automatic : {P : Type 0} (o : Storage) → o ≡ Static → o ≡ Automatic → P
+static_automatic o e f = (let both = sym e ∙ f in cc)
+
+-- no object is made where a block is left
+none_made : (homes : List Home) (objects : Objects) → EndsMade objects (without_homes homes objects)
+none_made homes objects n le live =
+    let made = live_made (without_homes homes objects) n live in
+    let count = count_without homes objects in
+    absurd (omega arith)
 
 -- the state of the source once the objects of some homes are dead
 abbrev pub without : List Home → (outer : ℕ) → State → State

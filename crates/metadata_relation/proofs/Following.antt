@@ -8,7 +8,6 @@ use Rattle.obj_memory.specs.declared.value.Scalar.TheVariants.{Integer, Pointer}
 use Rattle.c_tree.specs.declared.expression.Kind.{Kind}
 use Rattle.c_tree.specs.declared.expression.Kind.TheVariants.{Void, Scalar as OfScalar, Structure, Array}
 use Rattle.source_meaning.specs.State.{State}
-use Rattle.source_meaning.specs.Blocks.{has_objects}
 use Rattle.source_meaning.specs.Good.{plain_type}
 use Rattle.tac_ir.specs.declared.instruction.Instruction.{Instruction}
 use Rattle.tac_ir.specs.declared.instruction.Instruction.TheVariants as tac
@@ -20,7 +19,7 @@ use Rattle.flat_meaning.specs.Memory.{Bytes}
 use Rattle.flat_meaning.specs.State as flat
 use Rattle.flat_meaning.specs.Words.{HasWords}
 use Rattle.metadata_plan.specs.Registers.{all_variables}
-use Rattle.metadata_relation.specs.Blocks.{is_short, objects_of_body}
+use Rattle.metadata_relation.specs.Blocks.{is_short}
 use Rattle.metadata_relation.specs.Stages.{Compiled, map_of, expansion_of, IsAt, MatchesBy, Matches}
 use Rattle.metadata_relation.specs.Steps.{IsCompiled, covers, admits, is_part, is_scalar_type, is_settled}
 use Rattle.metadata_relation.specs.Steps.{is_update_by_word, IsCovered, ComesToMatch}
@@ -188,7 +187,7 @@ module _ (c : Compiled) (IsGood : Bytes → Type 0) (right : IsCompiled c IsGood
   instruction (tac.Call g line d count m) at e f =
       call_step c IsGood right u n temps ws s v xs h g line d count m at f (admitted (tac.Call g line d count m) at)
   instruction (tac.Return a) at e f =
-      return_step c IsGood right u n temps ws s v xs h a at (not-true (has_objects (objects_of_body h.code)) e) f
+      return_step c IsGood right u n temps ws s v xs h words a at f
       (admitted (tac.Return a) at) (fine (tac.Return a) at)
   instruction i at e f = cc
 

@@ -24,6 +24,7 @@ pub mod Giving
 pub mod Holding
 pub mod Inline
 pub mod Leaving
+pub mod LeftObjects
 pub mod Library
 pub mod LibraryArguments
 pub mod LibraryCalls

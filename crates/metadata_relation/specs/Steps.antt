@@ -136,7 +136,7 @@ covers c (tac.Narrow offset size d a m) = is_part offset size
 covers c (tac.Member offset size d a m) = is_part offset size
 covers c (tac.Library r line d n m) = true
 covers c (tac.Call f line d n m) = true
-covers c (tac.Return a) = not (has_objects (objects_of_body c))
+covers c (tac.Return a) = true
 covers c i = false
 
 abbrev pub are_scalars : List Variable → Bool

@@ -49,7 +49,7 @@ use Rattle.metadata_plan.specs.Entries.{is_among, is_moved_with_entry, is_argume
 use Rattle.metadata_plan.specs.Expanded.{Leads}
 use Rattle.metadata_plan.proofs.Calling.{tested, tests_pass, tests_end, gathered_at}
 use Rattle.metadata_plan.proofs.Calling.{argument_in}
-use Rattle.metadata_plan.proofs.Flat.{weight_small, Comes, end_step}
+use Rattle.metadata_plan.proofs.Flat.{weight_small, Comes, end_step, one}
 use Rattle.metadata_plan.proofs.SetUp.{laid_out, exhausted, set_up_gives, homes_of}
 use Rattle.metadata_relation.specs.Blocks.{objects_of_body, result_of, result_entry, pack, call_code}
 use Rattle.metadata_relation.specs.Blocks.{space_test, call_of}
@@ -121,7 +121,7 @@ module _ (c : Compiled) (IsGood : Bytes → Type 0) (right : IsCompiled c IsGood
       (record { by = t.by; none = λ e. none })
 
   -- the functions that the views know are those of the file
-  functions_are : length c.setting.functions ≡ length (file_scope c.typed).functions
+  pub functions_are : length c.setting.functions ≡ length (file_scope c.typed).functions
   functions_are = ap length (sym right.functions) ∙ length-map c.typed.functions header_of
       ∙ sym (length-map c.typed.functions _)
 
@@ -153,18 +153,18 @@ module _ (c : Compiled) (IsGood : Bytes → Type 0) (right : IsCompiled c IsGood
       word_of (Structure size) e f = cc
       word_of (Array size) e f = cc
 
-  arguments_are : (ps : List Variable) (d count : ℕ) → are_scalars ps ≡ true → d + count ≤ most_temporaries h.code.code
+  pub arguments_are : (ps : List Variable) (d count : ℕ) → are_scalars ps ≡ true → d + count ≤ most_temporaries h.code.code
       → are_passed (map (λ v. v.kind) ps) (gathered temps d count) ≡ true
       → ArgumentsAre (length (file_scope c.typed).functions) (map (λ v. v.kind) ps) (gathered temps d count) s.objects
   arguments_are [] d zero scalars low passed = tt
   arguments_are [] d (suc count) scalars low passed = absurd (false≢true passed)
   arguments_are (p ∷ ps) d zero scalars low passed = absurd (false≢true passed)
   arguments_are (p ∷ ps) d (suc count) scalars low passed =
-      let one = and_parts (is_no_aggregate p.kind) (are_scalars ps) scalars in
+      let parts = and_parts (is_no_aggregate p.kind) (are_scalars ps) scalars in
       let first = and_parts (is_passed p.kind (temps d)) (are_passed (map (λ v. v.kind) ps) (gathered temps (d + 1) count))
       passed in (
-        argument_is p.kind d (omega (arith, low)) one.0 first.0,
-        arguments_are ps (d + 1) count one.1 (omega (arith, low)) first.1,
+        argument_is p.kind d (omega (arith, low)) parts.0 first.0,
+        arguments_are ps (d + 1) count parts.1 (omega (arith, low)) first.1,
       )
 
   module _ (f line d count next : ℕ) (at : slice_get h.code.code n ≡ Some (tac.Call f line d count next)) where
@@ -480,7 +480,8 @@ module _ (c : Compiled) (IsGood : Bytes → Type 0) (right : IsCompiled c IsGood
             (spent 6 s) packed (6 + 2 * length moves) h.keys
             (record {
               comes = run_to;
-              at = has_call.0;
+              at = λ w. one map_now program u q (record v { turns = v.turns + 1; values = packed; work = w }) xs
+                  (flat_code.Call f packed_at (T d)) has_call.0;
               arguments_are = handed;
               charge = h.charge;
               fits = fits;

@@ -160,3 +160,16 @@ module _ (functions : List Header) (g : Views) (k : Keys) (objects : Objects) (t
       ap (λ b. choose ((word == function_address f) && b) (done f) (stop (BadCall line)) s) (sym (kinds f sound))
       ∙ not_both (nat_le (2 ^ 63) (2 ^ 63 + g.types f)) ((2 ^ 63 + g.types f) % 2 ^ 12 == kind)
       (word == function_address f) f (le-leb (2 ^ 63) (2 ^ 63 + g.types f) (omega arith)) e
+
+-- where no function has the type there is no callee
+pub none_found : (functions : List Header) (type : ℕ) → ((f : ℕ) → has_type (header_at functions f) type ≡ false)
+    → (word : ℕ) (tag : Tag) (line : ℕ) (s : State) → callee_by functions type word tag line s ≡ Ended (BadCall line) s
+none_found functions type none word Untagged line s = refl
+none_found functions type none word (OfObject o b) line s = refl
+none_found functions type none word (OfFunction f) line s =
+    ap (λ b. choose ((word == function_address f) && b) (done f) (stop (BadCall line)) s) (none f)
+    ∙ by (word == function_address f)
+  where
+    by : (b : Bool) → choose (b && false) (done f) (stop (BadCall line)) s ≡ Ended (BadCall line) s
+    by true = refl
+    by false = refl

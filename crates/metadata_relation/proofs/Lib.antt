@@ -9,6 +9,7 @@ pub mod CallHolds
 pub mod CallStates
 pub mod CalleeTests
 pub mod Calls
+pub mod CallsThrough
 pub mod Checking
 pub mod Comparing
 pub mod Differences
@@ -17,6 +18,7 @@ pub mod Finishing
 pub mod FiveRegisters
 pub mod Following
 pub mod FunctionTypes
+pub mod FunctionsOfType
 pub mod Giving
 pub mod Holding
 pub mod Inline

@@ -104,7 +104,8 @@ use Rattle.metadata_relation.specs.FunctionTypes.{first_of_type, object_units, r
 use Rattle.metadata_relation.specs.Registers.{area_words, result_words}
 use Rattle.metadata_relation.specs.Steps.{are_plain_calls}
 use Rattle.metadata_relation.proofs.CalleeTests as callee_run
-use Rattle.metadata_relation.proofs.Calls.{held_at, functions_are, arguments_are}
+use Rattle.metadata_relation.proofs.Handing as handing
+use Rattle.metadata_relation.proofs.Handing.{held_at}
 use Rattle.metadata_relation.proofs.FunctionTypes.{is_callee, FindsBy, finds, none_found, first_typed, none_typed, type_at}
 use Rattle.metadata_relation.proofs.FunctionTypes.{units_told, room_told_by}
 use Rattle.metadata_relation.proofs.FunctionsOfType.{there_at, plain_at, passed_to, take_alike, headers_are, kind_low, inside_list}
@@ -370,11 +371,14 @@ module _ (c : Compiled) (IsGood : Bytes → Type 0) (right : IsCompiled c IsGood
       abbrev object_list : List FlatInstruction
       object_list = unknown_object_tests (map_of c) (temporary_register h.code d + 3) line (first_free h.code)
 
-      abbrev calls_with : (words : ℕ) → Kind → List FlatInstruction
-      calls_with words gives =
+      abbrev call_with : (words : ℕ) → Kind → FlatInstruction
+      call_with words gives =
           flat_code.CallAddress (temporary_register h.code d) (moved_register h.code (5 * (d + 1)))
           (words + area_words gives) (temporary_register h.code d) (result_words gives)
-          ∷ result_entry gives with_entry (temporary_register h.code d)
+
+      abbrev calls_with : (words : ℕ) → Kind → List FlatInstruction
+      calls_with words gives =
+          call_with words gives ∷ result_entry gives with_entry (temporary_register h.code d)
 
       abbrev code_with : List Passed → (words : ℕ) → Kind → List FlatInstruction
       code_with ways words gives = callee_list ++ (room_list ++ (object_list
@@ -580,215 +584,42 @@ module _ (c : Compiled) (IsGood : Bytes → Type 0) (right : IsCompiled c IsGood
               (record v { turns = v.turns + 1; values = C.values }) 22 6 to_objects
               (record { steps = j.steps; work = j.work; few = j.few; comes = j.comes })
 
-          abbrev between : flat.Values
-          between = C.values
-
           between_stays : (y : ℕ) → y < first_free h.code → C.values y ≡ v.values y
           between_stays y lt = C.others y lt ∙ B.others y lt ∙ A.others y lt
+
+          reads : (x : ℕ) → x < count → get_or (map (λ (z : Variable). z.kind) k.parameters) x Void ≡ OfScalar Pointer
+              → c.layout.expansion.entries u n (d + 1 + x) ≡ true
+          reads x low kind =
+              label.closed.read n (d + 1 + x) i at
+              (and_from (nat_le d (d + 1 + x)) (nat_lt (d + 1 + x) (d + (count + 1)))
+              (le-leb d (d + 1 + x) (omega arith)) (lt-ltb (d + 1 + x) (d + (count + 1)) (omega (arith, low))))
 
           abbrev packed : flat.Values
           packed = assigned moves C.values
 
-          run_to : ComesTo q (record v { turns = v.turns + 1; values = packed }) (28 + 2 * length moves)
-          run_to = assigned_behind map_now program u pc v xs at_moves
-              (record v { turns = v.turns + 1; values = C.values }) 28 to_moves moves
-              (pack_assigns h.code (ways_of k.parameters) packed_at (d + 1)).0 (has_front body at_moves moves calls has_rest)
-
-          are_there : ArePacked h.code k.parameters k.variables packed_at (d + 1) between packed
-          are_there = are_packed h.code k.parameters k.variables packed_at (d + 1) between
-              (let low = lows.1 in let is = count_is in omega arith) (omega arith)
-
-          stay : (y : ℕ) → y < moved_register h.code 0 → packed y ≡ v.values y
-          stay y lt = are_there.below y (omega (arith, lt)) ∙ between_stays y (omega (arith, lt))
-
-          -- what the program's state is good for
-          state_good : IsGoodState (context_at (names c) u ws) (begun (spent 8 s))
-          state_good = let g = good_now (names c) u ws s h.steady.good in record {
-            kept = g.kept;
-            low = g.low;
-            statics = g.statics;
-            homes = g.homes;
-            plain = g.plain;
-            typed = g.typed;
-            separate = g.separate;
-          }
-
-          room_left : s.stacked ≤ stack_end c.setting
-          room_left =
-              let top = (good_now (names c) u ws s h.steady.good).separate.top in
-              let same : region_end c.setting.sizes StackRegion ≡ region_end (map_of c) StackRegion =
-              ap (λ z. region_end z StackRegion) right.sizes in
-              omega arith
-
-          abbrev laid : State
-          laid = laid_out (header_of_code k) vs (begun (spent 8 s))
-
-          set : set_up c.setting (header_of_code k) vs line (begun (spent 8 s)) ≡ GivesRun tt laid
-          set =
-              let budget = ap (λ (z : MapSizes). z.budgets.calls) right.sizes in
-              set_up_gives c.setting (header_of_code k) vs line (begun (spent 8 s))
-              (none_has (objects_of_body k) plain.none) room_left
-              (le-leb (s.charged + k.room) c.setting.sizes.budgets.calls (omega (arith, fits, budget)))
-
-          abbrev callee : State
-          callee = callee_state c IsGood right u pc q v xs f k found plain_enough line packed_at (T d) vs
-              (Waits waits ∷ ws) (spent 8 s)
-
-          set_good : IsSetUp (context_at (names c) f []) s.objects callee
-          set_good =
-              let up = entered_good c IsGood right f k found u ws vs line (begun (spent 8 s)) laid state_good
-              (arguments_are c IsGood right u n temps ws s v xs h k.parameters (d + 1) count plain.scalars lows.1 passed) set in
-              record { good = up.good; lives = up.lives; new = up.new; ends = up.ends }
-
-          good : AreGood (names c) f (Waits waits ∷ ws) callee
-          good = record {
-            by = (
-              record {
-                before = s;
-                behind = callee;
-                caller_is = refl;
-                set_up = set_good;
-                since = leaves_same (context_at (names c) f []) callee set_good.good;
-              },
-              h.steady.good.by,
-            );
-          }
-
-          -- each parameter holds its argument
-          handed : (x : ℕ) (t : Scalar) → plain_type (all_variables k) x ≡ Some t → x < length k.parameters
-              → IsPlain (world c h.keys s v) t (get_or vs x (rvalue (integer 0))).value (variable_register k x)
-              (arguments packed_at (parameters_end k) packed)
-          handed x t typed low =
-              let par = plain_parameter k.parameters k.variables x t typed low in
-              let inner : x < count = (let is = count_is in omega (arith, low)) in
-              let pass : is_passed (OfScalar t) (temps (d + 1 + x)) ≡ true =
-              ap (λ z. is_passed z (temps (d + 1 + x))) (sym par.kind)
-              ∙ passed_at (taken_by (header_of_code k)) temps (d + 1) count x passed inner in
-              let parts = and_parts (is_place (temps (d + 1 + x)).contents) (is_of_type t (temps (d + 1 + x)).value) pass in
-              let below : d + 1 + x < most_temporaries h.code.code = (let l = lows.1 in omega (arith, inner)) in
-              let held = held_at c IsGood right u n temps ws s v xs h (d + 1 + x) below (place_is (temps (d + 1 + x)).contents parts.0) in
-              let within = words_within k.parameters k.variables x low in
-              let words = par.words in
-              subst (λ (z : Rvalue). IsPlain (world c h.keys s v) t z.value (variable_register k x)
-              (arguments packed_at (parameters_end k) packed)) (sym (gathered_at temps (d + 1) count x inner))
-              (record {
-                value = held_moved (world c h.keys s v) (c.layout.expansion.entries u n (d + 1 + x)) (is_pointer_type t)
-                    (temps (d + 1 + x)).value (T (d + 1 + x)) (variable_register k x) v.values
-                    (arguments packed_at (parameters_end k) packed) (λ e. read_with_entry x t inner par.kind e)
-                    (λ j lt.
-                    argument_in packed_at (parameters_end k) (variable_register k x + j) packed
-                    (omega (arith, lt, within, words))
-                    ∙ are_there.at x j low (omega (arith, lt, words))
-                    ∙ between_stays (T (d + 1 + x) + j) (let few = few_in (is_pointer_type t) in
-                    omega (arith, below, lt, few))) held;
-                no_tag = no_tag_is t (temps (d + 1 + x)).value parts.1;
-              })
-            where
-              read_with_entry : (x : ℕ) (t : Scalar) → x < count
-                  → get_or (map (λ (z : Variable). z.kind) k.parameters) x Void ≡ OfScalar t → is_pointer_type t ≡ true
-                  → c.layout.expansion.entries u n (d + 1 + x) ≡ true
-              read_with_entry x (Integer t) low kind e = cc
-              read_with_entry x Pointer low kind e =
-                  label.closed.read n (d + 1 + x) i at
-                  (and_from (nat_le d (d + 1 + x)) (nat_lt (d + 1 + x) (d + (count + 1)))
-                  (le-leb d (d + 1 + x) (omega arith)) (lt-ltb (d + 1 + x) (d + (count + 1)) (omega (arith, low))))
-
-          abbrev frame : flat.Frame
-          frame = record { function = u; next = q + 1; into = temporary_register h.code d; values = packed }
-
-          -- the caller waits
-          waits_so : IsWaitingAs (world c h.keys s v) c.layout k (length s.objects) waits frame xs
-          waits_so =
-              let z = fewer c IsGood right u n temps ws s v xs h i label d next refl (inl refl) in
-              record {
-                function = refl;
-                code = h.code;
-                there = h.there;
-                low = lows.0;
-                into = refl;
-                behind = has_call.1;
-                leads = leads_behind;
-                valued = plain.valued;
-                below = λ y o is. live_made s.objects o (h.holds.homes.homes y o is).live;
-                holds = waiting_holds (views c) h.keys s.objects v.memory (activation c h.code u n s)
-                    (c.layout.expansion.entries u next) (c.layout.expansion.contents u next) d temps s.plain s.frame v.values
-                    packed (record { kept = z.kept; plain = z.plain; known = λ j ne e. refl }) stay h.holds;
-                charge = h.charge;
-                fits = h.fits;
-              }
-
-          wait : (after : flat.Values) → AllWait (world c h.keys s v) callee c.layout (stack_first c.setting) (record {
-            code = k;
-            values = after;
-            stacked = s.stacked;
-            frame = homes_of (body_objects (header_of_code k));
-            bound = length s.objects;
-          }) (Waits waits ∷ ws) (frame ∷ xs)
-          unfolding waits_so
-          wait after = (
-            record {
-              by = subst (BodyBy (world c h.keys s v) callee k s.stacked s.stacked
-                  (homes_of (body_objects (header_of_code k))) after) (sym plain.none)
-                  (refl, no_homes (body_objects (header_of_code k)));
-              mark = length s.objects;
-              within = omega arith;
-              own = none_between (body_objects (header_of_code k)) (length s.objects) (length s.objects);
-            },
-            waits_so,
-            waits_at (world c h.keys s v) callee c.layout (stack_first c.setting) h.code v.values packed
-                (λ r from to. stay r (omega (arith, to))) s.stacked (length s.objects) s.frame ws xs
-                (waits_same (views c) h.keys s callee v.memory c.layout (stack_first c.setting) refl (level h.code s v) ws xs
-                h.wait.by),
-          )
+          -- the address is still there
+          address_there : packed (temporary_register h.code d) ≡ function_address f
+          address_there =
+              handing.stay c IsGood right u n temps ws s v xs h i label d (d + 1) count next 8 refl (inl refl) lows.0
+              lows.1 (omega arith) f line k found passed plain reads (call_with (parameters_end k) (result_of code k))
+              at_moves 28 C.values has_rest leads_behind to_moves (omega arith) between_stays fits (T d)
+              (omega (arith, apart, lows.0))
+              ∙ entry.word ∙ word_is
 
           enters_it : Gives (call_stage c IsGood right u pc q v xs f k found plain_enough line packed_at (T d) vs
               (Waits waits ∷ ws) (spent 8 s))
           enters_it =
-              let shown = h.stands.for.shown in
-              let count = (pack_assigns h.code (ways_of k.parameters) packed_at (d + 1)).1 in
-              let ways = length-map k.parameters (λ (v : Variable). passed_as v.kind) in
-              let few = few_parameters c IsGood right k.parameters in
-              let before = h.work in
-              enters c IsGood right u pc q v xs f k found plain_enough line packed_at (T d) vs (Waits waits ∷ ws)
-              (spent 8 s) packed (28 + 2 * length moves) h.keys
-              (record {
-                comes = run_to;
-                at = λ w. by_name map_now program u q (record v { turns = v.turns + 1; values = packed; work = w })
-                    xs f (T d) packed_at (parameters_end k + area_words (result_of code k)) (T d)
-                    (result_words (result_of code k)) has_call.0
-                    (ap (function_at program) (stay (T d) (omega (arith, apart, lows.0)) ∙ entry.word ∙ word_is)
-                    ∙ names_function program f (of_program c.layout.expansion f k (c.layout.address f)
-                    (function_in program f) (right.expanded.functions f k found)))
-                    (sym (there c IsGood right f k found).parameters) (sym (there c IsGood right f k found).results);
-                arguments_are = handed;
-                charge = h.charge;
-                fits = fits;
-                room = room_left;
-                work = omega (arith, count, ways, few, before);
-                stands = record {
-                  for = record {
-                    objects = h.stands.for.objects;
-                    spaces = h.stands.for.spaces;
-                    keys = h.stands.for.keys;
-                    shown = record {
-                      input = shown.input;
-                      output = shown.output;
-                      taken = shown.taken;
-                      accesses = shown.accesses;
-                    };
-                  };
-                  top = h.stands.top;
-                  turns = h.stands.turns;
-                };
-                steady = record {
-                  good = good;
-                  bytes = h.steady.bytes;
-                  keys = h.steady.keys;
-                  statics = h.steady.statics;
-                  statics_live = h.steady.statics_live;
-                };
-                wait = wait;
-              })
+              let callee = there c IsGood right f k found in
+              handing.enters_it c IsGood right u n temps ws s v xs h i label d (d + 1) count next 8 refl (inl refl) lows.0
+              lows.1 (omega arith) f line k found passed plain reads (call_with (parameters_end k) (result_of code k))
+              at_moves 28 C.values has_rest leads_behind to_moves (omega arith) between_stays fits
+              (λ w. by_name map_now program u q (record v { turns = v.turns + 1; values = packed; work = w }) xs f (T d)
+              packed_at (parameters_end k + area_words (result_of code k)) (T d) (result_words (result_of code k))
+              has_call.0
+              (ap (function_at program) address_there
+              ∙ names_function program f (of_program c.layout.expansion f k (c.layout.address f)
+              (function_in program f) (right.expanded.functions f k found)))
+              (sym callee.parameters) (sym callee.results))
 
         called_one : Gives (called_at c.setting (Some k) f vs line (Waits waits ∷ ws) (spent 8 s))
         called_one = ⊎_elim (λ more. exhausts more) (λ fits. enters_it fits)

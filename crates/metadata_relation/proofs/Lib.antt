@@ -20,6 +20,7 @@ pub mod Following
 pub mod FunctionTypes
 pub mod FunctionsOfType
 pub mod Giving
+pub mod Handing
 pub mod Holding
 pub mod Inline
 pub mod Leaving

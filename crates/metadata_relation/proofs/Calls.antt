@@ -1,33 +1,23 @@
 -- Calls of functions whose bodies have no objects: the tests, the arguments, and where the function begins.
-use Rattle.std.proofs.Common.{◌≡◌, ⊎_elim, inl, ℕ, zero, suc, ◌+◌, ◌-◌, ◌*◌, ◌^◌, ◌<◌, ◌≤◌, Bool, true, false, List}
+use Rattle.std.proofs.Common.{◌≡◌, ⊎_elim, inl, ℕ, ◌+◌, ◌-◌, ◌*◌, ◌^◌, ◌<◌, ◌≤◌, Bool, true, false, List}
 use Rattle.std.proofs.Common.{[], ◌∷◌, ◌++◌, length, length-append, map, Option, Some, None, refl, sym, ap, ◌∙◌, subst, arith}
 use Rattle.std.proofs.Common.{get_or, le-leb, mul-le-mul_right}
 use Rattle.std.specs.Prelude.{slice_get, nat_le, nat_lt, if◌then◌else◌}
-use Rattle.std.proofs.lemmas.Bool.{and_parts, and_from, cases_lt, eq-eqb, lt-leb, lt-ltb, ltb-true, false≢true}
+use Rattle.std.proofs.lemmas.Bool.{and_from, cases_lt, eq-eqb, lt-leb, lt-ltb}
 use Rattle.std.proofs.lemmas.List.{length-map}
-use Rattle.addr_map.specs.declared.region.Region.TheVariants.{Stack as StackRegion}
-use Rattle.addr_map.specs.Places.{MapSizes, region_end}
+use Rattle.addr_map.specs.Places.{MapSizes}
 use Rattle.sb_base.specs.declared.ending.Ending.TheVariants.{Abort as AbortAt, BadCall, Stack}
 use Rattle.sb_base.specs.Endings.{code_of, report_of}
-use Rattle.obj_memory.specs.declared.value.Scalar.{Scalar}
-use Rattle.obj_memory.specs.declared.value.Scalar.TheVariants.{Integer, Pointer}
-use Rattle.obj_memory.specs.Sound.{IsSoundTag}
-use Rattle.c_tree.specs.declared.expression.Kind.{Kind}
-use Rattle.c_tree.specs.declared.expression.Kind.TheVariants.{Void, Scalar as OfScalar, Structure, Array}
+use Rattle.obj_memory.specs.declared.value.Scalar.TheVariants.{Pointer}
+use Rattle.c_tree.specs.declared.expression.Kind.TheVariants.{Void, Scalar as OfScalar}
 use Rattle.c_tree.specs.declared.program.Variable.{Variable}
-use Rattle.source_meaning.specs.State.{State, Rvalue, Gives as GivesRun}
-use Rattle.source_meaning.specs.Actions.{integer}
-use Rattle.source_meaning.specs.Calls.{header_of, body_objects, set_up, caller}
-use Rattle.source_meaning.specs.Good.{IsGood as IsGoodState, file_scope, plain_type, ArgumentIs, ArgumentsAre, TakenOf, IsOfKind, IsSetUp}
-use Rattle.source_meaning.specs.Places.{stack_first, stack_end}
-use Rattle.source_meaning.specs.Structures.{rvalue}
-use Rattle.source_meaning.proofs.Holding.{live_made}
+use Rattle.source_meaning.specs.State.{State, Rvalue}
+use Rattle.source_meaning.specs.Calls.{caller}
 use Rattle.tac_ir.specs.declared.instruction.Instruction.{Instruction}
 use Rattle.tac_ir.specs.declared.instruction.Instruction.TheVariants as tac
 use Rattle.tac_ir.specs.declared.function.CodeFunction.{CodeFunction}
 use Rattle.tac_ir.specs.declared.function.Tac.{Tac}
-use Rattle.tac_ir.specs.Accesses.{is_place}
-use Rattle.tac_ir.specs.Fitting.{is_word, is_of_type, is_passed, are_passed, taken_by}
+use Rattle.tac_ir.specs.Fitting.{are_passed, taken_by}
 use Rattle.tac_ir.specs.Stage.{Temps, no_temps, gathered, Waiting, Frame, Waits, Stage, Stands, Over, came}
 use Rattle.tac_ir.specs.Costs.{spent, fourfold}
 use Rattle.tac_ir.specs.Meaning.{function_in as code_in, header_of_code, begun, called_at, effect, fit_call}
@@ -36,7 +26,7 @@ use Rattle.flat_meaning.specs.declared.instruction.FlatInstruction.TheVariants a
 use Rattle.flat_meaning.specs.declared.function.FlatProgram.{FlatProgram}
 use Rattle.flat_meaning.specs.Memory.{Bytes}
 use Rattle.flat_meaning.specs.State as flat
-use Rattle.flat_meaning.specs.Calls.{function_in, charged, arguments}
+use Rattle.flat_meaning.specs.Calls.{function_in, charged}
 use Rattle.flat_meaning.specs.Meaning.{body_of, weight_of}
 use Rattle.flat_meaning.proofs.Stored.{put_other}
 use Rattle.flat_routines.specs.Routine.{HasAt}
@@ -44,37 +34,25 @@ use Rattle.flat_routines.proofs.Steps.{has_front, has_back}
 use Rattle.object_routines.specs.AllocatingRoutines.Allocating.{keys_code, key_test}
 use Rattle.object_routines.specs.AllocatingRoutines.Entering.{block_bytes}
 use Rattle.metadata_plan.specs.Blocks.{call_tests}
-use Rattle.metadata_plan.specs.Registers.{all_variables, most_temporaries}
+use Rattle.metadata_plan.specs.Registers.{most_temporaries}
 use Rattle.metadata_plan.specs.Entries.{is_among, is_moved_with_entry, is_argument_with_entry, parameter_kinds}
 use Rattle.metadata_plan.specs.Expanded.{Leads}
-use Rattle.metadata_plan.proofs.Calling.{tested, tests_pass, tests_end, gathered_at}
-use Rattle.metadata_plan.proofs.Calling.{argument_in}
+use Rattle.metadata_plan.proofs.Calling.{tested, tests_pass, tests_end}
 use Rattle.metadata_plan.proofs.Flat.{weight_small, Comes, end_step, one}
-use Rattle.metadata_plan.proofs.SetUp.{laid_out, exhausted, set_up_gives, homes_of}
+use Rattle.metadata_plan.proofs.SetUp.{exhausted}
 use Rattle.metadata_relation.specs.Blocks.{objects_of_body, result_of, result_entry, pack, call_code}
 use Rattle.metadata_relation.specs.Blocks.{space_test, call_of}
-use Rattle.metadata_relation.specs.Holding.{IsHeldAt, IsPlain, is_pointer_type}
-use Rattle.metadata_relation.specs.Registers.{passed_as, parameters_end}
-use Rattle.metadata_relation.specs.Registers.{variable_register, temporary_register}
+use Rattle.metadata_relation.specs.Registers.{temporary_register}
 use Rattle.metadata_relation.specs.Registers.{moved_register, first_free}
-use Rattle.metadata_relation.specs.Scopes.{context_at, AreGood}
-use Rattle.metadata_relation.specs.Stages.{Compiled, map_of, views, names, world, activation, level, expansion_of}
+use Rattle.metadata_relation.specs.Stages.{Compiled, map_of, expansion_of}
 use Rattle.metadata_relation.specs.Stages.{IsAt}
-use Rattle.metadata_relation.specs.Steps.{IsCompiled, is_no_aggregate, are_scalars, is_plain_call}
-use Rattle.metadata_relation.specs.Waiting.{BodyBy, IsWaitingAs, AllWait}
+use Rattle.metadata_relation.specs.Steps.{IsCompiled, is_plain_call}
 use Rattle.metadata_relation.proofs.Assigning.{assigned}
-use Rattle.metadata_relation.proofs.CallHolds.{waiting_holds, none_has, no_homes, none_between}
-use Rattle.metadata_relation.proofs.CallStates.{entered_good}
 use Rattle.metadata_relation.proofs.Handing as handing
-use Rattle.metadata_relation.proofs.Library.{assigned_behind}
-use Rattle.metadata_relation.proofs.Moving.{held_of}
-use Rattle.metadata_relation.proofs.Packing.{ways_of, words_within, ArePacked, are_packed, pack_assigns}
-use Rattle.metadata_relation.proofs.Packing.{count_passed, passed_at, plain_parameter, held_moved}
-use Rattle.metadata_relation.proofs.Registers.{few_in}
-use Rattle.metadata_relation.proofs.Setting.{place_is, no_tag_is, type_is}
-use Rattle.metadata_relation.proofs.Standing.{leaves_same, good_now, IsNode, node, fewer, ends, Result}
-use Rattle.metadata_relation.proofs.Waiting.{waits_at, waits_same}
-use Rattle.metadata_relation.proofs.Entering.{IsPlainCall, plain_call, call_stage, callee_state, enters, few_parameters}
+use Rattle.metadata_relation.proofs.Packing.{ways_of}
+use Rattle.metadata_relation.proofs.Packing.{count_passed}
+use Rattle.metadata_relation.proofs.Standing.{IsNode, node, ends, Result}
+use Rattle.metadata_relation.proofs.Entering.{IsPlainCall, plain_call, call_stage}
 
 -- ---- a call at a node
 

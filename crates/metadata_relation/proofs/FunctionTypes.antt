@@ -1,6 +1,6 @@
 -- What the key of a pointer to a function tells: its type, by the first function that has it.
-use Rattle.std.proofs.Common.{◌≡◌, ℕ, zero, suc, ◌+◌, ◌*◌, ◌/◌, ◌%◌, ◌^◌, ◌<◌, ◌≤◌, Bool, true, false, List, [], ◌∷◌}
-use Rattle.std.proofs.Common.{length, map, Option, Some, None, refl, sym, ap, ◌∙◌, subst, arith}
+use Rattle.std.proofs.Common.{◌≡◌, ℕ, zero, suc, ◌+◌, ◌/◌, ◌%◌, ◌^◌, ◌<◌, ◌≤◌, Bool, true, false, List, [], ◌∷◌}
+use Rattle.std.proofs.Common.{length, map, Some, None, refl, sym, ap, ◌∙◌, subst, arith}
 use Rattle.std.specs.Prelude.{slice_get, ◌==◌, if◌then◌else◌, nat_le, ◌&&◌}
 use Rattle.std.proofs.lemmas.Bool.{and_parts, and_from, eq-eqb, eqb-true, eqb-false, leb-true, le-leb}
 use Rattle.std.proofs.lemmas.Option.{same_Some}
@@ -154,7 +154,7 @@ module _ (functions : List Header) (g : Views) (k : Keys) (objects : Objects) (t
         f,
         record { tag_is = refl; word_is = eqb-true word (function_address f) q.1; typed = typed },
         ap (λ b. choose b (done f) (stop (BadCall line)) s)
-        (and_from (word == function_address f) (has_type (header_at functions f) type) q.1 typed),
+            (and_from (word == function_address f) (has_type (header_at functions f) type) q.1 typed),
       )
   finds word (OfFunction f) sound false e =
       ap (λ b. choose ((word == function_address f) && b) (done f) (stop (BadCall line)) s) (sym (kinds f sound))

@@ -1,8 +1,7 @@
 -- The functions of a type: they take values of the same kinds, and what is tested of all of them holds of each.
-use Rattle.std.proofs.Common.{◌≡◌, ℕ, zero, suc, ◌+◌, ◌/◌, ◌%◌, ◌^◌, ◌<◌, ◌≤◌, Bool, true, false, not, List, [], ◌∷◌, length}
-use Rattle.std.proofs.Common.{map, Option, Some, None, refl, sym, ap, ap₂, ◌∙◌, subst, arith}
-use Rattle.std.specs.Prelude.{slice_get, min, ◌==◌, ◌||◌, ◌&&◌, if◌then◌else◌}
-use Rattle.std.specs.List.{list_all}
+use Rattle.std.proofs.Common.{◌≡◌, ℕ, zero, suc, ◌+◌, ◌/◌, ◌%◌, ◌^◌, ◌<◌, Bool, true, false, not, List, [], ◌∷◌, length}
+use Rattle.std.proofs.Common.{map, Some, refl, sym, ap, ◌∙◌, subst, arith}
+use Rattle.std.specs.Prelude.{slice_get, min, ◌==◌, ◌||◌, if◌then◌else◌}
 use Rattle.std.proofs.Math.Nat.{min-le_right}
 use Rattle.std.proofs.lemmas.Bool.{and_parts, eq-eqb}
 use Rattle.std.proofs.lemmas.Option.{same_Some}
@@ -13,7 +12,7 @@ use Rattle.obj_memory.specs.Heap.{rounded_up}
 use Rattle.object_routines.specs.AllocatingRoutines.Entering.{block_bytes}
 use Rattle.source_meaning.specs.State.{Header, Rvalue}
 use Rattle.source_meaning.specs.Blocks.{has_objects}
-use Rattle.source_meaning.specs.Calls.{header_of, body_objects}
+use Rattle.source_meaning.specs.Calls.{body_objects}
 use Rattle.source_meaning.specs.Good.{signature_in}
 use Rattle.source_meaning.specs.Expressions.{has_type, header_at}
 use Rattle.source_meaning.proofs.Naming.{names_of, FunctionsName, ProgramNames}
@@ -23,7 +22,7 @@ use Rattle.tac_ir.specs.declared.function.Tac.{Tac}
 use Rattle.tac_ir.specs.Fitting.{are_passed, fit_type, taken_by}
 use Rattle.tac_ir.specs.Meaning.{header_of_code}
 use Rattle.flat_meaning.specs.Memory.{Bytes}
-use Rattle.runtime_functions.specs.Library.{Passed, register_count}
+use Rattle.runtime_functions.specs.Library.{register_count}
 use Rattle.metadata_relation.specs.FunctionTypes.{first_of_type, type_key, object_units, room_told}
 use Rattle.metadata_relation.specs.Registers.{passed_as, parameter_words, parameters_end, total}
 use Rattle.metadata_relation.specs.Stages.{Compiled}

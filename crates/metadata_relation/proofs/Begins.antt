@@ -390,7 +390,8 @@ module _ (c : Compiled) (IsGood : Bytes → Type 0) (right : IsCompiled c IsGood
           enters c IsGood right u 9 13 v9 [] f k found plain k.line 0 0 [] [] s0 values 6 (start_keys (views c))
           (record {
             comes = tests_pass m p u 9 v9 [] k.room k.line 0 has_tests low_calls inside;
-            at = calls;
+            at = λ w. one m p u 13 (record v9 { turns = v9.turns + 1; values = values; work = w }) []
+                (flat_code.Call f 0 0) calls;
             arguments_are = λ x t typed low. absurd (omega (arith, low, none));
             charge = charge;
             fits = fits;

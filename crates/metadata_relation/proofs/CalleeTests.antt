@@ -1,8 +1,8 @@
 -- The tests of a callee that a pointer names: the run goes on behind them, or ends with `BadCall`.
-use Rattle.std.proofs.Common.{◌≡◌, inl, inr, ℕ, ◌+◌, ◌-◌, ◌*◌, ◌/◌, ◌%◌, ◌^◌, ◌<◌, ◌≤◌, Bool, true, false, not, List, []}
-use Rattle.std.proofs.Common.{◌∷◌, Some, refl, sym, ap, ap₂, ◌∙◌, arith, mod-eq_of_lt}
+use Rattle.std.proofs.Common.{◌≡◌, inl, inr, ℕ, ◌+◌, ◌-◌, ◌/◌, ◌%◌, ◌^◌, ◌<◌, ◌≤◌, Bool, true, false, not, List}
+use Rattle.std.proofs.Common.{Some, refl, sym, ap, ap₂, ◌∙◌, arith, mod-eq_of_lt}
 use Rattle.std.specs.Prelude.{◌==◌, ◌&&◌, nat_le, bit_and}
-use Rattle.std.proofs.lemmas.Bool.{eqb-true, eqb-false}
+use Rattle.std.proofs.lemmas.Bool.{eqb-true}
 use Rattle.std.proofs.lemmas.Bool.Decides.{leb_tells}
 use Rattle.std.proofs.lemmas.Nat.{and_mask}
 use Rattle.addr_map.specs.Places.{MapSizes}

@@ -1,33 +1,23 @@
 -- Calls of functions whose bodies have no objects: the tests, the arguments, and where the function begins.
-use Rattle.std.proofs.Common.{◌≡◌, ⊎_elim, inl, ℕ, zero, suc, ◌+◌, ◌-◌, ◌*◌, ◌^◌, ◌<◌, ◌≤◌, Bool, true, false, List}
+use Rattle.std.proofs.Common.{◌≡◌, ⊎_elim, inl, ℕ, ◌+◌, ◌-◌, ◌*◌, ◌^◌, ◌<◌, ◌≤◌, Bool, true, false, List}
 use Rattle.std.proofs.Common.{[], ◌∷◌, ◌++◌, length, length-append, map, Option, Some, None, refl, sym, ap, ◌∙◌, subst, arith}
 use Rattle.std.proofs.Common.{get_or, le-leb, mul-le-mul_right}
 use Rattle.std.specs.Prelude.{slice_get, nat_le, nat_lt, if◌then◌else◌}
-use Rattle.std.proofs.lemmas.Bool.{and_parts, and_from, cases_lt, eq-eqb, lt-leb, lt-ltb, ltb-true, false≢true}
+use Rattle.std.proofs.lemmas.Bool.{and_from, cases_lt, eq-eqb, lt-leb, lt-ltb}
 use Rattle.std.proofs.lemmas.List.{length-map}
-use Rattle.addr_map.specs.declared.region.Region.TheVariants.{Stack as StackRegion}
-use Rattle.addr_map.specs.Places.{MapSizes, region_end}
+use Rattle.addr_map.specs.Places.{MapSizes}
 use Rattle.sb_base.specs.declared.ending.Ending.TheVariants.{Abort as AbortAt, BadCall, Stack}
 use Rattle.sb_base.specs.Endings.{code_of, report_of}
-use Rattle.obj_memory.specs.declared.value.Scalar.{Scalar}
-use Rattle.obj_memory.specs.declared.value.Scalar.TheVariants.{Integer, Pointer}
-use Rattle.obj_memory.specs.Sound.{IsSoundTag}
-use Rattle.c_tree.specs.declared.expression.Kind.{Kind}
-use Rattle.c_tree.specs.declared.expression.Kind.TheVariants.{Void, Scalar as OfScalar, Structure, Array}
+use Rattle.obj_memory.specs.declared.value.Scalar.TheVariants.{Pointer}
+use Rattle.c_tree.specs.declared.expression.Kind.TheVariants.{Void, Scalar as OfScalar}
 use Rattle.c_tree.specs.declared.program.Variable.{Variable}
-use Rattle.source_meaning.specs.State.{State, Rvalue, Gives as GivesRun}
-use Rattle.source_meaning.specs.Actions.{integer}
-use Rattle.source_meaning.specs.Calls.{header_of, body_objects, set_up, caller}
-use Rattle.source_meaning.specs.Good.{IsGood as IsGoodState, file_scope, plain_type, ArgumentIs, ArgumentsAre, TakenOf, IsOfKind, IsSetUp}
-use Rattle.source_meaning.specs.Places.{stack_first, stack_end}
-use Rattle.source_meaning.specs.Structures.{rvalue}
-use Rattle.source_meaning.proofs.Holding.{live_made}
+use Rattle.source_meaning.specs.State.{State, Rvalue}
+use Rattle.source_meaning.specs.Calls.{caller}
 use Rattle.tac_ir.specs.declared.instruction.Instruction.{Instruction}
 use Rattle.tac_ir.specs.declared.instruction.Instruction.TheVariants as tac
 use Rattle.tac_ir.specs.declared.function.CodeFunction.{CodeFunction}
 use Rattle.tac_ir.specs.declared.function.Tac.{Tac}
-use Rattle.tac_ir.specs.Accesses.{is_place}
-use Rattle.tac_ir.specs.Fitting.{is_word, is_of_type, is_passed, are_passed, taken_by}
+use Rattle.tac_ir.specs.Fitting.{are_passed, taken_by}
 use Rattle.tac_ir.specs.Stage.{Temps, no_temps, gathered, Waiting, Frame, Waits, Stage, Stands, Over, came}
 use Rattle.tac_ir.specs.Costs.{spent, fourfold}
 use Rattle.tac_ir.specs.Meaning.{function_in as code_in, header_of_code, begun, called_at, effect, fit_call}
@@ -36,7 +26,7 @@ use Rattle.flat_meaning.specs.declared.instruction.FlatInstruction.TheVariants a
 use Rattle.flat_meaning.specs.declared.function.FlatProgram.{FlatProgram}
 use Rattle.flat_meaning.specs.Memory.{Bytes}
 use Rattle.flat_meaning.specs.State as flat
-use Rattle.flat_meaning.specs.Calls.{function_in, charged, arguments}
+use Rattle.flat_meaning.specs.Calls.{function_in, charged}
 use Rattle.flat_meaning.specs.Meaning.{body_of, weight_of}
 use Rattle.flat_meaning.proofs.Stored.{put_other}
 use Rattle.flat_routines.specs.Routine.{HasAt}
@@ -44,45 +34,27 @@ use Rattle.flat_routines.proofs.Steps.{has_front, has_back}
 use Rattle.object_routines.specs.AllocatingRoutines.Allocating.{keys_code, key_test}
 use Rattle.object_routines.specs.AllocatingRoutines.Entering.{block_bytes}
 use Rattle.metadata_plan.specs.Blocks.{call_tests}
-use Rattle.metadata_plan.specs.Registers.{all_variables, most_temporaries}
+use Rattle.metadata_plan.specs.Registers.{most_temporaries}
 use Rattle.metadata_plan.specs.Entries.{is_among, is_moved_with_entry, is_argument_with_entry, parameter_kinds}
 use Rattle.metadata_plan.specs.Expanded.{Leads}
-use Rattle.metadata_plan.proofs.Calling.{tested, tests_pass, tests_end, gathered_at}
-use Rattle.metadata_plan.proofs.Calling.{argument_in}
-use Rattle.metadata_plan.proofs.Flat.{weight_small, Comes, end_step}
-use Rattle.metadata_plan.proofs.SetUp.{laid_out, exhausted, set_up_gives, homes_of}
+use Rattle.metadata_plan.proofs.Calling.{tested, tests_pass, tests_end}
+use Rattle.metadata_plan.proofs.Flat.{weight_small, Comes, end_step, one}
+use Rattle.metadata_plan.proofs.SetUp.{exhausted}
 use Rattle.metadata_relation.specs.Blocks.{objects_of_body, result_of, result_entry, pack, call_code}
 use Rattle.metadata_relation.specs.Blocks.{space_test, call_of}
-use Rattle.metadata_relation.specs.Holding.{IsHeldAt, IsPlain, is_pointer_type}
-use Rattle.metadata_relation.specs.Registers.{passed_as, parameters_end}
-use Rattle.metadata_relation.specs.Registers.{variable_register, temporary_register}
+use Rattle.metadata_relation.specs.Registers.{temporary_register}
 use Rattle.metadata_relation.specs.Registers.{moved_register, first_free}
-use Rattle.metadata_relation.specs.Scopes.{context_at, AreGood}
-use Rattle.metadata_relation.specs.Stages.{Compiled, map_of, views, names, world, activation, level, expansion_of}
+use Rattle.metadata_relation.specs.Stages.{Compiled, map_of, expansion_of}
 use Rattle.metadata_relation.specs.Stages.{IsAt}
-use Rattle.metadata_relation.specs.Steps.{IsCompiled, is_no_aggregate, are_scalars, is_plain_call}
-use Rattle.metadata_relation.specs.Waiting.{BodyBy, IsWaitingAs, AllWait}
+use Rattle.metadata_relation.specs.Steps.{IsCompiled, is_plain_call}
 use Rattle.metadata_relation.proofs.Assigning.{assigned}
-use Rattle.metadata_relation.proofs.CallHolds.{waiting_holds, none_has, no_homes, none_between}
-use Rattle.metadata_relation.proofs.CallStates.{entered_good}
-use Rattle.metadata_relation.proofs.Library.{assigned_behind}
-use Rattle.metadata_relation.proofs.Moving.{held_of}
-use Rattle.metadata_relation.proofs.Packing.{ways_of, words_within, ArePacked, are_packed, pack_assigns}
-use Rattle.metadata_relation.proofs.Packing.{count_passed, passed_at, plain_parameter, held_moved}
-use Rattle.metadata_relation.proofs.Registers.{few_in}
-use Rattle.metadata_relation.proofs.Setting.{place_is, no_tag_is, type_is}
-use Rattle.metadata_relation.proofs.Standing.{leaves_same, good_now, IsNode, node, fewer, ends, Result}
-use Rattle.metadata_relation.proofs.Waiting.{waits_at, waits_same}
-use Rattle.metadata_relation.proofs.Entering.{IsPlainCall, plain_call, call_stage, callee_state, enters, few_parameters}
+use Rattle.metadata_relation.proofs.Handing as handing
+use Rattle.metadata_relation.proofs.Packing.{ways_of}
+use Rattle.metadata_relation.proofs.Packing.{count_passed}
+use Rattle.metadata_relation.proofs.Standing.{IsNode, node, ends, Result}
+use Rattle.metadata_relation.proofs.Entering.{IsPlainCall, plain_call, call_stage}
 
 -- ---- a call at a node
-
--- a scalar has no contents
-pub scalar_place : (kind : Kind) (v : Rvalue) → is_no_aggregate kind ≡ true → is_passed kind v ≡ true → v.contents ≡ None
-scalar_place Void v e f = place_is v.contents (and_parts (is_place v.contents) (is_word v.value.word) f).0
-scalar_place (OfScalar k) v e f = place_is v.contents (and_parts (is_place v.contents) (is_of_type k v.value) f).0
-scalar_place (Structure size) v e f = cc
-scalar_place (Array size) v e f = cc
 
 module _ (c : Compiled) (IsGood : Bytes → Type 0) (right : IsCompiled c IsGood) (u n : ℕ) (temps : Temps)
     (ws : List Frame) (s : State) (v : flat.State) (xs : List flat.Frame)
@@ -110,62 +82,6 @@ module _ (c : Compiled) (IsGood : Bytes → Type 0) (right : IsCompiled c IsGood
 
   abbrev body : List FlatInstruction
   body = body_of (function_in c.layout.program u)
-
-  -- a value without contents is held
-  pub held_at : (i : ℕ) → i < most_temporaries h.code.code → (temps i).contents ≡ None
-      → IsHeldAt (world c h.keys s v) (c.layout.expansion.entries u n i) (temps i).value (temporary_register h.code i)
-      v.values
-  held_at i low none =
-      let t = h.holds.temporaries i low refl in
-      held_of (world c h.keys s v) (c.layout.expansion.entries u n i) (temps i) _ _ (T i) v.values
-      (record { by = t.by; none = λ e. none })
-
-  -- the functions that the views know are those of the file
-  functions_are : length c.setting.functions ≡ length (file_scope c.typed).functions
-  functions_are = ap length (sym right.functions) ∙ length-map c.typed.functions header_of
-      ∙ sym (length-map c.typed.functions _)
-
-  argument_is : (kind : Kind) (i : ℕ) → i < most_temporaries h.code.code → is_no_aggregate kind ≡ true
-      → is_passed kind (temps i) ≡ true
-      → ArgumentIs (length (file_scope c.typed).functions) kind (temps i) s.objects
-  argument_is kind i low scalar passed =
-      let none = scalar_place kind (temps i) scalar passed in
-      record {
-        tag = subst (λ z. IsSoundTag z s.objects (temps i).value.tag) functions_are (held_at i low none).sound;
-        structure = no_contents kind scalar none;
-        word = word_of kind scalar passed;
-      }
-    where
-      no_contents : (kind : Kind) → is_no_aggregate kind ≡ true → (temps i).contents ≡ None
-          → TakenOf (length (file_scope c.typed).functions) kind (temps i) s.objects
-      no_contents Void e none = none
-      no_contents (OfScalar k) e none = none
-      no_contents (Structure size) e none = cc
-      no_contents (Array size) e none = none
-
-      word_of : (kind : Kind) → is_no_aggregate kind ≡ true → is_passed kind (temps i) ≡ true
-          → IsOfKind (length (file_scope c.typed).functions) kind (temps i).value
-      word_of Void e f = λ low.
-          ltb-true (temps i).value.word (2 ^ 64) (and_parts (is_place (temps i).contents) (is_word (temps i).value.word) f).1
-      word_of (OfScalar k) e f =
-          type_is (length (file_scope c.typed).functions) k (temps i).value
-          (and_parts (is_place (temps i).contents) (is_of_type k (temps i).value) f).1
-      word_of (Structure size) e f = cc
-      word_of (Array size) e f = cc
-
-  arguments_are : (ps : List Variable) (d count : ℕ) → are_scalars ps ≡ true → d + count ≤ most_temporaries h.code.code
-      → are_passed (map (λ v. v.kind) ps) (gathered temps d count) ≡ true
-      → ArgumentsAre (length (file_scope c.typed).functions) (map (λ v. v.kind) ps) (gathered temps d count) s.objects
-  arguments_are [] d zero scalars low passed = tt
-  arguments_are [] d (suc count) scalars low passed = absurd (false≢true passed)
-  arguments_are (p ∷ ps) d zero scalars low passed = absurd (false≢true passed)
-  arguments_are (p ∷ ps) d (suc count) scalars low passed =
-      let one = and_parts (is_no_aggregate p.kind) (are_scalars ps) scalars in
-      let first = and_parts (is_passed p.kind (temps d)) (are_passed (map (λ v. v.kind) ps) (gathered temps (d + 1) count))
-      passed in (
-        argument_is p.kind d (omega (arith, low)) one.0 first.0,
-        arguments_are ps (d + 1) count one.1 (omega (arith, low)) first.1,
-      )
 
   module _ (f line d count next : ℕ) (at : slice_get h.code.code n ≡ Some (tac.Call f line d count next)) where
     abbrev i : Instruction
@@ -307,209 +223,28 @@ module _ (c : Compiled) (IsGood : Bytes → Type 0) (right : IsCompiled c IsGood
         between = (tested (map_of c) c.layout.program u (c.layout.address u n) v xs k.room line (first_free h.code)
             has_tests low_calls).values
 
-        abbrev packed : flat.Values
-        packed = assigned moves between
-
-        run_to : Comes (map_of c) c.layout.program u (c.layout.address u n) v xs q
-            (record v { turns = v.turns + 1; values = packed }) (6 + 2 * length moves)
-        run_to = assigned_behind map_now program u pc v xs (pc + 4)
-            (tested map_now program u pc v xs k.room line free has_tests low_calls) 6 first_part moves
-            (pack_assigns h.code (ways_of k.parameters) packed_at d).0 (has_front body (pc + 4) moves calls has_rest)
-
-        are_there : ArePacked h.code k.parameters k.variables packed_at d between packed
-        are_there = are_packed h.code k.parameters k.variables packed_at d between
-            (let low = lows.1 in let is = count_is in omega arith) (omega arith)
-
-        stay : (y : ℕ) → y < moved_register h.code 0 → packed y ≡ v.values y
-        stay y lt = are_there.below y (omega (arith, lt)) ∙ put_other v.values free _ y (λ e. omega (arith, lt, e))
-
-        -- what the program's state is good for
-        state_good : IsGoodState (context_at (names c) u ws) (begun (spent 6 s))
-        state_good = let g = good_now (names c) u ws s h.steady.good in record {
-          kept = g.kept;
-          low = g.low;
-          statics = g.statics;
-          homes = g.homes;
-          plain = g.plain;
-          typed = g.typed;
-          separate = g.separate;
-        }
-
-        room_left : s.stacked ≤ stack_end c.setting
-        room_left =
-            let top = (good_now (names c) u ws s h.steady.good).separate.top in
-            let same : region_end c.setting.sizes StackRegion ≡ region_end (map_of c) StackRegion =
-            ap (λ z. region_end z StackRegion) right.sizes in
-            omega arith
-
-        abbrev laid : State
-        laid = laid_out (header_of_code k) vs (begun (spent 6 s))
-
-        set : set_up c.setting (header_of_code k) vs line (begun (spent 6 s)) ≡ GivesRun tt laid
-        set =
-            let budget = ap (λ (z : MapSizes). z.budgets.calls) right.sizes in
-            set_up_gives c.setting (header_of_code k) vs line (begun (spent 6 s))
-            (none_has (objects_of_body k) plain.none) room_left
-            (le-leb (s.charged + k.room) c.setting.sizes.budgets.calls (omega (arith, fits, budget)))
-
-        abbrev callee : State
-        callee = callee_state c IsGood right u pc q v xs f k found plain_enough line packed_at (T d) vs
-            (Waits waits ∷ ws) (spent 6 s)
-
-        set_good : IsSetUp (context_at (names c) f []) s.objects callee
-        set_good =
-            let up = entered_good c IsGood right f k found u ws vs line (begun (spent 6 s)) laid state_good
-            (arguments_are k.parameters d count plain.scalars lows.1 passed) set in
-            record { good = up.good; lives = up.lives; new = up.new; ends = up.ends }
-
-        good : AreGood (names c) f (Waits waits ∷ ws) callee
-        good = record {
-          by = (
-            record {
-              before = s;
-              behind = callee;
-              caller_is = refl;
-              set_up = set_good;
-              since = leaves_same (context_at (names c) f []) callee set_good.good;
-            },
-            h.steady.good.by,
-          );
-        }
-
-        -- each parameter holds its argument
-        handed : (x : ℕ) (t : Scalar) → plain_type (all_variables k) x ≡ Some t → x < length k.parameters
-            → IsPlain (world c h.keys s v) t (get_or vs x (rvalue (integer 0))).value (variable_register k x)
-            (arguments packed_at (parameters_end k) packed)
-        handed x t typed low =
-            let par = plain_parameter k.parameters k.variables x t typed low in
-            let inner : x < count = (let is = count_is in omega (arith, low)) in
-            let pass : is_passed (OfScalar t) (temps (d + x)) ≡ true =
-            ap (λ z. is_passed z (temps (d + x))) (sym par.kind)
-            ∙ passed_at (taken_by (header_of_code k)) temps d count x passed inner in
-            let parts = and_parts (is_place (temps (d + x)).contents) (is_of_type t (temps (d + x)).value) pass in
-            let below : d + x < most_temporaries h.code.code = (let l = lows.1 in omega (arith, inner)) in
-            let held = held_at (d + x) below (place_is (temps (d + x)).contents parts.0) in
-            let within = words_within k.parameters k.variables x low in
-            let words = par.words in
-            subst (λ (z : Rvalue). IsPlain (world c h.keys s v) t z.value (variable_register k x)
-            (arguments packed_at (parameters_end k) packed)) (sym (gathered_at temps d count x inner))
-            (record {
-              value = held_moved (world c h.keys s v) (c.layout.expansion.entries u n (d + x)) (is_pointer_type t)
-                  (temps (d + x)).value (T (d + x)) (variable_register k x) v.values
-                  (arguments packed_at (parameters_end k) packed) (λ e. read_with_entry x t inner par.kind e)
-                  (λ j lt.
-                  argument_in packed_at (parameters_end k) (variable_register k x + j) packed
-                  (omega (arith, lt, within, words))
-                  ∙ are_there.at x j low (omega (arith, lt, words))
-                  ∙ put_other v.values free _ (T (d + x) + j) (λ e. (let few = few_in (is_pointer_type t) in
-                  omega (arith, below, lt, e)))) held;
-              no_tag = no_tag_is t (temps (d + x)).value parts.1;
-            })
-          where
-            read_with_entry : (x : ℕ) (t : Scalar) → x < count
-                → get_or (map (λ (z : Variable). z.kind) k.parameters) x Void ≡ OfScalar t → is_pointer_type t ≡ true
-                → c.layout.expansion.entries u n (d + x) ≡ true
-            read_with_entry x (Integer t) low kind e = cc
-            read_with_entry x Pointer low kind e =
-                label.closed.read n (d + x) i at
-                (ap (λ o. is_argument_with_entry (parameter_kinds o) d count (d + x)) found
-                ∙ and_from (is_among d count (d + x)) (is_moved_with_entry
-                (get_or (map (λ (z : Variable). z.kind) k.parameters) (d + x - d) Void))
-                (and_from (nat_le d (d + x)) (nat_lt (d + x) (d + count)) (le-leb d (d + x) (omega arith))
-                (lt-ltb (d + x) (d + count) (omega (arith, low))))
-                (ap (λ z. is_moved_with_entry (get_or (map (λ (z : Variable). z.kind) k.parameters) z Void))
-                (omega arith) ∙ ap is_moved_with_entry kind))
-
-        abbrev frame : flat.Frame
-        frame = record { function = u; next = q + 1; into = temporary_register h.code d; values = packed }
-
-        -- the caller waits
-        waits_so : IsWaitingAs (world c h.keys s v) c.layout k (length s.objects) waits frame xs
-        waits_so =
-            let z = fewer c IsGood right u n temps ws s v xs h i label d next refl (inl refl) in
-            record {
-              function = refl;
-              code = h.code;
-              there = h.there;
-              low = lows.0;
-              into = refl;
-              behind = has_call.1;
-              leads = leads_behind;
-              valued = plain.valued;
-              below = λ y o is. live_made s.objects o (h.holds.homes.homes y o is).live;
-              holds = waiting_holds (views c) h.keys s.objects v.memory (activation c h.code u n s)
-                  (c.layout.expansion.entries u next) (c.layout.expansion.contents u next) d temps s.plain s.frame v.values
-                  packed (record { kept = z.kept; plain = z.plain; known = λ j ne e. refl }) stay h.holds;
-              charge = h.charge;
-              fits = h.fits;
-            }
-
-        wait : (after : flat.Values) → AllWait (world c h.keys s v) callee c.layout (stack_first c.setting) (record {
-          code = k;
-          values = after;
-          stacked = s.stacked;
-          frame = homes_of (body_objects (header_of_code k));
-          bound = length s.objects;
-        }) (Waits waits ∷ ws) (frame ∷ xs)
-        unfolding waits_so
-        wait after = (
-          record {
-            by = subst (BodyBy (world c h.keys s v) callee k s.stacked s.stacked
-                (homes_of (body_objects (header_of_code k))) after) (sym plain.none)
-                (refl, no_homes (body_objects (header_of_code k)));
-            mark = length s.objects;
-            within = omega arith;
-            own = none_between (body_objects (header_of_code k)) (length s.objects) (length s.objects);
-          },
-          waits_so,
-          waits_at (world c h.keys s v) callee c.layout (stack_first c.setting) h.code v.values packed
-              (λ r from to. stay r (omega (arith, to))) s.stacked (length s.objects) s.frame ws xs
-              (waits_same (views c) h.keys s callee v.memory c.layout (stack_first c.setting) refl (level h.code s v) ws xs
-              h.wait.by),
-        )
+        handed : (x : ℕ) → x < count → get_or (map (λ (z : Variable). z.kind) k.parameters) x Void ≡ OfScalar Pointer
+            → c.layout.expansion.entries u n (d + x) ≡ true
+        handed x low kind =
+            label.closed.read n (d + x) i at
+            (ap (λ o. is_argument_with_entry (parameter_kinds o) d count (d + x)) found
+            ∙ and_from (is_among d count (d + x)) (is_moved_with_entry
+            (get_or (map (λ (z : Variable). z.kind) k.parameters) (d + x - d) Void))
+            (and_from (nat_le d (d + x)) (nat_lt (d + x) (d + count)) (le-leb d (d + x) (omega arith))
+            (lt-ltb (d + x) (d + count) (omega (arith, low))))
+            (ap (λ z. is_moved_with_entry (get_or (map (λ (z : Variable). z.kind) k.parameters) z Void))
+            (omega arith) ∙ ap is_moved_with_entry kind))
 
         enters_it : Gives (call_stage c IsGood right u pc q v xs f k found plain_enough line packed_at (T d) vs
             (Waits waits ∷ ws) (spent 6 s))
         enters_it =
-            let shown = h.stands.for.shown in
-            let count = (pack_assigns h.code (ways_of k.parameters) packed_at d).1 in
-            let ways = length-map k.parameters (λ (v : Variable). passed_as v.kind) in
-            let few = few_parameters c IsGood right k.parameters in
-            let before = h.work in
-            enters c IsGood right u pc q v xs f k found plain_enough line packed_at (T d) vs (Waits waits ∷ ws)
-            (spent 6 s) packed (6 + 2 * length moves) h.keys
-            (record {
-              comes = run_to;
-              at = has_call.0;
-              arguments_are = handed;
-              charge = h.charge;
-              fits = fits;
-              room = room_left;
-              work = omega (arith, count, ways, few, before);
-              stands = record {
-                for = record {
-                  objects = h.stands.for.objects;
-                  spaces = h.stands.for.spaces;
-                  keys = h.stands.for.keys;
-                  shown = record {
-                    input = shown.input;
-                    output = shown.output;
-                    taken = shown.taken;
-                    accesses = shown.accesses;
-                  };
-                };
-                top = h.stands.top;
-                turns = h.stands.turns;
-              };
-              steady = record {
-                good = good;
-                bytes = h.steady.bytes;
-                keys = h.steady.keys;
-                statics = h.steady.statics;
-                statics_live = h.steady.statics_live;
-              };
-              wait = wait;
-            })
+            handing.enters_it c IsGood right u n temps ws s v xs h i label d d count next 6 refl (inl refl) lows.0 lows.1
+            (omega arith) f line k found passed plain handed (flat_code.Call f packed_at (T d)) (pc + 4) 6 between has_rest
+            leads_behind first_part (omega arith)
+            (λ y lt. put_other v.values free _ y (λ e. omega (arith, lt, e))) fits
+            (λ w. one map_now program u q
+            (record v { turns = v.turns + 1; values = assigned moves between; work = w }) xs
+            (flat_code.Call f packed_at (T d)) has_call.0)
 
       called : Gives (called_at c.setting (Some k) f vs line (Waits waits ∷ ws) (spent 6 s))
       called = ⊎_elim (λ more. exhausts more) (λ fits. enters_it fits)

@@ -2,8 +2,8 @@
 use Rattle.std.proofs.Common.{◌≡◌, ℕ, ◌+◌, ◌-◌, ◌*◌, ◌<◌, ◌≤◌, Bool, true, false, List}
 use Rattle.std.proofs.Common.{[], ◌∷◌, ◌++◌, length, length-append, Option, Some, None, refl, sym, ap, ◌∙◌, subst, arith}
 use Rattle.std.proofs.Common.{get_or, le-leb}
-use Rattle.std.specs.Prelude.{slice_get, nat_le, ◌&&◌, ◌||◌, not, if◌then◌else◌}
-use Rattle.std.proofs.lemmas.Bool.{and_parts, and_from, not-true}
+use Rattle.std.specs.Prelude.{slice_get, nat_le, ◌&&◌, ◌||◌, not, ◌==◌, if◌then◌else◌}
+use Rattle.std.proofs.lemmas.Bool.{and_parts, and_from, eq-eqb, not-true}
 use Rattle.behaviours.specs.Steps.{run}
 use Rattle.behaviours.proofs.Running.{run_add}
 use Rattle.addr_map.specs.declared.region.Region.TheVariants.{RuntimeCalls}
@@ -31,7 +31,8 @@ use Rattle.flat_meaning.specs.declared.function.FlatProgram.{FlatProgram}
 use Rattle.flat_meaning.specs.Memory.{Bytes}
 use Rattle.flat_meaning.specs.State as flat
 use Rattle.flat_meaning.specs.Calls.{function_in, room_if, rooms, charged, arguments}
-use Rattle.flat_meaning.specs.Meaning.{body_of, step, parameters_of, instruction_at}
+use Rattle.flat_meaning.specs.Meaning.{at_instruction, body_of, enters as enters_flat, has_room, parameters_of}
+use Rattle.flat_meaning.specs.Meaning.{results_of, step}
 use Rattle.flat_routines.specs.Objects.StandsFor.{Keys}
 use Rattle.flat_routines.specs.Routine.{HasAt}
 use Rattle.flat_routines.proofs.Steps.{has_front, has_self}
@@ -40,7 +41,7 @@ use Rattle.metadata_plan.specs.Registers.{words_of, all_variables}
 use Rattle.metadata_plan.specs.Expanded.{Leads}
 use Rattle.metadata_plan.proofs.Calling.{counted}
 use Rattle.metadata_plan.proofs.Calling.{argument_out}
-use Rattle.metadata_plan.proofs.Entering.{room_behind, no_rooms, enters_step}
+use Rattle.metadata_plan.proofs.Entering.{room_behind, no_rooms}
 use Rattle.metadata_plan.proofs.Flat.{Comes, leads_comes}
 use Rattle.metadata_plan.proofs.SetUp.{laid_out, set_up_gives, homes_of}
 use Rattle.metadata_relation.specs.Blocks.{Expansion, objects_of_body, result_of}
@@ -58,6 +59,33 @@ use Rattle.metadata_relation.proofs.CallHolds.{none_has, callee_holds}
 use Rattle.metadata_relation.proofs.Holding.{same_world, plain_on}
 use Rattle.metadata_relation.proofs.Packing.{zeros_leave, zeros_assign}
 use Rattle.metadata_relation.proofs.Standing.{there_by, IsThere, Result}
+
+-- ---- a call that has room
+
+-- what does what a call by name does enters its function
+enters_as : (m : MapSizes) (p : FlatProgram) (u q : ℕ) (v : flat.State) (xs : List flat.Frame) (f first into : ℕ)
+    (fn : FlatFunction)
+    → step m p (flat.Stands u q v xs) ≡ at_instruction m p (Some (flat_code.Call f first into)) u q v xs
+    → function_in p f ≡ Some fn
+    → has_room m p (record { function = u; next = q + 1; into = into; values = v.values } ∷ xs) fn ≡ true
+    → step m p (flat.Stands u q v xs) ≡ flat.Stands f 0
+    (record v {
+      values = arguments first (parameters_of (function_in p f)) v.values;
+      work = v.work + (8 + 2 * parameters_of (function_in p f));
+    })
+    (record { function = u; next = q + 1; into = into; values = v.values } ∷ xs)
+enters_as m p u q v xs f first into fn same found room =
+    let state : flat.State = record v { work = v.work + (8 + 2 * parameters_of (function_in p f)) } in
+    let frames : List flat.Frame = record { function = u; next = q + 1; into = into; values = v.values } ∷ xs in
+    let test = and_from (fn.parameters == fn.parameters)
+    ((fn.results == fn.results) && has_room m p frames fn) (eq-eqb fn.parameters fn.parameters refl)
+    (and_from (fn.results == fn.results) (has_room m p frames fn) (eq-eqb fn.results fn.results refl) room) in
+    same
+    ∙ ap (λ o. enters_flat m p f first (parameters_of o) (results_of o) o frames state) found
+    ∙ ap (λ b. if b then flat.Stands f 0 (record state { values = arguments first fn.parameters v.values }) frames else
+    flat.Stuck) test
+    ∙ ap (λ o. flat.Stands f 0 (record state { values = arguments first (parameters_of o) v.values }) frames)
+    (sym found)
 
 -- ---- rooms
 
@@ -214,7 +242,10 @@ module _ (c : Compiled) (IsGood : Bytes → Type 0) (right : IsCompiled c IsGood
     -- what is known where the call stands
     pub record IsAtCall (values : flat.Values) (most : ℕ) (keys : Keys) : Type 0 where
       pub comes : Comes (map_of c) c.layout.program u pc v xs q (record v { turns = v.turns + 1; values = values }) most
-      pub at : instruction_at c.layout.program u q ≡ Some (flat_code.Call f first into)
+      pub at : (w : ℕ) → step (map_of c) c.layout.program
+          (flat.Stands u q (record v { turns = v.turns + 1; values = values; work = w }) xs)
+          ≡ at_instruction (map_of c) c.layout.program (Some (flat_code.Call f first into)) u q
+          (record v { turns = v.turns + 1; values = values; work = w }) xs
       pub arguments_are : (x : ℕ) (t : Scalar) → plain_type (all_variables k) x ≡ Some t → x < length k.parameters
           → IsPlain (world c keys s v) t (get_or vs x (rvalue (integer 0))).value (variable_register k x)
           (arguments first (parameters_end k) values)
@@ -274,7 +305,7 @@ module _ (c : Compiled) (IsGood : Bytes → Type 0) (right : IsCompiled c IsGood
           work = v.work + K.work + (8 + 2 * parameters_end k);
         } in
         let e : step m p (flat.Stands u q called xs) ≡ flat.Stands f 0 in_callee (frame ∷ xs) =
-        enters_step m p u q called xs f first into fn h.at th.function_is room
+        enters_as m p u q called xs f first into fn (h.at (v.work + K.work)) th.function_is room
         ∙ ap (λ z. flat.Stands f 0 (record called {
           values = arguments first z values;
           work = v.work + K.work + (8 + 2 * z);

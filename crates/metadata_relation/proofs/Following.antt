@@ -47,6 +47,7 @@ use Rattle.metadata_relation.proofs.Members.{narrow_step, member_step}
 use Rattle.metadata_relation.proofs.Updating.{update_plain_step}
 use Rattle.metadata_relation.proofs.LibraryCalls.{routine_step}
 use Rattle.metadata_relation.proofs.Calls.{call_step}
+use Rattle.metadata_relation.proofs.CallsThrough.{call_through_step}
 use Rattle.metadata_relation.proofs.Returns.{return_step}
 
 part_is : (offset size : ℕ) → is_part offset size ≡ true
@@ -186,6 +187,9 @@ module _ (c : Compiled) (IsGood : Bytes → Type 0) (right : IsCompiled c IsGood
       routine_step c IsGood right u n temps ws s v xs h words r line d count m at f
   instruction (tac.Call g line d count m) at e f =
       call_step c IsGood right u n temps ws s v xs h g line d count m at f (admitted (tac.Call g line d count m) at)
+  instruction (tac.CallThrough type line d count m) at e f =
+      call_through_step c IsGood right u n temps ws s v xs h type line d count m at f
+      (admitted (tac.CallThrough type line d count m) at)
   instruction (tac.Return a) at e f =
       return_step c IsGood right u n temps ws s v xs h words a at f
       (admitted (tac.Return a) at) (fine (tac.Return a) at)

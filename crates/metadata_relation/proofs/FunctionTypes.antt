@@ -1,6 +1,6 @@
 -- What the key of a pointer to a function tells: its type, by the first function that has it.
-use Rattle.std.proofs.Common.{◌≡◌, ℕ, zero, suc, ◌+◌, ◌*◌, ◌/◌, ◌%◌, ◌^◌, ◌<◌, ◌≤◌, Bool, true, false, List, [], ◌∷◌}
-use Rattle.std.proofs.Common.{length, map, Option, Some, None, refl, sym, ap, ◌∙◌, subst, arith}
+use Rattle.std.proofs.Common.{◌≡◌, ℕ, zero, suc, ◌+◌, ◌/◌, ◌%◌, ◌^◌, ◌<◌, ◌≤◌, Bool, true, false, List, [], ◌∷◌}
+use Rattle.std.proofs.Common.{length, map, Some, None, refl, sym, ap, ◌∙◌, subst, arith}
 use Rattle.std.specs.Prelude.{slice_get, ◌==◌, if◌then◌else◌, nat_le, ◌&&◌}
 use Rattle.std.proofs.lemmas.Bool.{and_parts, and_from, eq-eqb, eqb-true, eqb-false, leb-true, le-leb}
 use Rattle.std.proofs.lemmas.Option.{same_Some}
@@ -154,9 +154,22 @@ module _ (functions : List Header) (g : Views) (k : Keys) (objects : Objects) (t
         f,
         record { tag_is = refl; word_is = eqb-true word (function_address f) q.1; typed = typed },
         ap (λ b. choose b (done f) (stop (BadCall line)) s)
-        (and_from (word == function_address f) (has_type (header_at functions f) type) q.1 typed),
+            (and_from (word == function_address f) (has_type (header_at functions f) type) q.1 typed),
       )
   finds word (OfFunction f) sound false e =
       ap (λ b. choose ((word == function_address f) && b) (done f) (stop (BadCall line)) s) (sym (kinds f sound))
       ∙ not_both (nat_le (2 ^ 63) (2 ^ 63 + g.types f)) ((2 ^ 63 + g.types f) % 2 ^ 12 == kind)
       (word == function_address f) f (le-leb (2 ^ 63) (2 ^ 63 + g.types f) (omega arith)) e
+
+-- where no function has the type there is no callee
+pub none_found : (functions : List Header) (type : ℕ) → ((f : ℕ) → has_type (header_at functions f) type ≡ false)
+    → (word : ℕ) (tag : Tag) (line : ℕ) (s : State) → callee_by functions type word tag line s ≡ Ended (BadCall line) s
+none_found functions type none word Untagged line s = refl
+none_found functions type none word (OfObject o b) line s = refl
+none_found functions type none word (OfFunction f) line s =
+    ap (λ b. choose ((word == function_address f) && b) (done f) (stop (BadCall line)) s) (none f)
+    ∙ by (word == function_address f)
+  where
+    by : (b : Bool) → choose (b && false) (done f) (stop (BadCall line)) s ≡ Ended (BadCall line) s
+    by true = refl
+    by false = refl

@@ -11,6 +11,7 @@ pub mod CallHolds
 pub mod CallStates
 pub mod CalleeTests
 pub mod Calls
+pub mod CallsThrough
 pub mod Checking
 pub mod Comparing
 pub mod Differences
@@ -20,7 +21,9 @@ pub mod Finishing
 pub mod FiveRegisters
 pub mod Following
 pub mod FunctionTypes
+pub mod FunctionsOfType
 pub mod Giving
+pub mod Handing
 pub mod Holding
 pub mod Inline
 pub mod Leaving

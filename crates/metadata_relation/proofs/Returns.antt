@@ -56,7 +56,7 @@ use Rattle.metadata_relation.specs.Waiting.{Level, AllWait}
 use Rattle.metadata_relation.proofs.Acting.{Reached}
 use Rattle.metadata_relation.proofs.Assigning.{assigned, are_assignments, assigns, wider}
 use Rattle.metadata_relation.proofs.CallStates.{left_good}
-use Rattle.metadata_relation.proofs.Calls.{scalar_place, held_at}
+use Rattle.metadata_relation.proofs.Handing.{scalar_place, held_at}
 use Rattle.metadata_relation.proofs.Entering.{entry_there, there}
 use Rattle.metadata_relation.proofs.Holding.{held_on, same_world, gives_temporary}
 use Rattle.metadata_relation.proofs.LeftObjects.{HasLeftObjects, leaves_objects, without}

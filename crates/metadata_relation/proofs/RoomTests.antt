@@ -1,6 +1,6 @@
 -- The tests of the room of a callee that a pointer names: the numbers come out of the key.
-use Rattle.std.proofs.Common.{◌≡◌, ℕ, ◌+◌, ◌-◌, ◌*◌, ◌/◌, ◌%◌, ◌^◌, ◌<◌, ◌≤◌, Bool, true, false, List, []}
-use Rattle.std.proofs.Common.{◌∷◌, length, Some, refl, sym, ap, ap₂, ◌∙◌, arith, mod-eq_of_lt}
+use Rattle.std.proofs.Common.{◌≡◌, ℕ, ◌+◌, ◌-◌, ◌/◌, ◌%◌, ◌^◌, ◌<◌, ◌≤◌, Bool, true, false, List}
+use Rattle.std.proofs.Common.{length, Some, refl, ap, ap₂, ◌∙◌, arith, mod-eq_of_lt}
 use Rattle.std.specs.Prelude.{◌==◌, nat_lt}
 use Rattle.std.proofs.lemmas.Nat.{and_mask}
 use Rattle.addr_map.specs.Places.{MapSizes}

@@ -1,7 +1,7 @@
 -- The type of a function in the key of a pointer to it (C99 6.5.2.2): a call through a pointer finds there which type the
 -- function has, and how much room a call of it takes.
-use Rattle.std.specs.Prelude.{◌≡◌, ℕ, zero, suc, ◌+◌, ◌*◌, ◌/◌, ◌^◌, ◌≤◌, min, ◌==◌, if◌then◌else◌, List, [], ◌∷◌}
-use Rattle.std.specs.Prelude.{length, Option, Some, slice_get}
+use Rattle.std.specs.Prelude.{◌≡◌, ℕ, suc, ◌+◌, ◌*◌, ◌/◌, ◌^◌, ◌≤◌, min, ◌==◌, if◌then◌else◌, List, [], ◌∷◌}
+use Rattle.std.specs.Prelude.{length, Some, slice_get}
 use Rattle.obj_memory.specs.Heap.{rounded_up}
 use Rattle.object_routines.specs.AllocatingRoutines.Entering.{block_bytes}
 use Rattle.source_meaning.specs.Blocks.{has_objects}

@@ -136,6 +136,7 @@ covers c (tac.Narrow offset size d a m) = is_part offset size
 covers c (tac.Member offset size d a m) = is_part offset size
 covers c (tac.Library r line d n m) = true
 covers c (tac.Call f line d n m) = true
+covers c (tac.CallThrough type_number line d n m) = true
 covers c (tac.Return a) = true
 covers c i = false
 
@@ -150,6 +151,12 @@ is_plain_call t None b = true
 is_plain_call t (Some k) b =
     (not (has_objects (objects_of_body k)) && are_scalars k.parameters)
     && (is_no_aggregate (result_of t k) && (has_value (result_of t k) || not b))
+
+-- so is each function of a type
+abbrev pub are_plain_calls : Tac → (type_number : ℕ) → List CodeFunction → (with_entry : Bool) → Bool
+are_plain_calls t type_number [] b = true
+are_plain_calls t type_number (k ∷ ks) b =
+    (not (k.type_number == type_number) || is_plain_call t (Some k) b) && are_plain_calls t type_number ks b
 
 -- so is `main`, which takes nothing (C99 5.1.2.2.1)
 abbrev pub is_plain_main : Tac → Option CodeFunction → Bool
@@ -168,6 +175,9 @@ admits c u n (tac.Update w k f mode line at key d a right m) = not (c.layout.exp
 admits c u n (tac.Member offset size d a m) = not (c.layout.expansion.contents u n a)
 admits c u n (tac.Call f line d count m) =
     is_plain_call c.layout.expansion.code (function_in c.layout.expansion.code f) (c.layout.expansion.entries u m d)
+admits c u n (tac.CallThrough type_number line d count m) =
+    are_plain_calls c.layout.expansion.code type_number c.layout.expansion.code.functions
+    (c.layout.expansion.entries u m d)
 admits c u n (tac.Return a) = gives_scalar c.layout.expansion.code (function_in c.layout.expansion.code u)
 admits c u n i = true
 

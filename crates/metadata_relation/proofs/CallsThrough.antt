@@ -1,0 +1,640 @@
+-- Calls through pointers of functions whose bodies have no objects: the callee is tested, and called as by name.
+use Rattle.std.proofs.Common.{◌≡◌, ⊎_elim, inl, ℕ, ◌+◌, ◌-◌, ◌*◌, ◌^◌, ◌<◌, ◌≤◌, Bool, true, false, List}
+use Rattle.std.proofs.Common.{[], ◌∷◌, ◌++◌, length, length-append, map, Option, Some, None, refl, sym, ap, ◌∙◌, subst, arith}
+use Rattle.std.proofs.Common.{get_or, le-leb, mul-le-mul_right}
+use Rattle.std.specs.Prelude.{slice_get, nat_le, nat_lt, min, ◌==◌, ◌&&◌, ◌/◌, ◌%◌, if◌then◌else◌}
+use Rattle.std.proofs.Math.Nat.{le-min, min-le_left}
+use Rattle.std.proofs.Common.{ap₂, ◌⊎◌, inr, le-ltb}
+use Rattle.std.proofs.lemmas.Bool.{and_from, cases_lt, eq-eqb, eqb-true, lt-leb, lt-ltb}
+use Rattle.std.proofs.lemmas.List.{length-map}
+use Rattle.addr_map.specs.Places.{MapSizes}
+use Rattle.sb_base.specs.declared.ending.Ending.TheVariants.{Abort as AbortAt, BadCall, Stack}
+use Rattle.sb_base.specs.Endings.{code_of, report_of}
+use Rattle.obj_memory.specs.declared.value.Scalar.TheVariants.{Pointer}
+use Rattle.obj_memory.specs.Sound.{IsSoundTag}
+use Rattle.c_tree.specs.declared.expression.Kind.{Kind}
+use Rattle.c_tree.specs.declared.expression.Kind.TheVariants.{Void, Scalar as OfScalar}
+use Rattle.c_tree.specs.declared.program.Variable.{Variable}
+use Rattle.source_meaning.specs.State.{State, Rvalue}
+use Rattle.source_meaning.specs.Calls.{body_objects, caller}
+use Rattle.tac_ir.specs.declared.instruction.Instruction.{Instruction}
+use Rattle.tac_ir.specs.declared.instruction.Instruction.TheVariants as tac
+use Rattle.tac_ir.specs.declared.function.CodeFunction.{CodeFunction}
+use Rattle.tac_ir.specs.declared.function.Tac.{Tac}
+use Rattle.tac_ir.specs.Fitting.{are_passed, taken_by}
+use Rattle.tac_ir.specs.Stage.{Temps, no_temps, gathered, Waiting, Frame, Waits, Stage, Stands, Over, came}
+use Rattle.tac_ir.specs.Costs.{spent, fourfold}
+use Rattle.tac_ir.specs.Meaning.{function_in as code_in, header_of_code, begun, called_at, effect}
+use Rattle.flat_meaning.specs.declared.instruction.FlatInstruction.{FlatInstruction}
+use Rattle.flat_meaning.specs.declared.instruction.FlatInstruction.TheVariants as flat_code
+use Rattle.flat_meaning.specs.declared.function.FlatProgram.{FlatProgram}
+use Rattle.flat_meaning.specs.Memory.{Bytes}
+use Rattle.flat_meaning.specs.State as flat
+use Rattle.flat_meaning.specs.Calls.{function_in, charged}
+use Rattle.flat_meaning.specs.Meaning.{body_of, weight_of}
+use Rattle.flat_routines.specs.Routine.{HasAt}
+use Rattle.flat_routines.proofs.Steps.{has_front, has_back}
+use Rattle.object_routines.specs.AllocatingRoutines.Entering.{block_bytes}
+use Rattle.metadata_plan.specs.Registers.{most_temporaries}
+use Rattle.metadata_plan.specs.Entries.{is_among}
+use Rattle.metadata_plan.specs.Expanded.{Leads}
+use Rattle.metadata_plan.proofs.Flat.{weight_small, Comes, then_comes, at_place, end_step, one}
+use Rattle.metadata_plan.proofs.SetUp.{exhausted}
+use Rattle.metadata_relation.specs.Blocks.{result_of, result_entry, pack}
+use Rattle.metadata_relation.specs.Holding.{IsHeldAt}
+use Rattle.metadata_relation.specs.Registers.{parameters_end}
+use Rattle.metadata_relation.specs.Registers.{temporary_register}
+use Rattle.metadata_relation.specs.Registers.{moved_register, first_free}
+use Rattle.metadata_relation.specs.Stages.{Compiled, map_of, views, world, expansion_of}
+use Rattle.metadata_relation.specs.Stages.{factor, IsAt}
+use Rattle.metadata_relation.specs.Steps.{IsCompiled}
+use Rattle.metadata_relation.proofs.Assigning.{assigned}
+use Rattle.metadata_relation.proofs.Packing.{ways_of}
+use Rattle.metadata_relation.proofs.Packing.{count_passed}
+use Rattle.metadata_relation.proofs.Registers.{temporary_free}
+use Rattle.metadata_relation.proofs.Standing.{IsNode, node, ends, Result}
+use Rattle.metadata_relation.proofs.Entering.{there, IsPlainCall, plain_call, call_stage}
+use Rattle.behaviours.specs.Steps.{run}
+use Rattle.behaviours.proofs.Running.{run_add}
+use Rattle.sb_base.specs.declared.ending.Ending.{Ending}
+use Rattle.addr_map.specs.Places.{functions_begin, function_address}
+use Rattle.obj_memory.specs.declared.object.Storage.{Storage}
+use Rattle.obj_memory.specs.declared.object.Storage.TheVariants.{Static, Automatic, Allocated}
+use Rattle.obj_memory.specs.declared.value.Tag.{Tag}
+use Rattle.obj_memory.specs.declared.value.Tag.TheVariants.{OfFunction}
+use Rattle.obj_memory.specs.Objects.{object_at}
+use Rattle.obj_memory.specs.Heap.{rounded_up}
+use Rattle.flat_meaning.specs.declared.function.FlatFunction.{FlatFunction}
+use Rattle.source_meaning.specs.Expressions.{callee_by, has_type, header_at}
+use Rattle.source_meaning.specs.State.{Ended}
+use Rattle.tac_ir.specs.Fitting.{fit_type}
+use Rattle.tac_ir.specs.Meaning.{called}
+use Rattle.flat_meaning.specs.Calls.{function_at, is_of_program}
+use Rattle.flat_meaning.specs.Meaning.{at_instruction, enters as enters_flat, enters_at, instruction_at, parameters_of}
+use Rattle.flat_meaning.specs.Meaning.{results_of, step}
+use Rattle.flat_routines.specs.Objects.StandsFor.{Spells, spell}
+use Rattle.runtime_functions.specs.Library.{Passed, held_from}
+use Rattle.metadata_plan.specs.Entries.{given}
+use Rattle.metadata_relation.specs.Blocks.{Expansion, callee_tests, room_tests, unknown_object_tests, through_code, through_of}
+use Rattle.metadata_relation.specs.Expanded.{ExpandsAt}
+use Rattle.metadata_relation.specs.FunctionTypes.{first_of_type, object_units, room_told, type_key_of}
+use Rattle.metadata_relation.specs.Registers.{area_words, result_words}
+use Rattle.metadata_relation.specs.Steps.{are_plain_calls}
+use Rattle.metadata_relation.proofs.CalleeTests as callee_run
+use Rattle.metadata_relation.proofs.Handing as handing
+use Rattle.metadata_relation.proofs.Handing.{held_at}
+use Rattle.metadata_relation.proofs.FunctionTypes.{is_callee, FindsBy, finds, none_found, first_typed, none_typed, type_at}
+use Rattle.metadata_relation.proofs.FunctionTypes.{units_told, room_told_by}
+use Rattle.metadata_relation.proofs.FunctionsOfType.{there_at, plain_at, passed_to, take_alike, headers_are, kind_low, inside_list}
+use Rattle.metadata_relation.proofs.FunctionsOfType.{units_low, room_low, key_is, kind_tells, code_count}
+use Rattle.metadata_relation.proofs.RoomTests.{IsRoomTested, room_tested, HasNoUnits, no_units}
+
+-- ---- the address of a function
+
+address_of : (f : ℕ) → (function_address f - functions_begin) / 16 ≡ f
+unfolding function_address
+address_of f = omega arith
+
+-- it names the function
+names_function : (p : FlatProgram) (f : ℕ) → is_of_program (function_in p f) ≡ true
+    → function_at p (function_address f) ≡ Some f
+unfolding function_at
+names_function p f e =
+    ap (λ k. if (function_address k == function_address f) && is_of_program (function_in p k) then Some k else None)
+    (address_of f)
+    ∙ ap (λ b. if b then Some f else None)
+    (and_from (function_address f == function_address f) (is_of_program (function_in p f))
+    (eq-eqb (function_address f) (function_address f) refl) e)
+
+of_program : (e : Expansion) (u : ℕ) (c : CodeFunction) (address : ℕ → ℕ) (q : Option FlatFunction)
+    → ExpandsAt e u c address q → is_of_program q ≡ true
+of_program e u c address None h = absurd h
+of_program e u c address (Some f) h = ap (λ b. if b then false else true) h.of_program
+
+-- a call by an address does what one by name does
+by_name : (m : MapSizes) (p : FlatProgram) (u q : ℕ) (v : flat.State) (xs : List flat.Frame) (f y first count into r : ℕ)
+    → instruction_at p u q ≡ Some (flat_code.CallAddress y first count into r)
+    → function_at p (v.values y) ≡ Some f → count ≡ parameters_of (function_in p f)
+    → r ≡ results_of (function_in p f)
+    → step m p (flat.Stands u q v xs) ≡ at_instruction m p (Some (flat_code.Call f first into)) u q v xs
+by_name m p u q v xs f y first count into r at found counted given =
+    let frames : List flat.Frame = record { function = u; next = q + 1; into = into; values = v.values } ∷ xs in
+    one m p u q v xs (flat_code.CallAddress y first count into r) at
+    ∙ ap (λ o. enters_at m p o first count r frames (record v { work = v.work + (8 + 2 * count) })) found
+    ∙ ap₂ (λ a b. enters_flat m p f first a b (function_in p f) frames (record v { work = v.work + (8 + 2 * a) }))
+    counted given
+
+-- ---- the room of a callee
+
+told_fits : (charge room calls : ℕ) → charge + room ≤ calls
+    → nat_lt (charge + min room (2 ^ 24 + 1)) (calls + 1) ≡ true
+told_fits charge room calls fits =
+    lt-ltb (charge + min room (2 ^ 24 + 1)) (calls + 1) (omega (arith, fits, min-le_left room (2 ^ 24 + 1)))
+
+told_exceeds : (charge room calls : ℕ) → calls ≤ 2 ^ 24 → charge ≤ calls → calls < charge + room
+    → nat_lt (charge + min room (2 ^ 24 + 1)) (calls + 1) ≡ false
+told_exceeds charge room calls low inside more =
+    let least : calls + 1 - charge ≤ min room (2 ^ 24 + 1) = le-min (omega (arith, more)) (omega (arith, low)) in
+    le-ltb (charge + min room (2 ^ 24 + 1)) (calls + 1) (omega (arith, least, inside))
+
+-- a storage that is static, or not
+static_or : (st : Storage) → (st ≡ Static) ⊎ (st ≡ Static → ⊥)
+static_or Static = inl refl
+static_or Automatic = inr (λ e. cc)
+static_or Allocated = inr (λ e. cc)
+
+module _ (c : Compiled) (IsGood : Bytes → Type 0) (right : IsCompiled c IsGood) (u n : ℕ) (temps : Temps)
+    (ws : List Frame) (s : State) (v : flat.State) (xs : List flat.Frame)
+    (h : IsAt c IsGood u n temps ws s u (c.layout.address u n) v xs) where
+  abbrev pc : ℕ
+  pc = c.layout.address u n
+
+  abbrev T : (temporary : ℕ) → ℕ
+  T i = temporary_register h.code i
+
+  abbrev free : ℕ
+  free = first_free h.code
+
+  abbrev map_now : MapSizes
+  map_now = map_of c
+
+  abbrev program : FlatProgram
+  program = c.layout.program
+
+  abbrev code : Tac
+  code = c.layout.expansion.code
+
+  abbrev fs : List CodeFunction
+  fs = c.layout.expansion.code.functions
+
+  abbrev Gives : Stage → Type 0
+  Gives a = Result c IsGood a (flat.Stands u (c.layout.address u n) v xs)
+
+  abbrev body : List FlatInstruction
+  body = body_of (function_in c.layout.program u)
+
+  abbrev ComesTo : (place : ℕ) → (after : flat.State) → (most : ℕ) → Type 0
+  ComesTo = Comes (map_of c) c.layout.program u (c.layout.address u n) v xs
+
+  -- objects have keys below those of functions
+  keys_low : (o : ℕ) → o < length s.objects → (h.keys.held o).key < 2 ^ 63
+  keys_low o low =
+      let keyed = h.stands.for.objects.keyed.each o low in
+      let made = h.stands.for.keys in
+      let few = h.steady.keys in
+      let budget = right.mapped.budgets.keys in
+      ⊎_elim (λ e. (let key = (keyed.static e).0 in omega (arith, key)))
+      (λ e. (let q = keyed.other e in
+      let key = q.0 in
+      let own = q.1 in
+      omega (arith, key, own, made, few, budget))) (static_or (object_at s.objects o).storage)
+
+  -- the run ends where a test has failed
+  ends_at : (e : Ending) (s' : State) (q most turns : ℕ) (values : flat.Values)
+      → ComesTo q (record v { turns = turns; values = values }) most
+      → instruction_at c.layout.program u q ≡ Some (flat_code.End e)
+      → (s'.input ≡ s.input) × (s'.output ≡ s.output) × (s'.taken ≡ s.taken) × (s'.accesses ≡ s.accesses)
+      → s'.turns ≤ turns → most + 2 + factor * s.work ≤ factor * s'.work → Gives (Over e s')
+  ends_at e s' q most turns values k at same turned cost =
+      let after : flat.State = record v { turns = turns; values = values; work = v.work + k.work } in
+      let l = length (report_of e) in
+      let w = weight_of (function_in c.layout.program u) in
+      let scaled = mul-le-mul_right (1 + l) (weight_small (function_in c.layout.program u)) in
+      let shown = h.stands.for.shown in
+      let few = k.few in
+      let before = h.work in
+      ends c IsGood (flat.Stands u (c.layout.address u n) v xs) e s' (record after { work = v.work + k.work + w * (1 + l) })
+      (k.steps + 1) (code_of e) (report_of e)
+      (run_add (step (map_of c) c.layout.program) k.steps 1 (flat.Stands u pc v xs)
+      ∙ ap (run (step (map_of c) c.layout.program) 1) k.comes ∙ end_step (map_of c) c.layout.program u q after xs e at)
+      refl refl
+      (record {
+        input = shown.input ∙ sym same.0;
+        output = shown.output ∙ sym same.1;
+        taken = shown.taken ∙ sym same.2;
+        accesses = shown.accesses ∙ sym same.3;
+      })
+      turned (omega (arith, before, few, scaled, cost))
+
+  module _ (type line d count next : ℕ)
+      (at : slice_get h.code.code n ≡ Some (tac.CallThrough type line d count next)) where
+    abbrev i : Instruction
+    i = tac.CallThrough type line d count next
+
+    label : IsNode c u n h.code (tac.CallThrough type line d count next)
+    label = node c IsGood right u n temps ws s v xs h (tac.CallThrough type line d count next) at
+
+    lows : (d < most_temporaries h.code.code) × (d + 1 + count ≤ most_temporaries h.code.code)
+    lows = let a = label.temporaries_low in (omega (arith, a), omega (arith, a))
+
+    abbrev with_entry : Bool
+    with_entry = c.layout.expansion.entries u next d
+
+    abbrev waits : Waiting
+    waits = record { function = u; node = next; place = d; caller = caller s; temps = temps }
+
+    abbrev kind : ℕ
+    kind = first_of_type c.layout.expansion.code.functions type
+
+    abbrev packed_at : ℕ
+    packed_at = moved_register h.code (5 * (d + 1))
+
+    abbrev vs : List Rvalue
+    vs = gathered temps (d + 1) count
+
+    -- ---- the pointer
+
+    no_contents : (temps d).contents ≡ None
+    no_contents = (h.holds.temporaries d lows.0 refl).none
+        (label.kept.words n d i at (eq-eqb d d refl))
+
+    pointer : IsHeldAt (world c h.keys s v) (c.layout.expansion.entries u n d) (temps d).value (temporary_register h.code d)
+        v.values
+    pointer = held_at c IsGood right u n temps ws s v xs h d lows.0 no_contents
+
+    among : is_among d (count + 1) d ≡ true
+    among = and_from (nat_le d d) (nat_lt d (d + (count + 1))) (le-leb d d (omega arith))
+        (lt-ltb d (d + (count + 1)) (omega arith))
+
+    entry : Spells (views c) h.keys (temps d).value (held_from (temporary_register h.code d)) v.values
+    entry = pointer.entry (label.closed.read n d i at among)
+
+    abbrev tag : Tag
+    tag = (temps d).value.tag
+
+    key_here : v.values (temporary_register h.code d + 3) ≡ (spell (views c) h.keys (temps d).value.tag).key
+    key_here = ap (λ m. m.key) entry.tag
+
+    base_here : v.values (temporary_register h.code d + 1) ≡ (spell (views c) h.keys (temps d).value.tag).base
+    base_here = ap (λ m. m.base) entry.tag
+
+    abbrev passes : Bool
+    passes = is_callee (v.values (temporary_register h.code d + 3)) (v.values (temporary_register h.code d + 1))
+        (v.values (temporary_register h.code d)) (first_of_type c.layout.expansion.code.functions type)
+
+    passes_same : is_callee (spell (views c) h.keys (temps d).value.tag).key
+        (spell (views c) h.keys (temps d).value.tag).base (temps d).value.word
+        (first_of_type c.layout.expansion.code.functions type) ≡ passes
+    passes_same =
+        ap (λ z. is_callee z (spell (views c) h.keys tag).base (temps d).value.word kind) (sym key_here)
+        ∙ ap (λ z. is_callee (v.values (T d + 3)) z (temps d).value.word kind) (sym base_here)
+        ∙ ap (λ z. is_callee (v.values (T d + 3)) (v.values (T d + 1)) z kind) (sym entry.word)
+
+    abbrev Effect : Type 0
+    Effect = Gives (effect c.setting (expansion_of c).code (tac.CallThrough type line d count next) u temps ws
+        (spent 8 s))
+
+    -- of no function
+    no_callee : callee_by c.setting.functions type (temps d).value.word (temps d).value.tag line (spent 8 s)
+        ≡ Ended (BadCall line) (spent 8 s) → (q most : ℕ) (values : flat.Values)
+        → ComesTo q (record v { values = values }) most → most ≤ 160
+        → instruction_at c.layout.program u q ≡ Some (flat_code.End (BadCall line)) → Effect
+    no_callee none q most values k few at =
+        subst (λ z. Gives (came z (λ f s'. called c.setting (expansion_of c).code f vs line (Waits waits ∷ ws) s')))
+        (sym none)
+        (ends_at (BadCall line) (spent 8 s) q most v.turns values k at (refl, refl, refl, refl) h.stands.turns
+        (omega (arith, few)))
+
+    -- no function has the type
+    missing : slice_get c.layout.expansion.code.functions kind ≡ None → Effect
+    missing none =
+        let has = subst (λ o. HasAt body pc (through_of map_now code h.code o kind line d count with_entry)) none
+        label.put.has in
+        let untyped : (f : ℕ) → has_type (header_at c.setting.functions f) type ≡ false =
+        λ f. ap (λ z. has_type (header_at z f) type) (headers_are c IsGood right) ∙ none_typed fs type none f in
+        no_callee (none_found c.setting.functions type untyped (temps d).value.word tag line (spent 8 s)) pc 0 v.values
+        (record {
+          steps = 0;
+          work = 0;
+          few = omega arith;
+          comes = (let same : v.work ≡ v.work + 0 = omega arith in
+              ap (λ w. flat.Stands u pc (record v { work = w }) xs) same);
+        }) (omega arith) has.0
+
+    module _ (like : CodeFunction) (first : slice_get c.layout.expansion.code.functions kind ≡ Some like)
+        (fit : fit_type c.setting.functions type (gathered temps (d + 1) count) ≡ true)
+        (plains : are_plain_calls c.layout.expansion.code type c.layout.expansion.code.functions
+        (c.layout.expansion.entries u next d) ≡ true) where
+      typed_like : like.type_number ≡ type
+      typed_like = first_typed fs type like first
+
+      fits_code : fit_type (map header_of_code c.layout.expansion.code.functions) type (gathered temps (d + 1) count)
+          ≡ true
+      fits_code = subst (λ z. fit_type z type vs ≡ true) (headers_are c IsGood right) fit
+
+      count_like : count ≡ length like.parameters
+      count_like =
+          count_passed (taken_by (header_of_code like)) temps (d + 1) count
+          (passed_to type vs fs kind like fits_code first typed_like)
+          ∙ length-map like.parameters _
+
+      kind_small : first_of_type c.layout.expansion.code.functions type < 2 ^ 12
+      kind_small = subst (λ t. first_of_type c.layout.expansion.code.functions t < 2 ^ 12) typed_like
+          (kind_low c IsGood right kind like first (inside_list fs kind like first))
+
+      apart : temporary_register h.code d + 5 ≤ first_free h.code
+      apart = temporary_free h.code d lows.0
+
+      abbrev Stood : List FlatInstruction → Type 0
+      Stood list = HasAt body (c.layout.address u n) list
+          × Leads body (c.layout.address u n + length list) (c.layout.address u next)
+
+      abbrev callee_list : List FlatInstruction
+      callee_list = callee_tests kind line (temporary_register h.code d) (first_free h.code)
+
+      abbrev room_list : List FlatInstruction
+      room_list = room_tests (map_of c) (temporary_register h.code d + 3) line (first_free h.code)
+
+      abbrev object_list : List FlatInstruction
+      object_list = unknown_object_tests (map_of c) (temporary_register h.code d + 3) line (first_free h.code)
+
+      abbrev call_with : (words : ℕ) → Kind → FlatInstruction
+      call_with words gives =
+          flat_code.CallAddress (temporary_register h.code d) (moved_register h.code (5 * (d + 1)))
+          (words + area_words gives) (temporary_register h.code d) (result_words gives)
+
+      abbrev calls_with : (words : ℕ) → Kind → List FlatInstruction
+      calls_with words gives =
+          call_with words gives ∷ result_entry gives with_entry (temporary_register h.code d)
+
+      abbrev code_with : List Passed → (words : ℕ) → Kind → List FlatInstruction
+      code_with ways words gives = callee_list ++ (room_list ++ (object_list
+          ++ (pack h.code ways (moved_register h.code (5 * (d + 1))) (d + 1) ++ calls_with words gives)))
+
+      stood_like : Stood (code_with (ways_of like.parameters) (parameters_end like) (result_of code like))
+      stood_like =
+          subst (λ b. Stood (if b then through_code map_now code h.code like kind line d with_entry
+          else flat_code.End (AbortAt line) ∷ [])) (eq-eqb (length like.parameters) count (sym count_like))
+          (subst (λ o. Stood (through_of map_now code h.code o kind line d count with_entry)) first
+          (label.put.has, label.put.leads))
+
+      has_callee : HasAt body pc callee_list
+      has_callee = has_front body pc callee_list (room_list ++ (object_list
+          ++ (pack h.code (ways_of like.parameters) (moved_register h.code (5 * (d + 1))) (d + 1)
+          ++ calls_with (parameters_end like) (result_of code like)))) stood_like.0
+
+      abbrev Tested : Bool → Type 0
+      Tested = callee_run.IsTested (map_of c) c.layout.program u (c.layout.address u n) v xs kind line
+          (temporary_register h.code d) (first_free h.code) apart kind_small has_callee
+
+      tested_callee : Tested passes
+      tested_callee = callee_run.tested (map_of c) c.layout.program u (c.layout.address u n) v xs kind line (T d) free apart
+          kind_small has_callee
+
+      -- none is found
+      refused : callee_by c.setting.functions type (temps d).value.word (temps d).value.tag line (spent 8 s)
+          ≡ Ended (BadCall line) (spent 8 s) → passes ≡ false → Effect
+      refused none e =
+          let A = subst Tested e tested_callee in
+          no_callee none A.place 10 A.values A.comes (omega arith) (A.ends refl)
+
+      -- ---- one is found
+
+      module _ (f : ℕ) (k : CodeFunction) (found : code_in c.layout.expansion.code f ≡ Some k)
+          (typed : k.type_number ≡ type) (tag_is : (temps d).value.tag ≡ OfFunction f)
+          (word_is : (temps d).value.word ≡ function_address f) (passed_all : passes ≡ true) where
+        plain : IsPlainCall c IsGood right k (c.layout.expansion.entries u next d)
+        plain = plain_call c IsGood right k (c.layout.expansion.entries u next d)
+            (plain_at code type with_entry fs f k plains found typed)
+
+        plain_enough : IsPlainCall c IsGood right k false
+        plain_enough =
+            record { none = plain.none; scalars = plain.scalars; result = plain.result; valued = λ e. refl }
+
+        passed : are_passed (taken_by (header_of_code k)) (gathered temps (d + 1) count) ≡ true
+        passed = passed_to type vs fs f k fits_code found typed
+
+        count_is : count ≡ length k.parameters
+        count_is =
+            count_passed (taken_by (header_of_code k)) temps (d + 1) count passed ∙ length-map k.parameters _
+
+        same_type : like.type_number ≡ k.type_number
+        same_type = typed_like ∙ sym typed
+
+        abbrev moves : List FlatInstruction
+        moves = pack h.code (ways_of k.parameters) (moved_register h.code (5 * (d + 1))) (d + 1)
+
+        abbrev behind : List FlatInstruction
+        behind = result_entry (result_of c.layout.expansion.code k) (c.layout.expansion.entries u next d)
+            (temporary_register h.code d)
+
+        abbrev calls : List FlatInstruction
+        calls = calls_with (parameters_end k) (result_of c.layout.expansion.code k)
+
+        stood : Stood (code_with (ways_of k.parameters) (parameters_end k) (result_of c.layout.expansion.code k))
+        stood =
+            let alike = take_alike c IsGood right kind f like k first found same_type in
+            subst (λ g. Stood (code_with (ways_of k.parameters) (parameters_end k) g))
+            (ap (λ t. get_or code.results t Void) same_type)
+            (subst (λ w. Stood (code_with (ways_of k.parameters) w (result_of code like))) alike.words
+            (subst (λ w. Stood (code_with w (parameters_end like) (result_of code like))) alike.ways stood_like))
+
+        abbrev at_objects : ℕ
+        at_objects = c.layout.address u n + 8 + 7
+
+        abbrev at_moves : ℕ
+        at_moves = c.layout.address u n + 8 + 7 + length object_list
+
+        abbrev q : ℕ
+        q = c.layout.address u n + 8 + 7 + length object_list + length moves
+
+        has_behind : HasAt body (c.layout.address u n + 8) (room_list ++ (object_list ++ (moves ++ calls)))
+        has_behind = has_back body pc callee_list (room_list ++ (object_list ++ (moves ++ calls))) stood.0
+
+        has_room : HasAt body (c.layout.address u n + 8) room_list
+        has_room = has_front body (c.layout.address u n + 8) room_list (object_list ++ (moves ++ calls)) has_behind
+
+        has_more : HasAt body at_objects (object_list ++ (moves ++ calls))
+        has_more = has_back body (c.layout.address u n + 8) room_list (object_list ++ (moves ++ calls)) has_behind
+
+        has_rest : HasAt body at_moves (moves ++ calls)
+        has_rest = has_back body at_objects object_list (moves ++ calls) has_more
+
+        has_call : HasAt body q calls
+        has_call = has_back body at_moves moves calls has_rest
+
+        leads_behind : Leads body (q + 1 + length behind) (c.layout.address u next)
+        leads_behind = subst (λ z. Leads body z (c.layout.address u next))
+            (omega (arith, length-append object_list (moves ++ calls), length-append moves calls)) stood.1
+
+        low_calls : (map_of c).budgets.calls < 2 ^ 63
+        low_calls = let z = right.mapped.budgets.calls.greatest in omega (arith, z)
+
+        fits_charge : charged c.layout.program u xs ≤ (map_of c).budgets.calls
+        fits_charge = let a = h.charge in let b = h.fits in omega (arith, a, b)
+
+        key_value : v.values (temporary_register h.code d + 3)
+            ≡ 2 ^ 63 + type_key_of (first_of_type c.layout.expansion.code.functions k.type_number) (object_units k)
+            (room_told k)
+        key_value = key_here ∙ ap (λ t. (spell (views c) h.keys t).key) tag_is
+            ∙ ap (λ z. 2 ^ 63 + z) (key_is c IsGood right f k found)
+
+        kind_fits : first_of_type c.layout.expansion.code.functions k.type_number < 2 ^ 12
+        kind_fits = kind_low c IsGood right f k found (inside_list fs f k found)
+
+        A : Tested true
+        A = subst Tested passed_all tested_callee
+
+        to_room : ComesTo (c.layout.address u n + 8) (record v { values = A.values }) 10
+        to_room = at_place (map_of c) c.layout.program u (c.layout.address u n) v xs A.place (c.layout.address u n + 8)
+            (record v { values = A.values }) 10 A.comes (A.behind refl)
+
+        abbrev v1 : flat.State
+        v1 = record v { values = A.values; work = v.work + to_room.work }
+
+        key_stays : A.values (temporary_register h.code d + 3) ≡ v.values (temporary_register h.code d + 3)
+        key_stays = A.others (T d + 3) (omega (arith, apart))
+
+        told : A.values (temporary_register h.code d + 3) / 2 ^ 31 % 2 ^ 25 ≡ min k.room (2 ^ 24 + 1)
+        told = ap (λ z. z / 2 ^ 31 % 2 ^ 25) (key_stays ∙ key_value)
+            ∙ room_told_by (first_of_type fs k.type_number) (object_units k) (room_told k) kind_fits
+            (units_low c IsGood right k) (room_low c IsGood right k)
+
+        abbrev RoomTested : Bool → Type 0
+        RoomTested = IsRoomTested (map_of c) c.layout.program u (c.layout.address u n + 8) v1 xs
+            (temporary_register h.code d) line (first_free h.code) apart has_room low_calls fits_charge
+
+        room_by : (b : Bool) → nat_lt (charged c.layout.program u xs + min k.room (2 ^ 24 + 1))
+            ((map_of c).budgets.calls + 1) ≡ b → RoomTested b
+        room_by b e =
+            room_tested map_now program u (pc + 8) v1 xs (T d) line free apart has_room low_calls fits_charge b
+            (ap (λ z. nat_lt (charged c.layout.program u xs + z) ((map_of c).budgets.calls + 1)) told ∙ e)
+
+        to_place : (b : Bool) → (B : RoomTested b)
+            → ComesTo B.place (record v { turns = v.turns + 1; values = B.values }) 22
+        to_place b B =
+            let j = B.comes in
+            then_comes map_now program u pc v xs (pc + 8) B.place (record v { values = A.values })
+            (record v { turns = v.turns + 1; values = B.values }) 10 12 to_room
+            (record { steps = j.steps; work = j.work; few = j.few; comes = j.comes })
+
+        -- no bytes are left for it
+        exhausts : (map_of c).budgets.calls < s.charged + k.room
+            → Gives (called_at c.setting (Some k) f vs line (Waits waits ∷ ws) (spent 8 s))
+        exhausts more =
+            let budget = ap (λ (z : MapSizes). z.budgets.calls) right.sizes in
+            let charge = h.charge in
+            let fits = h.fits in
+            let none = exhausted c.setting (header_of_code k) vs line (begun (spent 8 s))
+            (lt-leb (s.charged + k.room) c.setting.sizes.budgets.calls (omega (arith, more, budget))) in
+            let B = room_by false (told_exceeds (charged program u xs) k.room map_now.budgets.calls
+            (let z = right.mapped.budgets.calls.greatest in omega (arith, z)) fits_charge (omega (arith, more, charge))) in
+            let stopped : State = (let z : State = record (begun (spent 8 s)) { work = s.work + 8 + 1 } in
+            spent (3 * (z.work - (s.work + 8))) z) in
+            let turned = h.stands.turns in
+            let result : Gives (Over (Stack line) stopped) =
+            ends_at (Stack line) stopped B.place 22 (v.turns + 1) B.values (to_place false B) (B.ends refl)
+            (refl, refl, refl, refl) (omega (arith, turned)) (omega arith) in
+            subst (λ z. Gives (came (fourfold (s.work + 8) z) (λ _ y. Stands f k.entry no_temps (Waits waits ∷ ws) y)))
+            (sym none) result
+
+        -- ---- the function is entered
+
+        module _ (fits : s.charged + k.room ≤ (map_of c).budgets.calls) where
+          B : RoomTested true
+          B = room_by true (told_fits (charged program u xs) k.room map_now.budgets.calls
+              (let charge = h.charge in omega (arith, fits, charge)))
+
+          to_objects : ComesTo at_objects (record v { turns = v.turns + 1; values = B.values }) 22
+          to_objects = at_place map_now program u pc v xs B.place at_objects
+              (record v { turns = v.turns + 1; values = B.values }) 22 (to_place true B) (B.behind refl)
+
+          no_objects : object_units k ≡ 0
+          no_objects = ap (λ b. if b then min (rounded_up 16 (block_bytes (body_objects (header_of_code k))) / 16)
+              (2 ^ 18 + 1) else 0) plain.none
+
+          abbrev v2 : flat.State
+          v2 = record v { turns = v.turns + 1; values = B.values; work = v.work + to_objects.work }
+
+          C : HasNoUnits (map_of c) c.layout.program u at_objects v2 xs (temporary_register h.code d) line
+              (first_free h.code) apart
+          C = no_units map_now program u at_objects v2 xs (T d) line free apart
+              (has_front body at_objects object_list (moves ++ calls) has_more)
+              (ap (λ z. z / 2 ^ 12 % 2 ^ 19) (B.others (T d + 3) (omega (arith, apart)) ∙ key_stays ∙ key_value)
+              ∙ units_told (first_of_type fs k.type_number) (object_units k) (room_told k) kind_fits
+              (units_low c IsGood right k) (room_low c IsGood right k) ∙ no_objects)
+
+          to_moves : ComesTo at_moves (record v { turns = v.turns + 1; values = C.values }) 28
+          to_moves =
+              let j = C.comes in
+              then_comes map_now program u pc v xs at_objects at_moves (record v { turns = v.turns + 1; values = B.values })
+              (record v { turns = v.turns + 1; values = C.values }) 22 6 to_objects
+              (record { steps = j.steps; work = j.work; few = j.few; comes = j.comes })
+
+          between_stays : (y : ℕ) → y < first_free h.code → C.values y ≡ v.values y
+          between_stays y lt = C.others y lt ∙ B.others y lt ∙ A.others y lt
+
+          reads : (x : ℕ) → x < count → get_or (map (λ (z : Variable). z.kind) k.parameters) x Void ≡ OfScalar Pointer
+              → c.layout.expansion.entries u n (d + 1 + x) ≡ true
+          reads x low kind =
+              label.closed.read n (d + 1 + x) i at
+              (and_from (nat_le d (d + 1 + x)) (nat_lt (d + 1 + x) (d + (count + 1)))
+              (le-leb d (d + 1 + x) (omega arith)) (lt-ltb (d + 1 + x) (d + (count + 1)) (omega (arith, low))))
+
+          abbrev packed : flat.Values
+          packed = assigned moves C.values
+
+          -- the address is still there
+          address_there : packed (temporary_register h.code d) ≡ function_address f
+          address_there =
+              handing.stay c IsGood right u n temps ws s v xs h i label d (d + 1) count next 8 refl (inl refl) lows.0
+              lows.1 (omega arith) f line k found passed plain reads (call_with (parameters_end k) (result_of code k))
+              at_moves 28 C.values has_rest leads_behind to_moves (omega arith) between_stays fits (T d)
+              (omega (arith, apart, lows.0))
+              ∙ entry.word ∙ word_is
+
+          enters_it : Gives (call_stage c IsGood right u pc q v xs f k found plain_enough line packed_at (T d) vs
+              (Waits waits ∷ ws) (spent 8 s))
+          enters_it =
+              let callee = there c IsGood right f k found in
+              handing.enters_it c IsGood right u n temps ws s v xs h i label d (d + 1) count next 8 refl (inl refl) lows.0
+              lows.1 (omega arith) f line k found passed plain reads (call_with (parameters_end k) (result_of code k))
+              at_moves 28 C.values has_rest leads_behind to_moves (omega arith) between_stays fits
+              (λ w. by_name map_now program u q (record v { turns = v.turns + 1; values = packed; work = w }) xs f (T d)
+              packed_at (parameters_end k + area_words (result_of code k)) (T d) (result_words (result_of code k))
+              has_call.0
+              (ap (function_at program) address_there
+              ∙ names_function program f (of_program c.layout.expansion f k (c.layout.address f)
+              (function_in program f) (right.expanded.functions f k found)))
+              (sym callee.parameters) (sym callee.results))
+
+        called_one : Gives (called_at c.setting (Some k) f vs line (Waits waits ∷ ws) (spent 8 s))
+        called_one = ⊎_elim (λ more. exhausts more) (λ fits. enters_it fits)
+            (cases_lt (map_of c).budgets.calls (s.charged + k.room))
+
+      -- the callee is as the tests say
+      by_tests : (b : Bool) → passes ≡ b
+          → FindsBy c.setting.functions type (temps d).value.word (temps d).value.tag line (spent 8 s) b → Effect
+      by_tests false e none = refused none e
+      by_tests true e (f, is, gives) =
+          let sound = subst (IsSoundTag (views c).functions s.objects) is.tag_is pointer.sound in
+          let inside = subst (λ z. f < z) (code_count fs)
+          (subst (λ z. f < length z) (headers_are c IsGood right) sound) in
+          let there_is = there_at fs f inside in
+          let k = there_is.0 in
+          let found = there_is.1 in
+          let typed = eqb-true k.type_number type (sym (type_at fs f type k found)
+          ∙ ap (λ z. has_type (header_at z f) type) (sym (headers_are c IsGood right)) ∙ is.typed) in
+          subst (λ z. Gives (came z (λ g s'. called c.setting (expansion_of c).code g vs line (Waits waits ∷ ws) s')))
+          (sym gives)
+          (subst (λ o. Gives (called_at c.setting o f vs line (Waits waits ∷ ws) (spent 8 s))) (sym found)
+          (called_one f k found typed is.tag_is is.word_is e))
+
+      goes : Effect
+      goes = by_tests passes refl
+          (finds c.setting.functions (views c) h.keys s.objects type kind keys_low
+          (kind_tells c IsGood right type like first) line (spent 8 s) (temps d).value.word tag pointer.sound passes
+          passes_same)
+
+    pub call_through_step : fit_type c.setting.functions type (gathered temps (d + 1) count) ≡ true
+        → are_plain_calls c.layout.expansion.code type c.layout.expansion.code.functions
+        (c.layout.expansion.entries u next d) ≡ true
+        → Gives (effect c.setting (expansion_of c).code (tac.CallThrough type line d count next) u temps ws (spent 8 s))
+    call_through_step fit plains = by (slice_get c.layout.expansion.code.functions kind) refl
+      where
+        by : (o : Option CodeFunction)
+            → slice_get c.layout.expansion.code.functions (first_of_type c.layout.expansion.code.functions type) ≡ o
+            → Gives (effect c.setting (expansion_of c).code (tac.CallThrough type line d count next) u temps ws
+            (spent 8 s))
+        by None none = missing none
+        by (Some like) first = goes like first fit plains

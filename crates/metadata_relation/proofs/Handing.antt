@@ -1,0 +1,411 @@
+-- A function whose body has no objects is called: its arguments are packed, the caller waits, and it is entered.
+use Rattle.std.proofs.Common.{◌≡◌, ℕ, zero, suc, ◌+◌, ◌*◌, ◌^◌, ◌<◌, ◌≤◌, true, false, List}
+use Rattle.std.proofs.Common.{[], ◌∷◌, ◌++◌, length, map, Some, None, refl, sym, ap, ◌∙◌, subst, arith}
+use Rattle.std.proofs.Common.{get_or, le-leb}
+use Rattle.std.proofs.lemmas.Bool.{and_parts, ltb-true, false≢true}
+use Rattle.std.proofs.lemmas.List.{length-map}
+use Rattle.addr_map.specs.declared.region.Region.TheVariants.{Stack as StackRegion}
+use Rattle.addr_map.specs.Places.{MapSizes, region_end}
+use Rattle.obj_memory.specs.declared.value.Scalar.{Scalar}
+use Rattle.obj_memory.specs.declared.value.Scalar.TheVariants.{Integer, Pointer}
+use Rattle.obj_memory.specs.Sound.{IsSoundTag}
+use Rattle.c_tree.specs.declared.expression.Kind.{Kind}
+use Rattle.c_tree.specs.declared.expression.Kind.TheVariants.{Void, Scalar as OfScalar, Structure, Array}
+use Rattle.c_tree.specs.declared.program.Variable.{Variable}
+use Rattle.source_meaning.specs.State.{State, Rvalue, Gives as GivesRun}
+use Rattle.source_meaning.specs.Actions.{integer}
+use Rattle.source_meaning.specs.Calls.{header_of, body_objects, set_up, caller}
+use Rattle.source_meaning.specs.Good.{IsGood as IsGoodState, file_scope, plain_type, ArgumentIs, ArgumentsAre, TakenOf, IsOfKind, IsSetUp}
+use Rattle.source_meaning.specs.Places.{stack_first, stack_end}
+use Rattle.source_meaning.specs.Structures.{rvalue}
+use Rattle.source_meaning.proofs.Holding.{live_made}
+use Rattle.tac_ir.specs.declared.instruction.Instruction.{Instruction}
+use Rattle.tac_ir.specs.declared.function.CodeFunction.{CodeFunction}
+use Rattle.tac_ir.specs.declared.function.Tac.{Tac}
+use Rattle.tac_ir.specs.Accesses.{is_place}
+use Rattle.tac_ir.specs.Fitting.{is_word, is_of_type, is_passed, are_passed, taken_by}
+use Rattle.tac_ir.specs.Stage.{Temps, gathered, Waiting, Frame, Waits, Stage}
+use Rattle.tac_ir.specs.Costs.{spent}
+use Rattle.tac_ir.specs.Meaning.{function_in as code_in, header_of_code, begun}
+use Rattle.flat_meaning.specs.declared.instruction.FlatInstruction.{FlatInstruction}
+use Rattle.flat_meaning.specs.declared.instruction.FlatInstruction.TheVariants as flat_code
+use Rattle.flat_meaning.specs.declared.function.FlatProgram.{FlatProgram}
+use Rattle.flat_meaning.specs.Memory.{Bytes}
+use Rattle.flat_meaning.specs.State as flat
+use Rattle.flat_meaning.specs.Calls.{function_in, arguments}
+use Rattle.flat_meaning.specs.Meaning.{body_of}
+use Rattle.flat_routines.specs.Routine.{HasAt}
+use Rattle.flat_routines.proofs.Steps.{has_front, has_back}
+use Rattle.metadata_plan.specs.Registers.{all_variables, most_temporaries}
+use Rattle.metadata_plan.specs.Expanded.{Leads}
+use Rattle.metadata_plan.proofs.Calling.{gathered_at}
+use Rattle.metadata_plan.proofs.Calling.{argument_in}
+use Rattle.metadata_plan.proofs.Flat.{Comes}
+use Rattle.metadata_plan.specs.Entries.{given}
+use Rattle.tac_ir.specs.Edges.{LeadsTo}
+use Rattle.flat_meaning.specs.Meaning.{at_instruction, step}
+use Rattle.metadata_plan.proofs.SetUp.{laid_out, set_up_gives, homes_of}
+use Rattle.metadata_relation.specs.Blocks.{objects_of_body, result_of, result_entry, pack}
+use Rattle.metadata_relation.specs.Holding.{IsHeldAt, IsPlain, is_pointer_type}
+use Rattle.metadata_relation.specs.Registers.{passed_as, parameters_end}
+use Rattle.metadata_relation.specs.Registers.{variable_register, temporary_register}
+use Rattle.metadata_relation.specs.Registers.{moved_register, first_free}
+use Rattle.metadata_relation.specs.Scopes.{context_at, AreGood}
+use Rattle.metadata_relation.specs.Stages.{Compiled, map_of, views, names, world, activation, level}
+use Rattle.metadata_relation.specs.Stages.{IsAt}
+use Rattle.metadata_relation.specs.Steps.{IsCompiled, is_no_aggregate, are_scalars}
+use Rattle.metadata_relation.specs.Waiting.{BodyBy, IsWaitingAs, AllWait}
+use Rattle.metadata_relation.proofs.Assigning.{assigned}
+use Rattle.metadata_relation.proofs.CallHolds.{waiting_holds, none_has, no_homes, none_between}
+use Rattle.metadata_relation.proofs.CallStates.{entered_good}
+use Rattle.metadata_relation.proofs.Library.{assigned_behind}
+use Rattle.metadata_relation.proofs.Moving.{held_of}
+use Rattle.metadata_relation.proofs.Packing.{ways_of, words_within, ArePacked, are_packed, pack_assigns}
+use Rattle.metadata_relation.proofs.Packing.{count_passed, passed_at, plain_parameter, held_moved}
+use Rattle.metadata_relation.proofs.Registers.{few_in}
+use Rattle.metadata_relation.proofs.Setting.{place_is, no_tag_is, type_is}
+use Rattle.metadata_relation.proofs.Standing.{leaves_same, good_now, IsNode, fewer, Result}
+use Rattle.metadata_relation.proofs.Waiting.{waits_at, waits_same}
+use Rattle.metadata_relation.proofs.Entering.{IsPlainCall, call_stage, callee_state, enters, few_parameters}
+
+-- ---- what is handed over
+
+-- a scalar has no contents
+pub scalar_place : (kind : Kind) (v : Rvalue) → is_no_aggregate kind ≡ true → is_passed kind v ≡ true → v.contents ≡ None
+scalar_place Void v e f = place_is v.contents (and_parts (is_place v.contents) (is_word v.value.word) f).0
+scalar_place (OfScalar k) v e f = place_is v.contents (and_parts (is_place v.contents) (is_of_type k v.value) f).0
+scalar_place (Structure size) v e f = cc
+scalar_place (Array size) v e f = cc
+
+module _ (c : Compiled) (IsGood : Bytes → Type 0) (right : IsCompiled c IsGood) (u n : ℕ) (temps : Temps)
+    (ws : List Frame) (s : State) (v : flat.State) (xs : List flat.Frame)
+    (h : IsAt c IsGood u n temps ws s u (c.layout.address u n) v xs) where
+  abbrev pc : ℕ
+  pc = c.layout.address u n
+
+  abbrev T : (temporary : ℕ) → ℕ
+  T i = temporary_register h.code i
+
+  abbrev free : ℕ
+  free = first_free h.code
+
+  abbrev map_now : MapSizes
+  map_now = map_of c
+
+  abbrev program : FlatProgram
+  program = c.layout.program
+
+  abbrev code : Tac
+  code = c.layout.expansion.code
+
+  abbrev Gives : Stage → Type 0
+  Gives a = Result c IsGood a (flat.Stands u (c.layout.address u n) v xs)
+
+  abbrev body : List FlatInstruction
+  body = body_of (function_in c.layout.program u)
+
+  -- a value without contents is held
+  pub held_at : (i : ℕ) → i < most_temporaries h.code.code → (temps i).contents ≡ None
+      → IsHeldAt (world c h.keys s v) (c.layout.expansion.entries u n i) (temps i).value (temporary_register h.code i)
+      v.values
+  held_at i low none =
+      let t = h.holds.temporaries i low refl in
+      held_of (world c h.keys s v) (c.layout.expansion.entries u n i) (temps i) _ _ (T i) v.values
+      (record { by = t.by; none = λ e. none })
+
+  -- the functions that the views know are those of the file
+  pub functions_are : length c.setting.functions ≡ length (file_scope c.typed).functions
+  functions_are = ap length (sym right.functions) ∙ length-map c.typed.functions header_of
+      ∙ sym (length-map c.typed.functions _)
+
+  argument_is : (kind : Kind) (i : ℕ) → i < most_temporaries h.code.code → is_no_aggregate kind ≡ true
+      → is_passed kind (temps i) ≡ true
+      → ArgumentIs (length (file_scope c.typed).functions) kind (temps i) s.objects
+  argument_is kind i low scalar passed =
+      let none = scalar_place kind (temps i) scalar passed in
+      record {
+        tag = subst (λ z. IsSoundTag z s.objects (temps i).value.tag) functions_are (held_at i low none).sound;
+        structure = no_contents kind scalar none;
+        word = word_of kind scalar passed;
+      }
+    where
+      no_contents : (kind : Kind) → is_no_aggregate kind ≡ true → (temps i).contents ≡ None
+          → TakenOf (length (file_scope c.typed).functions) kind (temps i) s.objects
+      no_contents Void e none = none
+      no_contents (OfScalar k) e none = none
+      no_contents (Structure size) e none = cc
+      no_contents (Array size) e none = none
+
+      word_of : (kind : Kind) → is_no_aggregate kind ≡ true → is_passed kind (temps i) ≡ true
+          → IsOfKind (length (file_scope c.typed).functions) kind (temps i).value
+      word_of Void e f = λ low.
+          ltb-true (temps i).value.word (2 ^ 64) (and_parts (is_place (temps i).contents) (is_word (temps i).value.word) f).1
+      word_of (OfScalar k) e f =
+          type_is (length (file_scope c.typed).functions) k (temps i).value
+          (and_parts (is_place (temps i).contents) (is_of_type k (temps i).value) f).1
+      word_of (Structure size) e f = cc
+      word_of (Array size) e f = cc
+
+  pub arguments_are : (ps : List Variable) (d count : ℕ) → are_scalars ps ≡ true → d + count ≤ most_temporaries h.code.code
+      → are_passed (map (λ v. v.kind) ps) (gathered temps d count) ≡ true
+      → ArgumentsAre (length (file_scope c.typed).functions) (map (λ v. v.kind) ps) (gathered temps d count) s.objects
+  arguments_are [] d zero scalars low passed = tt
+  arguments_are [] d (suc count) scalars low passed = absurd (false≢true passed)
+  arguments_are (p ∷ ps) d zero scalars low passed = absurd (false≢true passed)
+  arguments_are (p ∷ ps) d (suc count) scalars low passed =
+      let parts = and_parts (is_no_aggregate p.kind) (are_scalars ps) scalars in
+      let first = and_parts (is_passed p.kind (temps d)) (are_passed (map (λ v. v.kind) ps) (gathered temps (d + 1) count))
+      passed in (
+        argument_is p.kind d (omega (arith, low)) parts.0 first.0,
+        arguments_are ps (d + 1) count parts.1 (omega (arith, low)) first.1,
+      )
+
+  abbrev ComesTo : (place : ℕ) → (after : flat.State) → (most : ℕ) → Type 0
+  ComesTo = Comes (map_of c) c.layout.program u (c.layout.address u n) v xs
+
+  -- By whatever instruction: its result comes to one temporary, its arguments stand from another on.
+  module _ (i : Instruction) (label : IsNode c u n h.code i) (d first count next cost : ℕ) (gives : given i ≡ Some d)
+      (leads : LeadsTo i next) (low_result : d < most_temporaries h.code.code)
+      (lows : first + count ≤ most_temporaries h.code.code) (paid : 6 ≤ cost) where
+    abbrev pub waits : Waiting
+    waits = record { function = u; node = next; place = d; caller = caller s; temps = temps }
+
+    abbrev packed_at : ℕ
+    packed_at = moved_register h.code (5 * first)
+
+    abbrev vs : List Rvalue
+    vs = gathered temps first count
+
+    module _ (f line : ℕ) (k : CodeFunction) (found : code_in c.layout.expansion.code f ≡ Some k)
+        (passed : are_passed (taken_by (header_of_code k)) (gathered temps first count) ≡ true)
+        (plain : IsPlainCall c IsGood right k (c.layout.expansion.entries u next d))
+        (reads : (x : ℕ) → x < count → get_or (map (λ (z : Variable). z.kind) k.parameters) x Void ≡ OfScalar Pointer
+        → c.layout.expansion.entries u n (first + x) ≡ true) where
+      count_is : count ≡ length k.parameters
+      count_is = count_passed (taken_by (header_of_code k)) temps first count passed ∙ length-map k.parameters _
+
+      pub plain_enough : IsPlainCall c IsGood right k false
+      plain_enough =
+          record { none = plain.none; scalars = plain.scalars; result = plain.result; valued = λ e. refl }
+
+      abbrev moves : List FlatInstruction
+      moves = pack h.code (ways_of k.parameters) (moved_register h.code (5 * first)) first
+
+      abbrev behind : List FlatInstruction
+      behind = result_entry (result_of c.layout.expansion.code k) (c.layout.expansion.entries u next d)
+          (temporary_register h.code d)
+
+      module _ (call : FlatInstruction) (at_moves most : ℕ) (between : flat.Values)
+          (has : HasAt (body_of (function_in c.layout.program u)) at_moves (moves ++ (call ∷ behind)))
+          (leads_on : Leads (body_of (function_in c.layout.program u)) (at_moves + length moves + 1 + length behind)
+          (c.layout.address u next))
+          (comes : ComesTo at_moves (record v { turns = v.turns + 1; values = between }) most) (cheap : most ≤ 28)
+          (between_stays : (y : ℕ) → y < first_free h.code → between y ≡ v.values y)
+          (fits : s.charged + k.room ≤ (map_of c).budgets.calls) where
+        abbrev q : ℕ
+        q = at_moves + length moves
+
+        abbrev packed : flat.Values
+        packed = assigned moves between
+
+        run_to : ComesTo q (record v { turns = v.turns + 1; values = packed }) (most + 2 * length moves)
+        run_to = assigned_behind map_now program u pc v xs at_moves
+            (record v { turns = v.turns + 1; values = between }) most comes moves
+            (pack_assigns h.code (ways_of k.parameters) packed_at first).0
+            (has_front body at_moves moves (call ∷ behind) has)
+
+        are_there : ArePacked h.code k.parameters k.variables packed_at first between packed
+        are_there = are_packed h.code k.parameters k.variables packed_at first between
+            (let is = count_is in omega (arith, lows, is)) (omega arith)
+
+        -- the arguments stand behind all temporaries
+        pub stay : (y : ℕ) → y < moved_register h.code 0 → packed y ≡ v.values y
+        stay y lt = are_there.below y (omega (arith, lt)) ∙ between_stays y (omega (arith, lt))
+
+        -- what the program's state is good for
+        state_good : IsGoodState (context_at (names c) u ws) (begun (spent cost s))
+        state_good = let g = good_now (names c) u ws s h.steady.good in record {
+          kept = g.kept;
+          low = g.low;
+          statics = g.statics;
+          homes = g.homes;
+          plain = g.plain;
+          typed = g.typed;
+          separate = g.separate;
+        }
+
+        room_left : s.stacked ≤ stack_end c.setting
+        room_left =
+            let top = (good_now (names c) u ws s h.steady.good).separate.top in
+            let same : region_end c.setting.sizes StackRegion ≡ region_end (map_of c) StackRegion =
+            ap (λ z. region_end z StackRegion) right.sizes in
+            omega arith
+
+        abbrev laid : State
+        laid = laid_out (header_of_code k) vs (begun (spent cost s))
+
+        set : set_up c.setting (header_of_code k) vs line (begun (spent cost s)) ≡ GivesRun tt laid
+        set =
+            let budget = ap (λ (z : MapSizes). z.budgets.calls) right.sizes in
+            set_up_gives c.setting (header_of_code k) vs line (begun (spent cost s))
+            (none_has (objects_of_body k) plain.none) room_left
+            (le-leb (s.charged + k.room) c.setting.sizes.budgets.calls (omega (arith, fits, budget)))
+
+        abbrev callee : State
+        callee = callee_state c IsGood right u pc q v xs f k found plain_enough line packed_at (T d) vs
+            (Waits waits ∷ ws) (spent cost s)
+
+        set_good : IsSetUp (context_at (names c) f []) s.objects callee
+        set_good =
+            let up = entered_good c IsGood right f k found u ws vs line (begun (spent cost s)) laid state_good
+            (arguments_are k.parameters first count plain.scalars lows
+            passed) set in
+            record { good = up.good; lives = up.lives; new = up.new; ends = up.ends }
+
+        good : AreGood (names c) f (Waits waits ∷ ws) callee
+        good = record {
+          by = (
+            record {
+              before = s;
+              behind = callee;
+              caller_is = refl;
+              set_up = set_good;
+              since = leaves_same (context_at (names c) f []) callee set_good.good;
+            },
+            h.steady.good.by,
+          );
+        }
+
+        -- each parameter holds its argument
+        handed : (x : ℕ) (t : Scalar) → plain_type (all_variables k) x ≡ Some t → x < length k.parameters
+            → IsPlain (world c h.keys s v) t (get_or vs x (rvalue (integer 0))).value (variable_register k x)
+            (arguments packed_at (parameters_end k) packed)
+        handed x t typed low =
+            let par = plain_parameter k.parameters k.variables x t typed low in
+            let inner : x < count = (let is = count_is in omega (arith, low)) in
+            let pass : is_passed (OfScalar t) (temps (first + x)) ≡ true =
+            ap (λ z. is_passed z (temps (first + x))) (sym par.kind)
+            ∙ passed_at (taken_by (header_of_code k)) temps first count x passed inner in
+            let parts = and_parts (is_place (temps (first + x)).contents) (is_of_type t (temps (first + x)).value) pass in
+            let below : first + x < most_temporaries h.code.code = omega (arith, inner, lows) in
+            let held = held_at (first + x) below
+            (place_is (temps (first + x)).contents parts.0) in
+            let within = words_within k.parameters k.variables x low in
+            let words = par.words in
+            subst (λ (z : Rvalue). IsPlain (world c h.keys s v) t z.value (variable_register k x)
+            (arguments packed_at (parameters_end k) packed)) (sym (gathered_at temps first count x inner))
+            (record {
+              value = held_moved (world c h.keys s v) (c.layout.expansion.entries u n (first + x)) (is_pointer_type t)
+                  (temps (first + x)).value (T (first + x)) (variable_register k x) v.values
+                  (arguments packed_at (parameters_end k) packed) (λ e. read_with_entry x t inner par.kind e)
+                  (λ j lt.
+                  argument_in packed_at (parameters_end k) (variable_register k x + j) packed
+                  (omega (arith, lt, within, words))
+                  ∙ are_there.at x j low (omega (arith, lt, words))
+                  ∙ between_stays (T (first + x) + j) (let few = few_in (is_pointer_type t) in
+                  omega (arith, below, lt, few))) held;
+              no_tag = no_tag_is t (temps (first + x)).value parts.1;
+            })
+          where
+            read_with_entry : (x : ℕ) (t : Scalar) → x < count
+                → get_or (map (λ (z : Variable). z.kind) k.parameters) x Void ≡ OfScalar t → is_pointer_type t ≡ true
+                → c.layout.expansion.entries u n (first + x) ≡ true
+            read_with_entry x (Integer t) low kind e = cc
+            read_with_entry x Pointer low kind e = reads x low kind
+
+        abbrev frame : flat.Frame
+        frame = record { function = u; next = q + 1; into = temporary_register h.code d; values = packed }
+
+        -- the caller waits
+        waits_so : IsWaitingAs (world c h.keys s v) c.layout k (length s.objects) waits frame xs
+        waits_so =
+            let z = fewer c IsGood right u n temps ws s v xs h i label d next gives leads in
+            record {
+              function = refl;
+              code = h.code;
+              there = h.there;
+              low = low_result;
+              into = refl;
+              behind = (has_back body at_moves moves (call ∷ behind) has).1;
+              leads = leads_on;
+              valued = plain.valued;
+              below = λ y o is. live_made s.objects o (h.holds.homes.homes y o is).live;
+              holds = waiting_holds (views c) h.keys s.objects v.memory (activation c h.code u n s)
+                  (c.layout.expansion.entries u next) (c.layout.expansion.contents u next) d temps s.plain s.frame v.values
+                  packed (record { kept = z.kept; plain = z.plain; known = λ j ne e. refl }) stay h.holds;
+              charge = h.charge;
+              fits = h.fits;
+            }
+
+        wait : (after : flat.Values) → AllWait (world c h.keys s v) callee c.layout (stack_first c.setting) (record {
+          code = k;
+          values = after;
+          stacked = s.stacked;
+          frame = homes_of (body_objects (header_of_code k));
+          bound = length s.objects;
+        }) (Waits waits ∷ ws) (frame ∷ xs)
+        unfolding waits_so
+        wait after = (
+          record {
+            by = subst (BodyBy (world c h.keys s v) callee k s.stacked s.stacked
+                (homes_of (body_objects (header_of_code k))) after) (sym plain.none)
+                (refl, no_homes (body_objects (header_of_code k)));
+            mark = length s.objects;
+            within = omega arith;
+            own = none_between (body_objects (header_of_code k)) (length s.objects) (length s.objects);
+          },
+          waits_so,
+          waits_at (world c h.keys s v) callee c.layout (stack_first c.setting) h.code v.values packed
+              (λ r from to. stay r (omega (arith, to))) s.stacked (length s.objects) s.frame ws xs
+              (waits_same (views c) h.keys s callee v.memory c.layout (stack_first c.setting) refl (level h.code s v) ws xs
+              h.wait.by),
+        )
+
+        -- the function is entered, where the step at the call is that of a call by name
+        pub enters_it : ((w : ℕ) → step (map_of c) c.layout.program
+            (flat.Stands u q (record v { turns = v.turns + 1; values = packed; work = w }) xs)
+            ≡ at_instruction (map_of c) c.layout.program
+            (Some (flat_code.Call f packed_at (temporary_register h.code d))) u q
+            (record v { turns = v.turns + 1; values = packed; work = w }) xs)
+            → Gives (call_stage c IsGood right u pc q v xs f k found plain_enough line packed_at (T d) vs
+            (Waits waits ∷ ws) (spent cost s))
+        enters_it at =
+            let shown = h.stands.for.shown in
+            let count = (pack_assigns h.code (ways_of k.parameters) packed_at first).1 in
+            let ways = length-map k.parameters (λ (v : Variable). passed_as v.kind) in
+            let few = few_parameters c IsGood right k.parameters in
+            let before = h.work in
+            enters c IsGood right u pc q v xs f k found plain_enough line packed_at (T d) vs (Waits waits ∷ ws)
+            (spent cost s) packed (most + 2 * length moves) h.keys
+            (record {
+              comes = run_to;
+              at = at;
+              arguments_are = handed;
+              charge = h.charge;
+              fits = fits;
+              room = room_left;
+              work = omega (arith, count, ways, few, before, paid, cheap);
+              stands = record {
+                for = record {
+                  objects = h.stands.for.objects;
+                  spaces = h.stands.for.spaces;
+                  keys = h.stands.for.keys;
+                  shown = record {
+                    input = shown.input;
+                    output = shown.output;
+                    taken = shown.taken;
+                    accesses = shown.accesses;
+                  };
+                };
+                top = h.stands.top;
+                turns = h.stands.turns;
+              };
+              steady = record {
+                good = good;
+                bytes = h.steady.bytes;
+                keys = h.steady.keys;
+                statics = h.steady.statics;
+                statics_live = h.steady.statics_live;
+              };
+              wait = wait;
+            })

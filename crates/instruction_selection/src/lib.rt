@@ -7,8 +7,10 @@ pub mod entries;
 mod list;
 pub mod named;
 pub mod numbers;
+pub mod pointers;
 pub mod registers;
 mod temporaries;
+pub mod updates;
 pub mod values;
 
 pub use crate::context::FunctionContext;

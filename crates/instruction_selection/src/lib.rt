@@ -2,6 +2,7 @@
 //! the shadow space. `metadata_relation` says what the list of each instruction is; here it is put behind a list.
 #![tactic(auto)]
 
+pub mod accesses;
 pub mod context;
 pub mod entries;
 mod list;

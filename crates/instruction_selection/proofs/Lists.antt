@@ -1,0 +1,154 @@
+-- Lists of registers.
+use Rattle.std.proofs.Common.{◌≡◌, ℕ, zero, suc, ◌+◌, ◌*◌, ◌^◌, ◌<◌, ◌≤◌, List, [], ◌∷◌, ◌++◌, get_or, length}
+use Rattle.std.proofs.Common.{ap, refl, sym, ◌∙◌, arith}
+use Rattle.c_tree.specs.declared.program.Variable.{Variable}
+use Rattle.tac_ir.specs.declared.function.CodeFunction.{CodeFunction}
+use Rattle.metadata_plan.specs.Registers.{all_variables, most_temporaries}
+use Rattle.metadata_relation.specs.Registers.{parameter_words, variable_words, home_words, total, before, register_in}
+use Rattle.metadata_relation.specs.Registers.{variable_register, variables_end, home_register, homes_end, tops_end}
+use Rattle.metadata_relation.specs.Registers.{first_free, parameters_end}
+use Rattle.instruction_selection.specs.declared.registers.Registers.{Registers}
+use Rattle.instruction_selection.specs.declared.registers.Words.TheVariants.{OfParameter, OfVariable, OfHome}
+use Rattle.instruction_selection.specs.Words.{words_by, registers_from}
+use Rattle.instruction_selection.specs.Registers.{AreRegisters, HasFewRegisters}
+
+pub nothing_behind : {A : Type 0} (xs : List A) → xs ++ [] ≡ xs
+nothing_behind [] = refl
+nothing_behind (x ∷ xs) = ap (λ ys. x ∷ ys) (nothing_behind xs)
+
+pub total_append : (w : Variable → ℕ) (xs ys : List Variable) → total w (xs ++ ys) ≡ total w xs + total w ys
+total_append w [] ys = omega arith
+total_append w (x ∷ xs) ys = omega (arith, total_append w xs ys)
+
+pub registers_append : (w : Variable → ℕ) (r : ℕ) (xs ys : List Variable)
+    → registers_from w r (xs ++ ys) ≡ registers_from w r xs ++ registers_from w (r + total w xs) ys
+registers_append w r [] ys =
+    let same : r ≡ r + 0 = omega arith in
+    ap (λ z. registers_from w z ys) same
+registers_append w r (x ∷ xs) ys =
+    let same : r + w x + total w xs ≡ r + (w x + total w xs) = omega arith in
+    ap (λ ns. r ∷ ns) (registers_append w (r + w x) xs ys
+    ∙ ap (λ z. registers_from w (r + w x) xs ++ registers_from w z ys) same)
+
+pub registers_at : (w : Variable → ℕ) (r : ℕ) (vs : List Variable) (x d : ℕ) → d ≡ r + total w vs
+    → get_or (registers_from w r vs) x d ≡ r + before w x vs
+registers_at w r [] x d e = e
+registers_at w r (v ∷ vs) zero d e = omega arith
+registers_at w r (v ∷ vs) (suc x) d e =
+    let same : d ≡ r + w v + total w vs = omega (arith, e) in
+    let there : get_or (registers_from w (r + w v) vs) x d ≡ r + w v + before w x vs =
+    registers_at w (r + w v) vs x d same in
+    there ∙ omega arith
+
+-- those of parameters come first, then one for the place of a result, and then all others
+pub variables_at : (r s : ℕ) (ps vs : List Variable) (x d : ℕ) → s ≡ r + total parameter_words ps + 1
+    → d ≡ s + total variable_words vs
+    → get_or (registers_from parameter_words r ps ++ registers_from variable_words s vs) x d ≡ r + register_in ps vs x
+variables_at r s [] vs x d begin end =
+    let there : get_or (registers_from variable_words s vs) x d ≡ s + before variable_words x vs =
+    registers_at variable_words s vs x d end in
+    there ∙ omega (arith, begin)
+variables_at r s (p ∷ ps) vs zero d begin end = omega arith
+variables_at r s (p ∷ ps) vs (suc x) d begin end =
+    let same : s ≡ r + parameter_words p + total parameter_words ps + 1 = omega (arith, begin) in
+    let there : get_or (registers_from parameter_words (r + parameter_words p) ps ++ registers_from variable_words s vs) x d
+    ≡ r + parameter_words p + register_in ps vs x =
+    variables_at (r + parameter_words p) s ps vs x d same end in
+    there ∙ omega arith
+
+-- the sums of a function's registers, one by one
+pub homes_total : (c : CodeFunction)
+    → homes_end c ≡ parameters_end c + 1 + total variable_words c.variables + total home_words c.parameters
+    + total home_words c.variables
+homes_total c =
+    let both : total home_words (all_variables c) ≡ total home_words c.parameters + total home_words c.variables =
+    total_append home_words c.parameters c.variables in
+    omega (arith, both)
+
+pub registers_few : (c : CodeFunction) → HasFewRegisters c
+    → total parameter_words c.parameters + 1 + total variable_words c.variables + total home_words c.parameters
+    + total home_words c.variables + 1 + length c.blocks + 5 * most_temporaries c.code + 5 * most_temporaries c.code
+    + 16 ≤ 2 ^ 31
+registers_few c small =
+    let homes = homes_total c in
+    omega (arith, small, homes)
+
+-- what is computed is what a struct of registers has to be
+pub are_registers : (r : Registers) (c : CodeFunction) (behind homes_behind : ℕ)
+    → behind ≡ total parameter_words c.parameters
+    → r.first_home ≡ behind + 1 + total variable_words c.variables
+    → homes_behind ≡ r.first_home + total home_words c.parameters
+    → r.first_top ≡ homes_behind + total home_words c.variables
+    → r.variables ≡ registers_from parameter_words 0 c.parameters ++ registers_from variable_words (behind + 1) c.variables
+    → r.homes ≡ registers_from home_words r.first_home c.parameters ++ registers_from home_words homes_behind c.variables
+    → r.first_temporary ≡ r.first_top + 1 + length c.blocks
+    → r.first_moved ≡ r.first_temporary + 5 * most_temporaries c.code
+    → r.free ≡ r.first_moved + 5 * most_temporaries c.code → HasFewRegisters c → AreRegisters r c
+are_registers r c behind homes_behind begin home middle top variables homes temporary moved free small =
+    let sum = homes_total c in
+    let home_at : r.first_home ≡ variables_end c = omega (arith, begin, home) in
+    let top_at : r.first_top ≡ homes_end c = omega (arith, home_at, middle, top, sum) in
+    let temporary_at : r.first_temporary ≡ tops_end c = omega (arith, top_at, temporary) in
+    let starts : behind + 1 ≡ 0 + total parameter_words c.parameters + 1 = omega (arith, begin) in
+    let all : total home_words (all_variables c) ≡ total home_words c.parameters + total home_words c.variables =
+    total_append home_words c.parameters c.variables in
+    let last : r.first_top ≡ r.first_home + total home_words (all_variables c) = omega (arith, middle, top, all) in
+    let list : r.homes ≡ registers_from home_words r.first_home (all_variables c) =
+    homes ∙ ap (λ z. registers_from home_words r.first_home c.parameters ++ registers_from home_words z c.variables) middle
+    ∙ sym (registers_append home_words r.first_home c.parameters c.variables) in
+    record {
+      variables = λ x.
+          let here : get_or (registers_from parameter_words 0 c.parameters
+          ++ registers_from variable_words (behind + 1) c.variables) x r.first_home ≡ 0 + variable_register c x =
+          variables_at 0 (behind + 1) c.parameters c.variables x r.first_home starts home in
+          ap (λ ns. get_or ns x r.first_home) variables ∙ omega (arith, here);
+      homes = λ x.
+          let here : get_or (registers_from home_words r.first_home (all_variables c)) x r.first_top
+          ≡ r.first_home + before home_words x (all_variables c) =
+          registers_at home_words r.first_home (all_variables c) x r.first_top last in
+          ap (λ ns. get_or ns x r.first_top) list ∙ omega (arith, here, home_at);
+      tops = top_at;
+      temporaries = temporary_at;
+      moved = omega (arith, temporary_at, moved);
+      free = omega (arith, temporary_at, moved, free);
+      small = small;
+    }
+
+-- the same of what the code counts
+pub words_few : (c : CodeFunction) (ps vs : List Variable) → ps ≡ c.parameters → vs ≡ c.variables → HasFewRegisters c
+    → total (words_by OfParameter) ps + 1 + total (words_by OfVariable) vs + total (words_by OfHome) ps
+    + total (words_by OfHome) vs + 1 + length c.blocks + 5 * most_temporaries c.code + 5 * most_temporaries c.code
+    + 16 ≤ 2 ^ 31
+words_few c ps vs same also small =
+    let few = registers_few c small in
+    let parameters : total (words_by OfParameter) ps ≡ total parameter_words c.parameters =
+    ap (λ xs. total parameter_words xs) same in
+    let others : total (words_by OfVariable) vs ≡ total variable_words c.variables =
+    ap (λ xs. total variable_words xs) also in
+    let homes : total (words_by OfHome) ps ≡ total home_words c.parameters = ap (λ xs. total home_words xs) same in
+    let more : total (words_by OfHome) vs ≡ total home_words c.variables = ap (λ xs. total home_words xs) also in
+    omega (arith, few, parameters, others, homes, more)
+
+-- ---- registers of variables are below what is free
+
+before_all : (w : Variable → ℕ) (x : ℕ) (vs : List Variable) → before w x vs ≤ total w vs
+before_all w x [] = omega arith
+before_all w zero (v ∷ vs) = omega arith
+before_all w (suc x) (v ∷ vs) = omega (arith, before_all w x vs)
+
+in_all : (ps vs : List Variable) (x : ℕ) → register_in ps vs x ≤ total parameter_words ps + 1 + total variable_words vs
+in_all [] vs x = omega (arith, before_all variable_words x vs)
+in_all (p ∷ ps) vs zero = omega arith
+in_all (p ∷ ps) vs (suc x) = omega (arith, in_all ps vs x)
+
+pub variable_below : (r : Registers) (c : CodeFunction) (x : ℕ) → AreRegisters r c → variable_register c x ≤ r.free
+variable_below r c x h =
+    let below = in_all c.parameters c.variables x in
+    let free = h.free in
+    omega (arith, below, free)
+
+pub home_below : (r : Registers) (c : CodeFunction) (x : ℕ) → AreRegisters r c → home_register c x ≤ r.free
+home_below r c x h =
+    let below = before_all home_words x (all_variables c) in
+    let free = h.free in
+    omega (arith, below, free)

@@ -1,0 +1,30 @@
+-- The numbers of a function's virtual registers, as a struct has them.
+use Rattle.std.specs.Prelude.{◌≡◌, ℕ, ◌+◌, ◌*◌, ◌^◌, ◌≤◌, get_or}
+use Rattle.tac_ir.specs.declared.instruction.Instruction.{Instruction}
+use Rattle.tac_ir.specs.declared.function.CodeFunction.{CodeFunction}
+use Rattle.tac_ir.specs.Temporaries.{temporaries}
+use Rattle.metadata_plan.specs.Registers.{most_temporaries}
+use Rattle.metadata_relation.specs.Registers.{variable_register, variables_end, home_register, homes_end, tops_end}
+use Rattle.metadata_relation.specs.Registers.{moved_register, first_free}
+use Rattle.instruction_selection.specs.declared.registers.Registers.{Registers}
+
+-- so many registers from the first free one on a block needs for itself at most
+abbrev pub block_registers : ℕ
+block_registers = 16
+
+-- Virtual registers have numbers below 2^31, so that a routine may have more behind those of its block.
+abbrev pub HasFewRegisters : CodeFunction → Type 0
+HasFewRegisters c = first_free c + block_registers ≤ 2 ^ 31
+
+pub record AreRegisters (registers : Registers) (function : CodeFunction) : Type 0 where
+  pub variables : (x : ℕ) → get_or registers.variables x registers.first_home ≡ variable_register function x
+  pub homes : (x : ℕ) → get_or registers.homes x registers.first_top ≡ home_register function x
+  pub tops : registers.first_top ≡ homes_end function
+  pub temporaries : registers.first_temporary ≡ tops_end function
+  pub moved : registers.first_moved ≡ tops_end function + 5 * most_temporaries function.code
+  pub free : registers.free ≡ first_free function
+  pub small : HasFewRegisters function
+
+-- an instruction names no more temporaries than its function has
+pub record IsAmong (function : CodeFunction) (instruction : Instruction) : Type 0 where
+  pub temporaries : temporaries instruction ≤ most_temporaries function.code

@@ -1,9 +1,13 @@
 -- What the key of a pointer to a function tells: its type, by the first function that has it.
-use Rattle.std.proofs.Common.{◌≡◌, ℕ, zero, suc, ◌+◌, ◌/◌, ◌%◌, ◌^◌, ◌<◌, ◌≤◌, Bool, true, false, List, [], ◌∷◌}
-use Rattle.std.proofs.Common.{length, map, Some, None, refl, sym, ap, ◌∙◌, subst, arith}
-use Rattle.std.specs.Prelude.{slice_get, ◌==◌, if◌then◌else◌, nat_le, ◌&&◌}
+use Rattle.std.proofs.Common.{◌≡◌, inl, inr, ℕ, zero, suc, ◌+◌, ◌-◌, ◌*◌, ◌/◌, ◌%◌, ◌^◌, ◌<◌, ◌≤◌, Bool, true, false, List}
+use Rattle.std.proofs.Common.{[], ◌∷◌, length, map, Some, None, refl, sym, ap, ◌∙◌, subst, arith}
+use Rattle.std.specs.Prelude.{slice_get, min, ◌==◌, if◌then◌else◌, nat_le, ◌&&◌}
 use Rattle.std.proofs.lemmas.Bool.{and_parts, and_from, eq-eqb, eqb-true, eqb-false, leb-true, le-leb}
+use Rattle.std.proofs.lemmas.Bool.Decides.{leb_tells}
 use Rattle.std.proofs.lemmas.Option.{same_Some}
+use Rattle.std.proofs.Math.Nat.{le-min, min-le_left}
+use Rattle.obj_memory.specs.Heap.{rounded_up}
+use Rattle.metadata_relation.proofs.Ranges.{Told}
 use Rattle.sb_base.specs.declared.ending.Ending.TheVariants.{BadCall}
 use Rattle.addr_map.specs.Places.{function_address}
 use Rattle.obj_memory.specs.declared.value.Tag.{Tag}
@@ -105,6 +109,28 @@ module _ (kind units room : ℕ) (a : kind < 2 ^ 12) (b : units < 2 ^ 19) (c : r
 
   pub room_told_by : (2 ^ 63 + type_key_of kind units room) / 2 ^ 31 % 2 ^ 25 ≡ room
   room_told_by = omega arith
+
+-- Objects fit behind an address just where their units do: an object stack ends at a multiple of 16, and has 4 MiB at most.
+pub units_fit : (first bytes end : ℕ) → first % 16 ≡ 0 → end % 16 ≡ 0 → end ≤ first + 2 ^ 22
+    → nat_le (first + 16 * min (rounded_up 16 bytes / 16) (2 ^ 18 + 1)) end ≡ nat_le (first + bytes) end
+units_fit first bytes end at to most =
+    by (leb_tells (first + 16 * min (rounded_up 16 bytes / 16) (2 ^ 18 + 1)) end) (leb_tells (first + bytes) end)
+  where
+    by : Told (first + 16 * min (rounded_up 16 bytes / 16) (2 ^ 18 + 1)) end → Told (first + bytes) end
+        → nat_le (first + 16 * min (rounded_up 16 bytes / 16) (2 ^ 18 + 1)) end ≡ nat_le (first + bytes) end
+    by (inl p) (inl q) = p.0 ∙ sym q.0
+    by (inl p) (inr q) =
+        let over = q.1 in
+        let within = p.1 in
+        let least : (end - first) / 16 + 1 ≤ min (rounded_up 16 bytes / 16) (2 ^ 18 + 1) =
+        le-min (omega (arith, over, within, at, to)) (omega (arith, most)) in
+        absurd (omega (arith, least, within, at, to))
+    by (inr p) (inl q) =
+        let over = p.1 in
+        let within = q.1 in
+        let few = min-le_left (rounded_up 16 bytes / 16) (2 ^ 18 + 1) in
+        absurd (omega (arith, few, over, within, at, to))
+    by (inr p) (inr q) = p.0 ∙ sym q.0
 
 -- ---- the callee
 

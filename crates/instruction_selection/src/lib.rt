@@ -5,6 +5,7 @@
 pub mod accesses;
 pub mod context;
 pub mod entries;
+pub mod instructions;
 mod list;
 pub mod named;
 pub mod numbers;
@@ -13,6 +14,7 @@ pub mod registers;
 mod temporaries;
 pub mod updates;
 pub mod values;
+pub mod variables;
 
 pub use crate::context::FunctionContext;
 pub use crate::registers::Registers;

@@ -13,11 +13,12 @@ ghost use Rattle.metadata_relation.specs.Blocks.{move_entry_if, offset_code};
 ghost use Rattle.runtime_functions.specs.Library.{held_from};
 ghost use Rattle.instruction_selection.specs.Contexts.{HasRegisters};
 ghost use Rattle.instruction_selection.specs.Registers.{IsAmong};
-ghost use Rattle.instruction_selection.specs.Selected.{assigned_code, is_selected, selected};
+ghost use Rattle.instruction_selection.specs.Selected.{assigned_code, is_selected, selected, zero_code};
 
 use crate::accesses::{WriteRegisters, put_read, put_write};
 use crate::context::FunctionContext;
 use crate::entries::{held_from, put_entry_if, put_untagged};
+use crate::initializers::put_part;
 use crate::list::put;
 use crate::named::put_home;
 use crate::pointers::{MemberRange, put_moved, put_narrowed};
@@ -102,6 +103,25 @@ fn put_abort(code: &mut Vec<FlatInstruction>) -> Result<(), AllocError>
     put(code, FlatInstruction::End(Ending::Abort(Line::first())))
 }
 
+// Puts a 0 of a kind behind a list.
+fn put_zero(
+    code: &mut Vec<FlatInstruction>,
+    kind: Kind,
+    with_entry: bool,
+    into: u32,
+) -> Result<(), AllocError>
+    requires { into ≤ 2 ^ 31 }
+    ensures { OnOk result (code.new.items ≡ code.old.items ++ zero_code kind with_entry into) }
+{
+    match kind {
+        Kind::Structure(_) => put_abort(code),
+        Kind::Void | Kind::Scalar(_) | Kind::Array(_) => {
+            put(code, FlatInstruction::Constant { into, value: 0 })?;
+            put_untagged(code, with_entry, into)
+        }
+    }
+}
+
 // Puts an assignment of a value of a kind through a pointer behind a list.
 fn put_assigned<S: ShadowForm>(
     code: &mut Vec<FlatInstruction>,
@@ -183,6 +203,11 @@ pub fn put_instruction<S: ShadowForm>(
             let into = context.temporary(*to);
             let _room = context.free();
             put_home(code, context, with_entry, into, *variable)
+        }
+        Instruction::ZeroOf { kind, to, .. } => {
+            let into = context.temporary(*to);
+            let _room = context.free();
+            put_zero(code, *kind, with_entry, into)
         }
         Instruction::Convert { kind, to, from, .. } => {
             let into = context.temporary(*to);
@@ -298,6 +323,16 @@ pub fn put_instruction<S: ShadowForm>(
             };
             put_assigned::<S>(code, context, *kind, with_entry, registers)
         }
+        Instruction::StorePart {
+            kind,
+            variable,
+            offset,
+            from,
+            ..
+        } => {
+            let from = context.temporary(*from);
+            put_part::<S>(code, context, *kind, *variable, *offset, from)
+        }
         Instruction::Branch { from, .. } => {
             let left = context.temporary(*from);
             put_branch(code, BranchOp::Bne, left, RightOperand::Number(0))
@@ -312,12 +347,10 @@ pub fn put_instruction<S: ShadowForm>(
         Instruction::Reserved
         | Instruction::FunctionPointer { .. }
         | Instruction::StaticPointer { .. }
-        | Instruction::ZeroOf { .. }
         | Instruction::Take { .. }
         | Instruction::Update { .. }
         | Instruction::Judge { .. }
         | Instruction::Zero { .. }
-        | Instruction::StorePart { .. }
         | Instruction::StoreText { .. }
         | Instruction::Library { .. }
         | Instruction::Print { .. }

@@ -5,6 +5,7 @@
 pub mod accesses;
 pub mod context;
 pub mod entries;
+pub mod initializers;
 pub mod instructions;
 mod list;
 pub mod named;

@@ -8,7 +8,12 @@ use Rattle.flat_routines.specs.Metadata.{held_registers}
 use Rattle.flat_actions.specs.Judgement.Testing.{IsBelow}
 use Rattle.flat_actions.specs.Narrowing.{CanNarrow, IsOther}
 use Rattle.runtime_functions.specs.Library.{held_from}
-use Rattle.metadata_relation.specs.Blocks.{is_short, number_operand}
+use Rattle.obj_memory.specs.declared.value.Scalar.{Scalar}
+use Rattle.obj_memory.specs.declared.value.Scalar.TheVariants.{Integer, Pointer}
+use Rattle.flat_actions.specs.Actions.{registers_of}
+use Rattle.object_routines.specs.declared.accesses.held.HeldScalar.{HeldScalar}
+use Rattle.object_routines.specs.AccessRoutines.Holding.{holder_in}
+use Rattle.metadata_relation.specs.Blocks.{held_scalar, is_short, number_operand}
 
 pub are_below : (d s : ℕ) → d + 5 ≤ s → AreBelow s (held_registers (held_from d))
 are_below d s below =
@@ -100,3 +105,13 @@ can_narrow h by many d s offset size same first second below =
       offset_is_other = is_other (is_short offset) offset d s (s + 2) below (omega arith);
       size_is_other = is_other (is_short size) size d (s + 1) (s + 2) (omega (arith, below)) (omega arith);
     })))
+
+one_below : (k : Scalar) (d a s : ℕ) → d + 5 ≤ s → a < s
+    → AreBelow s (a ∷ registers_of (holder_in (held_scalar k d)))
+one_below (Integer t) d a s below lt = (lt, (omega (arith, below), tt))
+one_below Pointer d a s below lt = (lt, are_below d s below)
+
+pub scalar_below : (h : HeldScalar) (k : Scalar) (d a s : ℕ) → h ≡ held_scalar k d → d + 5 ≤ s → a < s
+    → AreBelow s (a ∷ registers_of (holder_in h))
+scalar_below h k d a s e below lt =
+    subst (λ z. AreBelow s (a ∷ registers_of (holder_in z))) (sym e) (one_below k d a s below lt)

@@ -1,8 +1,9 @@
 //! What the flat code of the instructions of a function is made from.
 
-ghost use Rattle.std.specs.Prelude.{◌≡◌, ◌+◌, ◌<◌, ◌≤◌};
+ghost use Rattle.std.specs.Prelude.{◌≡◌, ◌+◌, ◌<◌, ◌≤◌, ◌^◌};
 ghost use Rattle.metadata_plan.specs.Registers.{most_temporaries};
 ghost use Rattle.metadata_relation.specs.Registers.{variable_register, home_register, temporary_register};
+ghost use Rattle.metadata_relation.specs.Registers.{first_free};
 ghost use Rattle.instruction_selection.specs.Contexts.{HasRegisters};
 
 use crate::registers::Registers;
@@ -52,5 +53,15 @@ impl<'a> FunctionContext<'a> {
         ensures room { result + 5 ≤ self.now.registers.now.free }
     {
         self.registers.temporary(self.function, number)
+    }
+
+    /// The first register that is free.
+    pub fn free(&self) -> u32
+        requires { HasRegisters self.now }
+        ensures value { result ≡ first_free self.now.function.now }
+        ensures same { result ≡ self.now.registers.now.free }
+        ensures room { result + 16 ≤ 2 ^ 31 }
+    {
+        self.registers.free
     }
 }

@@ -5,6 +5,8 @@
 pub mod accesses;
 pub mod context;
 pub mod entries;
+pub mod initializers;
+pub mod instructions;
 mod list;
 pub mod named;
 pub mod numbers;
@@ -13,6 +15,7 @@ pub mod registers;
 mod temporaries;
 pub mod updates;
 pub mod values;
+pub mod variables;
 
 pub use crate::context::FunctionContext;
 pub use crate::registers::Registers;

@@ -61,8 +61,8 @@ pub struct MemberRange {
     pub size: u64,
 }
 
-// Puts the address of a member behind a list.
-fn put_member_address(
+// Puts the address so many bytes behind another one behind a list.
+pub(crate) fn put_member_address(
     code: &mut Vec<FlatInstruction>,
     offset: u64,
     into: u32,

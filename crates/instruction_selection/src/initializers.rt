@@ -1,0 +1,73 @@
+//! Parts of initializers (C99 6.7.8).
+
+ghost use Rattle.std.specs.Prelude.{◌≡◌, ◌+◌, ◌<◌, ◌≤◌, ◌++◌, ◌∷◌, [], OnOk};
+ghost use Rattle.sb_base.specs.declared.ending.Ending.TheVariants.{Abort};
+ghost use Rattle.flat_meaning.specs.declared.instruction.FlatInstruction.TheVariants.{End};
+ghost use Rattle.metadata_relation.specs.InlineLists.{inline_lists};
+ghost use Rattle.metadata_relation.specs.Blocks.{part_address, held_scalar};
+ghost use Rattle.metadata_plan.specs.OperatorLists.Operators.{operators};
+ghost use Rattle.metadata_relation.specs.Registers.{first_free};
+ghost use Rattle.object_routines.specs.AccessRoutines.Accessing.{store_code};
+ghost use Rattle.instruction_selection.specs.Contexts.{HasRegisters};
+ghost use Rattle.instruction_selection.specs.Selected.{part_code};
+
+use crate::accesses::{held_scalar, put_store};
+use crate::context::FunctionContext;
+use crate::list::put;
+use crate::pointers::put_member_address;
+use c_tree::Kind;
+use flat_meaning::FlatInstruction;
+use obj_memory::Scalar;
+use sb_base::{Ending, Line};
+use shadow_space::ShadowForm;
+use std::alloc::AllocError;
+
+// Puts a scalar stored in the object of a variable, so many bytes from its beginning, behind a list.
+#[tactic(auto, using(crate::proofs::Operands::scalar_below))]
+fn put_scalar_part<S: ShadowForm>(
+    code: &mut Vec<FlatInstruction>,
+    context: &FunctionContext,
+    scalar: Scalar,
+    variable: usize,
+    offset: u64,
+    from: u32,
+) -> Result<(), AllocError>
+    requires registers { HasRegisters context.now }
+    requires from { from + 5 ≤ context.now.registers.now.free }
+    ensures { OnOk result (code.new.items ≡ code.old.items
+        ++ (part_address operators context.now.function.now variable offset (first_free context.now.function.now)
+        ++ store_code S.entry_write context.now.map.now (first_free context.now.function.now) (held_scalar scalar from)
+        (first_free context.now.function.now + 1))) }
+{
+    let free = context.free();
+    let home = context.home(variable);
+    put_member_address(code, offset, free, home, free)?;
+    let held = held_scalar(scalar, from);
+    put_store::<S>(code, context, free, held, free + 1)
+}
+
+/// Puts a value of a kind stored in the object of a variable, so many bytes from its beginning, behind a list, where it
+/// is a scalar; else the run ends. It fails only for want of memory.
+pub fn put_part<S: ShadowForm>(
+    code: &mut Vec<FlatInstruction>,
+    context: &FunctionContext,
+    kind: Kind,
+    variable: usize,
+    offset: u64,
+    from: u32,
+) -> Result<(), AllocError>
+    requires registers { HasRegisters context.now }
+    requires from { from + 5 ≤ context.now.registers.now.free }
+    ensures { OnOk result (code.new.items ≡ code.old.items
+        ++ part_code (inline_lists S.entry_read S.entry_write context.now.map.now) context.now.function.now kind variable
+        offset from) }
+{
+    match kind {
+        Kind::Scalar(scalar) => {
+            put_scalar_part::<S>(code, context, scalar, variable, offset, from)
+        }
+        Kind::Void | Kind::Structure(_) | Kind::Array(_) => {
+            put(code, FlatInstruction::End(Ending::Abort(Line::first())))
+        }
+    }
+}

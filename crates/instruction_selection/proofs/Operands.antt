@@ -3,7 +3,7 @@ use Rattle.std.proofs.Common.{◌≡◌, ◌≢◌, ℕ, ◌+◌, ◌<◌, ◌�
 use Rattle.flat_meaning.specs.declared.instruction.RightOperand.{RightOperand}
 use Rattle.flat_meaning.specs.declared.instruction.RightOperand.TheVariants.{Register, Number}
 use Rattle.flat_routines.specs.declared.registers.Held.{Held}
-use Rattle.flat_routines.specs.Registers.{AreBelow, AreDistinct, IsNoneOf}
+use Rattle.flat_routines.specs.Registers.{AreBelow, AreDistinct}
 use Rattle.flat_routines.specs.Metadata.{held_registers}
 use Rattle.flat_actions.specs.Judgement.Testing.{IsBelow}
 use Rattle.flat_actions.specs.Narrowing.{CanNarrow, IsOther}
@@ -32,20 +32,41 @@ under x y lt e = omega (arith, lt, e)
 -- the five registers of a value differ
 pub are_distinct : (d : ℕ) → AreDistinct (held_registers (held_from d))
 are_distinct d =
-    let next : (n m : ℕ) → n < m → d + n ≢ d + m = λ n m lt. under (d + n) (d + m) (omega (arith, lt)) in
-    ((under d (d + 1) (omega arith), (under d (d + 2) (omega arith), (under d (d + 3) (omega arith), (under d (d + 4) (omega arith), tt)))), (
-    (next 1 2 (omega arith), (next 1 3 (omega arith), (next 1 4 (omega arith), tt))), (
-    (next 2 3 (omega arith), (next 2 4 (omega arith), tt)), (
-    (next 3 4 (omega arith), tt), (tt, tt)))))
+    let next : (n m : ℕ) → n < m → d + n ≢ d + m = λ n m lt. under (d + n) (d + m) (omega (arith, lt)) in (
+      (under d (d + 1) (omega arith), (under d (d + 2) (omega arith), (under d (d + 3) (omega arith), (under d (d + 4) (omega arith), tt)))),
+      (
+        (next 1 2 (omega arith), (next 1 3 (omega arith), (next 1 4 (omega arith), tt))),
+        (
+          (next 2 3 (omega arith), (next 2 4 (omega arith), tt)),
+          (
+            (next 3 4 (omega arith), tt),
+            (tt, tt),
+          ),
+        ),
+      ),
+    )
 
 -- and so does one above them
 pub are_apart : (d s : ℕ) → d + 5 ≤ s → AreDistinct (s ∷ held_registers (held_from d))
-are_apart d s below =
-    ((above s d (omega (arith, below)), (
-    above s (d + 1) (omega (arith, below)), (
-    above s (d + 2) (omega (arith, below)), (
-    above s (d + 3) (omega (arith, below)), (
-    above s (d + 4) (omega (arith, below)), tt))))), are_distinct d)
+are_apart d s below = (
+  (
+    above s d (omega (arith, below)),
+    (
+      above s (d + 1) (omega (arith, below)),
+      (
+        above s (d + 2) (omega (arith, below)),
+        (
+          above s (d + 3) (omega (arith, below)),
+          (
+            above s (d + 4) (omega (arith, below)),
+            tt,
+          ),
+        ),
+      ),
+    ),
+  ),
+  are_distinct d,
+)
 
 pub all_apart : (h : Held) (d s : ℕ) → h ≡ held_from d → d + 5 ≤ s → AreDistinct (s ∷ held_registers h)
 all_apart h d s e below = subst (λ z. AreDistinct (s ∷ held_registers z)) (sym e) (are_apart d s below)
@@ -59,10 +80,19 @@ operand_below o n r s e lt = subst (λ z. IsBelow s z) (sym e) (is_below (is_sho
 
 is_other : (b : Bool) (n d r s : ℕ) → d + 5 ≤ r → r < s → IsOther (held_from d) s (if b then Number n else Register r)
 is_other true n d r s below lt = tt
-is_other false n d r s below lt =
-    (lt, (above r d (omega (arith, below)), (
-    above r (d + 1) (omega (arith, below)), (
-    above r (d + 2) (omega (arith, below)), tt))))
+is_other false n d r s below lt = (
+  lt,
+  (
+    above r d (omega (arith, below)),
+    (
+      above r (d + 1) (omega (arith, below)),
+      (
+        above r (d + 2) (omega (arith, below)),
+        tt,
+      ),
+    ),
+  ),
+)
 
 pub can_narrow : (h : Held) (by many : RightOperand) (d s offset size : ℕ) → h ≡ held_from d
     → by ≡ number_operand offset s → many ≡ number_operand size (s + 1) → d + 5 ≤ s → CanNarrow h by many (s + 2)

@@ -65,13 +65,7 @@ impl Words {
                     plain_words(variable.kind)
                 }
             }
-            Words::OfHome => {
-                if variable.is_object {
-                    4
-                } else {
-                    0
-                }
-            }
+            Words::OfHome => { if variable.is_object { 4 } else { 0 } }
         }
     }
 }

@@ -199,8 +199,12 @@ impl PlainUpdate {
     fn change(&self, scratch: u32) -> Change
         requires { scratch ≤ 2 ^ 31 }
         ensures { result ≡ record {
-            update = self.now.update; right = self.now.right; line = self.now.line; new = scratch;
-            old = self.now.variable; scratch = scratch + 1;
+          update = self.now.update;
+          right = self.now.right;
+          line = self.now.line;
+          new = scratch;
+          old = self.now.variable;
+          scratch = scratch + 1;
         } }
     {
         Change {

@@ -1,3 +1,4 @@
 pub mod Lists
 pub mod Operands
 pub mod PlainTypes
+pub mod OneEntry

@@ -1,12 +1,12 @@
 -- Lists of registers.
-use Rattle.std.proofs.Common.{◌≡◌, ℕ, zero, suc, ◌+◌, ◌*◌, ◌^◌, ◌<◌, ◌≤◌, List, [], ◌∷◌, ◌++◌, get_or, length}
+use Rattle.std.proofs.Common.{◌≡◌, ℕ, zero, suc, ◌+◌, ◌*◌, ◌^◌, ◌≤◌, List, [], ◌∷◌, ◌++◌, get_or, length}
 use Rattle.std.proofs.Common.{ap, refl, sym, ◌∙◌, arith}
 use Rattle.c_tree.specs.declared.program.Variable.{Variable}
 use Rattle.tac_ir.specs.declared.function.CodeFunction.{CodeFunction}
 use Rattle.metadata_plan.specs.Registers.{all_variables, most_temporaries}
 use Rattle.metadata_relation.specs.Registers.{parameter_words, variable_words, home_words, total, before, register_in}
 use Rattle.metadata_relation.specs.Registers.{variable_register, variables_end, home_register, homes_end, tops_end}
-use Rattle.metadata_relation.specs.Registers.{first_free, parameters_end}
+use Rattle.metadata_relation.specs.Registers.{parameters_end}
 use Rattle.instruction_selection.specs.declared.registers.Registers.{Registers}
 use Rattle.instruction_selection.specs.declared.registers.Words.TheVariants.{OfParameter, OfVariable, OfHome}
 use Rattle.instruction_selection.specs.Words.{words_by, registers_from}

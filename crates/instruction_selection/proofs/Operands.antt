@@ -3,7 +3,7 @@ use Rattle.std.proofs.Common.{◌≡◌, ◌≢◌, ℕ, ◌+◌, ◌<◌, ◌�
 use Rattle.flat_meaning.specs.declared.instruction.RightOperand.{RightOperand}
 use Rattle.flat_meaning.specs.declared.instruction.RightOperand.TheVariants.{Register, Number}
 use Rattle.flat_routines.specs.declared.registers.Held.{Held}
-use Rattle.flat_routines.specs.Registers.{AreBelow, AreDistinct, IsNoneOf}
+use Rattle.flat_routines.specs.Registers.{AreBelow, AreDistinct}
 use Rattle.flat_routines.specs.Metadata.{held_registers}
 use Rattle.flat_actions.specs.Judgement.Testing.{IsBelow}
 use Rattle.flat_actions.specs.Narrowing.{CanNarrow, IsOther}

@@ -4,8 +4,8 @@ use Rattle.tac_ir.specs.declared.instruction.Instruction.{Instruction}
 use Rattle.tac_ir.specs.declared.function.CodeFunction.{CodeFunction}
 use Rattle.tac_ir.specs.Temporaries.{temporaries}
 use Rattle.metadata_plan.specs.Registers.{most_temporaries}
-use Rattle.metadata_relation.specs.Registers.{variable_register, variables_end, home_register, homes_end, tops_end}
-use Rattle.metadata_relation.specs.Registers.{moved_register, first_free}
+use Rattle.metadata_relation.specs.Registers.{variable_register, home_register, homes_end, tops_end}
+use Rattle.metadata_relation.specs.Registers.{first_free}
 use Rattle.instruction_selection.specs.declared.registers.Registers.{Registers}
 
 -- so many registers from the first free one on a block needs for itself at most

@@ -7,6 +7,7 @@ pub mod context;
 pub mod entries;
 pub mod initializers;
 pub mod instructions;
+pub mod laws;
 mod list;
 pub mod named;
 pub mod numbers;

@@ -1,0 +1,149 @@
+-- The tests of a call whose callee's body has objects: the run goes on behind them, or ends with `Stack` or `Keys`.
+use Rattle.std.proofs.Common.{◌≡◌, ◌≢◌, ℕ, ◌+◌, ◌-◌, ◌*◌, ◌/◌, ◌%◌, ◌^◌, ◌<◌, ◌≤◌, Bool, true, false, not, List}
+use Rattle.std.proofs.Common.{◌∷◌, ◌++◌, length, Option, Some, None, refl, ap, ap₂, ◌∙◌, arith, mod-eq_of_lt}
+use Rattle.std.specs.Prelude.{◌==◌, nat_lt}
+use Rattle.sb_base.specs.declared.ending.Ending.{Ending}
+use Rattle.sb_base.specs.declared.ending.Ending.TheVariants.{Keys, Stack}
+use Rattle.addr_map.specs.declared.region.Region.TheVariants.{Cells, Heap, Stack as StackRegion}
+use Rattle.addr_map.specs.Places.{AreMapped, MapSizes, region_end, region_size, region_start, spaces_begin}
+use Rattle.obj_memory.specs.Heap.{rounded_up}
+use Rattle.words.specs.Operations.{shifted_left, sum}
+use Rattle.rv_isa.specs.declared.instruction.RegOp.{RegOp}
+use Rattle.rv_isa.specs.declared.instruction.RegOp.TheVariants.{Add, Sll, Sltu, Srl}
+use Rattle.rv_isa.specs.declared.instruction.BranchOp.TheVariants.{Bltu, Bne}
+use Rattle.rv_isa.specs.declared.instruction.LoadOp.TheVariants.{Ld}
+use Rattle.rv_isa.specs.Results.{bit_of, branch_taken, reg_result}
+use Rattle.flat_meaning.specs.declared.instruction.RightOperand.{RightOperand}
+use Rattle.flat_meaning.specs.declared.instruction.RightOperand.TheVariants.{Register, Number}
+use Rattle.flat_meaning.specs.declared.instruction.FlatInstruction.{FlatInstruction}
+use Rattle.flat_meaning.specs.declared.instruction.FlatInstruction.TheVariants.{Branch, Constant, End, Load, Operate}
+use Rattle.flat_meaning.specs.declared.function.FlatProgram.{FlatProgram}
+use Rattle.flat_meaning.specs.Memory.{load, put}
+use Rattle.flat_meaning.specs.State as flat
+use Rattle.flat_meaning.specs.Calls.{function_in}
+use Rattle.flat_meaning.specs.Meaning.{body_of, instruction_at, right_value}
+use Rattle.flat_meaning.proofs.Stored.{put_same, put_other}
+use Rattle.flat_operators.specs.Operators.{wide_code}
+use Rattle.flat_routines.specs.Routine.{HasAt}
+use Rattle.lock_space.specs.Locks.{keys_cell}
+use Rattle.object_routines.specs.AllocatingRoutines.Allocating.{keys_code, key_test}
+use Rattle.object_routines.specs.AllocatingRoutines.Entering.{round_code}
+use Rattle.metadata_plan.proofs.Flat.{Comes, branch_passed_comes, branch_taken_comes, constant_comes, next_comes}
+use Rattle.metadata_plan.proofs.Flat.{operate_comes}
+use Rattle.metadata_relation.specs.Blocks.{space_test, top_cell}
+use Rattle.metadata_relation.proofs.CalleeTests.{differs, shifted}
+use Rattle.metadata_relation.proofs.RoomTests.{added, below}
+use Rattle.metadata_relation.proofs.TopCell.{space_loaded, stack_low, top_read}
+
+shifted_up : (x n : ℕ) → reg_result Sll x n ≡ shifted_left 64 x (n % 64)
+unfolding reg_result
+shifted_up x n = refl
+
+compared : (x y : ℕ) → reg_result Sltu x y ≡ bit_of (nat_lt x y)
+unfolding reg_result
+compared x y = refl
+
+-- where the counter of keys lies
+record IsCounterPlace (m : MapSizes) : Type 0 where
+  heap : region_end m Heap < keys_cell m
+  first : spaces_begin ≤ keys_cell m
+  last : keys_cell m + 8 ≤ region_end m Cells
+  small : keys_cell m < 2 ^ 64
+
+counter_place : (m : MapSizes) → AreMapped m → IsCounterPlace m
+unfolding region_size region_start
+counter_place m h = record {
+  heap = omega (arith, h.globals, h.budgets.stack.greatest, h.budgets.heap.greatest);
+  first = omega arith;
+  last = omega arith;
+  small = omega (arith, h.globals, h.budgets.stack.greatest, h.budgets.heap.greatest, h.budgets.blocks);
+}
+
+module _ (m : MapSizes) (mapped : AreMapped m) (p : FlatProgram) (u pc : ℕ) (v : flat.State) (xs : List flat.Frame) where
+  abbrev body : List FlatInstruction
+  body = body_of (function_in p u)
+
+  abbrev ComesTo : (place : ℕ) → (values : flat.Values) → (most : ℕ) → Type 0
+  ComesTo place values most = Comes m p u pc v xs place (record v { values = values }) most
+
+  -- ---- one instruction more
+
+  operated : (q most : ℕ) (a : flat.Values) (op : RegOp) (x y : ℕ) (z : RightOperand) → ComesTo q a most
+      → instruction_at p u q ≡ Some (Operate op x y z)
+      → ComesTo (q + 1) (put a x (reg_result op (a y) (right_value z a))) (most + 2)
+  operated q most a op x y z k e =
+      next_comes m p u pc v xs q (q + 1) (record v { values = a })
+      (record v { values = put a x (reg_result op (a y) (right_value z a)) }) most 2 k
+      (λ w. (let b = operate_comes m p u q (record v { values = a; work = w }) xs op x y z e in
+      record { steps = b.steps; work = b.work; few = b.few; comes = b.comes }))
+
+  put_in : (q most : ℕ) (a : flat.Values) (x n : ℕ) → ComesTo q a most → instruction_at p u q ≡ Some (Constant x n)
+      → ComesTo (q + 1) (put a x (n % 2 ^ 64)) (most + 2)
+  put_in q most a x n k e =
+      next_comes m p u pc v xs q (q + 1) (record v { values = a }) (record v { values = put a x (n % 2 ^ 64) }) most 2 k
+      (λ w. (let b = constant_comes m p u q (record v { values = a; work = w }) xs x n e in
+      record { steps = b.steps; work = b.work; few = b.few; comes = b.comes }))
+
+  -- a register has a number, and the others are as they were
+  record IsAfter (a : flat.Values) (place most x n : ℕ) : Type 0 where
+    values : flat.Values
+    comes : ComesTo place values most
+    gives : values x ≡ n
+    others : (y : ℕ) → y ≢ x → values y ≡ a y
+
+  rounds : (q most : ℕ) (a : flat.Values) (s n : ℕ) → ComesTo q a most → HasAt body q (round_code s s) → a s ≡ n
+      → n < 2 ^ 32 → IsAfter a (q + 1 + 1 + 1) (most + 2 + 2 + 2) s (rounded_up 16 n)
+  rounds q most a s n k has is low =
+      let b = put a s (reg_result Add (a s) (15 % 2 ^ 64)) in
+      let d = put b s (reg_result Srl (b s) (4 % 2 ^ 64)) in
+      let k1 = operated q most a Add s s (Number 15) k has.0 in
+      let k2 = operated (q + 1) (most + 2) b Srl s s (Number 4) k1 has.1.0 in
+      let b_is : b s ≡ (n + 15) % 2 ^ 64 = put_same a s _ ∙ added (a s) (15 % 2 ^ 64) ∙ ap (λ z. sum 64 z 15) is in
+      let d_is : d s ≡ b s / 2 ^ 4 = put_same b s _ ∙ shifted (b s) (4 % 2 ^ 64) in
+      record {
+        values = put d s (reg_result Sll (d s) (4 % 2 ^ 64));
+        comes = operated (q + 1 + 1) (most + 2 + 2) d Sll s s (Number 4) k2 has.1.1.0;
+        gives =
+            let e : put d s (reg_result Sll (d s) (4 % 2 ^ 64)) s ≡ (d s * 2 ^ 4) % 2 ^ 64 =
+            put_same d s _ ∙ shifted_up (d s) (4 % 2 ^ 64) in
+            omega (arith, e, d_is, b_is, low);
+        others = λ y ne. put_other d s _ y ne ∙ put_other b s _ y ne ∙ put_other a s _ y ne;
+      }
+
+  -- twenty bits more of a number
+  appends : (q most : ℕ) (a : flat.Values) (x n w : ℕ) → ComesTo q a most
+      → instruction_at p u q ≡ Some (Operate Sll x x (Number 20))
+      → instruction_at p u (q + 1) ≡ Some (Operate Add x x (Number n)) → a x ≡ w → w < 2 ^ 43 → n < 2 ^ 20
+      → IsAfter a (q + 1 + 1) (most + 2 + 2) x (w * 2 ^ 20 + n)
+  appends q most a x n w k first second is low few =
+      let b = put a x (reg_result Sll (a x) (20 % 2 ^ 64)) in
+      let k1 = operated q most a Sll x x (Number 20) k first in
+      let b_is : b x ≡ (w * 2 ^ 20) % 2 ^ 64 =
+      put_same a x _ ∙ shifted_up (a x) (20 % 2 ^ 64) ∙ ap (λ z. shifted_left 64 z 20) is in
+      record {
+        values = put b x (reg_result Add (b x) (n % 2 ^ 64));
+        comes = operated (q + 1) (most + 2) b Add x x (Number n) k1 second;
+        gives =
+            let e : put b x (reg_result Add (b x) (n % 2 ^ 64)) x ≡ (b x + n % 2 ^ 64) % 2 ^ 64 =
+            put_same b x _ ∙ added (b x) (n % 2 ^ 64) in
+            omega (arith, e, b_is, low, few);
+        others = λ y ne. put_other b x _ y ne ∙ put_other a x _ y ne;
+      }
+
+  wide : (q most : ℕ) (a : flat.Values) (x w : ℕ) → ComesTo q a most → HasAt body q (wide_code x w) → w ≤ 2 ^ 62
+      → IsAfter a (q + 1 + 1 + 1 + 1 + 1) (most + 2 + 2 + 2 + 2 + 2) x w
+  wide q most a x w k has low =
+      let b = put a x ((w / 2 ^ 40) % 2 ^ 64) in
+      let k1 = put_in q most a x (w / 2 ^ 40) k has.0 in
+      let b_is : b x ≡ w / 2 ^ 40 = (let e = put_same a x ((w / 2 ^ 40) % 2 ^ 64) in omega (arith, e, low)) in
+      let one = appends (q + 1) (most + 2) b x (w / 2 ^ 20 % 2 ^ 20) (w / 2 ^ 40) k1 has.1.0 has.1.1.0 b_is
+      (omega (arith, low)) (omega arith) in
+      let one_is : one.values x ≡ w / 2 ^ 20 = (let e = one.gives in omega (arith, e)) in
+      let two = appends (q + 1 + 1 + 1) (most + 2 + 2 + 2) one.values x (w % 2 ^ 20) (w / 2 ^ 20) one.comes has.1.1.1.0
+      has.1.1.1.1.0 one_is (omega (arith, low)) (omega arith) in
+      record {
+        values = two.values;
+        comes = two.comes;
+        gives = (let e = two.gives in omega (arith, e));
+        others = λ y ne. two.others y ne ∙ one.others y ne ∙ put_other a x _ y ne;
+      }

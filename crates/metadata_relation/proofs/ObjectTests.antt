@@ -1,6 +1,6 @@
 -- The tests of a call whose callee's body has objects: the run goes on behind them, or ends with `Stack` or `Keys`.
 use Rattle.std.proofs.Common.{◌≡◌, ◌≢◌, ℕ, ◌+◌, ◌-◌, ◌*◌, ◌/◌, ◌%◌, ◌^◌, ◌<◌, ◌≤◌, Bool, true, false, not, List}
-use Rattle.std.proofs.Common.{◌∷◌, ◌++◌, length, Option, Some, None, refl, ap, ap₂, ◌∙◌, arith, mod-eq_of_lt}
+use Rattle.std.proofs.Common.{◌∷◌, ◌++◌, length, Option, Some, None, refl, ap, ap₂, ◌∙◌, arith, mod-eq_of_lt, subst}
 use Rattle.std.specs.Prelude.{◌==◌, nat_lt}
 use Rattle.sb_base.specs.declared.ending.Ending.{Ending}
 use Rattle.sb_base.specs.declared.ending.Ending.TheVariants.{Keys, Stack}
@@ -147,3 +147,59 @@ module _ (m : MapSizes) (mapped : AreMapped m) (p : FlatProgram) (u pc : ℕ) (v
         gives = (let e = two.gives in omega (arith, e));
         others = λ y ne. two.others y ne ∙ one.others y ne ∙ put_other a x _ y ne;
       }
+
+  -- ---- whether a key is left
+
+  -- registers below are as they were, and one tells by 0 or 1
+  record IsCounted (a : flat.Values) (place most s n : ℕ) : Type 0 where
+    values : flat.Values
+    comes : ComesTo place values most
+    gives : values s ≡ n
+    others : (y : ℕ) → y < s → values y ≡ a y
+
+  counts : (q most : ℕ) (a : flat.Values) (s made : ℕ) → ComesTo q a most → HasAt body q (keys_code m s (s + 1))
+      → load 8 v.memory (keys_cell m) ≡ made
+      → IsCounted a (q + 1 + 1 + 1 + 1 + 1 + 1 + 1 + 1 + 1) (most + 18) s (bit_of (nat_lt made m.budgets.keys))
+  counts q most a s made k has is =
+      let place = counter_place m mapped in
+      let small = place.small in
+      let low : m.budgets.keys ≤ 2 ^ 62 = mapped.budgets.keys in
+      let cell = keys_cell m in
+      let b = put a (s + 1) (cell % 2 ^ 64) in
+      let at : b (s + 1) ≡ cell = (let e = put_same a (s + 1) (cell % 2 ^ 64) in omega (arith, e, small)) in
+      let k1 = put_in q most a (s + 1) cell k has.0 in
+      let d = put b (s + 1) (load 8 v.memory cell) in
+      let k2 = next_comes m p u pc v xs (q + 1) (q + 1 + 1) (record v { values = b }) (record v { values = d }) (most + 2) 2
+      k1
+      (λ w. (let l = space_loaded m mapped p u xs (q + 1) (s + 1) (s + 1) cell (record v { values = b; work = w })
+      has.1.0 at place.heap place.first place.last small in
+      record { steps = l.steps; work = l.work; few = l.few; comes = l.comes })) in
+      let one = wide (q + 1 + 1) (most + 2 + 2) d s m.budgets.keys k2 (has.1.1.0, (has.1.1.1.0, (has.1.1.1.1.0,
+      (has.1.1.1.1.1.0, (has.1.1.1.1.1.1.0, tt))))) low in
+      let here = q + 1 + 1 + 1 + 1 + 1 + 1 + 1 in
+      let f = put one.values s (reg_result Sltu (one.values (s + 1)) (one.values s)) in
+      let k3 = operated here (most + 2 + 2 + 2 + 2 + 2 + 2 + 2) one.values Sltu s (s + 1) (Register s) one.comes
+      has.1.1.1.1.1.1.1.0 in
+      let k4 = operated (here + 1) (most + 2 + 2 + 2 + 2 + 2 + 2 + 2 + 2) f Add (s + 1) (s + 1) (Number 2) k3
+      has.1.1.1.1.1.1.1.1.0 in
+      let made_is : one.values (s + 1) ≡ made =
+      one.others (s + 1) (λ e. omega (arith, e)) ∙ put_same b (s + 1) (load 8 v.memory cell) ∙ is in
+      let few : most + 2 + 2 + 2 + 2 + 2 + 2 + 2 + 2 + 2 ≡ most + 18 = omega arith in
+      record {
+        values = put f (s + 1) (reg_result Add (f (s + 1)) (2 % 2 ^ 64));
+        comes = subst (λ z. ComesTo (here + 1 + 1) (put f (s + 1) (reg_result Add (f (s + 1)) (2 % 2 ^ 64))) z) few k4;
+        gives = put_other f (s + 1) _ s (λ e. omega (arith, e)) ∙ put_same one.values s _
+            ∙ compared (one.values (s + 1)) (one.values s) ∙ ap₂ (λ x y. bit_of (nat_lt x y)) made_is one.gives;
+        others = λ y lt. put_other f (s + 1) _ y (λ e. omega (arith, lt, e))
+            ∙ put_other one.values s _ y (λ e. omega (arith, lt, e)) ∙ one.others y (λ e. omega (arith, lt, e))
+            ∙ put_other b (s + 1) _ y (λ e. omega (arith, lt, e)) ∙ put_other a (s + 1) _ y (λ e. omega (arith, lt, e));
+      }
+
+  -- ---- the tests of the room and of the keys
+
+  branched : (q r most : ℕ) (a : flat.Values) → ComesTo q a most
+      → ((w : ℕ) → Comes m p u q (record v { values = a; work = w }) xs r (record v { values = a; work = w }) 2)
+      → ComesTo r a (most + 2)
+  branched q r most a k next =
+      next_comes m p u pc v xs q r (record v { values = a }) (record v { values = a }) most 2 k
+      (λ w. (let b = next w in record { steps = b.steps; work = b.work; few = b.few; comes = b.comes }))

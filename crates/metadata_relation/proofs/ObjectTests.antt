@@ -25,11 +25,12 @@ use Rattle.flat_meaning.specs.Meaning.{body_of, instruction_at, right_value}
 use Rattle.flat_meaning.proofs.Stored.{put_same, put_other}
 use Rattle.flat_operators.specs.Operators.{wide_code}
 use Rattle.flat_routines.specs.Routine.{HasAt}
+use Rattle.flat_routines.proofs.Steps.{has_front, has_back}
 use Rattle.lock_space.specs.Locks.{keys_cell}
 use Rattle.object_routines.specs.AllocatingRoutines.Allocating.{keys_code, key_test}
 use Rattle.object_routines.specs.AllocatingRoutines.Entering.{round_code}
 use Rattle.metadata_plan.proofs.Flat.{Comes, branch_passed_comes, branch_taken_comes, constant_comes, next_comes}
-use Rattle.metadata_plan.proofs.Flat.{operate_comes}
+use Rattle.metadata_plan.proofs.Flat.{operate_comes, weaker}
 use Rattle.metadata_relation.specs.Blocks.{space_test, top_cell}
 use Rattle.metadata_relation.proofs.CalleeTests.{differs, shifted}
 use Rattle.metadata_relation.proofs.RoomTests.{added, below}
@@ -203,3 +204,83 @@ module _ (m : MapSizes) (mapped : AreMapped m) (p : FlatProgram) (u pc : ℕ) (v
   branched q r most a k next =
       next_comes m p u pc v xs q r (record v { values = a }) (record v { values = a }) most 2 k
       (λ w. (let b = next w in record { steps = b.steps; work = b.work; few = b.few; comes = b.comes }))
+
+  -- the run comes behind the tests, or to an ending: room is tested first
+  pub record IsObjectTested (line s behind_tests most : ℕ) (room key : Bool) : Type 0 where
+    pub values : flat.Values
+    pub others : (y : ℕ) → y < s → values y ≡ v.values y
+    pub place : ℕ
+    pub comes : ComesTo place values most
+    pub behind : room ≡ true → key ≡ true → place ≡ behind_tests
+    pub no_room : room ≡ false → instruction_at p u place ≡ Some (End (Stack line))
+    pub no_key : room ≡ true → key ≡ false → instruction_at p u place ≡ Some (End (Keys line))
+
+  abbrev room_and_key : (line s : ℕ) → List FlatInstruction
+  room_and_key line s =
+      Branch Bltu s (Register (s + 1)) 1 ∷ End (Stack line) ∷ (keys_code m s (s + 1) ++ key_test s line)
+
+  module _ (line s q most made : ℕ) (a : flat.Values) (k : ComesTo q a most) (has : HasAt body q (room_and_key line s))
+      (counted : load 8 v.memory (keys_cell m) ≡ made) (kept : (y : ℕ) → y < s → a y ≡ v.values y) where
+    counted_at : ComesTo (q + 1 + 1) a (most + 2)
+        → IsCounted a (q + 1 + 1 + 1 + 1 + 1 + 1 + 1 + 1 + 1 + 1 + 1) (most + 2 + 18) s (bit_of (nat_lt made m.budgets.keys))
+    counted_at k1 =
+        counts (q + 1 + 1) (most + 2) a s made k1 (has_front body (q + 1 + 1) (keys_code m s (s + 1)) (key_test s line)
+        has.1.1) counted
+
+    by_key : (b : Bool) → nat_lt made m.budgets.keys ≡ b → ComesTo (q + 1 + 1) a (most + 2)
+        → IsObjectTested line s (q + 13) (most + 22) true b
+    by_key true e k1 =
+        let c = counted_at k1 in
+        let here = q + 1 + 1 + 1 + 1 + 1 + 1 + 1 + 1 + 1 + 1 + 1 in
+        let one : c.values s ≡ 1 = c.gives ∙ ap bit_of e in
+        record {
+          values = c.values;
+          others = λ y lt. c.others y lt ∙ kept y lt;
+          place = here + 1 + 1;
+          comes = weaker m p u pc v xs (here + 1 + 1) (record v { values = c.values }) (most + 2 + 18 + 2) (most + 22)
+              (branched here (here + 1 + 1) (most + 2 + 18) c.values c.comes
+              (λ w. branch_taken_comes m p u here (record v { values = c.values; work = w }) xs Bne s (Number 0) 1
+              has.1.1.1.1.1.1.1.1.1.1.1.0 (differs (c.values s) (0 % 2 ^ 64) true (ap (λ n. not (n == 0)) one))))
+              (omega arith);
+          behind = λ r t. omega arith;
+          no_room = λ no. cc;
+          no_key = λ r no. cc;
+        }
+    by_key false e k1 =
+        let c = counted_at k1 in
+        let here = q + 1 + 1 + 1 + 1 + 1 + 1 + 1 + 1 + 1 + 1 + 1 in
+        let none : c.values s ≡ 0 = c.gives ∙ ap bit_of e in
+        record {
+          values = c.values;
+          others = λ y lt. c.others y lt ∙ kept y lt;
+          place = here + 1;
+          comes = weaker m p u pc v xs (here + 1) (record v { values = c.values }) (most + 2 + 18 + 2) (most + 22)
+              (branched here (here + 1) (most + 2 + 18) c.values c.comes
+              (λ w. branch_passed_comes m p u here (record v { values = c.values; work = w }) xs Bne s (Number 0) 1
+              has.1.1.1.1.1.1.1.1.1.1.1.0 (differs (c.values s) (0 % 2 ^ 64) false (ap (λ n. not (n == 0)) none))))
+              (omega arith);
+          behind = λ r no. cc;
+          no_room = λ no. cc;
+          no_key = λ r is. has.1.1.1.1.1.1.1.1.1.1.1.1.0;
+        }
+
+    by_room : (r b : Bool) → nat_lt (a s) (a (s + 1)) ≡ r → nat_lt made m.budgets.keys ≡ b
+        → IsObjectTested line s (q + 13) (most + 22) r b
+    by_room true b e f =
+        by_key b f
+        (branched q (q + 1 + 1) most a k
+        (λ w. branch_taken_comes m p u q (record v { values = a; work = w }) xs Bltu s (Register (s + 1)) 1 has.0
+        (below (a s) (a (s + 1)) true e)))
+    by_room false b e f = record {
+      values = a;
+      others = kept;
+      place = q + 1;
+      comes = weaker m p u pc v xs (q + 1) (record v { values = a }) (most + 2) (most + 22)
+          (branched q (q + 1) most a k
+          (λ w. branch_passed_comes m p u q (record v { values = a; work = w }) xs Bltu s (Register (s + 1)) 1 has.0
+          (below (a s) (a (s + 1)) false e)))
+          (omega arith);
+      behind = λ no t. cc;
+      no_room = λ is. has.1.0;
+      no_key = λ no t. cc;
+    }

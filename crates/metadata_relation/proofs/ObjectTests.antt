@@ -1,7 +1,9 @@
 -- The tests of a call whose callee's body has objects: the run goes on behind them, or ends with `Stack` or `Keys`.
 use Rattle.std.proofs.Common.{◌≡◌, ◌≢◌, ℕ, ◌+◌, ◌-◌, ◌*◌, ◌/◌, ◌%◌, ◌^◌, ◌<◌, ◌≤◌, Bool, true, false, not, List}
 use Rattle.std.proofs.Common.{◌∷◌, ◌++◌, length, Option, Some, None, refl, ap, ap₂, ◌∙◌, arith, mod-eq_of_lt, subst}
-use Rattle.std.specs.Prelude.{◌==◌, nat_lt}
+use Rattle.std.proofs.Common.{inl, inr, sym, lt-ltb, le-ltb}
+use Rattle.std.specs.Prelude.{◌==◌, nat_le, nat_lt}
+use Rattle.std.proofs.lemmas.Bool.Decides.{leb_tells}
 use Rattle.sb_base.specs.declared.ending.Ending.{Ending}
 use Rattle.sb_base.specs.declared.ending.Ending.TheVariants.{Keys, Stack}
 use Rattle.addr_map.specs.declared.region.Region.TheVariants.{Cells, Heap, Stack as StackRegion}
@@ -30,9 +32,10 @@ use Rattle.lock_space.specs.Locks.{keys_cell}
 use Rattle.object_routines.specs.AllocatingRoutines.Allocating.{keys_code, key_test}
 use Rattle.object_routines.specs.AllocatingRoutines.Entering.{round_code}
 use Rattle.metadata_plan.proofs.Flat.{Comes, branch_passed_comes, branch_taken_comes, constant_comes, next_comes}
-use Rattle.metadata_plan.proofs.Flat.{operate_comes, weaker}
-use Rattle.metadata_relation.specs.Blocks.{space_test, top_cell}
+use Rattle.metadata_plan.proofs.Flat.{at_place, operate_comes, weaker}
+use Rattle.metadata_relation.specs.Blocks.{space_test, top_cell, units_tests}
 use Rattle.metadata_relation.proofs.CalleeTests.{differs, shifted}
+use Rattle.metadata_relation.proofs.Ranges.{Told}
 use Rattle.metadata_relation.proofs.RoomTests.{added, below}
 use Rattle.metadata_relation.proofs.TopCell.{space_loaded, stack_low, top_read}
 
@@ -284,3 +287,110 @@ module _ (m : MapSizes) (mapped : AreMapped m) (p : FlatProgram) (u pc : ℕ) (v
       no_room = λ is. has.1.0;
       no_key = λ no t. cc;
     }
+
+  -- ---- the lists
+
+  abbrev stack : ℕ
+  stack = region_end m StackRegion
+
+  -- where a sum fits a number is below what is left
+  fits_below : (base bytes : ℕ) (r : Bool) → nat_le (base + bytes) stack ≡ r → nat_lt base (stack + 1 - bytes) ≡ r
+  fits_below base bytes r e = by (leb_tells (base + bytes) stack)
+    where
+      by : Told (base + bytes) stack → nat_lt base (stack + 1 - bytes) ≡ r
+      by (inl p) = lt-ltb base (stack + 1 - bytes) (let z = p.1 in omega (arith, z)) ∙ sym p.0 ∙ e
+      by (inr p) = le-ltb base (stack + 1 - bytes) (let z = p.1 in omega (arith, z)) ∙ sym p.0 ∙ e
+
+  module _ (line s stacked made : ℕ) (top : load 8 v.memory (top_cell m) ≡ stacked) (inside : stacked ≤ stack)
+      (counted : load 8 v.memory (keys_cell m) ≡ made) where
+    -- objects of so many bytes, which are known
+    pub space_tested : (bytes : ℕ)
+        → HasAt body pc (space_test m bytes line s ++ (keys_code m s (s + 1) ++ key_test s line))
+        → (r b : Bool) → nat_le (rounded_up 16 stacked + bytes) stack ≡ r → nat_lt made m.budgets.keys ≡ b
+        → IsObjectTested line s (pc + 19) 34 r b
+    space_tested bytes has r b e f =
+        let low = stack_low m mapped in
+        let a0 = put (put v.values s (top_cell m)) s (load 8 v.memory (top_cell m)) in
+        let k0 = at_place m p u pc v xs (pc + 2) (pc + 1 + 1) (record v { values = a0 }) 4
+        (top_read m mapped p u xs pc s v (has.0, (has.1.0, tt))) (omega arith) in
+        let q = pc + 1 + 1 + 1 + 1 + 1 in
+        let one = rounds (pc + 1 + 1) 4 a0 s stacked k0 (has.1.1.0, (has.1.1.1.0, (has.1.1.1.1.0, tt)))
+        (put_same (put v.values s (top_cell m)) s _ ∙ top) (omega (arith, low, inside)) in
+        let limit = stack + 1 - bytes in
+        let a = put one.values (s + 1) (limit % 2 ^ 64) in
+        let k1 = put_in q 10 one.values (s + 1) limit one.comes has.1.1.1.1.1.0 in
+        let limit_is : a (s + 1) ≡ limit =
+        (let z = put_same one.values (s + 1) (limit % 2 ^ 64) in omega (arith, z, low)) in
+        let base_is : a s ≡ rounded_up 16 stacked =
+        put_other one.values (s + 1) _ s (λ e. omega (arith, e)) ∙ one.gives in
+        let t = by_room line s (q + 1) 12 made a k1 has.1.1.1.1.1.1 counted
+        (λ y lt. put_other one.values (s + 1) _ y (λ e. omega (arith, lt, e)) ∙ one.others y (λ e. omega (arith, lt, e))
+        ∙ put_other (put v.values s (top_cell m)) s _ y (λ e. omega (arith, lt, e))
+        ∙ put_other v.values s _ y (λ e. omega (arith, lt, e)))
+        r b (ap₂ nat_lt base_is limit_is ∙ fits_below (rounded_up 16 stacked) bytes r e) f in
+        let there : q + 1 + 13 ≡ pc + 19 = omega arith in
+        record {
+          values = t.values;
+          others = t.others;
+          place = t.place;
+          comes = t.comes;
+          behind = λ x y. t.behind x y ∙ there;
+          no_room = t.no_room;
+          no_key = t.no_key;
+        }
+
+    -- objects of so many units of 16 bytes, which a register has
+    pub units_tested : (units : ℕ) → v.values (s + 1) ≡ units → units < 2 ^ 32 → HasAt body pc (units_tests m line s)
+        → (r b : Bool) → nat_le (rounded_up 16 stacked + 16 * units) stack ≡ r → nat_lt made m.budgets.keys ≡ b
+        → IsObjectTested line s (pc + 21) 38 r b
+    units_tested units is few has r b e f =
+        let low = stack_low m mapped in
+        let cell = top_cell m in
+        let c = put v.values (s + 1) (reg_result Sll (v.values (s + 1)) (4 % 2 ^ 64)) in
+        let kc = operate_comes m p u pc v xs Sll (s + 1) (s + 1) (Number 4) has.0 in
+        let c_is : c (s + 1) ≡ (units * 2 ^ 4) % 2 ^ 64 =
+        put_same v.values (s + 1) _ ∙ shifted_up (v.values (s + 1)) (4 % 2 ^ 64) ∙ ap (λ z. shifted_left 64 z 4) is in
+        let a0 = put (put c s cell) s (load 8 v.memory cell) in
+        let k0 = next_comes m p u pc v xs (pc + 1) (pc + 1 + 1 + 1) (record v { values = c }) (record v { values = a0 }) 2 4
+        kc
+        (λ w. (let z = at_place m p u (pc + 1) (record v { values = c; work = w }) xs (pc + 1 + 2) (pc + 1 + 1 + 1)
+        (record v { values = a0; work = w }) 4
+        (top_read m mapped p u xs (pc + 1) s (record v { values = c; work = w }) (has.1.0, (has.1.1.0, tt)))
+        (omega arith) in
+        record { steps = z.steps; work = z.work; few = z.few; comes = z.comes })) in
+        let q = pc + 1 + 1 + 1 + 1 + 1 + 1 in
+        let one = rounds (pc + 1 + 1 + 1) 6 a0 s stacked k0 (has.1.1.1.0, (has.1.1.1.1.0, (has.1.1.1.1.1.0, tt)))
+        (put_same (put c s cell) s _ ∙ top) (omega (arith, low, inside)) in
+        let d = put one.values s (reg_result Add (one.values s) (one.values (s + 1))) in
+        let k1 = operated q 12 one.values Add s s (Register (s + 1)) one.comes has.1.1.1.1.1.1.0 in
+        let units_are : one.values (s + 1) ≡ (units * 2 ^ 4) % 2 ^ 64 =
+        one.others (s + 1) (λ e. omega (arith, e)) ∙ put_other (put c s cell) s _ (s + 1) (λ e. omega (arith, e))
+        ∙ put_other c s cell (s + 1) (λ e. omega (arith, e)) ∙ c_is in
+        let d_is : d s ≡ rounded_up 16 stacked + 16 * units =
+        (let z = put_same one.values s _ ∙ added (one.values s) (one.values (s + 1)) in
+        let g = one.gives in omega (arith, z, g, units_are, few, low, inside)) in
+        let a = put d (s + 1) ((stack + 1) % 2 ^ 64) in
+        let k2 = put_in (q + 1) 14 d (s + 1) (stack + 1) k1 has.1.1.1.1.1.1.1.0 in
+        let limit_is : a (s + 1) ≡ stack + 1 - 0 =
+        (let z = put_same d (s + 1) ((stack + 1) % 2 ^ 64) in omega (arith, z, low)) in
+        let base_is : a s ≡ rounded_up 16 stacked + 16 * units =
+        put_other d (s + 1) _ s (λ e. omega (arith, e)) ∙ d_is in
+        let sum_is : rounded_up 16 stacked + 16 * units + 0 ≡ rounded_up 16 stacked + 16 * units = omega arith in
+        let t = by_room line s (q + 1 + 1) 16 made a k2 has.1.1.1.1.1.1.1.1 counted
+        (λ y lt. put_other d (s + 1) _ y (λ e. omega (arith, lt, e))
+        ∙ put_other one.values s _ y (λ e. omega (arith, lt, e)) ∙ one.others y (λ e. omega (arith, lt, e))
+        ∙ put_other (put c s cell) s _ y (λ e. omega (arith, lt, e)) ∙ put_other c s cell y (λ e. omega (arith, lt, e))
+        ∙ put_other v.values (s + 1) _ y (λ e. omega (arith, lt, e)))
+        r b
+        (ap₂ nat_lt base_is limit_is
+        ∙ fits_below (rounded_up 16 stacked + 16 * units) 0 r (ap (λ z. nat_le z stack) sum_is ∙ e)) f in
+        let there : q + 1 + 1 + 13 ≡ pc + 21 = omega arith in
+        record {
+          values = t.values;
+          others = t.others;
+          place = t.place;
+          comes = t.comes;
+          behind = λ x y. t.behind x y ∙ there;
+          no_room = t.no_room;
+          no_key = t.no_key;
+        }

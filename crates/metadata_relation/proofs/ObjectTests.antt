@@ -1,14 +1,20 @@
 -- The tests of a call whose callee's body has objects: the run goes on behind them, or ends with `Stack` or `Keys`.
 use Rattle.std.proofs.Common.{◌≡◌, ◌≢◌, ℕ, ◌+◌, ◌-◌, ◌*◌, ◌/◌, ◌%◌, ◌^◌, ◌<◌, ◌≤◌, Bool, true, false, not, List}
 use Rattle.std.proofs.Common.{◌∷◌, ◌++◌, length, Option, Some, None, refl, ap, ap₂, ◌∙◌, arith, mod-eq_of_lt, subst}
-use Rattle.std.proofs.Common.{inl, inr, sym, lt-ltb, le-ltb}
-use Rattle.std.specs.Prelude.{◌==◌, nat_le, nat_lt}
+use Rattle.std.proofs.Common.{inl, inr, sym, lt-ltb, le-ltb, le-leb, true≢false, []}
+use Rattle.std.specs.Prelude.{◌==◌, ◌||◌, if◌then◌else◌, nat_le, nat_lt}
 use Rattle.std.proofs.lemmas.Bool.Decides.{leb_tells}
 use Rattle.sb_base.specs.declared.ending.Ending.{Ending}
 use Rattle.sb_base.specs.declared.ending.Ending.TheVariants.{Keys, Stack}
 use Rattle.addr_map.specs.declared.region.Region.TheVariants.{Cells, Heap, Stack as StackRegion}
 use Rattle.addr_map.specs.Places.{AreMapped, MapSizes, region_end, region_size, region_start, spaces_begin}
 use Rattle.obj_memory.specs.Heap.{rounded_up}
+use Rattle.c_tree.specs.declared.program.Variable.{Variable}
+use Rattle.c_tree.specs.Kinds.{size_of_kind}
+use Rattle.source_meaning.specs.State.{State}
+use Rattle.source_meaning.specs.Places.{stack_end}
+use Rattle.source_meaning.specs.Blocks.{has_objects, objects_end}
+use Rattle.tac_ir.specs.Stage.{Frame, Temps}
 use Rattle.words.specs.Operations.{shifted_left, sum}
 use Rattle.rv_isa.specs.declared.instruction.RegOp.{RegOp}
 use Rattle.rv_isa.specs.declared.instruction.RegOp.TheVariants.{Add, Sll, Sltu, Srl}
@@ -20,7 +26,7 @@ use Rattle.flat_meaning.specs.declared.instruction.RightOperand.TheVariants.{Reg
 use Rattle.flat_meaning.specs.declared.instruction.FlatInstruction.{FlatInstruction}
 use Rattle.flat_meaning.specs.declared.instruction.FlatInstruction.TheVariants.{Branch, Constant, End, Load, Operate}
 use Rattle.flat_meaning.specs.declared.function.FlatProgram.{FlatProgram}
-use Rattle.flat_meaning.specs.Memory.{load, put}
+use Rattle.flat_meaning.specs.Memory.{Bytes, load, put}
 use Rattle.flat_meaning.specs.State as flat
 use Rattle.flat_meaning.specs.Calls.{function_in}
 use Rattle.flat_meaning.specs.Meaning.{body_of, instruction_at, right_value}
@@ -28,15 +34,21 @@ use Rattle.flat_meaning.proofs.Stored.{put_same, put_other}
 use Rattle.flat_operators.specs.Operators.{wide_code}
 use Rattle.flat_routines.specs.Routine.{HasAt}
 use Rattle.flat_routines.proofs.Steps.{has_front, has_back}
-use Rattle.lock_space.specs.Locks.{keys_cell}
+use Rattle.lock_space.specs.Locks.{key_counter, keys_cell}
 use Rattle.object_routines.specs.AllocatingRoutines.Allocating.{keys_code, key_test}
-use Rattle.object_routines.specs.AllocatingRoutines.Entering.{round_code}
+use Rattle.object_routines.specs.AllocatingRoutines.Entering.{block_bytes, round_code}
+use Rattle.object_routines.proofs.AllocatingRoutines.SourceEntries.{end_by_bytes}
+use Rattle.metadata_plan.specs.Expanded.{Falls, Leads}
 use Rattle.metadata_plan.proofs.Flat.{Comes, branch_passed_comes, branch_taken_comes, constant_comes, next_comes}
-use Rattle.metadata_plan.proofs.Flat.{at_place, operate_comes, weaker}
-use Rattle.metadata_relation.specs.Blocks.{space_test, top_cell, units_tests}
+use Rattle.metadata_plan.proofs.Flat.{at_place, leads_comes, operate_comes, weaker}
+use Rattle.metadata_relation.specs.Blocks.{object_tests, space_test, top_cell, units_tests}
+use Rattle.metadata_relation.specs.Registers.{first_free}
+use Rattle.metadata_relation.specs.Stages.{Compiled, IsAt, map_of, names}
+use Rattle.metadata_relation.specs.Steps.{IsCompiled}
 use Rattle.metadata_relation.proofs.CalleeTests.{differs, shifted}
 use Rattle.metadata_relation.proofs.Ranges.{Told}
 use Rattle.metadata_relation.proofs.RoomTests.{added, below}
+use Rattle.metadata_relation.proofs.Standing.{good_now}
 use Rattle.metadata_relation.proofs.TopCell.{space_loaded, stack_low, top_read}
 
 shifted_up : (x n : ℕ) → reg_result Sll x n ≡ shifted_left 64 x (n % 64)
@@ -394,3 +406,83 @@ module _ (m : MapSizes) (mapped : AreMapped m) (p : FlatProgram) (u pc : ℕ) (v
           no_room = t.no_room;
           no_key = t.no_key;
         }
+
+-- ---- before a call at a node, where nothing of memory was written
+
+-- without objects the object stack ends where it did
+end_same : (vs : List Variable) (top : ℕ) → has_objects vs ≡ false → objects_end vs top ≡ top
+end_same [] top none = refl
+end_same (x ∷ vs) top none = by x.is_object refl (λ e. end_same vs top e)
+  where
+    by : (b : Bool) → x.is_object ≡ b → (has_objects vs ≡ false → objects_end vs top ≡ top)
+        → objects_end (x ∷ vs) top ≡ top
+    by true is rest = absurd (true≢false (sym (ap (λ z. z || has_objects vs) is) ∙ none))
+    by false is rest =
+        ap (λ z. objects_end vs (if z then rounded_up 16 top + size_of_kind x.kind else top)) is
+        ∙ rest (sym (ap (λ z. z || has_objects vs) is) ∙ none)
+
+module _ (c : Compiled) (IsGood : Bytes → Type 0) (right : IsCompiled c IsGood) (u n : ℕ) (temps : Temps)
+    (ws : List Frame) (s : State) (v : flat.State) (xs : List flat.Frame)
+    (h : IsAt c IsGood u n temps ws s u (c.layout.address u n) v xs) (q : ℕ) (w : flat.State)
+    (same : w.memory ≡ v.memory) (line : ℕ) where
+  abbrev pub Tested : (behind_tests most : ℕ) → (room key : Bool) → Type 0
+  Tested there most room key =
+      IsObjectTested (map_of c) right.mapped c.layout.program u q w xs line (first_free h.code) there most room key
+
+  abbrev pub has_room : List Variable → Bool
+  has_room vs = nat_le (objects_end vs s.stacked) (stack_end c.setting)
+
+  abbrev pub has_key : Bool
+  has_key = nat_lt s.keys c.setting.sizes.budgets.keys
+
+  top_is : load 8 w.memory (top_cell (map_of c)) ≡ s.stacked
+  top_is = ap (λ z. load 8 z (top_cell (map_of c))) same ∙ h.stands.top
+
+  inside : s.stacked ≤ region_end (map_of c) StackRegion
+  inside = (good_now (names c) u ws s h.steady.good).separate.top
+
+  counted_is : load 8 w.memory (keys_cell (map_of c)) ≡ s.keys
+  counted_is =
+      let counter : key_counter (map_of c) v.memory ≡ 2 + h.keys.made = h.stands.for.objects.counted in
+      let made = h.stands.for.keys in
+      ap (λ z. load 8 z (keys_cell (map_of c))) same ∙ omega (arith, counter, made)
+
+  key_same : nat_lt s.keys (map_of c).budgets.keys ≡ has_key
+  key_same = sym (ap (λ (z : MapSizes). nat_lt s.keys z.budgets.keys) right.sizes)
+
+  -- The run is behind the tests just where those of the source's meaning pass.
+  pub objects_tested : (vs : List Variable)
+      → HasAt (body_of (function_in c.layout.program u)) q (object_tests (map_of c) vs line (first_free h.code))
+      → Tested (q + length (object_tests (map_of c) vs line (first_free h.code))) 34 (has_room vs)
+      (not (has_objects vs) || has_key)
+  objects_tested vs = by (has_objects vs) refl
+    where
+      by : (b : Bool) → has_objects vs ≡ b
+          → HasAt (body_of (function_in c.layout.program u)) q (if b
+          then space_test (map_of c) (block_bytes vs) line (first_free h.code)
+          ++ (keys_code (map_of c) (first_free h.code) (first_free h.code + 1) ++ key_test (first_free h.code) line)
+          else [])
+          → Tested (q + length (if b
+          then space_test (map_of c) (block_bytes vs) line (first_free h.code)
+          ++ (keys_code (map_of c) (first_free h.code) (first_free h.code + 1) ++ key_test (first_free h.code) line)
+          else [])) 34 (has_room vs) (not b || has_key)
+      by true some has =
+          space_tested (map_of c) right.mapped c.layout.program u q w xs line (first_free h.code) s.stacked s.keys top_is
+          inside counted_is (block_bytes vs) has (has_room vs) has_key
+          (ap (λ z. nat_le z (region_end (map_of c) StackRegion)) (sym (end_by_bytes vs s.stacked some))
+          ∙ sym (ap (λ z. nat_le (objects_end vs s.stacked) (region_end z StackRegion)) right.sizes)) key_same
+      by false none has =
+          let space : has_room vs ≡ true =
+          ap (λ z. nat_le (objects_end vs s.stacked) (region_end z StackRegion)) right.sizes
+          ∙ ap (λ z. nat_le z (region_end (map_of c) StackRegion)) (end_same vs s.stacked none)
+          ∙ le-leb s.stacked (region_end (map_of c) StackRegion) inside in
+          record {
+            values = w.values;
+            others = λ y lt. refl;
+            place = q;
+            comes = weaker (map_of c) c.layout.program u q w xs q w 2 34
+                (leads_comes (map_of c) c.layout.program u q w xs q (Falls refl)) (omega arith);
+            behind = λ x y. omega arith;
+            no_room = λ no. absurd (true≢false (sym space ∙ no));
+            no_key = λ x no. cc;
+          }

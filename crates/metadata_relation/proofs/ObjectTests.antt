@@ -1,20 +1,24 @@
 -- The tests of a call whose callee's body has objects: the run goes on behind them, or ends with `Stack` or `Keys`.
 use Rattle.std.proofs.Common.{◌≡◌, ◌≢◌, ℕ, ◌+◌, ◌-◌, ◌*◌, ◌/◌, ◌%◌, ◌^◌, ◌<◌, ◌≤◌, Bool, true, false, not, List}
 use Rattle.std.proofs.Common.{◌∷◌, ◌++◌, length, Option, Some, None, refl, ap, ap₂, ◌∙◌, arith, mod-eq_of_lt, subst}
-use Rattle.std.proofs.Common.{inl, inr, sym, lt-ltb, le-ltb, le-leb, true≢false, []}
+use Rattle.std.proofs.Common.{inl, inr, sym, lt-ltb, le-ltb, le-leb, true≢false, mul-le-mul_right, []}
 use Rattle.std.specs.Prelude.{◌==◌, ◌||◌, if◌then◌else◌, nat_le, nat_lt}
 use Rattle.std.proofs.lemmas.Bool.Decides.{leb_tells}
 use Rattle.sb_base.specs.declared.ending.Ending.{Ending}
 use Rattle.sb_base.specs.declared.ending.Ending.TheVariants.{Keys, Stack}
+use Rattle.sb_base.specs.Endings.{code_of, report_of}
+use Rattle.behaviours.specs.Steps.{run}
+use Rattle.behaviours.proofs.Running.{run_add}
 use Rattle.addr_map.specs.declared.region.Region.TheVariants.{Cells, Heap, Stack as StackRegion}
 use Rattle.addr_map.specs.Places.{AreMapped, MapSizes, region_end, region_size, region_start, spaces_begin}
 use Rattle.obj_memory.specs.Heap.{rounded_up}
 use Rattle.c_tree.specs.declared.program.Variable.{Variable}
 use Rattle.c_tree.specs.Kinds.{size_of_kind}
-use Rattle.source_meaning.specs.State.{State}
+use Rattle.source_meaning.specs.State.{Ended, Header, Rvalue, Setting, State}
+use Rattle.source_meaning.specs.Calls.{body_objects, set_up}
 use Rattle.source_meaning.specs.Places.{stack_end}
 use Rattle.source_meaning.specs.Blocks.{has_objects, objects_end}
-use Rattle.tac_ir.specs.Stage.{Frame, Temps}
+use Rattle.tac_ir.specs.Stage.{Frame, Over, Temps}
 use Rattle.words.specs.Operations.{shifted_left, sum}
 use Rattle.rv_isa.specs.declared.instruction.RegOp.{RegOp}
 use Rattle.rv_isa.specs.declared.instruction.RegOp.TheVariants.{Add, Sll, Sltu, Srl}
@@ -29,7 +33,7 @@ use Rattle.flat_meaning.specs.declared.function.FlatProgram.{FlatProgram}
 use Rattle.flat_meaning.specs.Memory.{Bytes, load, put}
 use Rattle.flat_meaning.specs.State as flat
 use Rattle.flat_meaning.specs.Calls.{function_in}
-use Rattle.flat_meaning.specs.Meaning.{body_of, instruction_at, right_value}
+use Rattle.flat_meaning.specs.Meaning.{body_of, instruction_at, right_value, step, weight_of}
 use Rattle.flat_meaning.proofs.Stored.{put_same, put_other}
 use Rattle.flat_operators.specs.Operators.{wide_code}
 use Rattle.flat_routines.specs.Routine.{HasAt}
@@ -40,15 +44,15 @@ use Rattle.object_routines.specs.AllocatingRoutines.Entering.{block_bytes, round
 use Rattle.object_routines.proofs.AllocatingRoutines.SourceEntries.{end_by_bytes}
 use Rattle.metadata_plan.specs.Expanded.{Falls, Leads}
 use Rattle.metadata_plan.proofs.Flat.{Comes, branch_passed_comes, branch_taken_comes, constant_comes, next_comes}
-use Rattle.metadata_plan.proofs.Flat.{at_place, leads_comes, operate_comes, weaker}
+use Rattle.metadata_plan.proofs.Flat.{at_place, end_step, leads_comes, operate_comes, weaker, weight_small}
 use Rattle.metadata_relation.specs.Blocks.{object_tests, space_test, top_cell, units_tests}
 use Rattle.metadata_relation.specs.Registers.{first_free}
-use Rattle.metadata_relation.specs.Stages.{Compiled, IsAt, map_of, names}
+use Rattle.metadata_relation.specs.Stages.{Compiled, factor, IsAt, map_of, names}
 use Rattle.metadata_relation.specs.Steps.{IsCompiled}
 use Rattle.metadata_relation.proofs.CalleeTests.{differs, shifted}
 use Rattle.metadata_relation.proofs.Ranges.{Told}
 use Rattle.metadata_relation.proofs.RoomTests.{added, below}
-use Rattle.metadata_relation.proofs.Standing.{good_now}
+use Rattle.metadata_relation.proofs.Standing.{ends, good_now, Result}
 use Rattle.metadata_relation.proofs.TopCell.{space_loaded, stack_low, top_read}
 
 shifted_up : (x n : ℕ) → reg_result Sll x n ≡ shifted_left 64 x (n % 64)
@@ -406,6 +410,55 @@ module _ (m : MapSizes) (mapped : AreMapped m) (p : FlatProgram) (u pc : ℕ) (v
           no_room = t.no_room;
           no_key = t.no_key;
         }
+
+-- ---- how the source's meaning ends
+
+-- the objects of the body do not fit on the object stack
+pub space_spent : (g : Setting) (f : Header) (vs : List Rvalue) (line : ℕ) (s : State)
+    → nat_le (s.charged + f.room) g.sizes.budgets.calls ≡ true
+    → nat_le (objects_end (body_objects f) s.stacked) (stack_end g) ≡ false
+    → set_up g f vs line s ≡ Ended (Stack line) (record s { work = s.work + 1 })
+space_spent g f vs line s fits space = rw (fits, space) refl
+
+-- no key is left for them
+pub keys_spent : (g : Setting) (f : Header) (vs : List Rvalue) (line : ℕ) (s : State)
+    → nat_le (s.charged + f.room) g.sizes.budgets.calls ≡ true
+    → nat_le (objects_end (body_objects f) s.stacked) (stack_end g) ≡ true
+    → has_objects (body_objects f) ≡ true → nat_lt s.keys g.sizes.budgets.keys ≡ false
+    → set_up g f vs line s ≡ Ended (Keys line) (record s { work = s.work + 1 })
+keys_spent g f vs line s fits space some none = rw (fits, space, some, none) refl
+
+module _ (c : Compiled) (IsGood : Bytes → Type 0) (u n : ℕ) (temps : Temps) (ws : List Frame) (s : State)
+    (v : flat.State) (xs : List flat.Frame) (h : IsAt c IsGood u n temps ws s u (c.layout.address u n) v xs) where
+  -- the run ends where a test has failed
+  pub ends_at : (e : Ending) (s' : State) (q most turns : ℕ) (values : flat.Values)
+      → Comes (map_of c) c.layout.program u (c.layout.address u n) v xs q
+      (record v { turns = turns; values = values }) most
+      → instruction_at c.layout.program u q ≡ Some (End e)
+      → (s'.input ≡ s.input) × (s'.output ≡ s.output) × (s'.taken ≡ s.taken) × (s'.accesses ≡ s.accesses)
+      → s'.turns ≤ turns → most + 2 + factor * s.work ≤ factor * s'.work
+      → Result c IsGood (Over e s') (flat.Stands u (c.layout.address u n) v xs)
+  ends_at e s' q most turns values k at same turned cost =
+      let after : flat.State = record v { turns = turns; values = values; work = v.work + k.work } in
+      let pc = c.layout.address u n in
+      let l = length (report_of e) in
+      let w = weight_of (function_in c.layout.program u) in
+      let scaled = mul-le-mul_right (1 + l) (weight_small (function_in c.layout.program u)) in
+      let shown = h.stands.for.shown in
+      let few = k.few in
+      let before = h.work in
+      ends c IsGood (flat.Stands u pc v xs) e s' (record after { work = v.work + k.work + w * (1 + l) })
+      (k.steps + 1) (code_of e) (report_of e)
+      (run_add (step (map_of c) c.layout.program) k.steps 1 (flat.Stands u pc v xs)
+      ∙ ap (run (step (map_of c) c.layout.program) 1) k.comes ∙ end_step (map_of c) c.layout.program u q after xs e at)
+      refl refl
+      (record {
+        input = shown.input ∙ sym same.0;
+        output = shown.output ∙ sym same.1;
+        taken = shown.taken ∙ sym same.2;
+        accesses = shown.accesses ∙ sym same.3;
+      })
+      turned (omega (arith, before, few, scaled, cost))
 
 -- ---- before a call at a node, where nothing of memory was written
 

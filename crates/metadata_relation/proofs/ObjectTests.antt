@@ -14,11 +14,13 @@ use Rattle.addr_map.specs.Places.{AreMapped, MapSizes, region_end, region_size, 
 use Rattle.obj_memory.specs.Heap.{rounded_up}
 use Rattle.c_tree.specs.declared.program.Variable.{Variable}
 use Rattle.c_tree.specs.Kinds.{size_of_kind}
-use Rattle.source_meaning.specs.State.{Ended, Header, Rvalue, Setting, State}
+use Rattle.source_meaning.specs.State.{Ended, Header, Outcome, Rvalue, Setting, State}
 use Rattle.source_meaning.specs.Calls.{body_objects, set_up}
 use Rattle.source_meaning.specs.Places.{stack_end}
 use Rattle.source_meaning.specs.Blocks.{has_objects, objects_end}
-use Rattle.tac_ir.specs.Stage.{Frame, Over, Temps}
+use Rattle.tac_ir.specs.Stage.{came, Frame, Over, Stage, Temps}
+use Rattle.tac_ir.specs.Costs.{fourfold, spent}
+use Rattle.tac_ir.specs.Meaning.{begun}
 use Rattle.words.specs.Operations.{shifted_left, sum}
 use Rattle.rv_isa.specs.declared.instruction.RegOp.{RegOp}
 use Rattle.rv_isa.specs.declared.instruction.RegOp.TheVariants.{Add, Sll, Sltu, Srl}
@@ -44,7 +46,7 @@ use Rattle.object_routines.specs.AllocatingRoutines.Entering.{block_bytes, round
 use Rattle.object_routines.proofs.AllocatingRoutines.SourceEntries.{end_by_bytes}
 use Rattle.metadata_plan.specs.Expanded.{Falls, Leads}
 use Rattle.metadata_plan.proofs.Flat.{Comes, branch_passed_comes, branch_taken_comes, constant_comes, next_comes}
-use Rattle.metadata_plan.proofs.Flat.{at_place, end_step, leads_comes, operate_comes, weaker, weight_small}
+use Rattle.metadata_plan.proofs.Flat.{at_place, end_step, leads_comes, operate_comes, then_comes, weaker, weight_small}
 use Rattle.metadata_relation.specs.Blocks.{object_tests, space_test, top_cell, units_tests}
 use Rattle.metadata_relation.specs.Registers.{first_free}
 use Rattle.metadata_relation.specs.Stages.{Compiled, factor, IsAt, map_of, names}
@@ -539,3 +541,85 @@ module _ (c : Compiled) (IsGood : Bytes → Type 0) (right : IsCompiled c IsGood
             no_room = λ no. absurd (true≢false (sym space ∙ no));
             no_key = λ x no. cc;
           }
+
+-- ---- the run ends at a call by name
+
+module _ (c : Compiled) (IsGood : Bytes → Type 0) (right : IsCompiled c IsGood) (u n : ℕ) (temps : Temps)
+    (ws : List Frame) (s : State) (v : flat.State) (xs : List flat.Frame)
+    (h : IsAt c IsGood u n temps ws s u (c.layout.address u n) v xs) (f : Header) (arguments : List Rvalue)
+    (line paid : ℕ) (next : Unit {0} → State → Stage) where
+  -- where the callee would go on
+  abbrev pub GivesCall : Outcome (Unit {0}) → Type 0
+  GivesCall o =
+      Result c IsGood (came (fourfold (s.work + paid) o) next) (flat.Stands u (c.layout.address u n) v xs)
+
+  abbrev pub call_set_up : Outcome (Unit {0})
+  call_set_up = set_up c.setting f arguments line (begun (spent paid s))
+
+  pub stops_at : (e : Ending) → call_set_up ≡ Ended e (record (begun (spent paid s)) { work = s.work + paid + 1 })
+      → (q most : ℕ) (values : flat.Values)
+      → Comes (map_of c) c.layout.program u (c.layout.address u n) v xs q
+      (record v { turns = v.turns + 1; values = values }) most
+      → instruction_at c.layout.program u q ≡ Some (End e) → most ≤ 82 → GivesCall call_set_up
+  stops_at e is q most values k at few =
+      let z : State = record (begun (spent paid s)) { work = s.work + paid + 1 } in
+      let turned = h.stands.turns in
+      subst GivesCall (sym is)
+      (ends_at c IsGood u n temps ws s v xs h e (spent (3 * (z.work - (s.work + paid))) z) q most (v.turns + 1) values k at
+      (refl, refl, refl, refl) (omega (arith, turned)) (omega (arith, few)))
+
+  module _ (q most : ℕ) (a : flat.Values)
+      (k : Comes (map_of c) c.layout.program u (c.layout.address u n) v xs q
+      (record v { turns = v.turns + 1; values = a }) most)
+      (has : HasAt (body_of (function_in c.layout.program u)) q
+      (object_tests (map_of c) (body_objects f) line (first_free h.code)))
+      (fits : nat_le (s.charged + f.room) c.setting.sizes.budgets.calls ≡ true) (few : most ≤ 48) where
+    abbrev w : flat.State
+    w = record v { turns = v.turns + 1; values = a; work = v.work + k.work }
+
+    abbrev pub there : ℕ
+    there = q + length (object_tests (map_of c) (body_objects f) line (first_free h.code))
+
+    -- the run from the node on, where the room and the keys are tested so
+    pub record IsTestedHere (room key : Bool) : Type 0 where
+      pub values : flat.Values
+      pub others : (y : ℕ) → y < first_free h.code → values y ≡ a y
+      pub place : ℕ
+      pub comes : Comes (map_of c) c.layout.program u (c.layout.address u n) v xs place
+          (record v { turns = v.turns + 1; values = values }) (most + 34)
+      pub behind : room ≡ true → key ≡ true → place ≡ there
+      pub no_room : room ≡ false → instruction_at c.layout.program u place ≡ Some (End (Stack line))
+      pub no_key : room ≡ true → key ≡ false → instruction_at c.layout.program u place ≡ Some (End (Keys line))
+
+    pub tested_here : IsTestedHere (nat_le (objects_end (body_objects f) s.stacked) (stack_end c.setting))
+        (not (has_objects (body_objects f)) || nat_lt s.keys c.setting.sizes.budgets.keys)
+    tested_here =
+        let t = objects_tested c IsGood right u n temps ws s v xs h q w refl line (body_objects f) has in
+        let j = t.comes in
+        record {
+          values = t.values;
+          others = t.others;
+          place = t.place;
+          comes = then_comes (map_of c) c.layout.program u (c.layout.address u n) v xs q t.place
+              (record v { turns = v.turns + 1; values = a }) (record v { turns = v.turns + 1; values = t.values }) most 34 k
+              (record { steps = j.steps; work = j.work; few = j.few; comes = j.comes });
+          behind = t.behind;
+          no_room = t.no_room;
+          no_key = t.no_key;
+        }
+
+    pub no_room_stops : nat_le (objects_end (body_objects f) s.stacked) (stack_end c.setting) ≡ false
+        → GivesCall call_set_up
+    no_room_stops none =
+        let t = tested_here in
+        stops_at (Stack line) (space_spent c.setting f arguments line (begun (spent paid s)) fits none) t.place (most + 34)
+        t.values t.comes (t.no_room none) (omega (arith, few))
+
+    pub no_key_stops : nat_le (objects_end (body_objects f) s.stacked) (stack_end c.setting) ≡ true
+        → has_objects (body_objects f) ≡ true → nat_lt s.keys c.setting.sizes.budgets.keys ≡ false
+        → GivesCall call_set_up
+    no_key_stops space some none =
+        let t = tested_here in
+        stops_at (Keys line) (keys_spent c.setting f arguments line (begun (spent paid s)) fits space some none) t.place
+        (most + 34) t.values t.comes
+        (t.no_key space (ap (λ b. not b || nat_lt s.keys c.setting.sizes.budgets.keys) some ∙ none)) (omega (arith, few))

@@ -4,6 +4,7 @@ use Rattle.std.proofs.Common.{◌∷◌, ◌++◌, length, Option, Some, None, r
 use Rattle.std.proofs.Common.{inl, inr, sym, lt-ltb, le-ltb, le-leb, true≢false, mul-le-mul_right, []}
 use Rattle.std.specs.Prelude.{◌==◌, ◌||◌, if◌then◌else◌, nat_le, nat_lt}
 use Rattle.std.proofs.lemmas.Bool.Decides.{leb_tells}
+use Rattle.std.proofs.lemmas.Nat.{and_mask}
 use Rattle.sb_base.specs.declared.ending.Ending.{Ending}
 use Rattle.sb_base.specs.declared.ending.Ending.TheVariants.{Keys, Stack}
 use Rattle.sb_base.specs.Endings.{code_of, report_of}
@@ -23,8 +24,8 @@ use Rattle.tac_ir.specs.Costs.{fourfold, spent}
 use Rattle.tac_ir.specs.Meaning.{begun}
 use Rattle.words.specs.Operations.{shifted_left, sum}
 use Rattle.rv_isa.specs.declared.instruction.RegOp.{RegOp}
-use Rattle.rv_isa.specs.declared.instruction.RegOp.TheVariants.{Add, Sll, Sltu, Srl}
-use Rattle.rv_isa.specs.declared.instruction.BranchOp.TheVariants.{Bltu, Bne}
+use Rattle.rv_isa.specs.declared.instruction.RegOp.TheVariants.{Add, And, Sll, Sltu, Srl}
+use Rattle.rv_isa.specs.declared.instruction.BranchOp.TheVariants.{Beq, Bltu, Bne}
 use Rattle.rv_isa.specs.declared.instruction.LoadOp.TheVariants.{Ld}
 use Rattle.rv_isa.specs.Results.{bit_of, branch_taken, reg_result}
 use Rattle.flat_meaning.specs.declared.instruction.RightOperand.{RightOperand}
@@ -47,11 +48,11 @@ use Rattle.object_routines.proofs.AllocatingRoutines.SourceEntries.{end_by_bytes
 use Rattle.metadata_plan.specs.Expanded.{Falls, Leads}
 use Rattle.metadata_plan.proofs.Flat.{Comes, branch_passed_comes, branch_taken_comes, constant_comes, next_comes}
 use Rattle.metadata_plan.proofs.Flat.{at_place, end_step, leads_comes, operate_comes, then_comes, weaker, weight_small}
-use Rattle.metadata_relation.specs.Blocks.{object_tests, space_test, top_cell, units_tests}
+use Rattle.metadata_relation.specs.Blocks.{object_tests, space_test, top_cell, units_tests, unknown_object_tests}
 use Rattle.metadata_relation.specs.Registers.{first_free}
 use Rattle.metadata_relation.specs.Stages.{Compiled, factor, IsAt, map_of, names}
 use Rattle.metadata_relation.specs.Steps.{IsCompiled}
-use Rattle.metadata_relation.proofs.CalleeTests.{differs, shifted}
+use Rattle.metadata_relation.proofs.CalleeTests.{differs, equal, masked, shifted}
 use Rattle.metadata_relation.proofs.Ranges.{Told}
 use Rattle.metadata_relation.proofs.RoomTests.{added, below}
 use Rattle.metadata_relation.proofs.Standing.{ends, good_now, Result}
@@ -412,6 +413,49 @@ module _ (m : MapSizes) (mapped : AreMapped m) (p : FlatProgram) (u pc : ℕ) (v
           no_room = t.no_room;
           no_key = t.no_key;
         }
+
+-- ---- a callee that a pointer names
+
+module _ (m : MapSizes) (mapped : AreMapped m) (p : FlatProgram) (u pc : ℕ) (v : flat.State) (xs : List flat.Frame)
+    (r line s stacked made units : ℕ) (apart : r + 5 ≤ s) (top : load 8 v.memory (top_cell m) ≡ stacked)
+    (inside : stacked ≤ region_end m StackRegion) (counted : load 8 v.memory (keys_cell m) ≡ made)
+    (told : v.values (r + 3) / 2 ^ 12 % 2 ^ 19 ≡ units)
+    (has : HasAt (body_of (function_in p u)) pc (unknown_object_tests m (r + 3) line s)) where
+  -- it has objects, with their units in its key
+  pub some_units_tested : (units == 0) ≡ false
+      → (room b : Bool) → nat_le (rounded_up 16 stacked + 16 * units) (region_end m StackRegion) ≡ room
+      → nat_lt made m.budgets.keys ≡ b
+      → IsObjectTested m mapped p u pc v xs line s (pc + 24) 44 room b
+  some_units_tested some room b e f =
+      let key = v.values (r + 3) in
+      let a = put v.values (s + 1) (reg_result Srl key (12 % 2 ^ 64)) in
+      let d = put a (s + 1) (reg_result And (a (s + 1)) ((2 ^ 19 - 1) % 2 ^ 64)) in
+      let is : d (s + 1) ≡ units = put_same a (s + 1) _
+      ∙ ap (λ z. reg_result And z ((2 ^ 19 - 1) % 2 ^ 64)) (put_same v.values (s + 1) _ ∙ shifted key (12 % 2 ^ 64))
+      ∙ masked (key / 2 ^ 12) ((2 ^ 19 - 1) % 2 ^ 64) ∙ and_mask (key / 2 ^ 12) 19 ∙ told in
+      let k1 = operated m mapped p u pc v xs (pc + 1) 2 a And (s + 1) (s + 1) (Number (2 ^ 19 - 1))
+      (operate_comes m p u pc v xs Srl (s + 1) (r + 3) (Number 12) has.0) has.1.0 in
+      let k2 = branched m mapped p u pc v xs (pc + 1 + 1) (pc + 1 + 1 + 1) 4 d k1
+      (λ w. branch_passed_comes m p u (pc + 1 + 1) (record v { values = d; work = w }) xs Beq (s + 1) (Number 0)
+      (length (units_tests m line s)) has.1.1.0
+      (equal (d (s + 1)) (0 % 2 ^ 64) false (ap (λ n. n == 0) is ∙ some))) in
+      let w : flat.State = record v { values = d; work = v.work + k2.work } in
+      let few : units < 2 ^ 32 = omega (arith, told) in
+      let t = units_tested m mapped p u (pc + 1 + 1 + 1) w xs line s stacked made top inside counted units is few
+      has.1.1.1 room b e f in
+      let j = t.comes in
+      record {
+        values = t.values;
+        others = λ y lt. t.others y lt ∙ put_other a (s + 1) _ y (λ e. omega (arith, lt, e))
+            ∙ put_other v.values (s + 1) _ y (λ e. omega (arith, lt, e));
+        place = t.place;
+        comes = then_comes m p u pc v xs (pc + 1 + 1 + 1) t.place (record v { values = d })
+            (record v { values = t.values }) 6 38 k2
+            (record { steps = j.steps; work = j.work; few = j.few; comes = j.comes });
+        behind = λ x y. (let z = t.behind x y in omega (arith, z));
+        no_room = t.no_room;
+        no_key = t.no_key;
+      }
 
 -- ---- how the source's meaning ends
 

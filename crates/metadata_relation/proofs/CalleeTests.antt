@@ -36,7 +36,7 @@ pub equal : (x y : ℕ) (b : Bool) → (x == y) ≡ b → branch_taken Beq x y �
 unfolding branch_taken
 equal x y b e = e
 
-differs : (x y : ℕ) (b : Bool) → not (x == y) ≡ b → branch_taken Bne x y ≡ b
+pub differs : (x y : ℕ) (b : Bool) → not (x == y) ≡ b → branch_taken Bne x y ≡ b
 unfolding branch_taken
 differs x y b e = e
 

@@ -87,6 +87,7 @@ use Rattle.metadata_relation.proofs.FunctionTypes.{is_callee, FindsBy, finds, no
 use Rattle.metadata_relation.proofs.FunctionTypes.{units_told, room_told_by}
 use Rattle.metadata_relation.proofs.FunctionsOfType.{there_at, plain_at, passed_to, take_alike, headers_are, kind_low, inside_list}
 use Rattle.metadata_relation.proofs.FunctionsOfType.{units_low, room_low, key_is, kind_tells, code_count}
+use Rattle.metadata_relation.proofs.ObjectTests.{ends_at}
 use Rattle.metadata_relation.proofs.RoomTests.{IsRoomTested, room_tested, HasNoUnits, no_units}
 
 -- ---- the address of a function
@@ -189,33 +190,6 @@ module _ (c : Compiled) (IsGood : Bytes → Type 0) (right : IsCompiled c IsGood
       let own = q.1 in
       omega (arith, key, own, made, few, budget))) (static_or (object_at s.objects o).storage)
 
-  -- the run ends where a test has failed
-  ends_at : (e : Ending) (s' : State) (q most turns : ℕ) (values : flat.Values)
-      → ComesTo q (record v { turns = turns; values = values }) most
-      → instruction_at c.layout.program u q ≡ Some (flat_code.End e)
-      → (s'.input ≡ s.input) × (s'.output ≡ s.output) × (s'.taken ≡ s.taken) × (s'.accesses ≡ s.accesses)
-      → s'.turns ≤ turns → most + 2 + factor * s.work ≤ factor * s'.work → Gives (Over e s')
-  ends_at e s' q most turns values k at same turned cost =
-      let after : flat.State = record v { turns = turns; values = values; work = v.work + k.work } in
-      let l = length (report_of e) in
-      let w = weight_of (function_in c.layout.program u) in
-      let scaled = mul-le-mul_right (1 + l) (weight_small (function_in c.layout.program u)) in
-      let shown = h.stands.for.shown in
-      let few = k.few in
-      let before = h.work in
-      ends c IsGood (flat.Stands u (c.layout.address u n) v xs) e s' (record after { work = v.work + k.work + w * (1 + l) })
-      (k.steps + 1) (code_of e) (report_of e)
-      (run_add (step (map_of c) c.layout.program) k.steps 1 (flat.Stands u pc v xs)
-      ∙ ap (run (step (map_of c) c.layout.program) 1) k.comes ∙ end_step (map_of c) c.layout.program u q after xs e at)
-      refl refl
-      (record {
-        input = shown.input ∙ sym same.0;
-        output = shown.output ∙ sym same.1;
-        taken = shown.taken ∙ sym same.2;
-        accesses = shown.accesses ∙ sym same.3;
-      })
-      turned (omega (arith, before, few, scaled, cost))
-
   module _ (type line d count next : ℕ)
       (at : slice_get h.code.code n ≡ Some (tac.CallThrough type line d count next)) where
     abbrev i : Instruction
@@ -292,7 +266,7 @@ module _ (c : Compiled) (IsGood : Bytes → Type 0) (right : IsCompiled c IsGood
     no_callee none q most values k few at =
         subst (λ z. Gives (came z (λ f s'. called c.setting (expansion_of c).code f vs line (Waits waits ∷ ws) s')))
         (sym none)
-        (ends_at (BadCall line) (spent 8 s) q most v.turns values k at (refl, refl, refl, refl) h.stands.turns
+        (ends_at c IsGood u n temps ws s v xs h (BadCall line) (spent 8 s) q most v.turns values k at (refl, refl, refl, refl) h.stands.turns
         (omega (arith, few)))
 
     -- no function has the type
@@ -523,7 +497,7 @@ module _ (c : Compiled) (IsGood : Bytes → Type 0) (right : IsCompiled c IsGood
             spent (3 * (z.work - (s.work + 8))) z) in
             let turned = h.stands.turns in
             let result : Gives (Over (Stack line) stopped) =
-            ends_at (Stack line) stopped B.place 22 (v.turns + 1) B.values (to_place false B) (B.ends refl)
+            ends_at c IsGood u n temps ws s v xs h (Stack line) stopped B.place 22 (v.turns + 1) B.values (to_place false B) (B.ends refl)
             (refl, refl, refl, refl) (omega (arith, turned)) (omega arith) in
             subst (λ z. Gives (came (fourfold (s.work + 8) z) (λ _ y. Stands f k.entry no_temps (Waits waits ∷ ws) y)))
             (sym none) result

@@ -36,6 +36,7 @@ pub mod Members
 pub mod Moving
 pub mod Named
 pub mod NamedChecks
+pub mod ObjectTests
 pub mod OuterBlocks
 pub mod Packing
 pub mod Parts

@@ -23,11 +23,11 @@ use Rattle.metadata_plan.proofs.Flat.{branch_passed_comes, at_place}
 use Rattle.metadata_relation.specs.Blocks.{room_tests, unknown_object_tests, units_tests}
 use Rattle.metadata_relation.proofs.CalleeTests.{shifted, masked, equal}
 
-added : (x y : ℕ) → reg_result Add x y ≡ sum 64 x y
+pub added : (x y : ℕ) → reg_result Add x y ≡ sum 64 x y
 unfolding reg_result
 added x y = refl
 
-below : (x y : ℕ) (b : Bool) → nat_lt x y ≡ b → branch_taken Bltu x y ≡ b
+pub below : (x y : ℕ) (b : Bool) → nat_lt x y ≡ b → branch_taken Bltu x y ≡ b
 unfolding branch_taken
 below x y b e = e
 

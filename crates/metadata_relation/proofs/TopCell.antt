@@ -52,12 +52,13 @@ stack_low m h = omega (arith, h.globals, h.budgets.stack.greatest)
 
 module _ (m : MapSizes) (mapped : AreMapped m) (p : FlatProgram) (u : ℕ) (xs : List flat.Frame) where
   -- it is no byte of an object, and may be used
+  none_of_objects : (a : ℕ) → region_end m Heap < a → is_of_objects m a 8 ≡ false
+  none_of_objects a above =
+      ap (λ b. nat_le objects_begin a && b) (lt-leb (a + 8) (region_end m Heap) (omega (arith, above)))
+      ∙ and-false (nat_le objects_begin a)
+
   not_of_objects : is_of_objects m (top_cell m) 8 ≡ false
-  not_of_objects =
-      let place = cell_place m mapped in
-      let heap = place.heap in
-      ap (λ b. nat_le objects_begin (top_cell m) && b) (lt-leb (top_cell m + 8) (region_end m Heap) (omega arith))
-      ∙ and-false (nat_le objects_begin (top_cell m))
+  not_of_objects = none_of_objects (top_cell m) (cell_place m mapped).heap
 
   pub cell_stored : (pc r x : ℕ) (v : flat.State) → instruction_at p u pc ≡ Some (Store Sd r 0 x)
       → v.values r ≡ top_cell m
@@ -127,18 +128,17 @@ module _ (m : MapSizes) (mapped : AreMapped m) (p : FlatProgram) (u : ℕ) (xs :
             }) xs) is;
       }
 
-  pub cell_loaded : (pc r y : ℕ) (v : flat.State) → instruction_at p u pc ≡ Some (Load Ld r y 0)
-      → v.values y ≡ top_cell m
-      → Comes m p u pc v xs (pc + 1) (record v { values = put v.values r (load 8 v.memory (top_cell m)) }) 2
+  -- a register gets a word of the runtime's spaces
+  pub space_loaded : (pc r y a : ℕ) (v : flat.State) → instruction_at p u pc ≡ Some (Load Ld r y 0)
+      → v.values y ≡ a → region_end m Heap < a → spaces_begin ≤ a → a + 8 ≤ region_end m Cells → a < 2 ^ 64
+      → Comes m p u pc v xs (pc + 1) (record v { values = put v.values r (load 8 v.memory a) }) 2
   unfolding extended
-  cell_loaded pc r y v e is =
-      let place = cell_place m mapped in
-      let small = place.small in
+  space_loaded pc r y a v e is heap first last small =
       let w = weight_of (function_in p u) in
-      let at : address_in v y 0 ≡ top_cell m = omega arith in
+      let at : address_in v y 0 ≡ a = omega (arith, is, small) in
       let c = context m p u xs in
       let t : flat.State = record v { work = v.work + w } in
-      let n = load 8 v.memory (top_cell m) in
+      let n = load 8 v.memory a in
       record {
         steps = 1;
         work = w;
@@ -147,15 +147,22 @@ module _ (m : MapSizes) (mapped : AreMapped m) (p : FlatProgram) (u : ℕ) (xs :
             ∙ ap (λ a. goes_to m p (Load Ld r y 0) u pc t xs (if is_allowed m a 8
             then Goes (pc + 1) (with_register r (load 8 v.memory a) (with_access c a 8 Read t)) else Fails)) at
             ∙ ap (λ b. goes_to m p (Load Ld r y 0) u pc t xs (if b
-            then Goes (pc + 1) (with_register r n (with_access c (top_cell m) 8 Read t)) else Fails))
-            (space_allowed m (top_cell m) 8 place.first place.last)
+            then Goes (pc + 1) (with_register r n (with_access c a 8 Read t)) else Fails))
+            (space_allowed m a 8 first last)
             ∙ ap (λ b. flat.Stands u (pc + 1) (with_register r n (if not c.is_runtime && b
-            then record t { accesses = v.accesses ++ record { address = top_cell m; size = 8; kind = Read } ∷ [] }
-            else t)) xs) not_of_objects
+            then record t { accesses = v.accesses ++ record { address = a; size = 8; kind = Read } ∷ [] }
+            else t)) xs) (none_of_objects a heap)
             ∙ ap (λ b. flat.Stands u (pc + 1) (with_register r n (if b
-            then record t { accesses = v.accesses ++ record { address = top_cell m; size = 8; kind = Read } ∷ [] }
+            then record t { accesses = v.accesses ++ record { address = a; size = 8; kind = Read } ∷ [] }
             else t)) xs) (and-false (not c.is_runtime));
       }
+
+  pub cell_loaded : (pc r y : ℕ) (v : flat.State) → instruction_at p u pc ≡ Some (Load Ld r y 0)
+      → v.values y ≡ top_cell m
+      → Comes m p u pc v xs (pc + 1) (record v { values = put v.values r (load 8 v.memory (top_cell m)) }) 2
+  cell_loaded pc r y v e is =
+      let place = cell_place m mapped in
+      space_loaded pc r y (top_cell m) v e is place.heap place.first place.last place.small
 
   -- a register gets what the cell has
   pub top_read : (pc r : ℕ) (v : flat.State) → HasAt (body_of (function_in p u)) pc (read_top m r)

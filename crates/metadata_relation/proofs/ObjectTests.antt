@@ -197,8 +197,16 @@ module _ (m : MapSizes) (mapped : AreMapped m) (p : FlatProgram) (u pc : ℕ) (v
       (λ w. (let l = space_loaded m mapped p u xs (q + 1) (s + 1) (s + 1) cell (record v { values = b; work = w })
       has.1.0 at place.heap place.first place.last small in
       record { steps = l.steps; work = l.work; few = l.few; comes = l.comes })) in
-      let one = wide (q + 1 + 1) (most + 2 + 2) d s m.budgets.keys k2 (has.1.1.0, (has.1.1.1.0, (has.1.1.1.1.0,
-      (has.1.1.1.1.1.0, (has.1.1.1.1.1.1.0, tt))))) low in
+      let one = wide (q + 1 + 1) (most + 2 + 2) d s m.budgets.keys k2 (
+        has.1.1.0,
+        (
+          has.1.1.1.0,
+          (
+            has.1.1.1.1.0,
+            (has.1.1.1.1.1.0, (has.1.1.1.1.1.1.0, tt)),
+          ),
+        ),
+      ) low in
       let here = q + 1 + 1 + 1 + 1 + 1 + 1 + 1 in
       let f = put one.values s (reg_result Sltu (one.values (s + 1)) (one.values s)) in
       let k3 = operated here (most + 2 + 2 + 2 + 2 + 2 + 2 + 2) one.values Sltu s (s + 1) (Register s) one.comes

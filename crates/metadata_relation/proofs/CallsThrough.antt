@@ -1,7 +1,7 @@
 -- Calls through pointers of functions whose bodies have no objects: the callee is tested, and called as by name.
 use Rattle.std.proofs.Common.{◌≡◌, ⊎_elim, inl, ℕ, ◌+◌, ◌-◌, ◌*◌, ◌^◌, ◌<◌, ◌≤◌, Bool, true, false, List}
 use Rattle.std.proofs.Common.{[], ◌∷◌, ◌++◌, length, length-append, map, Option, Some, None, refl, sym, ap, ◌∙◌, subst, arith}
-use Rattle.std.proofs.Common.{get_or, le-leb, mul-le-mul_right}
+use Rattle.std.proofs.Common.{get_or, le-leb}
 use Rattle.std.specs.Prelude.{slice_get, nat_le, nat_lt, min, ◌==◌, ◌&&◌, ◌/◌, ◌%◌, if◌then◌else◌}
 use Rattle.std.proofs.Math.Nat.{le-min, min-le_left}
 use Rattle.std.proofs.Common.{ap₂, ◌⊎◌, inr, le-ltb}
@@ -9,7 +9,6 @@ use Rattle.std.proofs.lemmas.Bool.{and_from, cases_lt, eq-eqb, eqb-true, lt-leb,
 use Rattle.std.proofs.lemmas.List.{length-map}
 use Rattle.addr_map.specs.Places.{MapSizes}
 use Rattle.sb_base.specs.declared.ending.Ending.TheVariants.{Abort as AbortAt, BadCall, Stack}
-use Rattle.sb_base.specs.Endings.{code_of, report_of}
 use Rattle.obj_memory.specs.declared.value.Scalar.TheVariants.{Pointer}
 use Rattle.obj_memory.specs.Sound.{IsSoundTag}
 use Rattle.c_tree.specs.declared.expression.Kind.{Kind}
@@ -31,14 +30,14 @@ use Rattle.flat_meaning.specs.declared.function.FlatProgram.{FlatProgram}
 use Rattle.flat_meaning.specs.Memory.{Bytes}
 use Rattle.flat_meaning.specs.State as flat
 use Rattle.flat_meaning.specs.Calls.{function_in, charged}
-use Rattle.flat_meaning.specs.Meaning.{body_of, weight_of}
+use Rattle.flat_meaning.specs.Meaning.{body_of}
 use Rattle.flat_routines.specs.Routine.{HasAt}
 use Rattle.flat_routines.proofs.Steps.{has_front, has_back}
 use Rattle.object_routines.specs.AllocatingRoutines.Entering.{block_bytes}
 use Rattle.metadata_plan.specs.Registers.{most_temporaries}
 use Rattle.metadata_plan.specs.Entries.{is_among}
 use Rattle.metadata_plan.specs.Expanded.{Leads}
-use Rattle.metadata_plan.proofs.Flat.{weight_small, Comes, then_comes, at_place, end_step, one}
+use Rattle.metadata_plan.proofs.Flat.{Comes, then_comes, at_place, one}
 use Rattle.metadata_plan.proofs.SetUp.{exhausted}
 use Rattle.metadata_relation.specs.Blocks.{result_of, result_entry, pack}
 use Rattle.metadata_relation.specs.Holding.{IsHeldAt}
@@ -46,17 +45,14 @@ use Rattle.metadata_relation.specs.Registers.{parameters_end}
 use Rattle.metadata_relation.specs.Registers.{temporary_register}
 use Rattle.metadata_relation.specs.Registers.{moved_register, first_free}
 use Rattle.metadata_relation.specs.Stages.{Compiled, map_of, views, world, expansion_of}
-use Rattle.metadata_relation.specs.Stages.{factor, IsAt}
+use Rattle.metadata_relation.specs.Stages.{IsAt}
 use Rattle.metadata_relation.specs.Steps.{IsCompiled}
 use Rattle.metadata_relation.proofs.Assigning.{assigned}
 use Rattle.metadata_relation.proofs.Packing.{ways_of}
 use Rattle.metadata_relation.proofs.Packing.{count_passed}
 use Rattle.metadata_relation.proofs.Registers.{temporary_free}
-use Rattle.metadata_relation.proofs.Standing.{IsNode, node, ends, Result}
+use Rattle.metadata_relation.proofs.Standing.{IsNode, node, Result}
 use Rattle.metadata_relation.proofs.Entering.{there, IsPlainCall, plain_call, call_stage}
-use Rattle.behaviours.specs.Steps.{run}
-use Rattle.behaviours.proofs.Running.{run_add}
-use Rattle.sb_base.specs.declared.ending.Ending.{Ending}
 use Rattle.addr_map.specs.Places.{functions_begin, function_address}
 use Rattle.obj_memory.specs.declared.object.Storage.{Storage}
 use Rattle.obj_memory.specs.declared.object.Storage.TheVariants.{Static, Automatic, Allocated}

@@ -1,10 +1,12 @@
 -- The tests of a call whose callee's body has objects: the run goes on behind them, or ends with `Stack` or `Keys`.
 use Rattle.std.proofs.Common.{◌≡◌, ◌≢◌, ℕ, ◌+◌, ◌-◌, ◌*◌, ◌/◌, ◌%◌, ◌^◌, ◌<◌, ◌≤◌, Bool, true, false, not, List}
-use Rattle.std.proofs.Common.{◌∷◌, ◌++◌, length, Option, Some, None, refl, ap, ap₂, ◌∙◌, arith, mod-eq_of_lt, subst}
+use Rattle.std.proofs.Common.{◌∷◌, ◌++◌, length, Some, refl, ap, ap₂, ◌∙◌, arith, subst}
 use Rattle.std.proofs.Common.{inl, inr, sym, lt-ltb, le-ltb, le-leb, true≢false, mul-le-mul_right, []}
-use Rattle.std.specs.Prelude.{◌==◌, ◌||◌, if◌then◌else◌, nat_le, nat_lt}
+use Rattle.std.proofs.Math.Nat.{le-min, min-le_left}
+use Rattle.std.specs.Prelude.{◌==◌, ◌||◌, if◌then◌else◌, min, nat_le, nat_lt}
 use Rattle.std.proofs.lemmas.Bool.Decides.{leb_tells}
 use Rattle.std.proofs.lemmas.Nat.{and_mask}
+use Rattle.std.proofs.lemmas.Bool.{lt-leb}
 use Rattle.sb_base.specs.declared.ending.Ending.{Ending}
 use Rattle.sb_base.specs.declared.ending.Ending.TheVariants.{Keys, Stack}
 use Rattle.sb_base.specs.Endings.{code_of, report_of}
@@ -20,18 +22,18 @@ use Rattle.source_meaning.specs.Calls.{body_objects, set_up}
 use Rattle.source_meaning.specs.Places.{stack_end}
 use Rattle.source_meaning.specs.Blocks.{has_objects, objects_end}
 use Rattle.tac_ir.specs.Stage.{came, Frame, Over, Stage, Temps}
+use Rattle.tac_ir.specs.declared.function.CodeFunction.{CodeFunction}
 use Rattle.tac_ir.specs.Costs.{fourfold, spent}
 use Rattle.tac_ir.specs.Meaning.{begun}
 use Rattle.words.specs.Operations.{shifted_left, sum}
 use Rattle.rv_isa.specs.declared.instruction.RegOp.{RegOp}
 use Rattle.rv_isa.specs.declared.instruction.RegOp.TheVariants.{Add, And, Sll, Sltu, Srl}
 use Rattle.rv_isa.specs.declared.instruction.BranchOp.TheVariants.{Beq, Bltu, Bne}
-use Rattle.rv_isa.specs.declared.instruction.LoadOp.TheVariants.{Ld}
-use Rattle.rv_isa.specs.Results.{bit_of, branch_taken, reg_result}
+use Rattle.rv_isa.specs.Results.{bit_of, reg_result}
 use Rattle.flat_meaning.specs.declared.instruction.RightOperand.{RightOperand}
 use Rattle.flat_meaning.specs.declared.instruction.RightOperand.TheVariants.{Register, Number}
 use Rattle.flat_meaning.specs.declared.instruction.FlatInstruction.{FlatInstruction}
-use Rattle.flat_meaning.specs.declared.instruction.FlatInstruction.TheVariants.{Branch, Constant, End, Load, Operate}
+use Rattle.flat_meaning.specs.declared.instruction.FlatInstruction.TheVariants.{Branch, Constant, End, Operate}
 use Rattle.flat_meaning.specs.declared.function.FlatProgram.{FlatProgram}
 use Rattle.flat_meaning.specs.Memory.{Bytes, load, put}
 use Rattle.flat_meaning.specs.State as flat
@@ -40,15 +42,18 @@ use Rattle.flat_meaning.specs.Meaning.{body_of, instruction_at, right_value, ste
 use Rattle.flat_meaning.proofs.Stored.{put_same, put_other}
 use Rattle.flat_operators.specs.Operators.{wide_code}
 use Rattle.flat_routines.specs.Routine.{HasAt}
-use Rattle.flat_routines.proofs.Steps.{has_front, has_back}
+use Rattle.flat_routines.proofs.Steps.{has_front}
 use Rattle.lock_space.specs.Locks.{key_counter, keys_cell}
 use Rattle.object_routines.specs.AllocatingRoutines.Allocating.{keys_code, key_test}
 use Rattle.object_routines.specs.AllocatingRoutines.Entering.{block_bytes, round_code}
+use Rattle.object_routines.proofs.AllocatingRoutines.FreeLocks.{stack_laid_out}
 use Rattle.object_routines.proofs.AllocatingRoutines.SourceEntries.{end_by_bytes}
-use Rattle.metadata_plan.specs.Expanded.{Falls, Leads}
+use Rattle.metadata_plan.specs.Expanded.{Falls}
 use Rattle.metadata_plan.proofs.Flat.{Comes, branch_passed_comes, branch_taken_comes, constant_comes, next_comes}
 use Rattle.metadata_plan.proofs.Flat.{at_place, end_step, leads_comes, operate_comes, then_comes, weaker, weight_small}
-use Rattle.metadata_relation.specs.Blocks.{object_tests, space_test, top_cell, units_tests, unknown_object_tests}
+use Rattle.metadata_relation.specs.Blocks.{object_tests, objects_of_body, space_test, top_cell, units_tests}
+use Rattle.metadata_relation.specs.Blocks.{unknown_object_tests}
+use Rattle.metadata_relation.specs.FunctionTypes.{object_units}
 use Rattle.metadata_relation.specs.Registers.{first_free}
 use Rattle.metadata_relation.specs.Stages.{Compiled, factor, IsAt, map_of, names}
 use Rattle.metadata_relation.specs.Steps.{IsCompiled}
@@ -464,6 +469,47 @@ module _ (m : MapSizes) (mapped : AreMapped m) (p : FlatProgram) (u pc : ℕ) (v
         no_room = t.no_room;
         no_key = t.no_key;
       }
+
+-- Units tell what bytes do, since the object stack ends at a whole unit, and it never has as many as the most that are
+-- told.
+module _ (m : MapSizes) (mapped : AreMapped m) (stacked : ℕ) (bottom : region_start m StackRegion ≤ stacked) where
+  abbrev first : ℕ
+  first = rounded_up 16 stacked
+
+  abbrev end : ℕ
+  end = region_end m StackRegion
+
+  units_of : (bytes : ℕ) → nat_le (first + 16 * min (rounded_up 16 bytes / 16) (2 ^ 18 + 1)) end ≡ nat_le (first + bytes) end
+  units_of bytes = by (leb_tells (first + bytes) end)
+    where
+      by : Told (first + bytes) end
+          → nat_le (first + 16 * min (rounded_up 16 bytes / 16) (2 ^ 18 + 1)) end ≡ nat_le (first + bytes) end
+      by (inl p) =
+          let lie = stack_laid_out m mapped in
+          let start = lie.aligned in
+          let size = lie.whole in
+          let ends = lie.ends in
+          let le = p.1 in
+          let most = min-le_left (rounded_up 16 bytes / 16) (2 ^ 18 + 1) in
+          le-leb (first + 16 * min (rounded_up 16 bytes / 16) (2 ^ 18 + 1)) end
+          (omega (arith, most, le, start, size, ends)) ∙ sym p.0
+      by (inr p) =
+          let lie = stack_laid_out m mapped in
+          let ends = lie.ends in
+          let more = p.1 in
+          let stack = mapped.budgets.stack.greatest in
+          let low = bottom in
+          let least : end + 1 - first ≤ 16 * min (rounded_up 16 bytes / 16) (2 ^ 18 + 1) =
+          (let z : (end + 1 - first + 15) / 16 ≤ min (rounded_up 16 bytes / 16) (2 ^ 18 + 1) =
+          le-min (omega (arith, more)) (omega (arith, ends, stack, low)) in omega (arith, z)) in
+          lt-leb (first + 16 * min (rounded_up 16 bytes / 16) (2 ^ 18 + 1)) end (omega (arith, least)) ∙ sym p.0
+
+  pub units_fit : (k : CodeFunction) → has_objects (objects_of_body k) ≡ true
+      → nat_le (rounded_up 16 stacked + 16 * object_units k) (region_end m StackRegion)
+      ≡ nat_le (rounded_up 16 stacked + block_bytes (objects_of_body k)) (region_end m StackRegion)
+  units_fit k some =
+      ap (λ b. nat_le (first + 16 * (if b then min (rounded_up 16 (block_bytes (objects_of_body k)) / 16) (2 ^ 18 + 1)
+      else 0)) end) some ∙ units_of (block_bytes (objects_of_body k))
 
 -- ---- how the source's meaning ends
 

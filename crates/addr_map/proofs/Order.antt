@@ -1,5 +1,5 @@
 -- The regions stand in order, in whole pages.
-use Rattle.std.proofs.Common.{◌≡◌, ℕ, zero, suc, ◌+◌, ◌%◌, ◌<◌, ◌≤◌, ◌⊎◌, inl, inr, refl, ap, sym, ◌∙◌, subst, arith}
+use Rattle.std.proofs.Common.{◌≡◌, ℕ, zero, suc, ◌+◌, ◌*◌, ◌%◌, ◌<◌, ◌≤◌, ◌⊎◌, inl, inr, refl, ap, sym, ◌∙◌, subst, arith}
 use Rattle.std.proofs.Math.Nat.{eq-or-lt_of_le}
 use Rattle.addr_map.specs.declared.region.Region.{Region}
 use Rattle.addr_map.specs.declared.region.Region.TheVariants.{JumpTable, Code, Globals, Stack, Heap, Shadow, Locks}
@@ -49,7 +49,7 @@ size_whole m h Blocks = pages_whole _
 size_whole m h StructureValues = h.budgets.calls.whole
 size_whole m h Cells = refl
 size_whole m h Arguments = refl
-size_whole m h Calls = h.budgets.calls.whole
+size_whole m h Calls = omega (arith, h.budgets.calls.whole)
 size_whole m h RuntimeCalls = refl
 
 -- the region of a place in the order
@@ -152,7 +152,7 @@ size_of_heap : (m : MapSizes) → region_size m Heap ≡ m.budgets.heap
 unfolding region_size
 size_of_heap m = refl
 
-size_of_calls : (m : MapSizes) → region_size m Calls ≡ m.budgets.calls
+size_of_calls : (m : MapSizes) → region_size m Calls ≡ 2 * m.budgets.calls
 unfolding region_size
 size_of_calls m = refl
 
@@ -274,7 +274,7 @@ ends_whole m h r = omega (arith, start_whole m h r, size_whole m h r)
 last_low : (m : MapSizes) → AreMapped m → region_end m RuntimeCalls < 0x60000000
 unfolding region_start
 last_low m h =
-    let c : region_size m Calls ≡ m.budgets.calls = size_of_calls m in
+    let c : region_size m Calls ≡ 2 * m.budgets.calls = size_of_calls m in
     let v : region_size m StructureValues ≡ m.budgets.calls = size_of_values m in
     let t : region_size m Cells ≡ 4096 = size_of_cells m in
     let a : region_size m Arguments ≡ 8192 = size_of_arguments m in

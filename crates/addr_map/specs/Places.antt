@@ -58,7 +58,8 @@ object_space m = whole_pages m.global_bytes + m.budgets.stack + m.budgets.heap
 abbrev pub lock_count : MapSizes → ℕ
 lock_count m = 1 + m.budgets.stack / 16 + m.budgets.blocks
 
--- the bytes of a region. Shadow has an entry of 32 bytes for each word of 8, a word for each page, and one more
+-- the bytes of a region. Shadow has an entry of 32 bytes for each word of 8, a word for each page, and one more. An
+-- activation record has twice the bytes that its call is charged
 unfoldable pub region_size : MapSizes → Region → ℕ
 region_size m JumpTable = code_begin - functions_begin
 region_size m Code = code_size
@@ -72,7 +73,7 @@ region_size m Blocks = whole_pages (32 * m.budgets.blocks + 8)
 region_size m StructureValues = m.budgets.calls
 region_size m Cells = 4096
 region_size m Arguments = 8192
-region_size m Calls = m.budgets.calls
+region_size m Calls = 2 * m.budgets.calls
 region_size m RuntimeCalls = 65536
 
 -- the first address behind the lock words

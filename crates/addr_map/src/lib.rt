@@ -19,7 +19,8 @@
 //! | `Cells` | behind `StructureValues` | 4096: single words of the runtime |
 //! | `Arguments` | behind `Cells` | 8192: five words for each argument of a call, of which there are at most 127, and
 //! for its result |
-//! | `Calls` | behind `Arguments` | the budget `calls`: activation records of the program's functions |
+//! | `Calls` | behind `Arguments` | twice the budget `calls`: activation records of the program's functions, each of twice
+//! the bytes that its call is charged |
 //! | `RuntimeCalls` | behind `Calls` | 65536: those of the runtime's functions, whose calls do not nest deeper |
 //!
 //! The room of `Shadow` serves entries that stand directly (four bytes for each byte) as well as two

@@ -160,9 +160,10 @@ impl AddrMap {
             Region::Locks => whole_pages(8 * self.lock_count()),
             Region::FreeLocks => whole_pages(8 * self.lock_count() + 8),
             Region::Blocks => whole_pages(32 * self.budgets.blocks() + 8),
-            Region::StructureValues | Region::Calls => self.budgets.calls(),
+            Region::StructureValues => self.budgets.calls(),
             Region::Cells => PAGE,
             Region::Arguments => 2 * PAGE,
+            Region::Calls => 2 * self.budgets.calls(),
             Region::RuntimeCalls => 16 * PAGE,
         }
     }

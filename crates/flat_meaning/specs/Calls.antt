@@ -13,13 +13,18 @@ abbrev pub is_of_program : Option FlatFunction → Bool
 is_of_program None = false
 is_of_program (Some f) = if f.is_runtime then false else true
 
--- the bytes of the activation record of a function, by whose functions are asked for
+-- The bytes of the activation record of a function: of one of the program twice what its call is charged, so that each
+-- value of its code has a word of its own, the moved arguments of its calls too.
+abbrev pub record_bytes : FlatFunction → ℕ
+record_bytes f = if f.is_runtime then f.room else 2 * f.room
+
+-- the bytes that a call of a function is charged, by whose functions are asked for
 abbrev pub room_if : (runtime : Bool) → Option FlatFunction → ℕ
 room_if runtime None = 0
 room_if true (Some f) = if f.is_runtime then f.room else 0
 room_if false (Some f) = if f.is_runtime then 0 else f.room
 
--- the bytes of the records that wait, of functions of the runtime or of the program
+-- the bytes charged for the calls that wait, of functions of the runtime or of the program
 unfoldable pub rooms : (runtime : Bool) → FlatProgram → List Frame → ℕ
 rooms runtime p [] = 0
 rooms runtime p (x ∷ xs) = room_if runtime (function_in p x.function) + rooms runtime p xs

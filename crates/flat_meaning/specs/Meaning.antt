@@ -24,7 +24,8 @@ use Rattle.flat_meaning.specs.declared.function.FlatProgram.{FlatProgram}
 use Rattle.flat_meaning.specs.Memory.{Bytes, put, load, store}
 use Rattle.flat_meaning.specs.Spaces.{is_of_objects, is_allowed}
 use Rattle.flat_meaning.specs.State.{Values, State, Frame, Stage, Stands, Over, Stuck, seen}
-use Rattle.flat_meaning.specs.Calls.{function_in, room_if, rooms, charged, arguments, with_results, function_at}
+use Rattle.flat_meaning.specs.Calls.{function_in, record_bytes, room_if, rooms, charged, arguments, with_results}
+use Rattle.flat_meaning.specs.Calls.{function_at}
 
 -- ---- instructions that stay in their function
 
@@ -158,7 +159,7 @@ leaves m p _ f pc s frames = Stuck
 -- stores reach (RISC-V unprivileged ISA manual, 2.6: 12 bits with a sign).
 abbrev pub weight_of : Option FlatFunction → ℕ
 weight_of None = 1
-weight_of (Some f) = if nat_le f.room (2 ^ 11) then 1 else 2
+weight_of (Some f) = if nat_le (record_bytes f) (2 ^ 11) then 1 else 2
 
 -- what an instruction that is no call and no return counts as work: its weight, twice for a byte of the input or the
 -- output, and once more for each byte of a report

@@ -10,8 +10,8 @@ pub struct FlatFunction {
     pub parameters: u32,
     /// How many results it gives.
     pub results: u32,
-    /// The bytes of its activation record: of a function of the program also more than the budget `calls`, and then no
-    /// call of it has room.
+    /// The bytes that a call of it is charged: of a function of the program also more than the budget `calls`, and then
+    /// no call of it has room. Its activation record has twice as many, one of the runtime just as many.
     pub room: u64,
     /// Whether it is one of the runtime: its accesses are no accesses of the program, and its activation record takes
     /// nothing of the budget `calls`.

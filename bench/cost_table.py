@@ -112,15 +112,15 @@ def called(parameters, results, price, steps, moved=0):
 
 def main():
     c, table = costs(), Table()
-    access = "object_routines/specs/AccessRoutines/Accessing.antt"
+    access = "lib_wrappers/specs/AccessRoutines/Accessing.antt"
     load, store = steps_by_kind(access, "load_steps", "Pointer"), steps_by_kind(access, "store_steps", "Pointer")
     spatial = steps_of("flat_actions/specs/Judgement/Testing.antt", "IsSpatialRoutine")
     temporal = steps_of("flat_actions/specs/Judgement/Testing.antt", "IsTemporalRoutine")
     narrow = steps_of("flat_actions/specs/Narrowing.antt", "IsNarrowRoutine")
     tagged = steps_of("flat_actions/specs/Ranges.antt", "IsTaggedMoveRoutine")
-    zero = steps_of("object_routines/specs/AllocatingRoutines/Zeroing.antt", "IsZeroRoutine")
-    enter = steps_of("object_routines/specs/AllocatingRoutines/Entering.antt", "IsEnterRoutine")
-    leave = steps_of("object_routines/specs/AllocatingRoutines/Entering.antt", "IsLeaveRoutine")
+    zero = steps_of("lib_wrappers/specs/AllocatingRoutines/Zeroing.antt", "IsZeroRoutine")
+    enter = steps_of("lib_wrappers/specs/AllocatingRoutines/Entering.antt", "IsEnterRoutine")
+    leave = steps_of("lib_wrappers/specs/AllocatingRoutines/Entering.antt", "IsLeaveRoutine")
     number = steps_of("lib_wrappers/specs/PrintingRoutines/Numbers.antt", "IsNumberRoutine")
     scan = steps_of("flat_actions/specs/Scanning.antt", "IsScanRoutine")
     put = steps_of("lib_wrappers/specs/StringRoutines/Putting.antt", "IsPutRoutine")

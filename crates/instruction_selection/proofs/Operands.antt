@@ -11,8 +11,8 @@ use Rattle.runtime_functions.specs.Library.{held_from}
 use Rattle.obj_memory.specs.declared.value.Scalar.{Scalar}
 use Rattle.obj_memory.specs.declared.value.Scalar.TheVariants.{Integer, Pointer}
 use Rattle.flat_actions.specs.Actions.{registers_of}
-use Rattle.object_routines.specs.declared.accesses.held.HeldScalar.{HeldScalar}
-use Rattle.object_routines.specs.AccessRoutines.Holding.{holder_in}
+use Rattle.lib_wrappers.specs.declared.accesses.held.HeldScalar.{HeldScalar}
+use Rattle.lib_wrappers.specs.AccessRoutines.Holding.{holder_in}
 use Rattle.metadata_relation.specs.Blocks.{held_scalar, is_short, number_operand}
 
 pub are_below : (d s : ℕ) → d + 5 ≤ s → AreBelow s (held_registers (held_from d))

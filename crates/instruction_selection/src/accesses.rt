@@ -5,8 +5,8 @@ ghost use Rattle.std.specs.Prelude.{true};
 ghost use Rattle.obj_memory.specs.declared.value.Scalar.TheVariants.{Pointer};
 ghost use Rattle.flat_routines.specs.Registers.{AreBelow};
 ghost use Rattle.flat_actions.specs.Actions.{registers_of};
-ghost use Rattle.object_routines.specs.AccessRoutines.Holding.{holder_in, IsApartFrom};
-ghost use Rattle.object_routines.specs.AccessRoutines.Accessing.{load_code as load_list, store_code as store_list};
+ghost use Rattle.lib_wrappers.specs.AccessRoutines.Holding.{holder_in, IsApartFrom};
+ghost use Rattle.lib_wrappers.specs.AccessRoutines.Accessing.{load_code as load_list, store_code as store_list};
 ghost use Rattle.metadata_relation.specs.InlineLists.{inline_lists};
 ghost use Rattle.metadata_relation.specs.Blocks.{held_scalar, load_code, read_code, write_code};
 
@@ -16,8 +16,8 @@ use crate::list::{append, put};
 use addr_map::laws::sizes_are_in_range;
 use c_tree::Kind;
 use flat_meaning::FlatInstruction;
+use lib_wrappers::accesses::{HeldScalar, load, store};
 use obj_memory::{IntType, Scalar};
-use object_routines::accesses::{HeldScalar, load, store};
 use shadow_space::ShadowForm;
 use std::alloc::AllocError;
 

@@ -3,7 +3,7 @@
 ghost use Rattle.std.specs.Prelude.{◌≡◌, ◌+◌, ◌<◌, ◌≤◌, ◌^◌, ◌++◌, true, OnOk};
 ghost use Rattle.flat_routines.specs.Registers.{AreBelow};
 ghost use Rattle.runtime_functions.specs.Library.{held_from};
-ghost use Rattle.object_routines.specs.AccessRoutines.Accessing.{no_entry};
+ghost use Rattle.lib_wrappers.specs.AccessRoutines.Accessing.{no_entry};
 ghost use Rattle.metadata_relation.specs.Registers.{entry_from};
 ghost use Rattle.metadata_relation.specs.Blocks.{move_entry, move_entry_if, move_value, untagged};
 

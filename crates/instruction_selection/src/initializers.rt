@@ -7,7 +7,7 @@ ghost use Rattle.metadata_relation.specs.InlineLists.{inline_lists};
 ghost use Rattle.metadata_relation.specs.Blocks.{part_address, held_scalar};
 ghost use Rattle.metadata_plan.specs.OperatorLists.Operators.{operators};
 ghost use Rattle.metadata_relation.specs.Registers.{first_free};
-ghost use Rattle.object_routines.specs.AccessRoutines.Accessing.{store_code};
+ghost use Rattle.lib_wrappers.specs.AccessRoutines.Accessing.{store_code};
 ghost use Rattle.instruction_selection.specs.Contexts.{HasRegisters};
 ghost use Rattle.instruction_selection.specs.Selected.{part_code};
 

@@ -1,4 +1,7 @@
+pub mod AccessRoutines
+pub mod AllocatingRoutines
 pub mod MovingRoutines
 pub mod StringRoutines
 pub mod PrintingRoutines
 pub mod ComparingRoutines
+pub mod AreaRoutines

@@ -34,7 +34,7 @@ use Rattle.flat_meaning.specs.Words.{HasWords, IsOfWords}
 use Rattle.flat_meaning.proofs.Stored.{load_kept}
 use Rattle.flat_routines.specs.Objects.StandsFor.{Keys}
 use Rattle.flat_actions.specs.Actions.{IsFor}
-use Rattle.object_routines.specs.AllocatingRoutines.Premises.{HaveBytes}
+use Rattle.lib_wrappers.specs.AllocatingRoutines.Premises.{HaveBytes}
 use Rattle.metadata_plan.specs.Registers.{most_temporaries}
 use Rattle.metadata_plan.specs.Entries.{given}
 use Rattle.metadata_plan.specs.Expanded.{Leads}

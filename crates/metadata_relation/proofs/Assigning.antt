@@ -14,7 +14,7 @@ use Rattle.flat_meaning.proofs.Stored.{put_same, put_other}
 use Rattle.flat_routines.specs.Metadata.{metadata_in, no_metadata}
 use Rattle.flat_routines.specs.Routine.{HasAt}
 use Rattle.flat_routines.proofs.Words.{same_metadata}
-use Rattle.object_routines.specs.AccessRoutines.Accessing.{no_entry}
+use Rattle.lib_wrappers.specs.AccessRoutines.Accessing.{no_entry}
 use Rattle.runtime_functions.specs.Library.{held_from}
 use Rattle.metadata_relation.specs.Blocks.{move_value}
 use Rattle.metadata_plan.proofs.Flat.{Comes, next_comes, at_place, constant_comes, move_comes}

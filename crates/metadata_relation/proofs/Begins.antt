@@ -47,7 +47,7 @@ use Rattle.flat_routines.proofs.Steps.{has_front, has_back}
 use Rattle.flat_routines.proofs.Words.{IsLocal}
 use Rattle.lock_space.proofs.Spaces.{allowed_at}
 use Rattle.flat_actions.specs.Actions.{AreSpacesGood}
-use Rattle.area_routines.proofs.Behind.{spaces_kept, stands_kept}
+use Rattle.lib_wrappers.proofs.AreaRoutines.Behind.{spaces_kept, stands_kept}
 use Rattle.metadata_plan.specs.Blocks.{call_tests}
 use Rattle.metadata_plan.proofs.Calling.{tested, tests_pass, tests_end}
 use Rattle.metadata_plan.proofs.Entering.{no_rooms}
@@ -66,8 +66,8 @@ use Rattle.metadata_relation.proofs.Entering.{entry_there, EntryIsThere, IsPlain
 use Rattle.metadata_relation.proofs.Entering.{earlier, few_parameters}
 use Rattle.metadata_relation.proofs.Named.{placed_static}
 use Rattle.metadata_relation.proofs.Standing.{leaves_same, ends, Result}
-use Rattle.object_routines.specs.AllocatingRoutines.Allocating.{keys_code, key_test}
-use Rattle.object_routines.specs.AllocatingRoutines.Entering.{block_bytes}
+use Rattle.lib_wrappers.specs.AllocatingRoutines.Allocating.{keys_code, key_test}
+use Rattle.lib_wrappers.specs.AllocatingRoutines.Entering.{block_bytes}
 
 -- ---- a store by a function of the runtime
 

@@ -21,11 +21,11 @@ use Rattle.flat_meaning.specs.State as flat
 use Rattle.flat_routines.specs.Metadata.{metadata_in}
 use Rattle.flat_routines.specs.Objects.StandsFor.{Holding, Keys, spell, Views}
 use Rattle.flat_routines.proofs.Words.{same_metadata}
-use Rattle.object_routines.specs.AllocatingRoutines.Entering.{AreSized}
-use Rattle.object_routines.specs.AllocatingRoutines.Premises.{HaveBytes}
-use Rattle.object_routines.proofs.AllocatingRoutines.KeptBytes.{bytes_new}
-use Rattle.object_routines.proofs.AllocatingRoutines.SourceEntries.{homes_from, object_count, placed_from, placed_objects}
-use Rattle.object_routines.proofs.AllocatingRoutines.SourceEntries.{placing_work}
+use Rattle.lib_wrappers.specs.AllocatingRoutines.Entering.{AreSized}
+use Rattle.lib_wrappers.specs.AllocatingRoutines.Premises.{HaveBytes}
+use Rattle.lib_wrappers.proofs.AllocatingRoutines.KeptBytes.{bytes_new}
+use Rattle.lib_wrappers.proofs.AllocatingRoutines.SourceEntries.{homes_from, object_count, placed_from, placed_objects}
+use Rattle.lib_wrappers.proofs.AllocatingRoutines.SourceEntries.{placing_work}
 use Rattle.metadata_plan.specs.Operators.{OperatorCode}
 use Rattle.metadata_plan.specs.Registers.{all_variables}
 use Rattle.metadata_relation.specs.Holding.{HasHomes, is_object_in, World}

@@ -23,7 +23,7 @@ use Rattle.flat_meaning.specs.State as flat
 use Rattle.flat_routines.specs.Metadata.{metadata_in, no_metadata}
 use Rattle.flat_routines.specs.Objects.StandsFor.{Views, Keys}
 use Rattle.flat_routines.proofs.Words.{same_metadata}
-use Rattle.object_routines.specs.AllocatingRoutines.Entering.{IsHomeOf}
+use Rattle.lib_wrappers.specs.AllocatingRoutines.Entering.{IsHomeOf}
 use Rattle.runtime_functions.specs.Library.{held_from}
 use Rattle.metadata_plan.specs.Part.{have_no_objects}
 use Rattle.metadata_plan.specs.Registers.{all_variables}

@@ -31,8 +31,8 @@ use Rattle.flat_meaning.specs.Meaning.{body_of, weight_of}
 use Rattle.flat_meaning.proofs.Stored.{put_other}
 use Rattle.flat_routines.specs.Routine.{HasAt}
 use Rattle.flat_routines.proofs.Steps.{has_front, has_back}
-use Rattle.object_routines.specs.AllocatingRoutines.Allocating.{keys_code, key_test}
-use Rattle.object_routines.specs.AllocatingRoutines.Entering.{block_bytes}
+use Rattle.lib_wrappers.specs.AllocatingRoutines.Allocating.{keys_code, key_test}
+use Rattle.lib_wrappers.specs.AllocatingRoutines.Entering.{block_bytes}
 use Rattle.metadata_plan.specs.Blocks.{call_tests}
 use Rattle.metadata_plan.specs.Registers.{most_temporaries}
 use Rattle.metadata_plan.specs.Entries.{is_among, is_moved_with_entry, is_argument_with_entry, parameter_kinds}

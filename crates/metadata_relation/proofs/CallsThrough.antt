@@ -33,7 +33,7 @@ use Rattle.flat_meaning.specs.Calls.{function_in, charged}
 use Rattle.flat_meaning.specs.Meaning.{body_of}
 use Rattle.flat_routines.specs.Routine.{HasAt}
 use Rattle.flat_routines.proofs.Steps.{has_front, has_back}
-use Rattle.object_routines.specs.AllocatingRoutines.Entering.{block_bytes}
+use Rattle.lib_wrappers.specs.AllocatingRoutines.Entering.{block_bytes}
 use Rattle.metadata_plan.specs.Registers.{most_temporaries}
 use Rattle.metadata_plan.specs.Entries.{is_among}
 use Rattle.metadata_plan.specs.Expanded.{Leads}

@@ -46,11 +46,11 @@ use Rattle.flat_routines.specs.Routine.{HasAt}
 use Rattle.flat_routines.proofs.Steps.{has_back, has_front}
 use Rattle.flat_actions.specs.Actions.{IsFor}
 use Rattle.flat_actions.proofs.Standing.{for_worked}
-use Rattle.object_routines.specs.AllocatingRoutines.Entering.{AreOfLock, AreSized, block_bytes}
-use Rattle.object_routines.proofs.AllocatingRoutines.SourceEntries.{block_of, end_by_bytes, entered_in, enters_block}
-use Rattle.object_routines.proofs.AllocatingRoutines.SourceEntries.{home_between, no_more_keys, no_space, object_count}
-use Rattle.object_routines.proofs.AllocatingRoutines.SourceEntries.{placed_count, placed_from}
-use Rattle.object_routines.proofs.AllocatingRoutines.OuterBlocks.{still_of_lock}
+use Rattle.lib_wrappers.specs.AllocatingRoutines.Entering.{AreOfLock, AreSized, block_bytes}
+use Rattle.lib_wrappers.proofs.AllocatingRoutines.SourceEntries.{block_of, end_by_bytes, entered_in, enters_block}
+use Rattle.lib_wrappers.proofs.AllocatingRoutines.SourceEntries.{home_between, no_more_keys, no_space, object_count}
+use Rattle.lib_wrappers.proofs.AllocatingRoutines.SourceEntries.{placed_count, placed_from}
+use Rattle.lib_wrappers.proofs.AllocatingRoutines.OuterBlocks.{still_of_lock}
 use Rattle.runtime_functions.specs.declared.runtime.RuntimeFunction.TheVariants.{Enter}
 use Rattle.runtime_functions.specs.Actions.{ComesBehind, HasExited, HasTold, work_of_call}
 use Rattle.runtime_functions.specs.Calls.{CallSite}

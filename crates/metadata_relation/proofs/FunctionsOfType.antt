@@ -9,7 +9,7 @@ use Rattle.c_tree.specs.declared.expression.Kind.{Kind}
 use Rattle.c_tree.specs.declared.program.Variable.{Variable}
 use Rattle.c_tree.specs.Programs.{Function}
 use Rattle.obj_memory.specs.Heap.{rounded_up}
-use Rattle.object_routines.specs.AllocatingRoutines.Entering.{block_bytes}
+use Rattle.lib_wrappers.specs.AllocatingRoutines.Entering.{block_bytes}
 use Rattle.source_meaning.specs.State.{Header, Rvalue}
 use Rattle.source_meaning.specs.Blocks.{has_objects}
 use Rattle.source_meaning.specs.Calls.{body_objects}

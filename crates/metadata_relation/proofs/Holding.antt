@@ -30,8 +30,8 @@ use Rattle.flat_routines.specs.Objects.StandsFor.{Views, Keys, Holding, Spells, 
 use Rattle.flat_routines.proofs.Words.{same_metadata}
 use Rattle.flat_actions.specs.Actions.{KeepsHeld}
 use Rattle.flat_actions.proofs.Standing.{keeps_same}
-use Rattle.area_routines.specs.Areas.{HoldsPart}
-use Rattle.area_routines.proofs.Areas.{area_kept, area_same}
+use Rattle.lib_wrappers.specs.AreaRoutines.Areas.{HoldsPart}
+use Rattle.lib_wrappers.proofs.AreaRoutines.Areas.{area_kept, area_same}
 use Rattle.runtime_functions.specs.Library.{held_from}
 use Rattle.metadata_plan.specs.Registers.{all_variables, most_temporaries}
 use Rattle.metadata_relation.specs.Registers.{entry_from, variable_register, variables_end, home_register, homes_end}

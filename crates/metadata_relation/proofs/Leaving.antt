@@ -21,7 +21,7 @@ use Rattle.flat_meaning.specs.Meaning.{body_of}
 use Rattle.flat_meaning.specs.Memory.{Bytes}
 use Rattle.flat_meaning.specs.State as flat
 use Rattle.flat_meaning.specs.Words.{HasWords}
-use Rattle.object_routines.proofs.AllocatingRoutines.BlockDeaths.{count_without}
+use Rattle.lib_wrappers.proofs.AllocatingRoutines.BlockDeaths.{count_without}
 use Rattle.metadata_relation.specs.Blocks.{leave_code}
 use Rattle.metadata_relation.specs.Holding.{Holds}
 use Rattle.metadata_relation.specs.Registers.{block_top_register, first_free}

@@ -25,10 +25,10 @@ use Rattle.flat_routines.specs.Routine.{Either, HasAt, Never}
 use Rattle.flat_routines.proofs.Steps.{has_back, has_front}
 use Rattle.flat_actions.specs.Actions.{IsFor}
 use Rattle.flat_actions.proofs.Standing.{keeps_same}
-use Rattle.object_routines.specs.AllocatingRoutines.Entering.{AreOfLock, HasLeft, IsHomeOf}
-use Rattle.object_routines.specs.AllocatingRoutines.Premises.{HaveBytes}
-use Rattle.object_routines.proofs.AllocatingRoutines.BlockDeaths.{count_without, without_other}
-use Rattle.object_routines.proofs.AllocatingRoutines.OuterBlocks.{still_of_lock}
+use Rattle.lib_wrappers.specs.AllocatingRoutines.Entering.{AreOfLock, HasLeft, IsHomeOf}
+use Rattle.lib_wrappers.specs.AllocatingRoutines.Premises.{HaveBytes}
+use Rattle.lib_wrappers.proofs.AllocatingRoutines.BlockDeaths.{count_without, without_other}
+use Rattle.lib_wrappers.proofs.AllocatingRoutines.OuterBlocks.{still_of_lock}
 use Rattle.metadata_relation.specs.Blocks.{leave_code, top_cell, write_top}
 use Rattle.metadata_relation.specs.Holding.{GoesOn}
 use Rattle.metadata_relation.specs.Registers.{first_free, lock_register}

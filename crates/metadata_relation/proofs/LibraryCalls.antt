@@ -50,7 +50,7 @@ use Rattle.flat_routines.specs.Routine.{HasAt}
 use Rattle.flat_routines.proofs.Steps.{has_back, has_front}
 use Rattle.flat_routines.proofs.Words.{same_metadata}
 use Rattle.flat_actions.specs.Actions.{AreHeldBy, IsFor, IsGivenIn, Nowhere}
-use Rattle.object_routines.specs.AllocatingRoutines.Premises.{AreStanding}
+use Rattle.lib_wrappers.specs.AllocatingRoutines.Premises.{AreStanding}
 use Rattle.runtime_functions.specs.declared.library.LibraryFunction.{LibraryFunction}
 use Rattle.runtime_functions.specs.declared.library.LibraryFunction.TheVariants as library
 use Rattle.runtime_functions.specs.declared.runtime.RuntimeFunction.TheVariants.{Library}

@@ -44,10 +44,10 @@ use Rattle.flat_operators.specs.Operators.{wide_code}
 use Rattle.flat_routines.specs.Routine.{HasAt}
 use Rattle.flat_routines.proofs.Steps.{has_front}
 use Rattle.lock_space.specs.Locks.{key_counter, keys_cell}
-use Rattle.object_routines.specs.AllocatingRoutines.Allocating.{keys_code, key_test}
-use Rattle.object_routines.specs.AllocatingRoutines.Entering.{block_bytes, round_code}
-use Rattle.object_routines.proofs.AllocatingRoutines.FreeLocks.{stack_laid_out}
-use Rattle.object_routines.proofs.AllocatingRoutines.SourceEntries.{end_by_bytes}
+use Rattle.lib_wrappers.specs.AllocatingRoutines.Allocating.{keys_code, key_test}
+use Rattle.lib_wrappers.specs.AllocatingRoutines.Entering.{block_bytes, round_code}
+use Rattle.lib_wrappers.proofs.AllocatingRoutines.FreeLocks.{stack_laid_out}
+use Rattle.lib_wrappers.proofs.AllocatingRoutines.SourceEntries.{end_by_bytes}
 use Rattle.metadata_plan.specs.Expanded.{Falls}
 use Rattle.metadata_plan.proofs.Flat.{Comes, branch_passed_comes, branch_taken_comes, constant_comes, next_comes}
 use Rattle.metadata_plan.proofs.Flat.{at_place, end_step, leads_comes, operate_comes, then_comes, weaker, weight_small}

@@ -7,7 +7,7 @@ use Rattle.tac_ir.specs.declared.function.CodeFunction.{CodeFunction}
 use Rattle.tac_ir.specs.Meaning.{objects_in}
 use Rattle.tac_ir.specs.Stage.{Entered, Frame, Waits}
 use Rattle.flat_meaning.specs.State as flat
-use Rattle.object_routines.specs.AllocatingRoutines.Entering.{AreOfLock}
+use Rattle.lib_wrappers.specs.AllocatingRoutines.Entering.{AreOfLock}
 use Rattle.metadata_relation.specs.Blocks.{objects_of_body}
 use Rattle.metadata_relation.specs.Holding.{HasHomes, World}
 use Rattle.metadata_relation.specs.Registers.{block_top_register, body_top_register, first_object, home_register}

@@ -19,7 +19,7 @@ use Rattle.flat_meaning.specs.Calls.{function_in}
 use Rattle.flat_meaning.specs.Meaning.{body_of}
 use Rattle.flat_meaning.specs.Memory.{put}
 use Rattle.flat_meaning.specs.State as flat
-use Rattle.object_routines.proofs.AllocatingRoutines.SourceEntries.{grows, object_count}
+use Rattle.lib_wrappers.proofs.AllocatingRoutines.SourceEntries.{grows, object_count}
 use Rattle.flat_meaning.proofs.Stored.{put_other, put_same}
 use Rattle.flat_routines.specs.Routine.{HasAt}
 use Rattle.flat_routines.proofs.Steps.{has_back, has_front}

@@ -48,8 +48,8 @@ use Rattle.flat_routines.specs.Routine.{HasAt}
 use Rattle.flat_routines.proofs.Steps.{has_back, has_front}
 use Rattle.flat_actions.specs.Actions.{Pointer as InPointer, Word}
 use Rattle.flat_actions.proofs.Standing.{for_worked}
-use Rattle.object_routines.specs.declared.accesses.held.HeldScalar.TheVariants.{Integer as HeldInteger, Pointer as HeldPointer}
-use Rattle.object_routines.specs.AccessRoutines.Accessing.{IsToAccess}
+use Rattle.lib_wrappers.specs.declared.accesses.held.HeldScalar.TheVariants.{Integer as HeldInteger, Pointer as HeldPointer}
+use Rattle.lib_wrappers.specs.AccessRoutines.Accessing.{IsToAccess}
 use Rattle.runtime_functions.specs.Library.{held_from}
 use Rattle.metadata_plan.specs.Entries.{given, read_from}
 use Rattle.metadata_plan.specs.Expanded.{Leads}

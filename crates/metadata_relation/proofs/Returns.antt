@@ -38,8 +38,8 @@ use Rattle.flat_meaning.specs.Meaning.{body_of, step, results_of, weight_of, ins
 use Rattle.flat_routines.specs.Objects.StandsFor.{spell}
 use Rattle.flat_routines.specs.Routine.{HasAt}
 use Rattle.flat_routines.proofs.Steps.{has_back, has_front}
-use Rattle.object_routines.specs.AllocatingRoutines.Premises.{HaveBytes}
-use Rattle.object_routines.proofs.AllocatingRoutines.BlockDeaths.{count_without}
+use Rattle.lib_wrappers.specs.AllocatingRoutines.Premises.{HaveBytes}
+use Rattle.lib_wrappers.proofs.AllocatingRoutines.BlockDeaths.{count_without}
 use Rattle.metadata_plan.specs.Registers.{most_temporaries}
 use Rattle.metadata_plan.specs.Entries.{is_moved_with_entry}
 use Rattle.metadata_plan.proofs.Flat.{one, weight_small, leads_comes, exit_step}

@@ -43,7 +43,7 @@ use Rattle.flat_routines.specs.Routine.{HasAt}
 use Rattle.flat_routines.proofs.Objects.Changing.{live_is_made}
 use Rattle.flat_actions.specs.Actions.{Nowhere}
 use Rattle.flat_actions.proofs.Standing.{for_worked}
-use Rattle.object_routines.specs.AccessRoutines.Accessing.{store_steps}
+use Rattle.lib_wrappers.specs.AccessRoutines.Accessing.{store_steps}
 use Rattle.metadata_plan.specs.Entries.{is_moved_with_entry}
 use Rattle.metadata_plan.specs.Expanded.{Leads}
 use Rattle.metadata_plan.specs.Operators.{OperatorCode}

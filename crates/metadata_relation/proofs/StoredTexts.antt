@@ -44,8 +44,8 @@ use Rattle.flat_routines.specs.Registers.{AreBelow}
 use Rattle.flat_routines.specs.Routine.{HasAt}
 use Rattle.flat_routines.proofs.Objects.Changing.{live_is_made}
 use Rattle.flat_actions.specs.Actions.{HasGiven, Nowhere, Word}
-use Rattle.object_routines.specs.declared.accesses.held.HeldScalar.TheVariants.{Integer as HeldInteger}
-use Rattle.object_routines.specs.AccessRoutines.Accessing.{IsToAccess}
+use Rattle.lib_wrappers.specs.declared.accesses.held.HeldScalar.TheVariants.{Integer as HeldInteger}
+use Rattle.lib_wrappers.specs.AccessRoutines.Accessing.{IsToAccess}
 use Rattle.metadata_plan.specs.Expanded.{Leads}
 use Rattle.metadata_plan.proofs.Flat.{Comes, constant_comes, operate_comes}
 use Rattle.metadata_relation.specs.Blocks.{is_short, store_bytes}

@@ -17,9 +17,9 @@ use Rattle.flat_meaning.specs.Memory.{Bytes}
 use Rattle.flat_meaning.specs.State as flat
 use Rattle.flat_routines.specs.Objects.StandsFor.{Views, Keys, StandsFor}
 use Rattle.flat_actions.proofs.Standing.{keeps_same}
-use Rattle.object_routines.specs.AllocatingRoutines.Entering.{IsHomeOf, AreOfLock}
-use Rattle.object_routines.proofs.AllocatingRoutines.OuterBlocks.{still_of_lock}
-use Rattle.object_routines.proofs.AllocatingRoutines.BlockDeaths.{without_other, count_without}
+use Rattle.lib_wrappers.specs.AllocatingRoutines.Entering.{IsHomeOf, AreOfLock}
+use Rattle.lib_wrappers.proofs.AllocatingRoutines.OuterBlocks.{still_of_lock}
+use Rattle.lib_wrappers.proofs.AllocatingRoutines.BlockDeaths.{without_other, count_without}
 use Rattle.c_tree.specs.declared.program.Variable.{Variable}
 use Rattle.tac_ir.specs.Meaning.{objects_in}
 use Rattle.metadata_relation.specs.Registers.{variables_end, tops_end, lock_register, body_top_register}

@@ -38,10 +38,10 @@ use Rattle.flat_routines.specs.Routine.{HasAt}
 use Rattle.flat_routines.proofs.Steps.{has_back, has_front}
 use Rattle.flat_actions.specs.Actions.{HasGiven, IsFor, IsHeldBy, Nowhere, registers_of, Word}
 use Rattle.flat_actions.proofs.Standing.{for_worked}
-use Rattle.object_routines.specs.declared.accesses.held.HeldScalar.{HeldScalar}
-use Rattle.object_routines.specs.declared.accesses.held.HeldScalar.TheVariants.{Integer as HeldInteger, Pointer as HeldPointer}
-use Rattle.object_routines.specs.AccessRoutines.Accessing.{IsToAccess, store_steps}
-use Rattle.object_routines.specs.AccessRoutines.Holding.{holder_in, scalar_in}
+use Rattle.lib_wrappers.specs.declared.accesses.held.HeldScalar.{HeldScalar}
+use Rattle.lib_wrappers.specs.declared.accesses.held.HeldScalar.TheVariants.{Integer as HeldInteger, Pointer as HeldPointer}
+use Rattle.lib_wrappers.specs.AccessRoutines.Accessing.{IsToAccess, store_steps}
+use Rattle.lib_wrappers.specs.AccessRoutines.Holding.{holder_in, scalar_in}
 use Rattle.runtime_functions.specs.Library.{held_from}
 use Rattle.metadata_plan.specs.Entries.{is_moved_with_entry, reads_entry}
 use Rattle.metadata_plan.specs.Expanded.{Leads}

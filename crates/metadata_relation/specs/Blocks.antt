@@ -52,11 +52,11 @@ use Rattle.flat_meaning.specs.declared.instruction.FlatInstruction.TheVariants.{
 use Rattle.flat_meaning.specs.declared.instruction.FlatInstruction.TheVariants.{Branch, Turn, Call, Return, Get, Put, Exit}
 use Rattle.flat_meaning.specs.declared.instruction.FlatInstruction.TheVariants.{CallAddress, Charged, End}
 use Rattle.flat_routines.specs.declared.registers.Entry.{Entry}
-use Rattle.object_routines.specs.declared.accesses.held.HeldScalar.{HeldScalar}
-use Rattle.object_routines.specs.declared.accesses.held.HeldScalar.TheVariants.{Integer as HeldInteger, Pointer as HeldPointer}
-use Rattle.object_routines.specs.AccessRoutines.Accessing.{no_entry}
-use Rattle.object_routines.specs.AllocatingRoutines.Allocating.{keys_code, key_test}
-use Rattle.object_routines.specs.AllocatingRoutines.Entering.{round_code, block_bytes}
+use Rattle.lib_wrappers.specs.declared.accesses.held.HeldScalar.{HeldScalar}
+use Rattle.lib_wrappers.specs.declared.accesses.held.HeldScalar.TheVariants.{Integer as HeldInteger, Pointer as HeldPointer}
+use Rattle.lib_wrappers.specs.AccessRoutines.Accessing.{no_entry}
+use Rattle.lib_wrappers.specs.AllocatingRoutines.Allocating.{keys_code, key_test}
+use Rattle.lib_wrappers.specs.AllocatingRoutines.Entering.{round_code, block_bytes}
 use Rattle.runtime_functions.specs.declared.library.LibraryFunction.{LibraryFunction}
 use Rattle.runtime_functions.specs.declared.library.LibraryFunction.TheVariants as library
 use Rattle.runtime_functions.specs.declared.status.ReturnStatus.{ReturnStatus}

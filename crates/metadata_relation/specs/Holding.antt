@@ -27,7 +27,7 @@ use Rattle.flat_meaning.specs.State.{Values}
 use Rattle.flat_routines.specs.Metadata.{metadata_in}
 use Rattle.flat_routines.specs.Objects.StandsFor.{Views, Keys, Spells, spell}
 use Rattle.flat_actions.specs.Actions.{KeepsHeld}
-use Rattle.area_routines.specs.Areas.{IsArea, IsAreaPlace, HoldsPart}
+use Rattle.lib_wrappers.specs.AreaRoutines.Areas.{IsArea, IsAreaPlace, HoldsPart}
 use Rattle.runtime_functions.specs.Library.{held_from}
 use Rattle.metadata_plan.specs.Registers.{all_variables, most_temporaries}
 use Rattle.metadata_relation.specs.Registers.{entry_from, variable_register, home_register, temporary_register}

@@ -19,11 +19,11 @@ use Rattle.flat_actions.specs.Actions.{registers_of, program_basis}
 use Rattle.flat_actions.specs.Judgement.Testing.{IsBelow, IsSpatialRoutine, IsTemporalRoutine}
 use Rattle.flat_actions.specs.Narrowing.{CanNarrow, IsNarrowRoutine, IsMoveOnRoutine}
 use Rattle.obj_memory.specs.declared.int_type.IntType.TheVariants.{Char}
-use Rattle.object_routines.specs.declared.accesses.held.HeldScalar.{HeldScalar}
-use Rattle.object_routines.specs.declared.accesses.held.HeldScalar.TheVariants.{Integer}
-use Rattle.object_routines.specs.AccessRoutines.Holding.{holder_in, IsApartFrom}
-use Rattle.object_routines.specs.AccessRoutines.Accessing.{IsLoadRoutine, IsStoreRoutine}
-use Rattle.object_routines.specs.AllocatingRoutines.Entering.{IsLeaveRoutine}
+use Rattle.lib_wrappers.specs.declared.accesses.held.HeldScalar.{HeldScalar}
+use Rattle.lib_wrappers.specs.declared.accesses.held.HeldScalar.TheVariants.{Integer}
+use Rattle.lib_wrappers.specs.AccessRoutines.Holding.{holder_in, IsApartFrom}
+use Rattle.lib_wrappers.specs.AccessRoutines.Accessing.{IsLoadRoutine, IsStoreRoutine}
+use Rattle.lib_wrappers.specs.AllocatingRoutines.Entering.{IsLeaveRoutine}
 use Rattle.metadata_plan.specs.Operators.{OperatorCode, AreOperators}
 
 -- The operators on integers; addresses that move by elements of a size, and their difference; scalars loaded and stored

@@ -6,8 +6,8 @@ use Rattle.flat_operators.specs.Pointers.{offset_code, difference_code}
 use Rattle.shadow_space.specs.Form.{EntryCode}
 use Rattle.flat_actions.specs.Judgement.Code.{spatial_code, temporal_code}
 use Rattle.flat_actions.specs.Narrowing.{narrow_code}
-use Rattle.object_routines.specs.AccessRoutines.Accessing.{load_code, store_code}
-use Rattle.object_routines.specs.AllocatingRoutines.Entering.{leave_code}
+use Rattle.lib_wrappers.specs.AccessRoutines.Accessing.{load_code, store_code}
+use Rattle.lib_wrappers.specs.AllocatingRoutines.Entering.{leave_code}
 use Rattle.metadata_plan.specs.OperatorLists.Operators.{operators}
 use Rattle.metadata_relation.specs.InlineCode.{InlineCode}
 

@@ -20,7 +20,7 @@ use Rattle.flat_routines.specs.Metadata.{View}
 use Rattle.flat_routines.specs.Objects.StandsFor.{Views, Keys, StandsFor, global_lock}
 use Rattle.flat_routines.specs.Objects.Start.{start_keys}
 use Rattle.flat_actions.specs.Actions.{views_of, AreSpacesGood, IsShown, IsFor}
-use Rattle.object_routines.specs.AllocatingRoutines.Premises.{HaveBytes}
+use Rattle.lib_wrappers.specs.AllocatingRoutines.Premises.{HaveBytes}
 use Rattle.metadata_relation.specs.Blocks.{Expansion, top_cell}
 use Rattle.metadata_relation.specs.Holding.{World, Activation, Holds}
 use Rattle.metadata_relation.specs.Scopes.{Names, AreGood}

@@ -30,7 +30,7 @@ use Rattle.flat_meaning.specs.Memory.{Bytes}
 use Rattle.flat_meaning.specs.State as flat
 use Rattle.flat_routines.specs.Metadata.{IsObjectWord, KeepsShadow}
 use Rattle.flat_meaning.specs.Meaning.{step}
-use Rattle.object_routines.specs.AllocatingRoutines.Entering.{block_bytes}
+use Rattle.lib_wrappers.specs.AllocatingRoutines.Entering.{block_bytes}
 use Rattle.metadata_plan.specs.Registers.{all_variables}
 use Rattle.metadata_relation.specs.Blocks.{is_short, objects_of_body, result_of}
 use Rattle.metadata_relation.specs.InlineCode.{IsInlineCode}

@@ -16,7 +16,7 @@ use Rattle.flat_meaning.specs.State as flat
 use Rattle.flat_meaning.specs.Calls.{function_in, charged}
 use Rattle.flat_meaning.specs.Meaning.{body_of}
 use Rattle.flat_routines.specs.Routine.{HasAt}
-use Rattle.object_routines.specs.AllocatingRoutines.Entering.{IsHomeOf, AreOfLock}
+use Rattle.lib_wrappers.specs.AllocatingRoutines.Entering.{IsHomeOf, AreOfLock}
 use Rattle.metadata_plan.specs.Registers.{most_temporaries}
 use Rattle.metadata_plan.specs.Expanded.{Leads}
 use Rattle.metadata_relation.specs.Registers.{variables_end, tops_end, first_object, lock_register, body_top_register, block_top_register, temporary_register}

@@ -14,18 +14,16 @@ use flat_meaning::{FlatInstruction, RightOperand};
 use flat_operators::binary::Registers;
 use flat_operators::pointers::{put_back, put_difference, put_forward};
 use flat_routines::{Entry, Held};
+use lib_wrappers::accesses::{
+    HeldScalar, checked_load, checked_store, load, spatial_check, store, temporal_check,
+};
+use lib_wrappers::allocating::{EntryRegisters, calloc, enter, free, leave, malloc, realloc, zero};
 use lib_wrappers::comparing::{RangeRegisters, memcmp, strchr, strcmp};
 use lib_wrappers::moving::{
     CopyRegisters, FillRegisters, copy_structure, fill, memmove, memset, move_bytes, move_tagged,
 };
 use lib_wrappers::printing::{Printed, digits, numbers, printf};
 use lib_wrappers::strings::{put_bytes, puts, scan, scan_at_most, strcat, strcpy, strlen, strncpy};
-use object_routines::accesses::{
-    HeldScalar, checked_load, checked_store, load, spatial_check, store, temporal_check,
-};
-use object_routines::allocating::{
-    EntryRegisters, calloc, enter, free, leave, malloc, realloc, zero,
-};
 use sb_base::Line;
 use shadow_space::ShadowForm;
 use std::alloc::{AllocError, Global};

@@ -20,11 +20,11 @@ use Rattle.flat_routines.specs.Laws.{work_of as work_left, report_length}
 use Rattle.flat_routines.specs.Metadata.{View}
 use Rattle.flat_routines.specs.Objects.StandsFor.{Views, Keys}
 use Rattle.flat_actions.specs.Actions.{views_of, IsFor, Nowhere, Leaves}
-use Rattle.area_routines.specs.Areas.{IsAreaPlace, IsArea, HoldsPart, area_bytes}
-use Rattle.area_routines.specs.Zeroing.{IsToZeroArea}
-use Rattle.area_routines.specs.Values.{GivesArea, LeavesArea, work_from, IsToTakePlace, IsTakeRoutine}
-use Rattle.area_routines.specs.Values.{IsMakeZeroRoutine, IsToPutPlace, putting, IsPutRoutine}
-use Rattle.area_routines.specs.Parts.{IsToTakePart, IsTakePartRoutine}
+use Rattle.lib_wrappers.specs.AreaRoutines.Areas.{IsAreaPlace, IsArea, HoldsPart, area_bytes}
+use Rattle.lib_wrappers.specs.AreaRoutines.Zeroing.{IsToZeroArea}
+use Rattle.lib_wrappers.specs.AreaRoutines.Values.{GivesArea, LeavesArea, work_from, IsToTakePlace, IsTakeRoutine}
+use Rattle.lib_wrappers.specs.AreaRoutines.Values.{IsMakeZeroRoutine, IsToPutPlace, putting, IsPutRoutine}
+use Rattle.lib_wrappers.specs.AreaRoutines.Parts.{IsToTakePart, IsTakePartRoutine}
 use Rattle.runtime_functions.specs.Calls.{CallSite, begins_in, CallsRuntime, HasReturned, IsCalled}
 use Rattle.runtime_functions.specs.Library.{held_from}
 use Rattle.runtime_functions.specs.Actions.{price_of, work_of_call, IsServed}

@@ -25,7 +25,7 @@ use Rattle.flat_actions.specs.Actions.{IsActionIn, Leaves, IsFor, Nowhere, Word,
 use Rattle.flat_actions.specs.Ranges.{IsObjectRange, HasMovedTagged, IsTaggedMoveRoutine}
 use Rattle.lib_wrappers.proofs.MovingRoutines.Bytes.{in_runtime}
 use Rattle.lib_wrappers.proofs.MovingRoutines.Moves.{allowed_range, with_moved, moved_is}
-use Rattle.area_routines.proofs.Values.{named_is}
+use Rattle.lib_wrappers.proofs.AreaRoutines.Values.{named_is}
 use Rattle.runtime_functions.specs.declared.runtime.RuntimeFunction.TheVariants.{CopyTagged}
 use Rattle.runtime_functions.specs.Calls.{CallSite, CallsFunction}
 use Rattle.runtime_functions.specs.Actions.{IsReady, ServesCall, IsActionFunction, IsServed, work_of_call, steps_of}

@@ -20,8 +20,8 @@ use Rattle.flat_routines.specs.InputOutput.{IsWithoutInputOutput}
 use Rattle.flat_routines.specs.Metadata.{View}
 use Rattle.flat_routines.specs.Objects.StandsFor.{Views, Keys}
 use Rattle.flat_actions.specs.Actions.{views_of, IsFor, work_of}
-use Rattle.object_routines.specs.AllocatingRoutines.Entering.{block_bytes, AreOfLock, CanEnter, HasEntered, IsEntered}
-use Rattle.object_routines.specs.AllocatingRoutines.Entering.{IsEnterRoutine}
+use Rattle.lib_wrappers.specs.AllocatingRoutines.Entering.{block_bytes, AreOfLock, CanEnter, HasEntered, IsEntered}
+use Rattle.lib_wrappers.specs.AllocatingRoutines.Entering.{IsEnterRoutine}
 use Rattle.runtime_functions.specs.Calls.{CallSite, begins_in, CallsRuntime, HasReturned, IsCalled}
 use Rattle.runtime_functions.specs.Actions.{price_of, work_of_call, ComesBehind}
 use Rattle.runtime_functions.specs.Runtime.{entered_registers}

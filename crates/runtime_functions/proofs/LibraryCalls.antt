@@ -20,7 +20,7 @@ use Rattle.flat_routines.proofs.Shape.{more}
 use Rattle.runtime_functions.specs.Sizes.{most_registers}
 use Rattle.flat_routines.specs.Objects.StandsFor.{Keys}
 use Rattle.flat_actions.specs.Actions.{IsAction, runtime_basis, registers_of, views_of}
-use Rattle.object_routines.specs.AllocatingRoutines.Premises.{AreStanding}
+use Rattle.lib_wrappers.specs.AllocatingRoutines.Premises.{AreStanding}
 use Rattle.runtime_functions.specs.declared.library.LibraryFunction.{LibraryFunction}
 use Rattle.runtime_functions.specs.declared.runtime.RuntimeFunction.{RuntimeFunction}
 use Rattle.runtime_functions.specs.declared.runtime.RuntimeFunction.TheVariants.{Library}

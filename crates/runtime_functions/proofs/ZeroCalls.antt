@@ -23,8 +23,8 @@ use Rattle.flat_actions.specs.Actions.{IsActionIn, Leaves, IsFor, HasGiven, Nowh
 use Rattle.flat_actions.specs.Actions.{work_of}
 use Rattle.flat_actions.proofs.Standing.{shown_still, keeps_same}
 use Rattle.lib_wrappers.proofs.MovingRoutines.Bytes.{in_runtime}
-use Rattle.object_routines.specs.AllocatingRoutines.Zeroing.{IsZeroed, HasZeroed, IsZeroRoutine}
-use Rattle.object_routines.proofs.AllocatingRoutines.ZeroedObjects.{zeroed_stands}
+use Rattle.lib_wrappers.specs.AllocatingRoutines.Zeroing.{IsZeroed, HasZeroed, IsZeroRoutine}
+use Rattle.lib_wrappers.proofs.AllocatingRoutines.ZeroedObjects.{zeroed_stands}
 use Rattle.runtime_functions.specs.declared.runtime.RuntimeFunction.TheVariants.{Zero}
 use Rattle.runtime_functions.specs.Calls.{CallSite, CallsFunction}
 use Rattle.runtime_functions.specs.Actions.{IsReady, ServesCall, IsActionFunction}

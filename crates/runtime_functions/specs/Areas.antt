@@ -11,8 +11,8 @@ use Rattle.flat_meaning.specs.State.{Stage}
 use Rattle.flat_meaning.specs.Words.{IsOfWords}
 use Rattle.flat_routines.specs.Objects.StandsFor.{Views, Keys}
 use Rattle.flat_actions.specs.Actions.{Nowhere, IsFor, work_of}
-use Rattle.area_routines.specs.Areas.{IsArea, area_bytes}
-use Rattle.area_routines.specs.Values.{putting, work_from}
+use Rattle.lib_wrappers.specs.AreaRoutines.Areas.{IsArea, area_bytes}
+use Rattle.lib_wrappers.specs.AreaRoutines.Values.{putting, work_from}
 use Rattle.runtime_functions.specs.Calls.{CallSite}
 use Rattle.runtime_functions.specs.Actions.{IsBehind, ComesBehind, IsServed, work_of_call}
 

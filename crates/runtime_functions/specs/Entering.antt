@@ -12,7 +12,7 @@ use Rattle.flat_meaning.specs.State.{Stage}
 use Rattle.flat_meaning.specs.Words.{IsOfWords}
 use Rattle.flat_routines.specs.Objects.StandsFor.{Views, Keys}
 use Rattle.flat_actions.specs.Actions.{IsFor, KeepsHeld, work_of}
-use Rattle.object_routines.specs.AllocatingRoutines.Entering.{block_bytes, AreOfLock, CanEnter}
+use Rattle.lib_wrappers.specs.AllocatingRoutines.Entering.{block_bytes, AreOfLock, CanEnter}
 use Rattle.runtime_functions.specs.Calls.{CallSite}
 use Rattle.runtime_functions.specs.Actions.{IsBehind, HasTold, HasExited, ComesBehind, work_of_call}
 

@@ -10,7 +10,7 @@ use Rattle.flat_meaning.specs.Memory.{Bytes}
 use Rattle.flat_routines.specs.declared.registers.Held.{Held}
 use Rattle.flat_routines.specs.Metadata.{View}
 use Rattle.flat_actions.specs.Actions.{Holder, Nowhere, Word, Pointer, IsActionIn, runtime_basis}
-use Rattle.object_routines.specs.AllocatingRoutines.Premises.{AreStanding}
+use Rattle.lib_wrappers.specs.AllocatingRoutines.Premises.{AreStanding}
 use Rattle.runtime_functions.specs.declared.library.LibraryFunction.{LibraryFunction}
 use Rattle.runtime_functions.specs.declared.library.LibraryFunction.TheVariants.{Malloc, Calloc, Free, Realloc, Memcpy}
 use Rattle.runtime_functions.specs.declared.library.LibraryFunction.TheVariants.{Memmove, Memset, Memcmp, Strlen, Strcmp}

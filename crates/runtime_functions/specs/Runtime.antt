@@ -14,11 +14,11 @@ use Rattle.flat_actions.specs.Scanning.{IsScanRoutine}
 use Rattle.flat_actions.specs.Ranges.{IsTaggedMoveRoutine}
 use Rattle.lib_wrappers.specs.StringRoutines.Putting.{IsPutRoutine as IsPutBytesRoutine}
 use Rattle.lib_wrappers.specs.PrintingRoutines.Numbers.{IsNumberRoutine}
-use Rattle.object_routines.specs.declared.allocating.entering.EntryRegisters.{EntryRegisters}
-use Rattle.object_routines.specs.AllocatingRoutines.Entering.{IsEnterRoutine}
-use Rattle.object_routines.specs.AllocatingRoutines.Zeroing.{IsZeroRoutine}
-use Rattle.area_routines.specs.Values.{IsMakeZeroRoutine, IsTakeRoutine, IsPutRoutine}
-use Rattle.area_routines.specs.Parts.{IsTakePartRoutine}
+use Rattle.lib_wrappers.specs.declared.allocating.entering.EntryRegisters.{EntryRegisters}
+use Rattle.lib_wrappers.specs.AllocatingRoutines.Entering.{IsEnterRoutine}
+use Rattle.lib_wrappers.specs.AllocatingRoutines.Zeroing.{IsZeroRoutine}
+use Rattle.lib_wrappers.specs.AreaRoutines.Values.{IsMakeZeroRoutine, IsTakeRoutine, IsPutRoutine}
+use Rattle.lib_wrappers.specs.AreaRoutines.Parts.{IsTakePartRoutine}
 use Rattle.runtime_functions.specs.declared.library.LibraryFunction.TheVariants as library
 use Rattle.runtime_functions.specs.declared.runtime.RuntimeFunction.{RuntimeFunction}
 use Rattle.runtime_functions.specs.declared.runtime.RuntimeFunction.TheVariants.{Library, Scan, PutBytes, PutNumber}

@@ -11,10 +11,10 @@ ghost use Rattle.runtime_functions.specs.Library.{IsLibraryCode, parameters_of, 
 use addr_map::AddrMap;
 use flat_meaning::FlatInstruction;
 use flat_routines::{Entry, Held};
+use lib_wrappers::allocating::{calloc, free, malloc, realloc};
 use lib_wrappers::comparing::{RangeRegisters, memcmp, strchr, strcmp};
 use lib_wrappers::moving::{CopyRegisters, FillRegisters, memmove, memset};
 use lib_wrappers::strings::{puts, strcat, strcpy, strlen, strncpy};
-use object_routines::allocating::{calloc, free, malloc, realloc};
 use sb_base::Line;
 use shadow_space::ShadowForm;
 use std::alloc::{AllocError, Global};

@@ -8,9 +8,9 @@ use flat_actions::laws::{pointers_are_narrowed_exactly, the_tests_of_an_access_a
 use flat_operators::laws::{
     differences_are_in_elements, lists_for_pointers_have_shapes, pointers_move_by_elements,
 };
+use lib_wrappers::accesses::laws::{loads_are_exact, stores_are_exact};
+use lib_wrappers::allocating::laws::blocks_are_left_exactly;
 use metadata_plan::laws::operator_lists::operators_compute;
-use object_routines::accesses::laws::{loads_are_exact, stores_are_exact};
-use object_routines::allocating::laws::blocks_are_left_exactly;
 use shadow_space::ShadowForm;
 
 /// Under each form of the shadow space the operators, the moves of pointers, loads and stores, checks, narrowing and the

@@ -1,8 +1,8 @@
 use Rattle.std.proofs.Common.{arith}
 use Rattle.metadata_relation.proofs.Straight.{short_difference_does}
 use Rattle.obj_memory.specs.declared.int_type.IntType.TheVariants.{Char}
-use Rattle.object_routines.specs.declared.accesses.held.HeldScalar.TheVariants.{Integer}
-use Rattle.object_routines.specs.AccessRoutines.Accessing.{store_op}
+use Rattle.lib_wrappers.specs.declared.accesses.held.HeldScalar.TheVariants.{Integer}
+use Rattle.lib_wrappers.specs.AccessRoutines.Accessing.{store_op}
 use Rattle.metadata_relation.proofs.laws.inline.lists_of_a_form_are_inline_code.Goals as goal
 
 pub returns : goal.returns

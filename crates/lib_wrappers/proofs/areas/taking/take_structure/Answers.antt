@@ -1,0 +1,15 @@
+use Rattle.std.proofs.lemmas.Result.{IfOk-weaker}
+use Rattle.lib_wrappers.proofs.AreaRoutines.Values.{takes_structures}
+use Rattle.lib_wrappers.proofs.areas.taking.take_structure.Goals as goal
+
+pub returns-clause-does : goal.returns-clause-does
+returns-clause-does g c =
+    let a = c.args in
+    IfOk-weaker _ _ _
+    (λ r h. takes_structures a.map.now c.requires.map g.S.ShadowForm.entry (g.S.ShadowForm.IsGood a.map.now)
+    (λ m m' keep good. c.entries_are_local.ensures a.map.now m m' c.requires.map keep good) a.to a.from a.bytes
+    a.scratch _ h)
+    c.take_range.ensures.does
+
+pub returns-clause-shape : goal.returns-clause-shape
+returns-clause-shape g c = c.take_range.ensures.shape

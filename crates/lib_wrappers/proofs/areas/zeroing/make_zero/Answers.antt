@@ -1,0 +1,15 @@
+use Rattle.std.proofs.lemmas.Result.{IfOk-weaker}
+use Rattle.lib_wrappers.proofs.AreaRoutines.Values.{makes_zeros}
+use Rattle.lib_wrappers.proofs.areas.zeroing.make_zero.Goals as goal
+
+pub returns-clause-does : goal.returns-clause-does
+returns-clause-does g c =
+    let a = c.args in
+    IfOk-weaker _ _ _
+    (λ r h. makes_zeros a.map.now c.requires.map g.S.ShadowForm.entry (g.S.ShadowForm.IsGood a.map.now)
+    (λ m m' keep good. c.entries_are_local.ensures a.map.now m m' c.requires.map keep good) a.at a.bytes a.scratch
+    _ h)
+    c.zero_area.ensures.does
+
+pub returns-clause-shape : goal.returns-clause-shape
+returns-clause-shape g c = c.zero_area.ensures.shape

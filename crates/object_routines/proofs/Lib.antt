@@ -1,3 +1,0 @@
-pub mod AccessRoutines
-pub mod AllocatingRoutines
-pub mod Shapes

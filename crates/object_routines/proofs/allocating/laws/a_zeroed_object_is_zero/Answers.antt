@@ -1,6 +1,0 @@
-use Rattle.object_routines.proofs.AllocatingRoutines.ZeroedObjects.{zeroed_stands}
-use Rattle.object_routines.proofs.allocating.laws.a_zeroed_object_is_zero.Goals as goal
-
-pub returns : goal.returns
-returns c = λ map functions types entry k objects n m m' mapped st table live zeroed.
-    zeroed_stands map mapped functions types entry k objects n m m' st table live zeroed

@@ -1,2 +1,0 @@
-pub mod AccessRoutines
-pub mod AllocatingRoutines

@@ -170,7 +170,9 @@ module _ (m : MapSizes) (p : FlatProgram) (s : CallSite) (fn : FlatFunction) (r 
 
   pub weight_is : weight_of (function_in p f) ≡ 1
   weight_is =
-      ap weight_of h.calls.found ∙ ap (λ b. if b then 1 else 2) (le-leb fn.room (2 ^ 11) h.is.room)
+      ap weight_of h.calls.found
+      ∙ (ap (λ b. if nat_le (if b then fn.room else 2 * fn.room) (2 ^ 11) then 1 else 2) h.is.of_runtime
+      ∙ ap (λ b. if b then 1 else 2) (le-leb fn.room (2 ^ 11) h.is.room))
 
   rooms_behind : (b : Bool) (x : Frame) (xs : List Frame)
       → rooms b p (x ∷ xs) ≡ room_if b (function_in p x.function) + rooms b p xs

@@ -8,7 +8,7 @@ pub mod laws;
 pub mod reallocating;
 pub mod zeroing;
 
-pub use crate::allocating::allocating::{calloc, malloc};
+pub use crate::allocating::allocating::{calloc, key_test, keys_list, malloc};
 pub use crate::allocating::entering::{EntryRegisters, enter, leave};
 pub use crate::allocating::freeing::free;
 pub use crate::allocating::reallocating::realloc;

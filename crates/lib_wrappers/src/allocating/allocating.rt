@@ -142,8 +142,9 @@ fn malloc_list(
     joined(alloc, keys.as_slice(), rest.as_slice())
 }
 
-// Whether a key is left, and the next one.
-pub(crate) fn keys_list(
+/// The next key, in `key`, and whether it is left, in `left`: a test of a call whose callee has objects asks that too.
+/// The only refusal is that memory fails.
+pub fn keys_list(
     alloc: Global,
     map: &AddrMap,
     left: u32,
@@ -235,8 +236,9 @@ fn make_list(
     joined(alloc, test.as_slice(), rest.as_slice())
 }
 
-// The run ends where no key is left.
-pub(crate) fn key_test(
+/// The run ends at `line` where no key is left, by the register that `keys_list` leaves it in. The only refusal is that
+/// memory fails.
+pub fn key_test(
     alloc: Global,
     left: u32,
     line: Line,

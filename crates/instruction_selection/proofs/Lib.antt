@@ -1,6 +1,6 @@
-pub mod Blocks
+pub mod BlockObjects
 pub mod Lists
 pub mod Operands
 pub mod OneEntry
 pub mod PlainTypes
-pub mod Statics
+pub mod StaticPlaces

@@ -1,0 +1,280 @@
+//! Calls of functions of the program, by name and through pointers (C99 6.5.2.2).
+
+ghost use Rattle.std.specs.Prelude.{◌≡◌, ◌+◌, ◌<◌, ◌≤◌, ◌^◌, ◌++◌, length, slice_get, OnOk, IfOk};
+ghost use Rattle.lib_wrappers.specs.AllocatingRoutines.Entering.{block_bytes};
+ghost use Rattle.runtime_functions.specs.Library.{held_from};
+ghost use Rattle.metadata_plan.specs.Blocks.{call_tests};
+ghost use Rattle.tac_ir.specs.Meaning.{function_in};
+ghost use Rattle.metadata_plan.specs.Registers.{most_temporaries};
+ghost use Rattle.metadata_relation.specs.FunctionTypes.{first_of_type};
+ghost use Rattle.metadata_relation.specs.Registers.{area_words, first_free, parameter_words, parameters_end};
+ghost use Rattle.metadata_relation.specs.Registers.{result_words, total};
+ghost use Rattle.metadata_relation.specs.Blocks.{call_code, call_of, objects_of_body, result_entry, result_of};
+ghost use Rattle.metadata_relation.specs.Blocks.{callee_tests, object_tests, room_tests, through_code, through_of};
+ghost use Rattle.metadata_relation.specs.Blocks.{unknown_object_tests};
+ghost use Rattle.instruction_selection.specs.Contexts.{IsPrepared};
+
+use crate::call_tests::{
+    put_call_tests, put_callee_tests, put_object_tests, put_room_tests, put_unknown_object_tests,
+};
+use crate::context::FunctionContext;
+use crate::entries::{held_from, put_untagged};
+use crate::handing::{handed_to, put_pack};
+use crate::list::put;
+use crate::registers::argument_words;
+use c_tree::{Kind, Variable};
+use flat_meaning::FlatInstruction;
+use obj_memory::Scalar;
+use sb_base::{Ending, Line};
+use std::alloc::{AllocError, Global};
+use tac_ir::{CodeFunction, Tac};
+
+/// The objects of the block of a function's body, those among its parameters too, in a list of variables. It fails only
+/// for want of memory.
+pub fn body_objects(alloc: Global, function: &CodeFunction) -> Result<Vec<Variable>, AllocError>
+    ensures { IfOk result (λ list. list.items ≡ objects_of_body function.now) }
+{
+    let mut list = Vec::from_slice(alloc, function.parameters.as_slice())?;
+    list.extend_from_slice(function.entered.as_slice())?;
+    Ok(list)
+}
+
+// The kind of the result of a function.
+fn result_of(program: &Tac, function: &CodeFunction) -> Kind
+    ensures { result ≡ result_of program.now function.now }
+{
+    match program.results.as_slice().get(function.type_number) {
+        Some(kind) => *kind,
+        None => Kind::Void,
+    }
+}
+
+// Puts the entry of a result that is handed over without one behind a list.
+#[tactic(auto, using(crate::proofs::Lists::nothing_behind))]
+fn put_result_entry(
+    code: &mut Vec<FlatInstruction>,
+    kind: Kind,
+    with_entry: bool,
+    register: u32,
+) -> Result<(), AllocError>
+    requires { register ≤ 2 ^ 31 }
+    ensures { OnOk result (code.new.items ≡ code.old.items ++ result_entry kind with_entry register) }
+{
+    match kind {
+        Kind::Scalar(Scalar::Pointer) => Ok(()),
+        Kind::Void | Kind::Scalar(Scalar::Integer(_)) | Kind::Structure(_) | Kind::Array(_) => {
+            put_untagged(code, with_entry, register)
+        }
+    }
+}
+
+/// A call.
+#[derive(Clone, Copy)]
+pub struct Call {
+    /// The line that a report names.
+    pub line: Line,
+    /// The temporary that gets the result: that of the first argument, or that of the pointer.
+    pub first: usize,
+    /// How many arguments there are.
+    pub count: usize,
+    /// Whether the result has an entry.
+    pub with_entry: bool,
+}
+
+// Puts the tests of a call of a function behind a list.
+fn put_tests(
+    code: &mut Vec<FlatInstruction>,
+    context: &FunctionContext,
+    callee: &CodeFunction,
+    line: Line,
+) -> Result<(), AllocError>
+    requires prepared { IsPrepared context.now }
+    requires small { block_bytes (objects_of_body callee.now) ≤ 2 ^ 62 }
+    ensures { OnOk result (code.new.items ≡ code.old.items
+        ++ (call_tests context.now.map.now callee.now.room line (first_free context.now.function.now)
+        ++ object_tests context.now.map.now (objects_of_body callee.now) line (first_free context.now.function.now))) }
+{
+    let free = context.free();
+    let objects = body_objects(context.alloc, callee)?;
+    put_call_tests(code, context.map, callee.room, line, free)?;
+    put_object_tests(code, context.alloc, context.map, &objects, line, free)
+}
+
+// Puts a call of a function, by its number, behind a list.
+fn put_call_of(
+    code: &mut Vec<FlatInstruction>,
+    context: &FunctionContext,
+    callee: &CodeFunction,
+    number: u32,
+    call: Call,
+) -> Result<(), AllocError>
+    requires prepared { IsPrepared context.now }
+    requires small { block_bytes (objects_of_body callee.now) ≤ 2 ^ 62 }
+    requires first { call.first < most_temporaries context.now.function.now.code }
+    requires among { call.first + length callee.now.parameters ≤ most_temporaries context.now.function.now.code }
+    ensures { OnOk result (code.new.items ≡ code.old.items ++ call_code context.now.map.now context.now.program.now
+        context.now.function.now callee.now number call.line call.first call.with_entry) }
+{
+    put_tests(code, context, callee, call.line)?;
+    let arguments = context.moved(call.first);
+    let handed = handed_to(context.alloc, callee.parameters.as_slice())?;
+    let into = context.temporary(call.first);
+    let _room = context.free();
+    put_pack(code, context, &handed, arguments, call.first)?;
+    put(
+        code,
+        FlatInstruction::Call {
+            function: number,
+            first: arguments,
+            into,
+        },
+    )?;
+    put_result_entry(
+        code,
+        result_of(context.program, callee),
+        call.with_entry,
+        into,
+    )
+}
+
+/// Puts a call by name behind a list. Where there is no such function the run ends, and one with another number of
+/// arguments is never reached. It fails only for want of memory.
+pub fn put_call(
+    code: &mut Vec<FlatInstruction>,
+    context: &FunctionContext,
+    number: usize,
+    call: Call,
+) -> Result<(), AllocError>
+    requires prepared { IsPrepared context.now }
+    requires first { call.first < most_temporaries context.now.function.now.code }
+    requires among { call.first + call.count ≤ most_temporaries context.now.function.now.code }
+    ensures { OnOk result (code.new.items ≡ code.old.items ++ call_of context.now.map.now context.now.program.now
+        context.now.function.now (function_in context.now.program.now number) number call.line call.first call.count
+        call.with_entry) }
+{
+    match context.program.functions.as_slice().get(number) {
+        None => put(code, FlatInstruction::End(Ending::BadCall(call.line))),
+        Some(callee) if callee.parameters.as_slice().len() == call.count => {
+            put_call_of(code, context, callee, number as u32, call)
+        }
+        Some(_) => put(code, FlatInstruction::End(Ending::Abort(call.line))),
+    }
+}
+
+// How many registers the arguments of a function take, with the address of the area of a result that is a structure.
+fn taken_words(program: &Tac, function: &CodeFunction) -> u32
+    requires { total parameter_words function.now.parameters < 2 ^ 31 }
+    ensures { result ≡ parameters_end function.now + area_words (result_of program.now function.now) }
+{
+    let arguments = argument_words(function.parameters.as_slice());
+    match result_of(program, function) {
+        Kind::Structure(_) => arguments + 1,
+        Kind::Void | Kind::Scalar(_) | Kind::Array(_) => arguments,
+    }
+}
+
+// How many registers the result of a function takes.
+fn result_words(kind: Kind) -> u32
+    ensures { result ≡ result_words kind }
+{
+    match kind {
+        Kind::Structure(_) => 0,
+        Kind::Scalar(Scalar::Pointer) => 5,
+        Kind::Void | Kind::Scalar(Scalar::Integer(_)) | Kind::Array(_) => 1,
+    }
+}
+
+// Puts the tests of a call through a pointer behind a list.
+fn put_through_tests(
+    code: &mut Vec<FlatInstruction>,
+    context: &FunctionContext,
+    kind: u64,
+    line: Line,
+    pointer: u32,
+) -> Result<(), AllocError>
+    requires prepared { IsPrepared context.now }
+    requires pointer { pointer ≤ 2 ^ 31 }
+    ensures { OnOk result (code.new.items ≡ code.old.items
+        ++ (callee_tests kind line pointer (first_free context.now.function.now)
+        ++ (room_tests context.now.map.now (held_from pointer).tag.key line (first_free context.now.function.now)
+        ++ unknown_object_tests context.now.map.now (held_from pointer).tag.key line
+        (first_free context.now.function.now)))) }
+{
+    let free = context.free();
+    let held = held_from(pointer);
+    put_callee_tests(code, kind, line, held, free)?;
+    put_room_tests(code, context.map, held.tag.key, line, free)?;
+    put_unknown_object_tests(code, context.alloc, context.map, held.tag.key, line, free)
+}
+
+// Puts a call through a pointer to a function of the type of one behind a list.
+fn put_through_one(
+    code: &mut Vec<FlatInstruction>,
+    context: &FunctionContext,
+    one: &CodeFunction,
+    kind: u64,
+    call: Call,
+) -> Result<(), AllocError>
+    requires prepared { IsPrepared context.now }
+    requires few { total parameter_words one.now.parameters < 2 ^ 31 }
+    requires among { call.first + 1 + length one.now.parameters ≤ most_temporaries context.now.function.now.code }
+    ensures { OnOk result (code.new.items ≡ code.old.items ++ through_code context.now.map.now context.now.program.now
+        context.now.function.now one.now kind call.line call.first call.with_entry) }
+{
+    let pointer = context.temporary(call.first);
+    let _room = context.free();
+    put_through_tests(code, context, kind, call.line, pointer)?;
+    let arguments = context.moved(call.first + 1);
+    let handed = handed_to(context.alloc, one.parameters.as_slice())?;
+    put_pack(code, context, &handed, arguments, call.first + 1)?;
+    let given = result_of(context.program, one);
+    put(
+        code,
+        FlatInstruction::CallAddress {
+            at: pointer,
+            first: arguments,
+            count: taken_words(context.program, one),
+            into: pointer,
+            results: result_words(given),
+        },
+    )?;
+    put_result_entry(code, given, call.with_entry, pointer)
+}
+
+// The number of the first function of a type, and their count where no function has it.
+fn first_of_type(functions: &[CodeFunction], type_number: usize) -> usize
+    ensures { result ≡ first_of_type functions.now type_number }
+{
+    for i in 0..functions.len() {
+        if functions[i].type_number == type_number {
+            return i;
+        }
+    }
+    functions.len()
+}
+
+/// Puts a call through a pointer to a function of a type behind a list. Where no function has the type no call is one,
+/// and one with another number of arguments is never reached. It fails only for want of memory.
+pub fn put_call_through(
+    code: &mut Vec<FlatInstruction>,
+    context: &FunctionContext,
+    type_number: usize,
+    call: Call,
+) -> Result<(), AllocError>
+    requires prepared { IsPrepared context.now }
+    requires among { call.first + 1 + call.count ≤ most_temporaries context.now.function.now.code }
+    ensures { OnOk result (code.new.items ≡ code.old.items ++ through_of context.now.map.now context.now.program.now
+        context.now.function.now
+        (slice_get context.now.program.now.functions (first_of_type context.now.program.now.functions type_number))
+        (first_of_type context.now.program.now.functions type_number) call.line call.first call.count call.with_entry) }
+{
+    let functions = context.program.functions.as_slice();
+    let kind = first_of_type(functions, type_number);
+    match functions.get(kind) {
+        None => put(code, FlatInstruction::End(Ending::BadCall(call.line))),
+        Some(one) if one.parameters.as_slice().len() == call.count => {
+            put_through_one(code, context, one, kind as u64, call)
+        }
+        Some(_) => put(code, FlatInstruction::End(Ending::Abort(call.line))),
+    }
+}

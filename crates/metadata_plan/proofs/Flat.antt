@@ -18,7 +18,7 @@ use Rattle.flat_meaning.specs.declared.function.FlatFunction.{FlatFunction}
 use Rattle.flat_meaning.specs.declared.function.FlatProgram.{FlatProgram}
 use Rattle.flat_meaning.specs.Memory.{put}
 use Rattle.flat_meaning.specs.State.{State, Frame, Stage, Stands, Over}
-use Rattle.flat_meaning.specs.Calls.{function_in, charged}
+use Rattle.flat_meaning.specs.Calls.{function_in, record_bytes, charged}
 use Rattle.flat_meaning.specs.Meaning.{instruction_at, at_instruction, body_of, weight_of, step, right_value, received}
 use Rattle.flat_meaning.specs.Words.{HasWords}
 use Rattle.flat_meaning.proofs.Words.{step_fits}
@@ -26,7 +26,7 @@ use Rattle.metadata_plan.specs.Expanded.{Leads, Falls, Forward, Back}
 
 pub weight_small : (o : Option FlatFunction) → weight_of o ≤ 2
 weight_small None = omega arith
-weight_small (Some f) = by (nat_le f.room (2 ^ 11))
+weight_small (Some f) = by (nat_le (record_bytes f) (2 ^ 11))
   where
     by : (b : Bool) → (if b then 1 else 2) ≤ 2
     by true = omega arith

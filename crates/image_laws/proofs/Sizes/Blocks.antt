@@ -30,7 +30,7 @@ use Rattle.flat_meaning.specs.declared.instruction.RightOperand.TheVariants as r
 use Rattle.flat_meaning.specs.declared.instruction.FlatInstruction.TheVariants as flat
 use Rattle.flat_meaning.specs.declared.function.FlatFunction.{FlatFunction}
 use Rattle.flat_meaning.specs.declared.function.FlatProgram.{FlatProgram}
-use Rattle.flat_meaning.specs.Calls.{function_in}
+use Rattle.flat_meaning.specs.Calls.{function_in, record_bytes}
 use Rattle.flat_meaning.specs.Meaning.{parameters_of, results_of}
 use Rattle.metadata_plan.specs.Registers.{temporary_register, first_free}
 use Rattle.metadata_plan.specs.Part.{takes}
@@ -192,7 +192,7 @@ module _ (p : FlatProgram) (g : FlatFunction) where
           let a1 = words_append p g tests (moves ++ last) in
           let a2 = words_append p g moves last in
           let aim = known.address f n e in
-          let q1 = few_for_constant g.room in
+          let q1 = few_for_constant (record_bytes g) in
           let q2 = known.parameters f n e in
           let given = passed_most g s (parameters_of (function_in p f)) in
           let q3 = ap (passed_words g (temporary_register c d)) (known.gives f n e) in

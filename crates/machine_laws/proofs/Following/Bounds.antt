@@ -161,10 +161,10 @@ module _ (m : MapSizes) (p : FlatProgram) (plans : List FunctionPlan) (f pc : �
   charged_bound x hx small =
       let k = keeping p plans f in
       let a = short_constant_length 6 (charged_from m p f) (inl small) in
-      let halves = Op Sub 5 2 6 ∷ ShiftImm Srli (used (k.place x) 5) 5 1 ∷ keep (k.place x) k.base 5 in
-      needed_bound x (home_reach k.room + 4) (constant 6 (charged_from m p f) ++ halves)
+      let half = Op Sub 5 2 6 ∷ ShiftImm Srli (used (k.place x) 5) 5 1 ∷ keep (k.place x) k.base 5 in
+      needed_bound x (home_reach k.room + 4) (constant 6 (charged_from m p f) ++ half)
       (λ e. let b = keep_reach k.room (k.place x) k.base 5 (hx e) in
-      let c = length-append (constant 6 (charged_from m p f)) halves in
+      let c = length-append (constant 6 (charged_from m p f)) half in
       omega arith)
 
   pub get_bound : (x : ℕ) → IsPlaced x

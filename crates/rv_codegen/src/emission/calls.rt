@@ -24,7 +24,7 @@ use crate::emission::values::{
     frame_register, left_scratch, put_fetch, put_keep, put_restore, put_save, right_scratch, used,
 };
 use flat_meaning::FlatFunction;
-use reg_plan::{record_bytes, FunctionPlan, LiveLookup};
+use reg_plan::{FunctionPlan, LiveLookup, record_bytes};
 use rv_isa::{Imm12, Instr, Reg, RegOp};
 use std::alloc::AllocError;
 

@@ -103,8 +103,8 @@ REGIONS = [
     ("StructureValues", 0x415d2000, 0x419d1fff),
     ("Cells", 0x419d2000, 0x419d2fff),
     ("Arguments", 0x419d3000, 0x419d4fff),
-    ("Calls", 0x419d5000, 0x41dd4fff),
-    ("RuntimeCalls", 0x41dd5000, 0x41de4fff),
+    ("Calls", 0x419d5000, 0x421d4fff),
+    ("RuntimeCalls", 0x421d5000, 0x421e4fff),
 ]
 
 # An image of four segments, each on a page of the file behind that of the headers but for the runtime, which has no bytes: the

@@ -6,6 +6,7 @@ use Rattle.std.specs.Global.{Global}
 use Rattle.flat_meaning.specs.declared.instruction.FlatInstruction.{FlatInstruction}
 use Rattle.flat_meaning.specs.declared.function.FlatFunction.{FlatFunction}
 use Rattle.flat_meaning.specs.declared.function.FlatProgram.{FlatProgram}
+use Rattle.flat_meaning.specs.Calls.{record_bytes}
 use Rattle.reg_plan.specs.Registers.{registers_given_out}
 use Rattle.reg_plan.specs.declared.plan.LiveInterval.{LiveInterval}
 use Rattle.reg_plan.specs.declared.plan.Place.{Place}
@@ -44,7 +45,7 @@ pub record AreClosed (program : FlatProgram) (function : ℕ) (body : List FlatI
 pub record HasHome (function : FlatFunction) (y : ℕ) : Type 0 where
   pub word : ℕ
   pub is : slice_get function.homes y ≡ Some word
-  pub inside : 8 * word + 16 ≤ function.room
+  pub inside : 8 * word + 16 ≤ record_bytes function
 
 -- A plan is accepted where the live ranges are closed; two that are live before one instruction have different homes,
 -- and different registers if they have any; each that is live has a home and a place, and the register is one that is

@@ -14,6 +14,7 @@ ghost use Rattle.reg_plan.specs.Tests.{Meet, AreApart, IsPlaced, IsKept, AreAcce
 use crate::apart::{are_kept_apart, home_of, overlap, place_of, range_of};
 use crate::closed::{is_closed, is_live};
 use crate::plan::{FunctionPlan, LiveInterval, Place, Plan, REGISTERS};
+use crate::record::record_bytes;
 use flat_meaning::{FlatFunction, FlatProgram};
 
 // Whether a live range has one of the first so many instructions.
@@ -35,7 +36,7 @@ fn has_home(function: &FlatFunction, register: usize) -> bool
     ensures no { HasHome function.now register → result ≡ true }
 {
     match home_of(function, register) {
-        Some(word) => 8 * u64::from(word) + 16 <= function.room,
+        Some(word) => 8 * u128::from(word) + 16 <= record_bytes(function),
         None => false,
     }
 }

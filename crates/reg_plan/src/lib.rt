@@ -22,6 +22,8 @@ pub mod lookup;
 mod occupied;
 pub mod plan;
 pub mod planned;
+pub mod record;
 
 pub use crate::lookup::LiveLookup;
 pub use crate::plan::{FunctionPlan, LiveInterval, Place, Plan};
+pub use crate::record::record_bytes;

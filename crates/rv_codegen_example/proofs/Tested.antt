@@ -7,6 +7,7 @@ use Rattle.std.proofs.lemmas.Bool.{ltb-true, leb-true, eqb-true, eq-eqb, and_par
 use Rattle.flat_meaning.specs.declared.instruction.FlatInstruction.{FlatInstruction}
 use Rattle.flat_meaning.specs.declared.function.FlatFunction.{FlatFunction}
 use Rattle.flat_meaning.specs.declared.function.FlatProgram.{FlatProgram}
+use Rattle.flat_meaning.specs.Calls.{record_bytes}
 use Rattle.reg_plan.specs.declared.effects.Span.{Span}
 use Rattle.reg_plan.specs.declared.effects.Reads.{Reads}
 use Rattle.reg_plan.specs.Registers.{registers_given_out}
@@ -113,7 +114,7 @@ module _ (p : FlatProgram) (f : ℕ) (g : FlatFunction) (plan : FunctionPlan) wh
 
   abbrev home_ok : Option ℕ → Bool
   home_ok None = false
-  home_ok (Some w) = nat_le (8 * w + 16) g.room
+  home_ok (Some w) = nat_le (8 * w + 16) (record_bytes g)
 
   abbrev place_ok : Option Place → Bool
   place_ok None = false
@@ -141,7 +142,7 @@ module _ (p : FlatProgram) (f : ℕ) (g : FlatFunction) (plan : FunctionPlan) wh
 
   home_of_ok : (y : ℕ) (o : Option ℕ) → slice_get g.homes y ≡ o → home_ok o ≡ true → HasHome g y
   home_of_ok y None e h = cc
-  home_of_ok y (Some w) e h = record { word = w; is = e; inside = leb-true (8 * w + 16) g.room h }
+  home_of_ok y (Some w) e h = record { word = w; is = e; inside = leb-true (8 * w + 16) (record_bytes g) h }
 
   place_of_ok : (y : ℕ) (o : Option Place) → slice_get plan.places.items y ≡ o → place_ok o ≡ true
       → (place : Place) × (slice_get plan.places.items y ≡ Some place)

@@ -68,7 +68,7 @@ abbrev pub next : FlatFunction
 next = record {
   parameters = 1;
   results = 1;
-  room = 4096;
+  room = 2048;
   is_runtime = false;
   homes = 0 ∷ 510 ∷ [];
   body =

@@ -15,14 +15,15 @@ use Rattle.rv_isa.specs.declared.instruction.RegOp.TheVariants.{Add, Sub, Sll, S
 use Rattle.rv_isa.specs.declared.instruction.RegOp32.{RegOp32}
 use Rattle.rv_isa.specs.declared.instruction.RegOp32.TheVariants.{Addw, Subw, Sllw, Srlw, Sraw}
 use Rattle.rv_isa.specs.declared.instruction.Instr.{Instr}
-use Rattle.rv_isa.specs.declared.instruction.Instr.TheVariants.{Load, Store, OpImm, Op, Op32, Ecall, Jalr}
+use Rattle.rv_isa.specs.declared.instruction.ShiftOp.TheVariants.{Srli}
+use Rattle.rv_isa.specs.declared.instruction.Instr.TheVariants.{Load, Store, OpImm, ShiftImm, Op, Op32, Ecall, Jalr}
 use Rattle.flat_meaning.specs.declared.instruction.RightOperand.{RightOperand}
 use Rattle.flat_meaning.specs.declared.instruction.RightOperand.TheVariants as right
 use Rattle.flat_meaning.specs.declared.instruction.FlatInstruction.{FlatInstruction}
 use Rattle.flat_meaning.specs.declared.instruction.FlatInstruction.TheVariants as flat
 use Rattle.flat_meaning.specs.declared.function.FlatFunction.{FlatFunction}
 use Rattle.flat_meaning.specs.declared.function.FlatProgram.{FlatProgram}
-use Rattle.flat_meaning.specs.Calls.{function_in}
+use Rattle.flat_meaning.specs.Calls.{function_in, record_bytes}
 use Rattle.flat_meaning.specs.Meaning.{parameters_of, results_of}
 use Rattle.reg_plan.specs.declared.plan.Place.{Place}
 use Rattle.reg_plan.specs.declared.plan.Place.TheVariants as place
@@ -274,8 +275,10 @@ module _ (g : FlatFunction) (place : ℕ → Location) (at : ReachesHomes g plac
       omega arith
   local_length (flat.End e) = omega arith
   local_length (flat.Charged x) =
-      let a = kept_length g place at base (constant 6 begin) (Op Sub (used (place x) 5) 2 6) x 11
-      (constant_length 6 begin) in
+      let a = constant_length 6 begin in
+      let k = at.into x base 5 in
+      let half = Op Sub 5 2 6 ∷ ShiftImm Srli (used (place x) 5) 5 1 ∷ keep (place x) base 5 in
+      let c = length-append (constant 6 begin) half in
       omega arith
 
 -- ---- calls and returns
@@ -366,7 +369,7 @@ module _ (p : FlatProgram) (plans : List FunctionPlan) (ok : IsSound p plans) (f
 
   shaped_length : (pc n : ℕ) (c : CallShape) → length c.aim ≤ n
       → length (call_part (keeping p plans f) pc c ++ back_part (keeping p plans f) pc c)
-      ≤ call_words g.room n (passed_words g c.first c.count + passed_words g c.into c.results)
+      ≤ call_words (record_bytes g) n (passed_words g c.first c.count + passed_words g c.into c.results)
   shaped_length pc n c aim =
       let k = keeping p plans f in
       let a = call_length pc n c aim in

@@ -12,7 +12,7 @@ use Rattle.flat_meaning.specs.declared.instruction.FlatInstruction.{FlatInstruct
 use Rattle.flat_meaning.specs.declared.instruction.FlatInstruction.TheVariants as flat
 use Rattle.flat_meaning.specs.declared.function.FlatFunction.{FlatFunction}
 use Rattle.flat_meaning.specs.declared.function.FlatProgram.{FlatProgram}
-use Rattle.flat_meaning.specs.Calls.{function_in}
+use Rattle.flat_meaning.specs.Calls.{function_in, record_bytes}
 use Rattle.flat_meaning.specs.Meaning.{parameters_of, results_of, body_of}
 use Rattle.reg_plan.specs.declared.plan.FunctionPlan.{FunctionPlan}
 use Rattle.reg_plan.specs.Tests.{AreAccepted}
@@ -84,13 +84,13 @@ few_for_each p g (flat.Operate32 op x y z) = few_for_operator g x y z (immediate
 few_for_each p g (flat.Branch op y z past) =
     let c = few_for_right g z in let a = home_most g y in omega arith
 few_for_each p g (flat.Call f first x) =
-    let c = few_for_constant g.room in
+    let c = few_for_constant (record_bytes g) in
     let a = few_for_constant (row_address p f) in
     let d = passed_most g first (parameters_of (function_in p f)) in
     let e = passed_most g x (results_of (function_in p f)) in
     omega arith
 few_for_each p g (flat.CallAddress y first n x k) =
-    let c = few_for_constant g.room in
+    let c = few_for_constant (record_bytes g) in
     let a = home_most g y in
     let d = passed_most g first n in
     let e = passed_most g x k in

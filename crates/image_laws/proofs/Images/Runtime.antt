@@ -10,7 +10,8 @@ use Rattle.sb_base.specs.declared.ending.Ending.TheVariants.{Stack}
 use Rattle.sb_base.specs.declared.ending.Ending.{Ending}
 use Rattle.addr_map.specs.Places.{MapSizes, functions_begin, code_begin}
 use Rattle.words.specs.TwosComplement.{low_bits}
-use Rattle.rv_isa.specs.declared.instruction.Instr.TheVariants.{Op, OpImm, Ecall, Jalr}
+use Rattle.rv_isa.specs.declared.instruction.ShiftOp.TheVariants.{Srli}
+use Rattle.rv_isa.specs.declared.instruction.Instr.TheVariants.{Op, OpImm, ShiftImm, Ecall, Jalr}
 use Rattle.rv_isa.specs.declared.instruction.ImmOp.TheVariants.{Addi}
 use Rattle.rv_isa.specs.declared.instruction.RegOp.TheVariants.{Add, Sub}
 use Rattle.rv_isa.specs.declared.instruction.BranchOp.{BranchOp}
@@ -152,16 +153,15 @@ module _ (m : MapSizes) (p : FlatProgram) (plans : List FunctionPlan) (f n : ℕ
       let c = length-map own item.Instr in
       omega (arith, few, rest, one, l, j, c)
 
-  charged_most : (pc x : ℕ) → length (block m p plans f pc (flat.Charged x)) ≤ 15
+  charged_most : (pc x : ℕ) → length (block m p plans f pc (flat.Charged x)) ≤ 16
   unfolding block
   charged_most pc x =
       let k = keeping p plans f in
       let a = constant_length 6 (charged_from m p f) in
       let b = keep_length (k.place x) k.base 5 in
-      let whole = constant 6 (charged_from m p f) ++ (Op Sub (used (k.place x) 5) 2 6 ∷ keep (k.place x) k.base 5) in
-      let c = length-append (constant 6 (charged_from m p f))
-      (Op Sub (used (k.place x) 5) 2 6 ∷ keep (k.place x) k.base 5) in
-      choice (not (k.live (pc + 1) x)) [] whole 15 (omega arith) (omega arith)
+      let half = Op Sub 5 2 6 ∷ ShiftImm Srli (used (k.place x) 5) 5 1 ∷ keep (k.place x) k.base 5 in
+      let c = length-append (constant 6 (charged_from m p f)) half in
+      choice (not (k.live (pc + 1) x)) [] (constant 6 (charged_from m p f) ++ half) 16 (omega arith) (omega arith)
 
   branch_most : (pc : ℕ) (op : BranchOp) (y w past : ℕ)
       → length (block m p plans f pc (flat.Branch op y (right.Number w) past)) ≤ 14
@@ -363,10 +363,10 @@ module _ (m : MapSizes) (t : Tac) (main : t.main < length t.functions) (many_fun
       let i5 = more_items m code plans f n 5 (flat.End (Stack line)) r6 400 12412 (omega (arith, ended)) i6 in
       let i4 = more_items m code plans f n 4 (flat.Branch Bltu 0 (right.Number room) 1) r5 14 12814
       (branch_most m code plans f n 4 Bltu 0 room 1) i5 in
-      let i3 = more_items m code plans f n 3 (flat.Charged 0) r4 15 12830 (charged_most m code plans f n 3 0) i4 in
-      let i2 = more_items m code plans f n 2 flat.Turn r3 1 12847 (turn_bound m code plans f 2) i3 in
-      let i1 = more_items m code plans f n 1 flat.Turn r2 1 12850 (turn_bound m code plans f 1) i2 in
-      let i0 = more_items m code plans f n 0 flat.Turn r1 1 12853 (turn_bound m code plans f 0) i1 in
+      let i3 = more_items m code plans f n 3 (flat.Charged 0) r4 16 12830 (charged_most m code plans f n 3 0) i4 in
+      let i2 = more_items m code plans f n 2 flat.Turn r3 1 12848 (turn_bound m code plans f 2) i3 in
+      let i1 = more_items m code plans f n 1 flat.Turn r2 1 12851 (turn_bound m code plans f 1) i2 in
+      let i0 = more_items m code plans f n 0 flat.Turn r1 1 12854 (turn_bound m code plans f 0) i1 in
       let first = store_length 1 k.base 0 in
       let taken = take_length k 0 0 0 in
       let begun = length-append (store_at 1 k.base 0) (take k 0 0 0) in

@@ -30,7 +30,7 @@ use Rattle.flat_meaning.specs.declared.instruction.RightOperand.TheVariants as r
 use Rattle.flat_meaning.specs.declared.instruction.FlatInstruction.TheVariants as flat
 use Rattle.flat_meaning.specs.declared.function.FlatFunction.{FlatFunction}
 use Rattle.flat_meaning.specs.declared.function.FlatProgram.{FlatProgram}
-use Rattle.flat_meaning.specs.Calls.{function_in}
+use Rattle.flat_meaning.specs.Calls.{function_in, record_bytes}
 use Rattle.flat_meaning.specs.Meaning.{parameters_of, results_of}
 use Rattle.metadata_plan.specs.Registers.{temporary_register, first_free}
 use Rattle.metadata_plan.specs.Part.{takes}
@@ -174,14 +174,14 @@ module _ (p : FlatProgram) (g : FlatFunction) where
     -- ---- calls
 
     module _ (m : MapSizes) (t : Tac) (known : Calls p m t) (gives : g.results ≡ 1) where
-      tests_words : (bytes line : ℕ) → body_most p g (call_tests m bytes line (first_free c)) ≤ 29
+      tests_words : (bytes line : ℕ) → body_most p g (call_tests m bytes line (first_free c)) ≤ 30
       tests_words bytes line =
           let few = known.budget in
           let h = branch_most p g Bltu (first_free c) (m.budgets.calls + 1 - bytes) 1 (omega (arith, few)) in
           omega (arith, h)
 
       call_words : (f line d n : ℕ) → takes (code.function_in t f) n ≡ true
-          → body_most p g (call_code m t c f line d n) ≤ 126 + 13 * n
+          → body_most p g (call_code m t c f line d n) ≤ 127 + 13 * n
       call_words f line d n e =
           let s = first_free c in
           let tests = call_tests m (room_in (code.function_in t f)) line s in
@@ -192,7 +192,7 @@ module _ (p : FlatProgram) (g : FlatFunction) where
           let a1 = words_append p g tests (moves ++ last) in
           let a2 = words_append p g moves last in
           let aim = known.address f n e in
-          let q1 = few_for_constant g.room in
+          let q1 = few_for_constant (record_bytes g) in
           let q2 = known.parameters f n e in
           let given = passed_most g s (parameters_of (function_in p f)) in
           let q3 = ap (passed_words g (temporary_register c d)) (known.gives f n e) in
@@ -200,12 +200,12 @@ module _ (p : FlatProgram) (g : FlatFunction) where
           omega (arith, h1, h2, a1, a2, aim, q1, q2, given, q3, back)
 
       called_words : (f line d n : ℕ)
-          → body_most p g (block operators m t c (tac.Call f line d n 0)) ≤ 126 + 13 * n
+          → body_most p g (block operators m t c (tac.Call f line d n 0)) ≤ 127 + 13 * n
       called_words f line d n = by (takes (code.function_in t f) n) refl
         where
           by : (b : Bool) → takes (code.function_in t f) n ≡ b
               → body_most p g (if b then call_code m t c f line d n else flat.End (ending.Abort line) ∷ [])
-              ≤ 126 + 13 * n
+              ≤ 127 + 13 * n
           by true e = call_words f line d n e
           by false e = omega arith
 

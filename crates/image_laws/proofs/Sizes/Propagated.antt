@@ -14,6 +14,7 @@ use Rattle.flat_meaning.specs.declared.instruction.FlatInstruction.{FlatInstruct
 use Rattle.flat_meaning.specs.declared.instruction.FlatInstruction.TheVariants as flat
 use Rattle.flat_meaning.specs.declared.function.FlatFunction.{FlatFunction}
 use Rattle.flat_meaning.specs.declared.function.FlatProgram.{FlatProgram}
+use Rattle.flat_meaning.specs.Calls.{record_bytes}
 use Rattle.machine_laws.specs.Blocks.Blocks.{IsShort}
 use Rattle.machine_laws.specs.Blocks.Immediates.{immediate_of, immediate32_of}
 use Rattle.flat_propagation.specs.declared.fact.Fact.{Fact}
@@ -45,11 +46,11 @@ instruction_most p g (flat.Operate32 op x y z) = 7 + right_most z
 instruction_most p g (flat.Load op x y o) = 7
 instruction_most p g (flat.Store op y o x) = 7
 instruction_most p g (flat.Branch op y z past) = 6 + max 3 (right_most z)
-instruction_most p g (flat.CallAddress y first n x k) = call_words g.room 3 (passed_words g first n + passed_words g x k)
+instruction_most p g (flat.CallAddress y first n x k) = call_words (record_bytes g) 3 (passed_words g first n + passed_words g x k)
 instruction_most p g (flat.Get x) = 12
 instruction_most p g (flat.Put x) = 9
 instruction_most p g (flat.Exit x) = 6
-instruction_most p g (flat.Charged x) = 15
+instruction_most p g (flat.Charged x) = 16
 instruction_most p g i = instruction_words p g i
 
 abbrev pub body_most : FlatProgram → FlatFunction → List FlatInstruction → ℕ

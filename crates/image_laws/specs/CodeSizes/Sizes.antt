@@ -9,7 +9,7 @@ use Rattle.flat_meaning.specs.declared.instruction.FlatInstruction.{FlatInstruct
 use Rattle.flat_meaning.specs.declared.instruction.FlatInstruction.TheVariants as flat
 use Rattle.flat_meaning.specs.declared.function.FlatFunction.{FlatFunction}
 use Rattle.flat_meaning.specs.declared.function.FlatProgram.{FlatProgram}
-use Rattle.flat_meaning.specs.Calls.{function_in}
+use Rattle.flat_meaning.specs.Calls.{function_in, record_bytes}
 use Rattle.flat_meaning.specs.Meaning.{parameters_of, results_of, instruction_at}
 use Rattle.machine_laws.specs.Blocks.Places.{home}
 use Rattle.machine_laws.specs.Calls.Table.{row_address}
@@ -62,16 +62,16 @@ instruction_words p g (flat.JumpForward past) = 2
 instruction_words p g (flat.JumpBack back) = 2
 instruction_words p g flat.Turn = 1
 instruction_words p g (flat.Call f first x) =
-    call_words g.room (constant_words (row_address p f))
+    call_words (record_bytes g) (constant_words (row_address p f))
     (passed_words g first (parameters_of (function_in p f)) + passed_words g x (results_of (function_in p f)))
 instruction_words p g (flat.CallAddress y first n x k) =
-    call_words g.room (home_words g y) (passed_words g first n + passed_words g x k)
+    call_words (record_bytes g) (home_words g y) (passed_words g first n + passed_words g x k)
 instruction_words p g (flat.Return y) = 2 + passed_words g y g.results
 instruction_words p g (flat.Get x) = home_words g x + 9
 instruction_words p g (flat.Put x) = home_words g x + 6
 instruction_words p g (flat.Exit x) = home_words g x + 3
 instruction_words p g (flat.End e) = 4
-instruction_words p g (flat.Charged x) = home_words g x + 12
+instruction_words p g (flat.Charged x) = home_words g x + 13
 
 abbrev pub body_words : FlatProgram → FlatFunction → List FlatInstruction → ℕ
 body_words p g [] = 0

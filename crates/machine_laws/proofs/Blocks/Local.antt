@@ -1,5 +1,5 @@
 -- What the blocks of instructions that stay in their function do to the machine.
-use Rattle.std.proofs.Common.{◌≡◌, ◌≢◌, ℕ, ◌+◌, ◌-◌, ◌*◌, ◌^◌, ◌%◌, ◌<◌, ◌≤◌, inl, inr}
+use Rattle.std.proofs.Common.{◌≡◌, ◌≢◌, ℕ, ◌+◌, ◌-◌, ◌*◌, ◌/◌, ◌^◌, ◌%◌, ◌<◌, ◌≤◌, inl, inr}
 use Rattle.std.proofs.Common.{List, [], ◌∷◌, ◌++◌, length, Option, Some, None, Bool, true, false, refl, sym, ap, ◌∙◌}
 use Rattle.std.proofs.Common.{subst, arith, length-append, append_assoc}
 use Rattle.std.specs.Prelude.{◌==◌, if◌then◌else◌}
@@ -13,9 +13,11 @@ use Rattle.rv_isa.specs.declared.instruction.RegOp.{RegOp}
 use Rattle.rv_isa.specs.declared.instruction.RegOp.TheVariants.{Sub}
 use Rattle.rv_isa.specs.declared.instruction.RegOp32.{RegOp32}
 use Rattle.rv_isa.specs.declared.instruction.Instr.{Instr}
-use Rattle.rv_isa.specs.declared.instruction.Instr.TheVariants.{Load, Store, OpImm, Op, Op32}
+use Rattle.rv_isa.specs.declared.instruction.ShiftOp.TheVariants.{Srli}
+use Rattle.rv_isa.specs.declared.instruction.Instr.TheVariants.{Load, Store, OpImm, ShiftImm, Op, Op32}
 use Rattle.rv_isa.specs.Word.{sext}
-use Rattle.rv_isa.specs.Results.{wrap, low_word, imm_result, reg_result, reg32_result, load_bytes, extended}
+use Rattle.rv_isa.specs.Results.{wrap, low_word, imm_result, shift_result, reg_result, reg32_result}
+use Rattle.rv_isa.specs.Results.{load_bytes, extended}
 use Rattle.rv_isa.specs.Results.{store_bytes}
 use Rattle.flat_meaning.specs.declared.instruction.RightOperand.{RightOperand}
 use Rattle.flat_meaning.specs.declared.instruction.RightOperand.TheVariants as right
@@ -328,17 +330,30 @@ module _ (o s base fp room : ℕ) (place : ℕ → Location) where
             ∙ ap (λ q. v.accesses ++ seen pc' q) at;
       }
 
-  -- what is charged: how far the frames of the program's functions have gone up
+  -- what is charged: half of how far the frames of the program's functions have gone up
   pub charged_puts : (x : Location) (begin top : ℕ) (v : View) → v.registers 0 ≡ 0 → begin < 2 ^ 31 - 2 ^ 11
       → v.registers 2 ≡ top → begin ≤ top → top < 2 ^ 63 → HasFrame s base fp room v → IsIn room x
-      → Puts o s fp room (charged_block x base begin) v x (top - begin) v.accesses
-  unfolding reg_result
+      → Puts o s fp room (charged_block x base begin) v x ((top - begin) / 2) v.accesses
+  unfolding reg_result shift_result
   charged_puts x begin top v nought small two le top_small f hx =
       let is = constant 6 begin in
       let g = constant_gives o s 6 begin v (λ e. omega arith) nought (omega arith) in
       let w = performs is v in
-      result_puts is (Op Sub (used x 5) 2 6) v x (top - begin) v.accesses
-      (gives_ready o s is v 6 begin (inr (inl refl)) g) f hx
-      (gets_is w (used x 5) _ (top - begin) v.accesses
+      let gone_up = is ++ (Op Sub 5 2 6 ∷ []) in
+      let c = one_more o s is (Op Sub 5 2 6) v 5 (top - begin) v.accesses
+      (gives_ready o s is v 6 begin (inr (inl refl)) g) tt
+      (gets_is w 5 _ (top - begin) v.accesses
       (ap (λ q. (q + (2 ^ 64 - w.registers 6)) % 2 ^ 64) (g.others 2 (omega arith) ∙ two)
-      ∙ ap (λ q. (top + (2 ^ 64 - q)) % 2 ^ 64) g.value ∙ omega arith) g.accesses) (tt, tt) (omega arith)
+      ∙ ap (λ q. (top + (2 ^ 64 - q)) % 2 ^ 64) g.value ∙ omega arith) g.accesses) (omega arith) in
+      let ready : Readies o s gone_up v = record {
+        go = c.go;
+        pc = c.pc;
+        others = λ r apart. c.others r apart.0 apart;
+        memory = c.memory;
+        accesses = c.accesses_are;
+      } in
+      subst (λ l. Puts o s fp room l v x ((top - begin) / 2) v.accesses)
+      (append_assoc is (Op Sub 5 2 6 ∷ []) (ShiftImm Srli (used x 5) 5 1 ∷ keep x base 5))
+      (result_puts gone_up (ShiftImm Srli (used x 5) 5 1) v x ((top - begin) / 2) v.accesses ready f hx
+      (gets_is (performs gone_up v) (used x 5) _ ((top - begin) / 2) v.accesses (ap (λ q. q / 2 ^ 1) c.value)
+      c.accesses_are) (tt, tt) (omega arith))

@@ -361,8 +361,11 @@ local_fits places base begin (flat.Exit x) b h =
 local_fits places base begin (flat.End e) b h = tt
 local_fits places base begin (flat.Charged x) b h =
     both (constant 6 begin) _ (constant_fits 6 begin (omega arith)) (
-      (used_fits (places x) 5 (h x) (omega arith), omega arith, omega arith),
-      keep_fits (places x) base 5 b (omega arith),
+      (omega arith, omega arith, omega arith),
+      (
+        (used_fits (places x) 5 (h x) (omega arith), omega arith, omega arith),
+        keep_fits (places x) base 5 b (omega arith),
+      ),
     )
 
 -- ---- calls and returns

@@ -13,13 +13,14 @@ use Rattle.rv_isa.specs.declared.instruction.BranchOp.{BranchOp}
 use Rattle.rv_isa.specs.declared.instruction.ImmOp.TheVariants.{Addi}
 use Rattle.rv_isa.specs.declared.instruction.StoreOp.TheVariants.{Sb}
 use Rattle.rv_isa.specs.declared.instruction.Instr.{Instr}
-use Rattle.rv_isa.specs.declared.instruction.Instr.TheVariants.{Load, Store, Op, Op32, OpImm, Ecall}
+use Rattle.rv_isa.specs.declared.instruction.ShiftOp.TheVariants.{Srli}
+use Rattle.rv_isa.specs.declared.instruction.Instr.TheVariants.{Load, Store, Op, Op32, OpImm, ShiftImm, Ecall}
 use Rattle.flat_meaning.specs.declared.instruction.RightOperand.{RightOperand}
 use Rattle.flat_meaning.specs.declared.instruction.RightOperand.TheVariants as right
 use Rattle.flat_meaning.specs.declared.instruction.FlatInstruction.TheVariants as flat
 use Rattle.flat_meaning.specs.declared.function.FlatFunction.{FlatFunction}
 use Rattle.flat_meaning.specs.declared.function.FlatProgram.{FlatProgram}
-use Rattle.flat_meaning.specs.Calls.{function_in}
+use Rattle.flat_meaning.specs.Calls.{function_in, record_bytes}
 use Rattle.flat_meaning.specs.Meaning.{weight_of}
 use Rattle.reg_plan.specs.declared.plan.FunctionPlan.{FunctionPlan}
 use Rattle.machine_laws.specs.Blocks.Blocks.{IsShort, RightIsShort, constant, used, used_right, fetch, keep, operands}
@@ -41,10 +42,10 @@ weighs_by : (b : Bool) → ((if b then 1 else 3) + 1 ≡ 2 * (if b then 1 else 2
 weighs_by true = (omega arith, omega arith)
 weighs_by false = (omega arith, omega arith)
 
-pub weighs : (p : FlatProgram) (f room : ℕ) (g : FlatFunction) → function_in p f ≡ Some g → room ≡ g.room
+pub weighs : (p : FlatProgram) (f room : ℕ) (g : FlatFunction) → function_in p f ≡ Some g → room ≡ record_bytes g
     → Weighs room (weight_of (function_in p f))
 weighs p f room g there e =
-    let w = weighs_by (nat_le g.room (2 ^ 11)) in
+    let w = weighs_by (nat_le (record_bytes g) (2 ^ 11)) in
     record {
       twice = ap (λ r. home_reach r + 1) e ∙ w.0 ∙ sym (ap (λ o. 2 * weight_of o) there);
       some = subst (λ o. 1 ≤ weight_of o) (sym there) w.1;
@@ -53,7 +54,7 @@ weighs p f room g there e =
 -- the end of a run
 pub end_most : (o : Option FlatFunction) (n : ℕ) → 6 + 6 * n ≤ 6 * (weight_of o * (1 + n))
 end_most None n = omega arith
-end_most (Some g) n = by (nat_le g.room (2 ^ 11))
+end_most (Some g) n = by (nat_le (record_bytes g) (2 ^ 11))
   where
     by : (b : Bool) → 6 + 6 * n ≤ 6 * ((if b then 1 else 2) * (1 + n))
     by true = omega arith
@@ -155,16 +156,15 @@ module _ (m : MapSizes) (p : FlatProgram) (plans : List FunctionPlan) (f pc : �
       let k = keeping p plans f in operands_reach k.room k.place k.base y z hy hz short
 
   pub charged_bound : (x : ℕ) → (IsNeeded x → IsPlaced x) → charged_from m p f < 2 ^ 31 - 2 ^ 11
-      → length (block m p plans f pc (flat.Charged x)) ≤ home_reach (keeping p plans f).room + 3
+      → length (block m p plans f pc (flat.Charged x)) ≤ home_reach (keeping p plans f).room + 4
   unfolding block
   charged_bound x hx small =
       let k = keeping p plans f in
       let a = short_constant_length 6 (charged_from m p f) (inl small) in
-      needed_bound x (home_reach k.room + 3)
-      (constant 6 (charged_from m p f) ++ (Op Sub (used (k.place x) 5) 2 6 ∷ keep (k.place x) k.base 5))
+      let half = Op Sub 5 2 6 ∷ ShiftImm Srli (used (k.place x) 5) 5 1 ∷ keep (k.place x) k.base 5 in
+      needed_bound x (home_reach k.room + 4) (constant 6 (charged_from m p f) ++ half)
       (λ e. let b = keep_reach k.room (k.place x) k.base 5 (hx e) in
-      let c = length-append (constant 6 (charged_from m p f))
-      (Op Sub (used (k.place x) 5) 2 6 ∷ keep (k.place x) k.base 5) in
+      let c = length-append (constant 6 (charged_from m p f)) half in
       omega arith)
 
   pub get_bound : (x : ℕ) → IsPlaced x

@@ -26,7 +26,7 @@ use Rattle.machine_laws.specs.Calls.Calls.{call_block, entry_block}
 use Rattle.machine_laws.specs.Following.Code.{keeping, block, IsLaid, IsEncodable, CallShape, shape_of, wanted}
 use Rattle.machine_laws.specs.Following.Code.{call_part}
 use Rattle.machine_laws.specs.Following.Code.{back_part}
-use Rattle.machine_laws.specs.Following.Matching.{object_bytes, space_bytes, record_of, IsAt}
+use Rattle.machine_laws.specs.Following.Matching.{object_bytes, space_bytes, top_of, record_of, IsAt}
 use Rattle.machine_laws.specs.Following.Matching.{Meets}
 use Rattle.machine_laws.specs.Following.Start.{layout_of}
 use Rattle.machine_laws.proofs.Following.Runs.{straight_comes, all_append}
@@ -46,8 +46,8 @@ module _ (m : MapSizes) (p : FlatProgram) (plans : List FunctionPlan) (table cod
     (can : IsEncodable p) where
   -- the bytes of the records that wait
   abbrev pub IsWaiting : List Frame → (a : ℕ) → Type 0
-  IsWaiting frames a = ((region_start m Calls ≤ a) × (a < region_start m Calls + rooms false p frames))
-      ⊎ ((region_start m RuntimeCalls ≤ a) × (a < region_start m RuntimeCalls + rooms true p frames))
+  IsWaiting frames a = ((region_start m Calls ≤ a) × (a < top_of m p false frames))
+      ⊎ ((region_start m RuntimeCalls ≤ a) × (a < top_of m p true frames))
 
   -- the record of a function lies outside those that wait under it
   pub outside_by : (b : Bool) (f : ℕ) (g : FlatFunction) (frames : List Frame) (a : ℕ)
@@ -58,7 +58,7 @@ module _ (m : MapSizes) (p : FlatProgram) (plans : List FunctionPlan) (table cod
       → (a < record_of m p f frames) ⊎ (record_of m p f frames + (keeping p plans f).room ≤ a)
   outside_by false f g frames a k fits fits' w = ⊎_elim
       (λ q. inl (omega (arith, q.1, k.record_is frames)))
-      (λ q. inr (omega (arith, q.0, k.record_is frames, k.program, ok.room f g k.there, regions.calls))) w
+      (λ q. inr (omega (arith, q.0, k.record_is frames, k.program, k.bytes, regions.calls))) w
   outside_by true f g frames a k fits fits' w = ⊎_elim
       (λ q. inl (omega (arith, q.1, k.record_is frames, regions.calls)))
       (λ q. inl (omega (arith, q.1, k.record_is frames))) w
@@ -71,11 +71,11 @@ module _ (m : MapSizes) (p : FlatProgram) (plans : List FunctionPlan) (table cod
   own_waits false f g x xs a e k low high =
       let room : room_if false (function_in p x.function) ≡ g.room =
       ap (λ z. room_if false (function_in p z)) e ∙ k.program in
-      inl (omega (arith, k.record_is xs), omega (arith, k.record_is xs, ok.room f g k.there))
+      inl (omega (arith, k.record_is xs), omega (arith, k.record_is xs, k.bytes))
   own_waits true f g x xs a e k low high =
       let room : room_if true (function_in p x.function) ≡ g.room =
       ap (λ z. room_if true (function_in p z)) e ∙ k.runtime in
-      inr (omega (arith, k.record_is xs), omega (arith, k.record_is xs, ok.room f g k.there))
+      inr (omega (arith, k.record_is xs), omega (arith, k.record_is xs, k.bytes))
 
   pub less_waits : (x : Frame) (xs : List Frame) (a : ℕ) → IsWaiting xs a → IsWaiting (x ∷ xs) a
   unfolding rooms
@@ -86,10 +86,10 @@ module _ (m : MapSizes) (p : FlatProgram) (plans : List FunctionPlan) (table cod
       → IsKind m p plans address regions ok can.rooms f g b
       → w.registers (keeping p plans f).base ≡ record_of m p f xs + (keeping p plans f).room
       → ((r : ℕ) → r < 5 → r ≢ 1 → r ≢ (keeping p plans f).base → w.registers r ≡ v.registers r)
-      → v.registers 2 ≡ region_start m Calls + rooms false p xs
-      → v.registers 4 ≡ region_start m RuntimeCalls + rooms true p xs
-      → (w.registers 2 ≡ region_start m Calls + rooms false p (x ∷ xs))
-      × (w.registers 4 ≡ region_start m RuntimeCalls + rooms true p (x ∷ xs))
+      → v.registers 2 ≡ top_of m p false xs
+      → v.registers 4 ≡ top_of m p true xs
+      → (w.registers 2 ≡ top_of m p false (x ∷ xs))
+      × (w.registers 4 ≡ top_of m p true (x ∷ xs))
   unfolding rooms
   tops_by false f g x xs v w e k base low two four =
       let room : room_if false (function_in p x.function) ≡ g.room =
@@ -98,7 +98,7 @@ module _ (m : MapSizes) (p : FlatProgram) (plans : List FunctionPlan) (table cod
       ap (λ z. room_if true (function_in p z)) e ∙ k.runtime in
       let at : w.registers 2 ≡ record_of m p f xs + (keeping p plans f).room = ap w.registers (sym k.base) ∙ base in
       let other = low 4 (omega arith) (omega arith) (omega (arith, k.base)) in
-      (omega (arith, at, k.record_is xs, ok.room f g k.there), omega (arith, other, four))
+      (omega (arith, at, k.record_is xs, k.bytes), omega (arith, other, four))
   tops_by true f g x xs v w e k base low two four =
       let room : room_if true (function_in p x.function) ≡ g.room =
       ap (λ z. room_if true (function_in p z)) e ∙ k.runtime in
@@ -106,7 +106,7 @@ module _ (m : MapSizes) (p : FlatProgram) (plans : List FunctionPlan) (table cod
       ap (λ z. room_if false (function_in p z)) e ∙ k.program in
       let at : w.registers 4 ≡ record_of m p f xs + (keeping p plans f).room = ap w.registers (sym k.base) ∙ base in
       let other = low 2 (omega arith) (omega arith) (omega (arith, k.base)) in
-      (omega (arith, other, two), omega (arith, at, k.record_is xs, ok.room f g k.there))
+      (omega (arith, other, two), omega (arith, at, k.record_is xs, k.bytes))
 
   -- all premises of a call
   pub record IsCall (f pc : ℕ) (g : FlatFunction) (i : FlatInstruction) (shape : CallShape) (to : ℕ)
@@ -133,8 +133,8 @@ module _ (m : MapSizes) (p : FlatProgram) (plans : List FunctionPlan) (table cod
   -- the record of a callee, by the registers of frames
   pub callee_frame : (b : Bool) (to : ℕ) (callee : FlatFunction) (x : Frame) (xs : List Frame) (w : View)
       → IsKind m p plans address regions ok can.rooms to callee b
-      → (w.registers 2 ≡ region_start m Calls + rooms false p (x ∷ xs))
-      × (w.registers 4 ≡ region_start m RuntimeCalls + rooms true p (x ∷ xs))
+      → (w.registers 2 ≡ top_of m p false (x ∷ xs))
+      × (w.registers 4 ≡ top_of m p true (x ∷ xs))
       → room_if false (function_in p to) + rooms false p (x ∷ xs) ≤ m.budgets.calls
       → room_if true (function_in p to) + rooms true p (x ∷ xs) ≤ region_size m RuntimeCalls
       → HasFrame (space_bytes m) (keeping p plans to).base (record_of m p to (x ∷ xs)) (keeping p plans to).room w
@@ -143,7 +143,7 @@ module _ (m : MapSizes) (p : FlatProgram) (plans : List FunctionPlan) (table cod
     base_low = omega (arith, k.base);
     base_high = omega (arith, k.base);
     low = omega (arith, k.record_is (x ∷ xs), regions.cells_low, regions.cells, regions.arguments);
-    high = omega (arith, k.record_is (x ∷ xs), k.program, ok.room to callee k.there, regions.calls, regions.space);
+    high = omega (arith, k.record_is (x ∷ xs), k.program, k.bytes, regions.calls, regions.space);
     small = omega (arith, regions.space, regions.end);
   }
   callee_frame true to callee x xs w k tops fits fits' = record {
@@ -151,7 +151,7 @@ module _ (m : MapSizes) (p : FlatProgram) (plans : List FunctionPlan) (table cod
     base_low = omega (arith, k.base);
     base_high = omega (arith, k.base);
     low = omega (arith, k.record_is (x ∷ xs), regions.cells_low, regions.cells, regions.arguments, regions.calls);
-    high = omega (arith, k.record_is (x ∷ xs), k.runtime, ok.room to callee k.there, regions.space);
+    high = omega (arith, k.record_is (x ∷ xs), k.runtime, k.bytes, regions.space);
     small = omega (arith, regions.space, regions.end);
   }
 
@@ -185,7 +185,7 @@ module _ (m : MapSizes) (p : FlatProgram) (plans : List FunctionPlan) (table cod
       let fp = record_of m p f frames in
       let cb = call_block kf (wanted kf pc shape.into shape.results) shape.first shape.count shape.aim in
       let is_kept = ok.kept f (pc + 1) g k.there in
-      let room_f = ok.room f g k.there in
+      let room_f = ok.charged_room f g k.there in
       let big = can.rooms f g k.there in
       let f_frame = frame_of m p plans address regions ok can.rooms f pc g s frames v k.there h in
       let behind = record_behind m p plans address regions ok can.rooms f frames in
@@ -293,8 +293,8 @@ module _ (m : MapSizes) (p : FlatProgram) (plans : List FunctionPlan) (table cod
       let behind = record_behind m p plans address regions ok can.rooms f frames in
       let behind_to = record_behind m p plans address regions ok can.rooms to (x ∷ frames) in
       let few : shape.count ≤ 1024 = let q = can.parameters to callee k.callee_is in omega (arith, k.count) in
-      let room_f = ok.room f g k.there in
-      let room_t = ok.room to callee k.callee_is in
+      let room_f = ok.charged_room f g k.there in
+      let room_t = ok.charged_room to callee k.callee_is in
       let big_f = can.rooms f g k.there in
       let big_t = can.rooms to callee k.callee_is in
       let low_area : spaces_begin ≤ region_start m Arguments = omega (arith, regions.cells_low, regions.cells) in

@@ -233,7 +233,7 @@ module _ (m : MapSizes) (p : FlatProgram) (plans : List FunctionPlan) (table cod
         base_low = omega (arith, k.base);
         base_high = omega (arith, k.base);
         low = omega (arith, k.record_is [], regions.cells_low, regions.cells, regions.arguments);
-        high = omega (arith, k.record_is [], k.program, ok.room p.entry g k.there, regions.calls, regions.space);
+        high = omega (arith, k.record_is [], k.program, k.bytes, regions.calls, regions.space);
         small = omega (arith, regions.space, regions.end);
       }
   entry_frame true g w k two four fits fits' =
@@ -243,7 +243,7 @@ module _ (m : MapSizes) (p : FlatProgram) (plans : List FunctionPlan) (table cod
         base_low = omega (arith, k.base);
         base_high = omega (arith, k.base);
         low = omega (arith, k.record_is [], regions.cells_low, regions.cells, regions.arguments, regions.calls);
-        high = omega (arith, k.record_is [], k.runtime, ok.room p.entry g k.there, regions.space);
+        high = omega (arith, k.record_is [], k.runtime, k.bytes, regions.space);
         small = omega (arith, regions.space, regions.end);
       }
 
@@ -317,7 +317,7 @@ module _ (m : MapSizes) (p : FlatProgram) (plans : List FunctionPlan) (table cod
         (kind m p plans address regions ok can.rooms p.entry g g.is_runtime can_start.there refl) two_is four_is
         can_start.program_fits can_start.runtime_fits in
         let behind = record_behind m p plans address regions ok can.rooms p.entry [] in
-        let room = ok.room p.entry g can_start.there in
+        let room = ok.charged_room p.entry g can_start.there in
         let big = can.rooms p.entry g can_start.there in
         let nothing = can_start.takes_nothing in
         let link_low : s.view.pc + 4 < 2 ^ 64 = (subst (λ q. AllStand l q (Jalr 1 28 0 ∷ [])) pc1 parts.1).0.small in

@@ -53,7 +53,7 @@ use Rattle.machine_laws.proofs.Blocks.Local.{load_puts, store_saves, charged_put
 use Rattle.machine_laws.specs.Calls.Calls.{Keeping}
 use Rattle.machine_laws.proofs.Calls.Words.{kept_above}
 use Rattle.machine_laws.specs.Following.Code.{keeping, block, charged_from, GoesOn, IsLaid, IsEncodable, JumpStands}
-use Rattle.machine_laws.specs.Following.Matching.{object_bytes, space_bytes, IsOfFlat, record_of, IsAt, ShowsSame}
+use Rattle.machine_laws.specs.Following.Matching.{object_bytes, space_bytes, IsOfFlat, top_of, record_of, IsAt, ShowsSame}
 use Rattle.machine_laws.specs.Following.Matching.{Meets}
 use Rattle.machine_laws.specs.Following.Start.{layout_of}
 use Rattle.machine_laws.proofs.Following.Runs.{Comes, straight_comes, then_comes, jumps, branches}
@@ -624,13 +624,13 @@ module _ (m : MapSizes) (p : FlatProgram) (plans : List FunctionPlan) (table cod
         let i = flat.Charged x in
         let is = local_block k.place k.base (charged_from m p f) i in
         let begin = charged_from m p f in
-        let top = region_start m Calls + rooms false p frames in
+        let top = top_of m p false frames in
         let fits = h.is_at.program_fits in
         let calls_low : 2 ^ 30 ≤ region_start m Calls =
         omega (arith, regions.cells_low, regions.cells, regions.arguments) in
-        let room_low : room_if false (function_in p f) ≤ region_start m Calls =
+        let room_low : 2 * room_if false (function_in p f) ≤ region_start m Calls =
         omega (arith, regions.calls, regions.end) in
-        let same : top - begin ≡ charged p f frames = omega arith in
+        let same : (top - begin) / 2 ≡ charged p f frames = omega arith in
         let small : wrap (charged p f frames) ≡ charged p f frames = omega (arith, regions.calls, regions.end) in
         value_steps x (wrap (charged p f frames)) i is at tt (inl refl) refl refl b
         (λ live. subst (λ n. Puts (object_bytes m) (space_bytes m) (record_of m p f frames) k.room is h.view (k.place x)

@@ -1,5 +1,5 @@
 -- Where the regions of the back end stand, and that flat code uses none of them.
-use Rattle.std.proofs.Common.{◌≡◌, ℕ, ◌+◌, ◌<◌, ◌≤◌, inl, inr, arith}
+use Rattle.std.proofs.Common.{◌≡◌, ℕ, ◌+◌, ◌*◌, ◌<◌, ◌≤◌, inl, inr, arith}
 use Rattle.std.proofs.Common.{⊎_elim, true}
 use Rattle.std.specs.Prelude.{nat_le}
 use Rattle.std.proofs.lemmas.Bool.{leb-true, and_parts, or_cases}
@@ -18,7 +18,7 @@ pub record AreRegions (m : MapSizes) : Type 0 where
   pub cells_low : spaces_begin ≤ region_end m Cells
   pub cells : region_end m Cells ≤ region_start m Arguments
   pub arguments : region_start m Arguments + 8192 ≤ region_start m Calls
-  pub calls : region_start m Calls + m.budgets.calls ≤ region_start m RuntimeCalls
+  pub calls : region_start m Calls + 2 * m.budgets.calls ≤ region_start m RuntimeCalls
   pub end : region_start m RuntimeCalls + region_size m RuntimeCalls < 0x60000000
   pub space : spaces_begin + space_bytes m ≡ region_start m RuntimeCalls + region_size m RuntimeCalls
   pub object : objects_begin + object_bytes m ≡ region_end m Heap

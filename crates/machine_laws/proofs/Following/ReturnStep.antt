@@ -30,7 +30,7 @@ use Rattle.machine_laws.specs.Calls.Calls.{Keeping, return_block, back_block, re
 use Rattle.machine_laws.proofs.Calls.Lengths.{retreat_some}
 use Rattle.machine_laws.specs.Following.Code.{keeping, block, IsLaid, IsEncodable, CallShape, wanted, call_part}
 use Rattle.machine_laws.specs.Following.Code.{back_part}
-use Rattle.machine_laws.specs.Following.Matching.{object_bytes, space_bytes, record_of, Waits, Wait, IsAt}
+use Rattle.machine_laws.specs.Following.Matching.{object_bytes, space_bytes, top_of, record_of, Waits, Wait, IsAt}
 use Rattle.machine_laws.specs.Following.Matching.{Meets}
 use Rattle.machine_laws.specs.Following.Start.{layout_of}
 use Rattle.machine_laws.proofs.Following.Runs.{Comes, straight_comes, all_append}
@@ -47,8 +47,8 @@ module _ (m : MapSizes) (p : FlatProgram) (plans : List FunctionPlan) (table cod
     (can : IsEncodable p) where
   -- the frames' registers, before the return and behind it
   pub record AreTops (x : Frame) (xs : List Frame) (v w : View) : Type 0 where
-    pub program : w.registers 2 ≡ region_start m Calls + rooms false p xs
-    pub runtime : w.registers 4 ≡ region_start m RuntimeCalls + rooms true p xs
+    pub program : w.registers 2 ≡ top_of m p false xs
+    pub runtime : w.registers 4 ≡ top_of m p true xs
 
   pub record IsBase (x : Frame) (xs : List Frame) (v : View) : Type 0 where
     pub is : v.registers (keeping p plans x.function).base
@@ -60,29 +60,29 @@ module _ (m : MapSizes) (p : FlatProgram) (plans : List FunctionPlan) (table cod
 
   base_of : (b : Bool) (g : FlatFunction) (x : Frame) (xs : List Frame) (v : View)
       → IsKind m p plans address regions ok can.rooms x.function g b
-      → v.registers 2 ≡ region_start m Calls + rooms false p (x ∷ xs)
-      → v.registers 4 ≡ region_start m RuntimeCalls + rooms true p (x ∷ xs)
+      → v.registers 2 ≡ top_of m p false (x ∷ xs)
+      → v.registers 4 ≡ top_of m p true (x ∷ xs)
       → rooms false p (x ∷ xs) ≤ m.budgets.calls → rooms true p (x ∷ xs) ≤ region_size m RuntimeCalls → IsBase x xs v
   unfolding rooms
   base_of false g x xs v k two four fits fits' = record {
-    is = ap v.registers k.base ∙ two ∙ omega (arith, k.program, k.record_is xs, ok.room x.function g k.there);
+    is = ap v.registers k.base ∙ two ∙ omega (arith, k.program, k.record_is xs, k.bytes);
     low = omega (arith, k.base);
     high = omega (arith, k.base);
     record_low = omega (arith, k.record_is xs, regions.cells_low, regions.cells, regions.arguments);
-    record_high = omega (arith, k.record_is xs, k.program, ok.room x.function g k.there, regions.calls, regions.space);
+    record_high = omega (arith, k.record_is xs, k.program, k.bytes, regions.calls, regions.space);
   }
   base_of true g x xs v k two four fits fits' = record {
-    is = ap v.registers k.base ∙ four ∙ omega (arith, k.runtime, k.record_is xs, ok.room x.function g k.there);
+    is = ap v.registers k.base ∙ four ∙ omega (arith, k.runtime, k.record_is xs, k.bytes);
     low = omega (arith, k.base);
     high = omega (arith, k.base);
     record_low = omega (arith, k.record_is xs, regions.cells_low, regions.cells, regions.arguments, regions.calls);
-    record_high = omega (arith, k.record_is xs, k.runtime, ok.room x.function g k.there, regions.space);
+    record_high = omega (arith, k.record_is xs, k.runtime, k.bytes, regions.space);
   }
 
   tops_back : (b : Bool) (g : FlatFunction) (x : Frame) (xs : List Frame) (v w : View)
       → IsKind m p plans address regions ok can.rooms x.function g b
-      → v.registers 2 ≡ region_start m Calls + rooms false p (x ∷ xs)
-      → v.registers 4 ≡ region_start m RuntimeCalls + rooms true p (x ∷ xs)
+      → v.registers 2 ≡ top_of m p false (x ∷ xs)
+      → v.registers 4 ≡ top_of m p true (x ∷ xs)
       → w.registers (keeping p plans x.function).base ≡ record_of m p x.function xs
       → ((r : ℕ) → r < 5 → r ≢ 1 → r ≢ (keeping p plans x.function).base → w.registers r ≡ v.registers r)
       → AreTops x xs v w
@@ -147,7 +147,7 @@ module _ (m : MapSizes) (p : FlatProgram) (plans : List FunctionPlan) (table cod
       λ r lt n1 nb. ap (λ u. u.registers r) z_is ∙ b.low r lt nb ∙ low r lt n1 in
       let tops = tops_back gx.is_runtime gx x xs v z kind_x h.program_top h.runtime_top
       (ap (λ u. u.registers kx.base) z_is ∙ b.base) low_z in
-      let room_x = ok.room x.function gx there_x in
+      let room_x = ok.charged_room x.function gx there_x in
       let big = can.rooms x.function gx there_x in
       let mem_z : (a : ℕ) → ((a < fpx + 8) ⊎ (fpx + kx.room ≤ a)) → z.memory a ≡ w.memory a =
       λ a out. ap (λ u. u.memory a) z_is ∙ b.memory a (⊎_elim (λ e. inl e) (λ e. inr (omega arith)) out) in
@@ -253,7 +253,7 @@ module _ (m : MapSizes) (p : FlatProgram) (plans : List FunctionPlan) (table cod
       let behind_x = record_behind m p plans address regions ok can.rooms x.function xs in
       let low_area : spaces_begin ≤ region_start m Arguments = omega (arith, regions.cells_low, regions.cells) in
       let ra = address x.function q.place + 4 * length (call_part kx q.place q.shape) in
-      let room_f = ok.room f g there in
+      let room_f = ok.charged_room f g there in
       let big_f = can.rooms f g there in
       let lv = leaves (object_bytes m) (space_bytes m) fp kf (region_start m Arguments) 1024 y g.results ra v few
       (omega arith) (record { is = h.is_at.arguments; low = low_area; below = omega (arith, regions.arguments) })

@@ -1,12 +1,12 @@
 -- What an accepted plan says of where a function keeps its values.
 use Rattle.std.proofs.Common.{◌≡◌, ◌≢◌, ℕ, zero, suc, ◌+◌, ◌*◌, ◌<◌, ◌≤◌, ◌⊎◌, inl, inr, refl, sym, ap, ◌∙◌}
-use Rattle.std.proofs.Common.{subst, arith, ⊎_elim, true, false, List, [], ◌∷◌, length, Option, Some, None, true≢false}
-use Rattle.std.specs.Prelude.{nat_lt, slice_get}
+use Rattle.std.proofs.Common.{subst, arith, ⊎_elim, Bool, true, false, List, [], ◌∷◌, length, Option, Some, None, true≢false}
+use Rattle.std.specs.Prelude.{nat_lt, slice_get, if◌then◌else◌}
 use Rattle.std.proofs.lemmas.Bool.{ltb-true, lt-ltb, le-ltb, and_parts, and_from, cases_lt, cases_order}
 use Rattle.flat_meaning.specs.declared.instruction.FlatInstruction.{FlatInstruction}
 use Rattle.flat_meaning.specs.declared.function.FlatFunction.{FlatFunction}
 use Rattle.flat_meaning.specs.declared.function.FlatProgram.{FlatProgram}
-use Rattle.flat_meaning.specs.Calls.{function_in}
+use Rattle.flat_meaning.specs.Calls.{function_in, record_bytes}
 use Rattle.flat_meaning.specs.Meaning.{instruction_at, body_of}
 use Rattle.reg_plan.specs.declared.plan.Place.{Place}
 use Rattle.reg_plan.specs.declared.plan.Place.TheVariants as place
@@ -78,6 +78,14 @@ saved_differ r q lr lq ne e =
     ⊎_elim (λ u. ⊎_elim (λ w. ne (omega (arith, u.1, w.1, e))) (λ w. omega (arith, u.0, u.1, w.0, w.1, e)) b)
     (λ u. ⊎_elim (λ w. omega (arith, u.0, u.1, w.0, w.1, e)) (λ w. ne (omega (arith, u.1, w.1, e))) b) a
 
+-- a record has at least the bytes that a call is charged
+charged_most : (g : FlatFunction) → g.room ≤ record_bytes g
+charged_most g = by g.is_runtime
+  where
+    by : (b : Bool) → g.room ≤ (if b then g.room else 2 * g.room)
+    by true = omega arith
+    by false = omega arith
+
 -- ---- one function
 
 module _ (p : FlatProgram) (f : ℕ) (g : FlatFunction) (plan : FunctionPlan) (ok : IsAccepted p f g plan) where
@@ -103,8 +111,8 @@ module _ (p : FlatProgram) (f : ℕ) (g : FlatFunction) (plan : FunctionPlan) (o
   location_is y at h e = ap (λ o. location_at o (home_of (slice_get g.homes y))) e
       ∙ ap (λ o. location_at (Some at) (home_of o)) h.is
 
-  inside_by : (at : Place) (word : ℕ) → 8 * word + 16 ≤ g.room → ((r : ℕ) → at ≡ place.Register r → r < 11)
-      → IsIn g.room (location_at (Some at) (home_offset word))
+  inside_by : (at : Place) (word : ℕ) → 8 * word + 16 ≤ record_bytes g → ((r : ℕ) → at ≡ place.Register r → r < 11)
+      → IsIn (record_bytes g) (location_at (Some at) (home_offset word))
   inside_by place.Home word h given = (omega arith, omega arith)
   inside_by (place.Register r) word h given = saved_saved r (given r refl)
 
@@ -134,12 +142,12 @@ module _ (p : FlatProgram) (f : ℕ) (g : FlatFunction) (plan : FunctionPlan) (o
   pub are_kept : (pc : ℕ) → AreKept (keeping_of (Some g) (Some plan)) ((keeping_of (Some g) (Some plan)).live pc)
   are_kept pc = record {
     inside = λ y e. let l = live_is pc y e in let h = ok.inside pc y l.0 l.1 in let at = ok.places pc y l.0 l.1 in
-        subst (IsIn g.room) (sym (location_is y at.0 h at.1))
+        subst (IsIn (record_bytes g)) (sym (location_is y at.0 h at.1))
         (inside_by at.0 h.word h.inside (given_by pc y at.0 l.0 l.1 at.1));
     low = λ y e. let l = live_is pc y e in let h = ok.inside pc y l.0 l.1 in
         subst (λ n. 8 ≤ n) (sym (home_is y h)) (omega arith);
     high = λ y e. let l = live_is pc y e in let h = ok.inside pc y l.0 l.1 in
-        subst (λ n. n + 8 ≤ g.room) (sym (home_is y h)) (omega (arith, h.inside));
+        subst (λ n. n + 8 ≤ record_bytes g) (sym (home_is y h)) (omega (arith, h.inside));
     own = λ y o e q. let l = live_is pc y e in let h = ok.inside pc y l.0 l.1 in let at = ok.places pc y l.0 l.1 in
         own_by at.0 h.word o (sym (location_is y at.0 h at.1) ∙ q) ∙ sym (home_is y h);
     homes = λ x y ex ey ne.
@@ -197,7 +205,8 @@ pub record IsSound (p : FlatProgram) (plans : List FunctionPlan) : Type 0 where
   pub within : (f pc y : ℕ) (g : FlatFunction) → function_in p f ≡ Some g → (keeping p plans f).live pc y ≡ true
       → pc < length g.body
   pub base : (f : ℕ) (g : FlatFunction) → function_in p f ≡ Some g → (keeping p plans f).base ≡ frame_register g
-  pub room : (f : ℕ) (g : FlatFunction) → function_in p f ≡ Some g → (keeping p plans f).room ≡ g.room
+  pub room : (f : ℕ) (g : FlatFunction) → function_in p f ≡ Some g → (keeping p plans f).room ≡ record_bytes g
+  pub charged_room : (f : ℕ) (g : FlatFunction) → function_in p f ≡ Some g → g.room ≤ (keeping p plans f).room
 
 module _ (p : FlatProgram) (plans : List FunctionPlan) (ok : AreAccepted p plans) where
   -- the plan of a function, and how it keeps its values
@@ -242,4 +251,5 @@ module _ (p : FlatProgram) (plans : List FunctionPlan) (ok : AreAccepted p plans
         (live_is p f g q.0 q.1 pc y (subst (λ k. k.live pc y ≡ true) q.2 live)).0;
     base = λ f g there. ap (λ (k : Keeping). k.base) (planned f g there).2;
     room = λ f g there. ap (λ (k : Keeping). k.room) (planned f g there).2;
+    charged_room = λ f g there. subst (λ k. g.room ≤ k.room) (sym (planned f g there).2) (charged_most g);
   }

@@ -1,5 +1,5 @@
 -- The records that wait, and what the machine's registers and memory keep.
-use Rattle.std.proofs.Common.{◌≡◌, ◌≢◌, ℕ, ◌+◌, ◌-◌, ◌<◌, ◌≤◌, inl, inr, refl, sym, ap, ◌∙◌}
+use Rattle.std.proofs.Common.{◌≡◌, ◌≢◌, ℕ, ◌+◌, ◌-◌, ◌*◌, ◌<◌, ◌≤◌, inl, inr, refl, sym, ap, ◌∙◌}
 use Rattle.std.proofs.Common.{arith, ⊎_elim, Bool, true, false, true≢false, List, [], ◌∷◌, Option, Some, None}
 use Rattle.std.specs.Prelude.{slice_get, if◌then◌else◌, nat_le, nat_lt}
 use Rattle.std.proofs.lemmas.Bool.{cases_eq, and_parts, leb-true, ltb-true, le-leb, lt-ltb, cases_Bool}
@@ -55,6 +55,7 @@ module _ (m : MapSizes) (p : FlatProgram) (plans : List FunctionPlan) (address :
     pub record_is : (frames : List Frame) → record_of m p f frames ≡ top_of m p b frames
     pub program : room_if false (function_in p f) ≡ (if b then 0 else g.room)
     pub runtime : room_if true (function_in p f) ≡ (if b then g.room else 0)
+    pub bytes : (keeping p plans f).room ≡ (if b then g.room else 2 * g.room)
 
   pub kind : (f : ℕ) (g : FlatFunction) (b : Bool) → function_in p f ≡ Some g → g.is_runtime ≡ b → IsKind f g b
   kind f g b there e = record {
@@ -65,6 +66,7 @@ module _ (m : MapSizes) (p : FlatProgram) (plans : List FunctionPlan) (address :
         ∙ ap (λ c. top_of m p c frames) e;
     program = ap (room_if false) there ∙ ap (λ c. if c then 0 else g.room) e;
     runtime = ap (room_if true) there ∙ ap (λ c. if c then g.room else 0) e;
+    bytes = ok.room f g there ∙ ap (λ c. if c then g.room else 2 * g.room) e;
   }
 
   -- ---- the record of the function that runs
@@ -82,7 +84,7 @@ module _ (m : MapSizes) (p : FlatProgram) (plans : List FunctionPlan) (address :
       k.record_is frames,
       k.program,
       h.program_fits,
-      ok.room f g k.there,
+      k.bytes,
       regions.calls,
       regions.space,
     );
@@ -93,7 +95,7 @@ module _ (m : MapSizes) (p : FlatProgram) (plans : List FunctionPlan) (address :
     base_low = omega (arith, k.base);
     base_high = omega (arith, k.base);
     low = omega (arith, k.record_is frames, regions.cells_low, regions.cells, regions.arguments, regions.calls);
-    high = omega (arith, k.record_is frames, k.runtime, h.runtime_fits, ok.room f g k.there, regions.space);
+    high = omega (arith, k.record_is frames, k.runtime, h.runtime_fits, k.bytes, regions.space);
     small = omega (arith, regions.space, regions.end);
   }
 
@@ -113,20 +115,20 @@ module _ (m : MapSizes) (p : FlatProgram) (plans : List FunctionPlan) (address :
 
   -- the bytes of the records that wait, and the first word of the one that runs
   pub record Untouched (f : ℕ) (frames : List Frame) (old new : Bytes) : Type 0 where
-    pub program : (a : ℕ) → region_start m Calls ≤ a → a < region_start m Calls + rooms false p frames → new a ≡ old a
-    pub runtime : (a : ℕ) → region_start m RuntimeCalls ≤ a → a < region_start m RuntimeCalls + rooms true p frames
+    pub program : (a : ℕ) → region_start m Calls ≤ a → a < top_of m p false frames → new a ≡ old a
+    pub runtime : (a : ℕ) → region_start m RuntimeCalls ≤ a → a < top_of m p true frames
         → new a ≡ old a
     pub first : (a : ℕ) → record_of m p f frames ≤ a → a < record_of m p f frames + 8 → new a ≡ old a
 
   -- those of the record that waits last
   own_by : (b : Bool) (x : Frame) (xs : List Frame) (f : ℕ) (g : FlatFunction) (old new : Bytes)
       → IsKind x.function g b → Untouched f (x ∷ xs) old new → (a : ℕ) → record_of m p x.function xs ≤ a
-      → a < record_of m p x.function xs + g.room → new a ≡ old a
+      → a < record_of m p x.function xs + (keeping p plans x.function).room → new a ≡ old a
   unfolding rooms
   own_by false x xs f g old new k u a low high =
-      u.program a (omega (arith, k.record_is xs)) (omega (arith, k.record_is xs, k.program))
+      u.program a (omega (arith, k.record_is xs)) (omega (arith, k.record_is xs, k.program, k.bytes))
   own_by true x xs f g old new k u a low high =
-      u.runtime a (omega (arith, k.record_is xs)) (omega (arith, k.record_is xs, k.runtime))
+      u.runtime a (omega (arith, k.record_is xs)) (omega (arith, k.record_is xs, k.runtime, k.bytes))
 
   less_by : (x : Frame) (xs : List Frame) (f : ℕ) (g : FlatFunction) (old new : Bytes)
       → function_in p x.function ≡ Some g → Untouched f (x ∷ xs) old new → Untouched x.function xs old new
@@ -134,7 +136,7 @@ module _ (m : MapSizes) (p : FlatProgram) (plans : List FunctionPlan) (address :
   less_by x xs f g old new there u = record {
     program = λ a low high. u.program a low (omega arith);
     runtime = λ a low high. u.runtime a low (omega arith);
-    first = λ a low high. let big = some x.function g there in
+    first = λ a low high. let big = some x.function g there in let room = ok.charged_room x.function g there in
         own_by g.is_runtime x xs f g old new (kind x.function g g.is_runtime there refl) u a low (omega arith);
   }
 
@@ -161,7 +163,6 @@ module _ (m : MapSizes) (p : FlatProgram) (plans : List FunctionPlan) (address :
               let is_kept = ok.kept x.function x.next g there.1 in
               let low = is_kept.low y live in
               let high = is_kept.high y live in
-              let room = ok.room x.function g there.1 in
               load_kept 8 old new (record_of m p x.function xs + (keeping p plans x.function).home y)
               (λ i lt. own (record_of m p x.function xs + (keeping p plans x.function).home y + i)
               (omega arith) (omega arith)) ∙ h.held y live other;
@@ -182,7 +183,7 @@ module _ (m : MapSizes) (p : FlatProgram) (plans : List FunctionPlan) (address :
           k.record_is frames,
           k.program,
           h.program_fits,
-          ok.room f g k.there,
+          k.bytes,
           regions.calls,
         )));
     first = λ a low high. keeps a (inl (omega arith));

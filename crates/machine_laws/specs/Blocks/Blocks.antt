@@ -5,7 +5,7 @@ use Rattle.words.specs.TwosComplement.{low_bits}
 use Rattle.rv_isa.specs.declared.instruction.LoadOp.TheVariants.{Ld, Lbu}
 use Rattle.rv_isa.specs.declared.instruction.StoreOp.TheVariants.{Sb, Sd}
 use Rattle.rv_isa.specs.declared.instruction.ImmOp.TheVariants.{Addi}
-use Rattle.rv_isa.specs.declared.instruction.ShiftOp.TheVariants.{Slli}
+use Rattle.rv_isa.specs.declared.instruction.ShiftOp.TheVariants.{Slli, Srli}
 use Rattle.rv_isa.specs.declared.instruction.RegOp.{RegOp}
 use Rattle.rv_isa.specs.declared.instruction.RegOp.TheVariants.{Add, Sub, Mul}
 use Rattle.rv_isa.specs.declared.instruction.RegOp32.{RegOp32}
@@ -136,11 +136,12 @@ operate32_block place base op x y z =
     operator_block place base x y z (immediate32_of op (used x left_scratch) (used (place y) left_scratch) z)
     (Op32 op (used x left_scratch) (used (place y) left_scratch) (used_right place z))
 
--- the bytes of the budget that are charged: what the frame has gone up from where the first begins
+-- the bytes of the budget that are charged: half of what the frame has gone up from an address
 abbrev pub charged_block : (into : Location) → (base begin : ℕ) → List Instr
 charged_block x base begin =
     constant right_scratch begin
-    ++ (Op Sub (used x left_scratch) program_frame right_scratch ∷ keep x base left_scratch)
+    ++ (Op Sub left_scratch program_frame right_scratch
+    ∷ ShiftImm Srli (used x left_scratch) left_scratch 1 ∷ keep x base left_scratch)
 
 -- what is asked for so many bytes of the words of arguments, by an environment call of a number
 abbrev pub asks : (number descriptor count : ℕ) → List Instr

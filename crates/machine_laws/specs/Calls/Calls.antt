@@ -11,7 +11,8 @@ use Rattle.machine_laws.specs.declared.location.Location.TheVariants.{Register, 
 use Rattle.machine_laws.specs.Blocks.Places.{argument_words, left_scratch, right_scratch}
 use Rattle.machine_laws.specs.Blocks.Blocks.{constant, upper, lower, load_at, store_at, used, fetch, keep}
 
--- where a function keeps its values, and which of them are live before each instruction
+-- where a function keeps its values, which of them are live before each instruction, and how many bytes its activation
+-- record has
 pub record Keeping : Type 0 where
   pub place : ℕ → Location
   pub home : ℕ → ℕ

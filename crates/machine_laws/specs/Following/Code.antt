@@ -22,7 +22,7 @@ use Rattle.flat_meaning.specs.declared.instruction.FlatInstruction.{FlatInstruct
 use Rattle.flat_meaning.specs.declared.instruction.FlatInstruction.TheVariants as flat
 use Rattle.flat_meaning.specs.declared.function.FlatFunction.{FlatFunction}
 use Rattle.flat_meaning.specs.declared.function.FlatProgram.{FlatProgram}
-use Rattle.flat_meaning.specs.Calls.{function_in, room_if}
+use Rattle.flat_meaning.specs.Calls.{function_in, record_bytes, room_if}
 use Rattle.flat_meaning.specs.Meaning.{parameters_of, results_of, instruction_at, is_runtime_function}
 use Rattle.reg_plan.specs.declared.plan.FunctionPlan.{FunctionPlan}
 use Rattle.reg_plan.specs.Effects.{is_among, many, makes_only}
@@ -50,7 +50,7 @@ keeping_of (Some f) None = record {
   live = λ pc y. false;
   count = 0;
   base = frame_register f;
-  room = f.room;
+  room = record_bytes f;
 }
 keeping_of (Some f) (Some plan) = record {
   place = location f plan;
@@ -58,7 +58,7 @@ keeping_of (Some f) (Some plan) = record {
   live = λ pc y. nat_lt pc (length f.body) && is_live plan pc y;
   count = length plan.live.items;
   base = frame_register f;
-  room = f.room;
+  room = record_bytes f;
 }
 
 unfoldable pub keeping : FlatProgram → List FunctionPlan → (function : ℕ) → Keeping
@@ -108,9 +108,9 @@ abbrev pub shaped_block : Keeping → (pc : ℕ) → Option CallShape → List I
 shaped_block k pc None = []
 shaped_block k pc (Some c) = call_part k pc c ++ back_part k pc c
 
--- where the first activation record of the program begins, less what a function is charged
+-- where the first activation record of the program begins, less twice what a function is charged
 abbrev pub charged_from : MapSizes → FlatProgram → (function : ℕ) → ℕ
-charged_from m p f = region_start m Calls - room_if false (function_in p f)
+charged_from m p f = region_start m Calls - 2 * room_if false (function_in p f)
 
 -- whether all that an instruction changes is a value that is not needed behind it
 abbrev pub is_unneeded : Keeping → (pc : ℕ) → Option ℕ → Bool

@@ -30,9 +30,9 @@ abbrev pub IsOfFlat : MapSizes → (address : ℕ) → Type 0
 IsOfFlat m a = ((objects_begin ≤ a) × (a < region_end m Heap)) ⊎ ((spaces_begin ≤ a) × (a < region_end m Cells))
 
 -- Where the activation record of a function begins: behind those that wait, of functions of the program and of the
--- runtime apart.
+-- runtime apart. Those of the program have twice the bytes that are charged.
 abbrev pub top_of : MapSizes → FlatProgram → (runtime : Bool) → List Frame → ℕ
-top_of m p false frames = region_start m Calls + rooms false p frames
+top_of m p false frames = region_start m Calls + 2 * rooms false p frames
 top_of m p true frames = region_start m RuntimeCalls + rooms true p frames
 
 abbrev pub record_of : MapSizes → FlatProgram → (function : ℕ) → List Frame → ℕ
@@ -71,9 +71,9 @@ Wait m p plans address f (x ∷ xs) memory =
 pub record IsAt (map : MapSizes) (program : FlatProgram) (plans : List FunctionPlan) (address : (function pc : ℕ) → ℕ)
     (f pc : ℕ) (state : State) (frames : List Frame) (view : View) : Type 0 where
   pub zero_is : view.registers 0 ≡ 0
-  pub program_top : view.registers 2 ≡ region_start map Calls + rooms false program frames
+  pub program_top : view.registers 2 ≡ top_of map program false frames
   pub arguments : view.registers 3 ≡ region_start map Arguments
-  pub runtime_top : view.registers 4 ≡ region_start map RuntimeCalls + rooms true program frames
+  pub runtime_top : view.registers 4 ≡ top_of map program true frames
   pub program_fits : room_if false (function_in program f) + rooms false program frames ≤ map.budgets.calls
   pub runtime_fits : room_if true (function_in program f) + rooms true program frames ≤ region_size map RuntimeCalls
   pub held : (y : ℕ) → (keeping program plans f).live pc y ≡ true

@@ -43,11 +43,11 @@ blocks_size m h = omega (arith, h.budgets.blocks)
 
 others_size : (m : MapSizes) → AreMapped m
     → region_size m StructureValues + region_size m Cells + region_size m Arguments + region_size m Calls
-    + region_size m RuntimeCalls ≤ 0x2020000
+    + region_size m RuntimeCalls ≤ 0x3020000
 unfolding region_size
 others_size m h = omega (arith, h.budgets.calls.greatest)
 
-spaces_size : (m : MapSizes) → AreMapped m → space_bytes m ≤ 0xb000000
+spaces_size : (m : MapSizes) → AreMapped m → space_bytes m ≤ 0xc000000
 unfolding region_start
 spaces_size m h = omega (arith, shadow_size m h, locks_size m h, free_locks_size m h, blocks_size m h, others_size m h)
 

@@ -1,6 +1,6 @@
 //! The instructions that stand for an instruction of flat code.
 
-ghost use Rattle.std.specs.Prelude.{◌≡◌, ◌+◌, ◌-◌, ◌<◌, ◌^◌, ◌++◌, [], true, false, length, Some, OnOk};
+ghost use Rattle.std.specs.Prelude.{◌≡◌, ◌+◌, ◌-◌, ◌*◌, ◌<◌, ◌^◌, ◌++◌, [], true, false, length, Some, OnOk};
 ghost use Rattle.std.specs.Prelude.{if◌then◌else◌};
 ghost use Rattle.reg_plan.specs.Effects.{makes_only};
 ghost use Rattle.reg_plan.specs.Order.{IsLookup, IsLookupAt};
@@ -73,15 +73,17 @@ fn results(program: &FlatProgram, function: u32) -> u32
     }
 }
 
-// Where the first activation record of the program begins, less what a function is charged.
+// Where the first activation record of the program begins, less twice what a function is charged.
 fn charged_from(map: &AddrMap, function: &FlatFunction) -> u64
-    ensures { result ≡ region_start map.now Calls - room_if false (Some function.now) }
+    ensures { result ≡ region_start map.now Calls - 2 * room_if false (Some function.now) }
 {
     let begin = map.region(Region::Calls).0;
     if function.is_runtime {
         begin
     } else {
-        begin.saturating_sub(function.room)
+        begin
+            .saturating_sub(function.room)
+            .saturating_sub(function.room)
     }
 }
 

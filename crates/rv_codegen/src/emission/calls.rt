@@ -3,6 +3,7 @@
 
 ghost use Rattle.std.specs.Prelude.{◌≡◌, ◌+◌, ◌*◌, ◌%◌, ◌<◌, ◌≤◌, ◌^◌, ◌++◌, ◌∷◌, []};
 ghost use Rattle.std.specs.Prelude.{if◌then◌else◌, OnOk, length};
+ghost use Rattle.flat_meaning.specs.Calls.{record_bytes};
 ghost use Rattle.reg_plan.specs.Effects.{is_among, many};
 ghost use Rattle.reg_plan.specs.Order.{IsLookup};
 ghost use Rattle.reg_plan.specs.Saves.Saves.{saved_below};
@@ -23,7 +24,7 @@ use crate::emission::values::{
     frame_register, left_scratch, put_fetch, put_keep, put_restore, put_save, right_scratch, used,
 };
 use flat_meaning::FlatFunction;
-use reg_plan::{FunctionPlan, LiveLookup};
+use reg_plan::{FunctionPlan, LiveLookup, record_bytes};
 use rv_isa::{Imm12, Instr, Reg, RegOp};
 use std::alloc::AllocError;
 
@@ -289,15 +290,15 @@ fn put_near_move(
     Ok(())
 }
 
-// Puts what adds the room of a function to the register of its activation record, or subtracts it, by two instructions
-// or more.
+// Puts what adds the bytes of the activation record of a function to the register of that record, or subtracts them, by
+// two instructions or more.
 fn put_far_move(code: &mut Vec<Instr>, function: &FlatFunction, op: RegOp) -> Result<(), AllocError>
     ensures { OnOk result
         (code.new.items ≡ code.old.items
-        ++ (constant right_scratch function.now.room
+        ++ (constant right_scratch (record_bytes function.now)
         ++ Op op (frame_register function.now) (frame_register function.now) right_scratch ∷ [])) }
 {
-    put_constant(code, right_scratch(), function.room)?;
+    put_constant(code, right_scratch(), record_bytes(function))?;
     let base = frame_register(function);
     code.push(Instr::Op {
         op,
@@ -317,8 +318,9 @@ fn put_advance(
 ) -> Result<(), AllocError>
     ensures { OnOk result (code.new.items ≡ code.old.items ++ advance (kept_by function.now plan.now)) }
 {
-    if function.room < 0x800 {
-        return put_near_move(code, function, function.room);
+    let bytes = record_bytes(function);
+    if bytes < 0x800 {
+        return put_near_move(code, function, bytes as u64);
     }
     put_far_move(code, function, RegOp::Add)
 }
@@ -332,8 +334,9 @@ fn put_retreat(
 ) -> Result<(), AllocError>
     ensures { OnOk result (code.new.items ≡ code.old.items ++ retreat (kept_by function.now plan.now)) }
 {
-    if function.room < 0x800 {
-        return put_near_move(code, function, 0x1000 - function.room);
+    let bytes = record_bytes(function);
+    if bytes < 0x800 {
+        return put_near_move(code, function, 0x1000 - bytes as u64);
     }
     put_far_move(code, function, RegOp::Sub)
 }
@@ -440,7 +443,7 @@ pub(crate) fn put_call(
         (constant callee_scratch callee) callee_scratch) }
 {
     put_hand_over(code, function, plan, site)?;
-    put_constant(code, callee_scratch(), callee)?;
+    put_constant(code, callee_scratch(), u128::from(callee))?;
     put_jump(code, function, plan, callee_scratch())?;
     put_back(code, function, plan, site)
 }

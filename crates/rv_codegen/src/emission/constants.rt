@@ -63,18 +63,18 @@ fn put_digits(code: &mut Vec<Instr>, count: u32, rd: Reg, number: u64) -> Result
     Ok(())
 }
 
-/// Puts a number into a register.
+/// Puts a number into a register; of one of more than 64 bits its low twelve, with their sign.
 #[tactic(auto, unfolding(machine_laws::specs::Blocks::Blocks::constant))]
-pub(crate) fn put_constant(code: &mut Vec<Instr>, rd: Reg, number: u64) -> Result<(), AllocError>
+pub(crate) fn put_constant(code: &mut Vec<Instr>, rd: Reg, number: u128) -> Result<(), AllocError>
     ensures { OnOk result (code.new.items ≡ code.old.items ++ constant rd number) }
 {
     if number < 0x800 || number >= 0xffff_ffff_ffff_f800 {
-        code.push(addi(rd, Reg::ZERO, number % 0x1000))?;
+        code.push(addi(rd, Reg::ZERO, (number % 0x1000) as u64))?;
         Ok(())
     } else if number < 0x7fff_f800 || number >= 0xffff_ffff_8000_0000 {
-        put_wide(code, rd, u128::from(number))
+        put_wide(code, rd, number)
     } else {
-        put_digits(code, 5, rd, number)
+        put_digits(code, 5, rd, number as u64)
     }
 }
 

@@ -19,7 +19,7 @@ use crate::emission::values::{
 };
 use flat_meaning::{FlatFunction, RightOperand};
 use reg_plan::FunctionPlan;
-use rv_isa::{Imm12, Instr, LoadOp, Reg, RegOp, RegOp32, StoreOp};
+use rv_isa::{Imm12, Instr, LoadOp, Reg, RegOp, RegOp32, ShiftAmount, ShiftOp, StoreOp};
 use std::alloc::AllocError;
 
 /// Puts a number into a virtual register.
@@ -37,7 +37,7 @@ pub(crate) fn put_number(
     put_constant(
         code,
         used(function, plan, u64::from(into), left_scratch()),
-        value,
+        u128::from(value),
     )?;
     put_keep(code, function, plan, u64::from(into), left_scratch())
 }
@@ -362,8 +362,8 @@ pub(crate) fn put_exit(
     Ok(())
 }
 
-/// Puts the bytes that are charged: how far the register of the activation records of the program has gone up from
-/// an address.
+/// Puts the bytes that are charged: half of how far the register of the activation records of the program has gone up
+/// from an address.
 pub(crate) fn put_charged(
     code: &mut Vec<Instr>,
     function: &FlatFunction,
@@ -375,12 +375,18 @@ pub(crate) fn put_charged(
         (code.new.items ≡ code.old.items
         ++ charged_block (location function.now plan.now into) (frame_register function.now) begin) }
 {
-    put_constant(code, right_scratch(), begin)?;
+    put_constant(code, right_scratch(), u128::from(begin))?;
     code.push(Instr::Op {
         op: RegOp::Sub,
-        rd: used(function, plan, u64::from(into), left_scratch()),
+        rd: left_scratch(),
         rs1: Reg::SP,
         rs2: right_scratch(),
+    })?;
+    code.push(Instr::ShiftImm {
+        op: ShiftOp::Srli,
+        rd: used(function, plan, u64::from(into), left_scratch()),
+        rs1: left_scratch(),
+        shamt: ShiftAmount::new(1),
     })?;
     put_keep(code, function, plan, u64::from(into), left_scratch())
 }

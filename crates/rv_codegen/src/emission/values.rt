@@ -163,7 +163,7 @@ fn put_number(code: &mut Vec<Instr>, number: u64) -> Result<(), AllocError>
     if number == 0 {
         return Ok(());
     }
-    put_constant(code, right_scratch(), number)
+    put_constant(code, right_scratch(), u128::from(number))
 }
 
 /// The register in which the value of a right operand is found.

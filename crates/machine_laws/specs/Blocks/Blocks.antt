@@ -162,8 +162,8 @@ exit_block y base =
     fetch y base left_scratch ++ (OpImm Addi 10 (used y left_scratch) 0 ∷ OpImm Addi 17 0 93 ∷ Ecall ∷ [])
 
 -- the machine's instructions for an instruction that stays in its function, but for its jump or branch, and that does
--- not end the run: where values are kept, the register of its activation record, and the first address less what a
--- call of it is charged
+-- not end the run: where values are kept, the register of its activation record, and the first address less twice what
+-- a call of it is charged
 abbrev pub local_block : (ℕ → Location) → (base begin : ℕ) → FlatInstruction → List Instr
 local_block place base begin (flat.Constant x n) =
     constant (used (place x) left_scratch) (low_bits 64 n) ++ keep (place x) base left_scratch

@@ -1,8 +1,9 @@
 -- What instructions are given fits them: in good states values are of their kinds, and what is named is there.
 use Rattle.std.proofs.Common.{◌≡◌, ℕ, zero, suc, ◌<◌, ◌≤◌, ◌^◌, List, [], ◌∷◌, Option, Some, None, Bool, true}
 use Rattle.std.proofs.Common.{false}
-use Rattle.std.proofs.Common.{refl, ap, ◌∙◌, subst, arith, eq-eqb, eqb-true, le-leb, lt-ltb}
+use Rattle.std.proofs.Common.{refl, sym, ap, ◌∙◌, subst, arith, eq-eqb, eqb-true, le-leb, lt-ltb}
 use Rattle.std.specs.Prelude.{◌&&◌, ◌||◌, ◌==◌, not, length, slice_get}
+use Rattle.std.specs.List.{list_all}
 use Rattle.addr_map.specs.Places.{function_address}
 use Rattle.obj_memory.specs.declared.int_type.IntType.{IntType}
 use Rattle.obj_memory.specs.declared.int_type.IntType.TheVariants.{Int, UnsignedInt, UnsignedLong}
@@ -20,8 +21,12 @@ use Rattle.c_tree.specs.declared.format.Directive.{Directive}
 use Rattle.c_tree.specs.declared.format.Directive.TheVariants as directive
 use Rattle.c_tree.specs.declared.format.Piece.{Piece}
 use Rattle.c_tree.specs.Format.{directives}
-use Rattle.c_tree.specs.Kinds.{Signature, integer, pointer, is_kind, is_integer, fits_directive}
-use Rattle.c_tree.specs.Kinds.{fit_directives}
+use Rattle.c_tree.specs.declared.expression.Routine.{Routine}
+use Rattle.c_tree.specs.declared.expression.Routine.TheVariants.{Malloc, Calloc, Free, Realloc, Memcpy, Memmove, Memset}
+use Rattle.c_tree.specs.declared.expression.Routine.TheVariants.{Memcmp, Strlen, Strcmp, Strcpy, Strncpy, Strcat}
+use Rattle.c_tree.specs.declared.expression.Routine.TheVariants.{Strchr, Putchar, Getchar, Puts, Exit, Abort}
+use Rattle.c_tree.specs.Kinds.{Signature, integer, pointer, is_kind, is_integer, is_value, size_of_kind, fits_directive}
+use Rattle.c_tree.specs.Kinds.{routine_signature, fit_directives}
 use Rattle.c_tree.specs.Valid.{are_printed as are_printed_kinds}
 use Rattle.source_meaning.specs.State.{Rvalue, Header, Setting}
 use Rattle.source_meaning.specs.Good.{Context, function_count, object_kind, Updates}
@@ -61,6 +66,10 @@ fit_long : (w : ℕ) → w < 2 ^ 64 → fit UnsignedLong w ≡ w
 unfolding fit
 fit_long w lt = grind arith
 
+-- a value has a kind
+valued_kind : (kind : Kind) → is_value kind ≡ true → kind ≡ Void → ⊥
+valued_kind kind e void = let none : is_value kind ≡ false = ap is_value void in cc
+
 -- where all functions have addresses
 module _ (fc : ℕ) (few : function_address fc ≤ 2 ^ 64) where
   pub word_fits : (w : ℕ) → IsWord fc w → is_word w ≡ true
@@ -93,22 +102,83 @@ module _ (fc : ℕ) (few : function_address fc ≤ 2 ^ 64) where
   taken_has_bytes n None v objects h = absurd h
   taken_has_bytes n (Some c) v objects h = le-leb _ _ h.room
 
-  pub passed_fits : (kind : Kind) (v : Rvalue) (objects : Objects) → ArgumentIs fc kind v objects
-      → is_passed kind v ≡ true
-  passed_fits Void v objects h = plain_word_fits v h.structure h.word
-  passed_fits (OfScalar k) v objects h = scalar_fits k v h.structure h.word
-  passed_fits (Structure n) v objects h = taken_has_bytes n v.contents v.value objects h.structure
-  passed_fits (Array n) v objects h = plain_word_fits v h.structure h.word
+  -- of a kind that is not `void`
+  pub passed_fits : (kind : Kind) (v : Rvalue) → (kind ≡ Void → ⊥) → (objects : Objects)
+      → ArgumentIs fc kind v objects → is_passed kind v ≡ true
+  passed_fits Void v valued objects h = absurd (valued refl)
+  passed_fits (OfScalar k) v valued objects h = scalar_fits k v h.structure h.word
+  passed_fits (Structure n) v valued objects h = taken_has_bytes n v.contents v.value objects h.structure
+  passed_fits (Array n) v valued objects h = plain_word_fits v h.structure h.word
 
-  pub arguments_fit : (kinds : List Kind) (vs : List Rvalue) (objects : Objects) → ArgumentsAre fc kinds vs objects
-      → are_passed kinds vs ≡ true
-  arguments_fit [] [] objects h = refl
-  arguments_fit [] (v ∷ vs) objects h = absurd h
-  arguments_fit (k ∷ ks) [] objects h = absurd h
-  arguments_fit (k ∷ ks) (v ∷ vs) objects h =
-      both_true (passed_fits k v objects h.0) (arguments_fit ks vs objects h.1)
+  pub arguments_fit : (kinds : List Kind) (vs : List Rvalue) (objects : Objects) → list_all is_value kinds ≡ true
+      → ArgumentsAre fc kinds vs objects → are_passed kinds vs ≡ true
+  arguments_fit [] [] objects e h = refl
+  arguments_fit [] (v ∷ vs) objects e h = absurd h
+  arguments_fit (k ∷ ks) [] objects e h = absurd h
+  arguments_fit (k ∷ ks) (v ∷ vs) objects e h =
+      let p = both (is_value k) (list_all is_value ks) e in
+      both_true (passed_fits k v (valued_kind k p.0) objects h.0) (arguments_fit ks vs objects p.1 h.1)
+
+-- arguments of routines
+
+pub routine_values : (r : Routine) → list_all is_value (routine_signature r).parameters ≡ true
+routine_values Malloc = refl
+routine_values Calloc = refl
+routine_values Free = refl
+routine_values Realloc = refl
+routine_values Memcpy = refl
+routine_values Memmove = refl
+routine_values Memset = refl
+routine_values Memcmp = refl
+routine_values Strlen = refl
+routine_values Strcmp = refl
+routine_values Strcpy = refl
+routine_values Strncpy = refl
+routine_values Strcat = refl
+routine_values Strchr = refl
+routine_values Putchar = refl
+routine_values Getchar = refl
+routine_values Puts = refl
+routine_values Exit = refl
+routine_values Abort = refl
 
 -- arguments of `printf`
+
+-- they are values
+
+int_value : (k : Kind) → (is_kind k (integer Int) || is_kind k (integer UnsignedInt)) ≡ true → is_value k ≡ true
+int_value Void e = e
+int_value (OfScalar k) e = refl
+int_value (Structure n) e = refl
+int_value (Array n) e = e
+
+long_value : (k : Kind) → (is_integer k && size_of_kind k == 8) ≡ true → is_value k ≡ true
+long_value Void e = e
+long_value (OfScalar k) e = refl
+long_value (Structure n) e = refl
+long_value (Array n) e = e
+
+directive_value : (d : Directive) (k : Kind) → fits_directive d k ≡ true → is_value k ≡ true
+directive_value directive.Int k e = int_value k e
+directive_value directive.UnsignedInt k e = int_value k e
+directive_value directive.Hexadecimal k e = int_value k e
+directive_value directive.Character k e = int_value k e
+directive_value directive.Long k e = long_value k e
+directive_value directive.UnsignedLong k e = long_value k e
+directive_value directive.String k e = ap is_value (same_kind k pointer e)
+
+each_value : (ds : List Directive) (ks : List Kind) → fit_directives ds ks ≡ true → list_all is_value ks ≡ true
+each_value [] [] e = refl
+each_value [] (k ∷ ks) e = cc
+each_value (d ∷ ds) [] e = cc
+each_value (d ∷ ds) (k ∷ ks) e =
+    let a = both (fits_directive d k) (fit_directives ds ks) e in
+    both_true (directive_value d k a.0) (each_value ds ks a.1)
+
+pub printed_values : (ps : Option (List Piece)) (ks : List Kind) → are_printed_kinds ps ks ≡ true
+    → list_all is_value ks ≡ true
+printed_values None ks e = cc
+printed_values (Some ps) ks e = each_value (directives ps) ks e
 
 either_true : (a b : Bool) {P : Type 0} → (a || b) ≡ true → (a ≡ true → P) → (b ≡ true → P) → P
 either_true true b e f h = f refl
@@ -186,7 +256,7 @@ type_fits (Integer t) = same_int t
 type_fits Pointer = refl
 
 -- What the tables of a program say is what its text declares: of each function what it takes and gives, of each static
--- object its size, and of the function whose code it is its variables.
+-- object its size, and of the function whose code it is its variables; functions take values.
 pub record AreDeclared (t : Tac) (g : Setting) (sc : Context) (u : ℕ) : Type 0 where
   pub few : function_address (function_count sc) ≤ 2 ^ 64
   pub functions : length g.functions ≡ function_count sc
@@ -194,6 +264,9 @@ pub record AreDeclared (t : Tac) (g : Setting) (sc : Context) (u : ℕ) : Type 0
   pub calls : (f : ℕ) (c : CodeFunction) → function_in t f ≡ Some c → taken_by (header_of_code c) ≡ taking sc f
   pub types : (f : ℕ) (h : Header) → slice_get g.functions f ≡ Some h
       → taken_by h ≡ (signature_in sc.scope.types h.type_number).parameters
+  pub calls_take : (f : ℕ) (c : CodeFunction) → function_in t f ≡ Some c
+      → list_all is_value (taken_by (header_of_code c)) ≡ true
+  pub types_take : (f : ℕ) (h : Header) → slice_get g.functions f ≡ Some h → list_all is_value (taken_by h) ≡ true
   pub variables : variables_in (function_in t u) ≡ sc.scope.all
   pub objects : (x : ℕ) (kind : Kind) → object_kind sc.scope.variables x ≡ Some kind
       → object_kind sc.scope.all x ≡ Some kind
@@ -206,18 +279,22 @@ constant_fits w (Structure n) h = absurd h
 constant_fits w (Array n) h = absurd h
 
 -- arguments of a type are those of each function that has it
-pub type_arguments_fit : (types : List Signature) (n : ℕ) (vs : List Rvalue)
-    → are_passed (signature_in types n).parameters vs ≡ true → (fs : List Header)
+pub type_arguments_fit : (fc : ℕ) → function_address fc ≤ 2 ^ 64 → (types : List Signature) (n : ℕ) (vs : List Rvalue)
+    (objects : Objects) → ArgumentsAre fc (signature_in types n).parameters vs objects → (fs : List Header)
     → ((f : ℕ) (h : Header) → slice_get fs f ≡ Some h → taken_by h ≡ (signature_in types h.type_number).parameters)
+    → ((f : ℕ) (h : Header) → slice_get fs f ≡ Some h → list_all is_value (taken_by h) ≡ true)
     → fit_type fs n vs ≡ true
-type_arguments_fit types n vs fit [] e = refl
-type_arguments_fit types n vs fit (h ∷ hs) e =
-    both_true (by (h.type_number == n) refl) (type_arguments_fit types n vs fit hs (λ f. e (suc f)))
+type_arguments_fit fc few types n vs objects are [] e values = refl
+type_arguments_fit fc few types n vs objects are (h ∷ hs) e values =
+    both_true (by (h.type_number == n) refl)
+    (type_arguments_fit fc few types n vs objects are hs (λ f. e (suc f)) (λ f. values (suc f)))
   where
     by : (b : Bool) → (h.type_number == n) ≡ b → (not b || are_passed (taken_by h) vs) ≡ true
     by true same =
-        ap (λ ks. are_passed ks vs) (e 0 h refl)
-        ∙ ap (λ m. are_passed (signature_in types m).parameters vs) (eqb-true h.type_number n same) ∙ fit
+        let kinds : (signature_in types n).parameters ≡ taken_by h =
+        sym (e 0 h refl ∙ ap (λ m. (signature_in types m).parameters) (eqb-true h.type_number n same)) in
+        arguments_fit fc few (taken_by h) vs objects (values 0 h refl)
+        (subst (λ ks. ArgumentsAre fc ks vs objects) kinds are)
     by false same = refl
 
 pub data_below : (ds : List StaticData) (n : ℕ) (d : StaticData) → slice_get ds n ≡ Some d → n < length ds

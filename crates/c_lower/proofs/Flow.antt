@@ -42,6 +42,7 @@ use Rattle.c_lower.specs.Statements.{LowersLabels, any_default}
 use Rattle.c_lower.proofs.Comes.{GoesLeaving, Goes, goes_from, goes_spare, goes_framed, goes_steps, goes_step}
 use Rattle.c_lower.proofs.Comes.{goes_done}
 use Rattle.c_lower.proofs.Comes.{goes_at, goes_leaving, goes_after, goes_sure, goes_heavier, goes_turn, goes_pause}
+use Rattle.c_lower.proofs.KeyNames.{both_true}
 use Rattle.c_lower.proofs.KeyStays.{pointer_kept}
 use Rattle.c_lower.proofs.Counting.{Turning}
 use Rattle.c_lower.proofs.Opening.{AreUnnamed, Homed, HomedBy, block_homeless, block_homed, inside_homed}
@@ -458,8 +459,8 @@ module _ (g : Setting) (t : Tac) (limit u : ℕ) (frames : List Frame) (base : S
   scoped_by c e true is line n0 b0 y x temps k s body (Some n) has entry ways good unnamed homed h =
       let bytes = sized_opened numbers 0 all (map closed all) sized (sized_closed all) in
       let counted = (counts_enter_block g own line bytes is).counts s in
-      goes_steps 7 c entry refl (ap (λ o. have_no_homes s.frame (if_there o)) has
-      ∙ block_homeless all vs s.frame numbers homed unnamed)
+      goes_steps 7 c entry refl (both_true (ap has_objects (objects_are n has) ∙ is)
+      (ap (λ o. have_no_homes s.frame (if_there o)) has ∙ block_homeless all vs s.frame numbers homed unnamed))
       (ap (λ vars. came (heavier (enter_block g vars line) (at_work (k + 7) s))
       (λ b z. Stands u b0 temps (Entered n b ∷ frames) z)) (objects_are n has))
       (goes_heavier (λ b z. Stands u b0 temps (Entered n b ∷ frames) z) (acts_enter_block g own line) (λ b s1 k1 e1 is1.

@@ -16,3 +16,4 @@ pub mod Programs
 pub mod Homes
 pub mod Liveness
 mod Fitting
+mod Returning

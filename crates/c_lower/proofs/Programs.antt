@@ -20,7 +20,7 @@ use Rattle.obj_memory.specs.Objects.{Objects, object_at}
 use Rattle.c_tree.specs.declared.program.Variable.{Variable}
 use Rattle.c_tree.specs.declared.expression.Kind.{Kind}
 use Rattle.c_tree.specs.declared.expression.Kind.TheVariants.{Void, Scalar as OfScalar, Structure, Array}
-use Rattle.c_tree.specs.Kinds.{has_size, size_of_kind, is_scalar, Signature}
+use Rattle.c_tree.specs.Kinds.{has_size, size_of_kind, is_kind, is_scalar, is_value, Signature}
 use Rattle.c_tree.specs.Programs.{Function, Program}
 use Rattle.c_tree.specs.Blocks.{all_of, block_variables, body_variables, closed}
 use Rattle.c_tree.specs.Valid.{Scope}
@@ -29,8 +29,8 @@ use Rattle.c_tree.specs.ValidProgram.{signature_at, is_function_type, are_all_di
 use Rattle.c_tree.specs.ValidProgram.{are_functions, is_main, is_valid_program, Inside as Surrounding}
 use Rattle.source_meaning.specs.State.{State, Rvalue, Outcome, Gives, Ended, Paused, Run, on, ◌>>=◌, ◌>>◌, done, change}
 use Rattle.source_meaning.specs.State.{choose, Header, Setting, Env}
-use Rattle.source_meaning.specs.Actions.{int_of}
-use Rattle.source_meaning.specs.Structures.{zero_of, contents_size, make_zero}
+use Rattle.source_meaning.specs.Actions.{int_of, integer}
+use Rattle.source_meaning.specs.Structures.{rvalue, zero_of, contents_size, make_zero}
 use Rattle.source_meaning.specs.Expressions.{counted}
 use Rattle.source_meaning.specs.Statements.{Completion, Normal, Broken, Continued, Returned, in_order, each_of}
 use Rattle.source_meaning.specs.Calls.{header_of, function_at, Caller, caller, back_to, returned_by, result_of, set_up}
@@ -40,8 +40,8 @@ use Rattle.source_meaning.specs.Meaning.{meaning}
 use Rattle.source_meaning.specs.Acting.{at_work, ActsBy, state_of}
 use Rattle.source_meaning.specs.Working.{HaveBytes}
 use Rattle.source_meaning.specs.Good.{static_kind, IsHeld, After, CompletionIs}
-use Rattle.source_meaning.specs.Good.{Context, IsGood, ArgumentsAre, signature_in, context_of, Inside, IsSetUp}
-use Rattle.source_meaning.specs.Good.{SetsUpBy}
+use Rattle.source_meaning.specs.Good.{Context, IsGood, ArgumentIs, ArgumentsAre, signature_in, context_of, Inside}
+use Rattle.source_meaning.specs.Good.{IsSetUp, SetsUpBy}
 use Rattle.source_meaning.proofs.ActionsAct.{acts_set_up}
 use Rattle.source_meaning.proofs.Working.{counts_set_up}
 use Rattle.tac_ir.specs.Costs.{handed_bytes, fourfold, heavier}
@@ -55,7 +55,7 @@ use Rattle.source_meaning.proofs.Laying.{fresh_size}
 use Rattle.source_meaning.proofs.SureCalls.{set_up_by}
 use Rattle.source_meaning.proofs.SureMeaning.{NamesFound, found_names, SignatureIs, signature_found, static_context}
 use Rattle.source_meaning.proofs.SureMeaning.{is_setting, start_good, inside_good}
-use Rattle.source_meaning.proofs.ValidNames.{both, five, six}
+use Rattle.source_meaning.proofs.ValidNames.{both, three, five, six, same_kind}
 use Rattle.source_meaning.proofs.ValidProgramNames.{valid_names}
 use Rattle.tac_ir.specs.declared.instruction.Instruction.TheVariants as tac
 use Rattle.tac_ir.specs.declared.function.CodeFunction.{CodeFunction}
@@ -76,8 +76,9 @@ use Rattle.c_lower.specs.Programs.{IsLowered}
 use Rattle.c_lower.proofs.Comes.{Reached, reached_for}
 use Rattle.c_lower.proofs.Temporaries.{placed, put_same}
 use Rattle.c_lower.proofs.Values.{Called, Calls, CallsRun}
-use Rattle.c_lower.proofs.KeyNames.{HaveSizes}
+use Rattle.c_lower.proofs.KeyNames.{HaveSizes, both_true}
 use Rattle.c_lower.proofs.Fitting.{passed_fits, AreDeclared}
+use Rattle.c_lower.proofs.Returning.{ReturnsZero, CompletesWithZero, GivesNothing, row_nothing}
 use Rattle.c_lower.proofs.Opening.{EachOpens, body_opens, Homed, HomedBy, set_up_homed}
 use Rattle.c_lower.proofs.Flow.{exit_of, LeftBy, with_result, Completes, AreNamed, named_opened, named_closed}
 use Rattle.c_lower.proofs.Flow.{named_append}
@@ -145,11 +146,21 @@ sizes_from ks first ds held n kind e =
 
 -- functions of a valid program
 
+-- what they take is values
+valued_parameters : (vs : List Variable) (ks : List Kind) → are_parameters vs ks ≡ true
+    → list_all is_value (map (λ v. v.kind) vs) ≡ true
+valued_parameters [] ks e = refl
+valued_parameters (v ∷ vs) [] e = cc
+valued_parameters (v ∷ vs) (k ∷ ks) e =
+    let q = three (is_kind v.kind k) (is_value k) (are_parameters vs ks) e in
+    both_true (ap is_value (same_kind v.kind k q.0) ∙ q.1) (valued_parameters vs ks q.2)
+
 abbrev outside_loops : Surrounding
 outside_loops = record { may_break = false; may_continue = false }
 
 record IsValidFunction (p : Program) (f : Function) : Type 0 where
   sized : HaveBytes (all_of f)
+  takes : list_all is_value (taken_by (header_of f)) ≡ true
   body : are_statements (function_scope p f) outside_loops f.body ≡ true
   opens : EachOpens (all_of f) (f.parameters ++ body_variables f) f.body
 
@@ -163,7 +174,12 @@ module _ (p : Program) where
       let q = six _ (are_parameters f.parameters (signature_at p f.type_number).parameters)
       (list_all is_variable (all_of f)) (declares_all f) (are_statements (function_scope p f) outside_loops f.body)
       _ h in
-      record { sized = sized_all (all_of f) q.2; body = q.4; opens = body_opens f q.3 }
+      record {
+        sized = sized_all (all_of f) q.2;
+        takes = valued_parameters f.parameters (signature_at p f.type_number).parameters q.1;
+        body = q.4;
+        opens = body_opens f q.3;
+      }
 
   valid_functions : (n : ℕ) (fs : List Function) → are_functions p n fs ≡ true → (f : ℕ) → ValidIf p (function_at fs f)
   valid_functions n [] h f = tt
@@ -177,6 +193,14 @@ module _ (p : Program) where
       let q = five (list_all (is_function_type p) p.function_types) (are_all_different p.function_types)
       (list_all (is_static_object p) p.statics) (are_functions p 0 p.functions) (is_main p) h in
       valid_functions 0 p.functions q.3
+
+  header_valued : (fs : List Function) → ((f : ℕ) → ValidIf p (function_at fs f)) → (f : ℕ) (h : Header)
+      → slice_get (map header_of fs) f ≡ Some h → list_all is_value (taken_by h) ≡ true
+  header_valued [] ok f h e = cc
+  header_valued (x ∷ xs) ok zero h e =
+      let is : header_of x ≡ h = cc in
+      subst (λ (z : Header). list_all is_value (taken_by z) ≡ true) is (ok 0).takes
+  header_valued (x ∷ xs) ok (suc f) h e = header_valued xs (λ n. ok (suc n)) f h e
 
 -- calls
 
@@ -194,19 +218,29 @@ zero_fits (OfScalar Pointer) = refl
 zero_fits (Structure n) = le-leb _ _ (let e = fresh_size Automatic 0 n in omega arith)
 zero_fits (Array n) = refl
 
-completion_fits : (fc : ℕ) → function_address fc ≤ 2 ^ 64 → (kind : Kind) (completion : Completion)
-    (objects : Objects) → CompletionIs fc kind completion objects → HasPassed kind completion
-completion_fits fc few kind Normal objects h = tt
-completion_fits fc few kind Broken objects h = tt
-completion_fits fc few kind Continued objects h = tt
-completion_fits fc few kind (Returned v) objects h = passed_fits fc few kind v objects h
+-- where nothing is given, it is 0
+returned_fits : (fc : ℕ) → function_address fc ≤ 2 ^ 64 → (kind : Kind) (v : Rvalue) (objects : Objects)
+    → ArgumentIs fc kind v objects → (kind ≡ Void → v ≡ rvalue (integer 0)) → is_passed kind v ≡ true
+returned_fits fc few Void v objects h nothing = ap (is_passed Void) (nothing refl)
+returned_fits fc few (OfScalar k) v objects h nothing = passed_fits fc few (OfScalar k) v (λ e. cc) objects h
+returned_fits fc few (Structure n) v objects h nothing = passed_fits fc few (Structure n) v (λ e. cc) objects h
+returned_fits fc few (Array n) v objects h nothing = passed_fits fc few (Array n) v (λ e. cc) objects h
 
-after_fits : (fc : ℕ) → function_address fc ≤ 2 ^ 64 → (kind : Kind) (sc : Context) (s : State) (o : Outcome Completion)
-    → After sc s (CompletionIs fc kind) o → (completion : Completion) (s1 : State) → o ≡ Gives completion s1
+completion_fits : (fc : ℕ) → function_address fc ≤ 2 ^ 64 → (kind : Kind) (completion : Completion)
+    (objects : Objects) → CompletionIs fc kind completion objects → (kind ≡ Void → ReturnsZero completion)
     → HasPassed kind completion
-after_fits fc few kind sc s o after completion s1 is =
+completion_fits fc few kind Normal objects h nothing = tt
+completion_fits fc few kind Broken objects h nothing = tt
+completion_fits fc few kind Continued objects h nothing = tt
+completion_fits fc few kind (Returned v) objects h nothing = returned_fits fc few kind v objects h nothing
+
+after_fits : (fc : ℕ) → function_address fc ≤ 2 ^ 64 → (kind : Kind) (sc : Context) (s : State) (r : Run Completion)
+    → After sc s (CompletionIs fc kind) (r s) → (kind ≡ Void → GivesNothing r) → (completion : Completion) (s1 : State)
+    → r s ≡ Gives completion s1 → HasPassed kind completion
+after_fits fc few kind sc s r after nothing completion s1 is =
     let h = subst (λ z. After sc s (CompletionIs fc kind) z) is after in
     completion_fits fc few kind completion s1.objects h.1
+    (λ void. subst CompletesWithZero is ((nothing void).by s))
 
 handed_zero : (kind : Kind) → handed_bytes (zero_of kind) ≡ contents_size kind
 handed_zero Void = refl
@@ -357,6 +391,17 @@ module _ (p : Program) (budgets : BudgetSizes) (mapped : AreMapped (setting_of p
       ap (λ (z : CodeFunction). taken_by (header_of_code z)) (sym is)
       ∙ ap taken_by low.header ∙ named.parameters ∙ ap (λ (z : Signature). z.parameters) (sym same)
 
+  valued_at : (f : ℕ) (of : Option Function) (oc : Option CodeFunction)
+      → LowersAt t.texts (literals_of p.statics) (result_in g.results of) (height_in p.statics f of) of oc
+      → ValidIf p of → (c : CodeFunction) → oc ≡ Some c → list_all is_value (taken_by (header_of_code c)) ≡ true
+  valued_at f None None low ok c e = cc
+  valued_at f None (Some c') low ok c e = absurd low
+  valued_at f (Some fn) None low ok c e = absurd low
+  valued_at f (Some fn) (Some c') low ok c e =
+      let is : c' ≡ c = cc in
+      ap (λ (z : CodeFunction). list_all is_value (taken_by (header_of_code z))) (sym is)
+      ∙ ap (λ h. list_all is_value (taken_by h)) low.header ∙ ok.takes
+
   -- the tables of a function's code are as its text declares
   tables_of : (f : ℕ) (fn : Function) → variables_in (function_in t f) ≡ all_of fn → (base : Scope)
       → base.statics ≡ u.statics → base.functions ≡ u.functions → base.types ≡ u.types
@@ -372,6 +417,9 @@ module _ (p : Program) (budgets : BudgetSizes) (mapped : AreMapped (setting_of p
         ∙ ap (λ (l : List Signature). (signature_in l f).parameters) (sym ef);
     types = λ f h e. header_takes u p.functions (valid_names p valid).functions f h e
         ∙ ap (λ (l : List Signature). (signature_in l h.type_number).parameters) (sym et);
+    calls_take = λ f c e. valued_at f (function_at p.functions f) (function_in t f) (lowers f)
+        (functions_valid p valid f) c e;
+    types_take = λ f h e. header_valued p p.functions (functions_valid p valid) f h e;
     variables = variables;
     objects = λ x kind e. e;
   }
@@ -396,6 +444,8 @@ module _ (p : Program) (budgets : BudgetSizes) (mapped : AreMapped (setting_of p
       let F : Unit {0} → State → Stage = λ _ z. Stands f c.entry no_temps frames z in
       let R : Run Rvalue = counted (in_order (each_of env fn.body))
       >>= (λ completion. returned_by result completion >>= (λ v. change (back_to q) >> done v)) in
+      let of_type : result ≡ (signature_in u.types fn.type_number).result =
+      (is_setting p budgets mapped (valid_names p valid)).results fn.type_number in
       let base = scope_of u fn in
       let inner : Context = record { scope = base; sizes = g.sizes } in
       let b : LowersBody (placed t f (literals_of p.statics) (all_of fn)) result c.entry fn.body =
@@ -431,10 +481,10 @@ module _ (p : Program) (budgets : BudgetSizes) (mapped : AreMapped (setting_of p
       (omega arith) (omega arith)
       (end_goes g t limit q frames result f b.0 b.1 b.3 b.4 (ap (result_of g) types) _ k2 s3
       (in_order (each_of env fn.body) s3)
-      (after_fits (length u.functions) addresses result inner s3 _ (subst (λ kind. After inner s3
-      (CompletionIs (length u.functions) kind) (in_order (each_of env fn.body) s3))
-      (sym ((is_setting p budgets mapped (valid_names p valid)).results fn.type_number))
-      ((row_sure inside (fn.parameters ++ body_variables fn) fn.body named.body).by s3 up.good tt)))
+      (after_fits (length u.functions) addresses result inner s3 (in_order (each_of env fn.body))
+      (subst (λ kind. After inner s3 (CompletionIs (length u.functions) kind) (in_order (each_of env fn.body) s3))
+      (sym of_type) ((row_sure inside (fn.parameters ++ body_variables fn) fn.body named.body).by s3 up.good tt))
+      (λ void. row_nothing env (function_scope p fn) (sym of_type ∙ void) outside_loops fn.body ok.body))
       (statements_run t n env refl base g.sizes inside (λ vs. callers (context_of base g.sizes (all_of fn) vs).scope)
       (λ y e. expression_stays p.functions g limit n (all_of fn) y e)
       (λ y st. body_stays p.functions g limit n (all_of fn) y st) f (literals_of p.statics)

@@ -314,6 +314,8 @@ module _ (t : Tac) (n : ℕ) (env : Env) (deep : env.depth ≡ suc n) (base : Sc
     statics = tables.statics;
     calls = tables.calls;
     types = tables.types;
+    calls_take = tables.calls_take;
+    types_take = tables.types_take;
     variables = tables.variables;
     objects = named;
   }

@@ -2,6 +2,7 @@
 use Rattle.std.proofs.Common.{◌≡◌, ℕ, ◌+◌, ◌*◌, ◌<◌, ◌≤◌, List, [], ◌∷◌, Option, Some, None, Bool, true, false}
 use Rattle.std.proofs.Common.{refl}
 use Rattle.std.proofs.Common.{sym, ap, ◌∙◌, subst, arith}
+use Rattle.std.specs.List.{list_all}
 use Rattle.std.specs.Prelude.{◌&&◌, not, cond, ◌==◌}
 use Rattle.addr_map.specs.Places.{function_address}
 use Rattle.sb_base.specs.declared.ending.Ending.TheVariants.{BadCall}
@@ -79,6 +80,7 @@ use Rattle.c_lower.proofs.KeyNames.{BaseIf, object_found, static_there, key_base
 use Rattle.c_lower.proofs.KeyNames.{both_true}
 use Rattle.c_lower.proofs.Fitting.{in_place, word_fits, written_fits, held_fits, arguments_fit, printed_fits}
 use Rattle.c_lower.proofs.Fitting.{update_fits, kind_update_fits, type_fits, constant_fits, type_arguments_fit}
+use Rattle.c_lower.proofs.Fitting.{routine_values, printed_values}
 use Rattle.c_lower.proofs.Fitting.{data_below}
 use Rattle.c_lower.proofs.Fitting.{AreDeclared}
 use Rattle.source_meaning.proofs.Naming.{PlainNames, UpdatesKind}
@@ -351,13 +353,14 @@ module _ (t : Tac) (n : ℕ) (env : Env) (sc : Context) (sure : Calling sc env)
       by : (c : Option CodeFunction) → function_in t f ≡ c → fit_call c vs ≡ true
       by None e = refl
       by (Some c) e = ap (λ ks. are_passed ks vs) (declared.calls f c e)
-          ∙ arguments_fit (function_count sc) declared.few (taking sc f) vs objects h
+          ∙ arguments_fit (function_count sc) declared.few (taking sc f) vs objects
+          (ap (list_all is_value) (sym (declared.calls f c e)) ∙ declared.calls_take f c e) h
 
   through_fits : (n : ℕ) (vs : List Rvalue) (objects : Objects)
       → ArgumentsAre (function_count sc) (signature_in sc.scope.types n).parameters vs objects
       → fit_type env.setting.functions n vs ≡ true
-  through_fits n vs objects h = type_arguments_fit sc.scope.types n vs
-      (arguments_fit (function_count sc) declared.few _ vs objects h) env.setting.functions declared.types
+  through_fits n vs objects h = type_arguments_fit (function_count sc) declared.few sc.scope.types n vs objects h
+      env.setting.functions declared.types declared.types_take
 
   home_fits : (x : ℕ) (kind : Kind) → is_automatic sc.scope x kind ≡ true → (s : State) → IsGood sc s
       → is_home (get_or s.frame x NoObject) s.objects ≡ true
@@ -797,6 +800,7 @@ module _ (t : Tac) (n : ℕ) (env : Env) (sc : Context) (sure : Calling sc env)
         (goes_steps 12 4 tr.2 refl
         (ap (are_passed (routine_signature name).parameters) p1.values
         ∙ arguments_fit (function_count sc) declared.few (routine_signature name).parameters vs s1.objects
+        (routine_values name)
         (subst (λ ks. ArgumentsAre (function_count sc) ks vs s1.objects) (named (library name args) kind ok).1 w1))
         (ap (λ l. came (heavier (as_rvalue (routine g name (values_of l) line)) (at_work (k1 + 12) s1)) F) p1.values)
         (goes_last_heavier F (acts_as (acts_routine g name (values_of vs) line))
@@ -816,7 +820,8 @@ module _ (t : Tac) (n : ℕ) (env : Env) (sc : Context) (sure : Calling sc env)
         (ap (λ b. are_printed (pieces b) (gathered t1 d (count args))) (text_at t tr.1 format tr.2)
         ∙ ap (are_printed (pieces format)) p1.values
         ∙ printed_fits (pieces format) (kinds_of args) vs v.1
-        (arguments_fit (function_count sc) declared.few (kinds_of args) vs s1.objects w1))
+        (arguments_fit (function_count sc) declared.few (kinds_of args) vs s1.objects
+        (printed_values (pieces format) (kinds_of args) v.1) w1))
         (ap (λ l. came (heavier (as_rvalue (print_formatted (text_in t tr.1) (values_of l) line)) z) F) p1.values
         ∙ ap (λ b. came (heavier (as_rvalue (print_formatted b (values_of vs) line)) z) F) (text_at t tr.1 format tr.2))
         (goes_last_heavier F (acts_as (acts_print format (values_of vs) line))

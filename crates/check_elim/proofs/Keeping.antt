@@ -25,6 +25,7 @@ use Rattle.tac_ir.specs.declared.key.Key.{Key}
 use Rattle.tac_ir.specs.declared.function.StaticData.{StaticData}
 use Rattle.tac_ir.specs.Keys.{base_value, scaled_value, path_tag, key_word, key_tag, same_tag, gives}
 use Rattle.tac_ir.specs.Fitting.{is_whole, is_home_of, is_static_of, is_base_there}
+use Rattle.tac_ir.proofs.SameTags.{same_bounds, same_life}
 use Rattle.check_elim.specs.Facts.{Fact, is_base, is_scaled, is_in_path, is_of}
 use Rattle.check_elim.proofs.Homes.{home_at}
 
@@ -199,24 +200,6 @@ base_made vs ds (Static n) s e = static_there (slice_get ds n) n s.objects e
 
 -- a check of a pointer that the key gives
 
-same_tags : (a b : Tag) → same_tag a b ≡ true → (w size : ℕ) → is_within a w size ≡ is_within b w size
-same_tags Untagged Untagged e w size = refl
-same_tags (OfFunction f) (OfFunction h) e w size = refl
-same_tags (OfObject n b) (OfObject m c) e w size =
-    let two = both (n == m) (b.base == c.base && b.bound == c.bound) e in
-    let bounds = both (b.base == c.base) (b.bound == c.bound) two.1 in
-    ap (λ x. nat_le x w && nat_le (w + size) b.bound) (eqb-true b.base c.base bounds.0)
-    ∙ ap (λ x. nat_le c.base w && nat_le (w + size) x) (eqb-true b.bound c.bound bounds.1)
-same_tags a b e w size = cc
-
-same_life : (a b : Tag) → same_tag a b ≡ true → (objects : Objects) → is_live_tag a objects ≡ is_live_tag b objects
-same_life Untagged Untagged e objects = refl
-same_life (OfFunction f) (OfFunction h) e objects = refl
-same_life (OfObject n b) (OfObject m c) e objects =
-    ap (λ x. (object_at objects x).is_live)
-    (eqb-true n m (both (n == m) (b.base == c.base && b.bound == c.bound) e).0)
-same_life a b e objects = cc
-
 abbrev pub passed : Test → (size : ℕ) → Value → State → Bool
 passed Spatial size v s = is_within v.tag v.word size
 passed Temporal size v s = is_live_tag v.tag s.objects
@@ -228,7 +211,7 @@ passed_as Spatial key s v size h small =
     let two = both (v.word % 2 ^ 64 == key_word key s) (same_tag v.tag (key_tag key s)) h in
     let same : v.word % 2 ^ 64 ≡ v.word = omega (arith, small) in
     let word : v.word ≡ key_word key s = sym same ∙ eqb-true (v.word % 2 ^ 64) (key_word key s) two.0 in
-    same_tags v.tag (key_tag key s) two.1 v.word size ∙ ap (λ w. is_within (key_tag key s) w size) word
+    same_bounds v.tag (key_tag key s) two.1 v.word size ∙ ap (λ w. is_within (key_tag key s) w size) word
 passed_as Temporal key s v size h small =
     same_life v.tag (key_tag key s) (both (v.word % 2 ^ 64 == key_word key s) (same_tag v.tag (key_tag key s)) h).1
     s.objects

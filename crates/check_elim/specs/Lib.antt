@@ -5,5 +5,4 @@ pub mod Dropped
 pub mod Worklists
 pub mod Seeking
 pub mod Nodes
-pub mod Ways
 pub mod Searches

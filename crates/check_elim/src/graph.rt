@@ -2,68 +2,15 @@
 
 ghost use Rattle.std.specs.Prelude.{◌≡◌, ◌<◌, ◌^◌, ◌∷◌, [], ℕ, IfOk, OnOk, length, slice_get, Some};
 ghost use Rattle.tac_ir.specs.Edges.{successors};
+ghost use Rattle.tac_ir.specs.Ways.{nodes_of};
 ghost use Rattle.check_elim.specs.Paths.{Path};
 ghost use Rattle.check_elim.specs.Searches.{Listed, HasPredecessors, Follows, IsFollowed, IsExploring};
-ghost use Rattle.check_elim.specs.Ways.{nodes_of};
 ghost use Rattle.check_elim.specs.Worklists.{IsWorklist, Grows};
 
 use crate::worklist::Worklist;
 use data_flow::Relation;
 use std::alloc::{AllocError, Global};
-use tac_ir::{CodeFunction, Instruction};
-
-/// Where an instruction leads.
-#[derive(Clone, Copy)]
-pub enum Ways {
-    /// Nowhere: it returns.
-    Nowhere,
-    /// To a node.
-    To(usize),
-    /// To one of two nodes.
-    Either(usize, usize),
-}
-
-/// Where an instruction leads.
-pub fn ways_of(instruction: &Instruction) -> Ways
-    ensures { nodes_of result ≡ successors instruction.now }
-{
-    match instruction {
-        Instruction::Reserved | Instruction::Return { .. } => Ways::Nowhere,
-        Instruction::Branch { not_zero, zero, .. } => Ways::Either(*not_zero, *zero),
-        Instruction::Case { equal, other, .. } => Ways::Either(*equal, *other),
-        Instruction::Skip { next }
-        | Instruction::Constant { next, .. }
-        | Instruction::FunctionPointer { next, .. }
-        | Instruction::GetPlain { next, .. }
-        | Instruction::SetPlain { next, .. }
-        | Instruction::UpdatePlain { next, .. }
-        | Instruction::HomePointer { next, .. }
-        | Instruction::StaticPointer { next, .. }
-        | Instruction::ZeroOf { next, .. }
-        | Instruction::Convert { next, .. }
-        | Instruction::Unary { next, .. }
-        | Instruction::Binary { next, .. }
-        | Instruction::Offset { next, .. }
-        | Instruction::Difference { next, .. }
-        | Instruction::Narrow { next, .. }
-        | Instruction::Member { next, .. }
-        | Instruction::Take { next, .. }
-        | Instruction::Read { next, .. }
-        | Instruction::Write { next, .. }
-        | Instruction::Update { next, .. }
-        | Instruction::Judge { next, .. }
-        | Instruction::Zero { next, .. }
-        | Instruction::StorePart { next, .. }
-        | Instruction::StoreText { next, .. }
-        | Instruction::Turn { next, .. }
-        | Instruction::Library { next, .. }
-        | Instruction::Print { next, .. }
-        | Instruction::Call { next, .. }
-        | Instruction::CallThrough { next, .. }
-        | Instruction::EnterBlock { next, .. }
-        | Instruction::LeaveBlock { next, .. } => Ways::To(*next),
-    }
-}
+use tac_ir::{CodeFunction, Ways, ways_of};
 
 // A node is reached from another, if it is there.
 #[tactic(auto, using(crate::proofs::Exploring::reaching))]

@@ -39,7 +39,7 @@ use Rattle.flat_operators.proofs.Operators.{Gives, conversion_gives, operator_gi
 use Rattle.flat_operators.proofs.Operators.{turned_gives, equal_gives, unequal_gives, shift_left_gives}
 use Rattle.flat_operators.proofs.Operators.{shift_right_gives, unary_gives, length_converted, length_conversion}
 use Rattle.flat_operators.proofs.Operators.{length_wrapping, length_unary, constant_gives, length_constant}
-use Rattle.flat_operators.proofs.Operators.{length_left, length_right}
+use Rattle.flat_operators.proofs.Operators.{few_constant, length_left, length_right}
 
 -- a list that gives a value everywhere
 module _ (c : Context) (line d n : ℕ) where
@@ -68,6 +68,13 @@ module _ (c : Context) (line d n : ℕ) where
   does_constant word low =
       does_give (constant_code d word) 5 (λ s. word) (length_constant d word)
       (λ s w. constant_gives c d n s word low)
+
+  -- of at most 33 bits
+  pub does_few : (word : ℕ) → word < 2 ^ 33
+      → Does c (constant_code d word) Anywhere (λ s. 3) (λ s. IsResult (Some word) line d n s)
+  does_few word low =
+      does_give (constant_code d word) 3 (λ s. word) (few_constant d word low)
+      (λ s w. constant_gives c d n s word (omega (arith, low)))
 
   -- ---- division
 

@@ -1,7 +1,8 @@
 -- The code of each operator gives its value.
 use Rattle.std.proofs.Common.{◌≡◌, ℕ, ◌-◌, ◌/◌, ◌%◌, ◌^◌, ◌<◌, ◌≤◌, Bool, true, false, not, ◌==◌}
 use Rattle.std.proofs.Common.{if◌then◌else◌, List, [], ◌∷◌, ◌++◌, length, refl, sym, ap, ◌∙◌, subst}
-use Rattle.std.proofs.Common.{arith}
+use Rattle.std.proofs.Common.{arith, lt-ltb, ltb-true}
+use Rattle.std.specs.Prelude.{nat_lt}
 use Rattle.rv_isa.specs.declared.instruction.RegOp.{RegOp}
 use Rattle.rv_isa.specs.declared.instruction.RegOp.TheVariants as op
 use Rattle.rv_isa.specs.declared.instruction.RegOp32.{RegOp32}
@@ -27,7 +28,7 @@ use Rattle.flat_meaning.specs.Meaning.{Context}
 use Rattle.flat_meaning.proofs.Stored.{put_same, put_other}
 use Rattle.flat_routines.specs.Effects.{IsAllowed, AreAllowed, effect, effects}
 use Rattle.flat_routines.proofs.Straight.{effects_append}
-use Rattle.flat_operators.specs.Operators.{is_short, appended, wide_code, constant_code}
+use Rattle.flat_operators.specs.Operators.{is_short, appended, wide_code, medium_code, long_code, constant_code}
 use Rattle.flat_operators.specs.Operators.{two_shifts, conversion_code, converted, wrapping_code}
 use Rattle.flat_operators.specs.Operators.{shift_left_code, shift_right_code, turned, equal_code, unary_code}
 use Rattle.flat_operators.specs.Results.{HasResult, IsUnchanged}
@@ -71,19 +72,21 @@ module _ (c : Context) (d n : ℕ) where
 
   -- ---- constants
 
-  -- 20 more bits behind those that stand in d
-  appended_gives : (bits u v : ℕ) (s : State) → s.values d ≡ u → sum 64 (shifted_left 64 u 20) bits ≡ v
-      → bits < 2 ^ 20 → Gives (appended d bits) s v
+  -- so many more bits behind those that stand in d
+  appended_gives : (k bits u v : ℕ) (s : State) → k < 64 → s.values d ≡ u → sum 64 (shifted_left 64 u k) bits ≡ v
+      → bits < 2 ^ 20 → Gives (appended k d bits) s v
   unfolding reg_result
-  appended_gives bits u v s is_u e low =
-      let m = reg_result op.Sll (s.values d) (low_bits 64 20) in
-      let s1 = effect c (Operate op.Sll d d (Number 20)) s in
-      let here : s1.values d ≡ shifted_left 64 u 20 = put_same s.values d m ∙ ap (λ x. shifted_left 64 x 20) is_u in
+  appended_gives k bits u v s shift is_u e low =
+      let m = reg_result op.Sll (s.values d) (low_bits 64 k) in
+      let s1 = effect c (Operate op.Sll d d (Number k)) s in
+      let amount : low_bits 64 k % 64 ≡ k = omega (arith, shift) in
+      let here : s1.values d ≡ shifted_left 64 u k =
+      put_same s.values d m ∙ ap (shifted_left 64 (s.values d)) amount ∙ ap (λ x. shifted_left 64 x k) is_u in
       let is_bits : low_bits 64 bits ≡ bits = omega arith in
-      then_gives (Operate op.Sll d d (Number 20)) (Operate op.Add d d (Number bits) ∷ []) m v s tt (one_set n d m _ s) (
+      then_gives (Operate op.Sll d d (Number k)) (Operate op.Add d d (Number bits) ∷ []) m v s tt (one_set n d m _ s) (
         (tt, tt),
         is_value n d (sum 64 (s1.values d) (low_bits 64 bits)) v s1 _
-            (ap (λ x. sum 64 x (low_bits 64 bits)) here ∙ ap (sum 64 (shifted_left 64 u 20)) is_bits ∙ e)
+            (ap (λ x. sum 64 x (low_bits 64 bits)) here ∙ ap (sum 64 (shifted_left 64 u k)) is_bits ∙ e)
             (one_set n d _ _ s1),
       )
 
@@ -96,9 +99,12 @@ module _ (c : Context) (d n : ℕ) where
         (set_again n d u v s (effects c is s) (effects c js (effects c is s)) g.1 h.1),
   )
 
-  pub constant_gives : (s : State) (word : ℕ) → word < 2 ^ 64 → Gives (constant_code d word) s word
-  unfolding constant_code
-  constant_gives s word low = cases (is_short word)
+  wide_gives : (s : State) (word : ℕ) → word < 2 ^ 64 → Gives (wide_code d word) s word
+  wide_gives s word low =
+      then_gives (Constant d high) (appended 20 d middle ++ appended 20 d (word % 2 ^ 20)) (low_bits 64 high) word s tt
+      (one_set n d _ _ s) (both_give (appended 20 d middle) (appended 20 d (word % 2 ^ 20)) (word / 2 ^ 20) word s1 g
+      (appended_gives 20 (word % 2 ^ 20) (word / 2 ^ 20) word (effects c (appended 20 d middle) s1) (omega arith)
+      g.1.result third (omega arith)))
     where
       high : ℕ
       high = word / 2 ^ 40
@@ -118,21 +124,36 @@ module _ (c : Context) (d n : ℕ) where
       third : sum 64 (shifted_left 64 (word / 2 ^ 20) 20) (word % 2 ^ 20) ≡ word
       third = omega arith
 
-      wide : Gives (appended d middle ++ appended d (word % 2 ^ 20)) s1 word
-      wide =
-          let g = appended_gives middle high (word / 2 ^ 20) s1 first second (omega arith) in
-          both_give (appended d middle) (appended d (word % 2 ^ 20)) (word / 2 ^ 20) word s1 g
-          (appended_gives (word % 2 ^ 20) (word / 2 ^ 20) word (effects c (appended d middle) s1) g.1.result third
-          (omega arith))
+      g : Gives (appended 20 d middle) s1 (word / 2 ^ 20)
+      g = appended_gives 20 middle high (word / 2 ^ 20) s1 (omega arith) first second (omega arith)
+
+  medium_gives : (s : State) (word : ℕ) → word < 2 ^ 33 → Gives (medium_code d word) s word
+  medium_gives s word low =
+      then_gives (Constant d (word / 8)) (appended 3 d (word % 8)) (low_bits 64 (word / 8)) word s tt
+      (one_set n d _ _ s) (appended_gives 3 (word % 8) (word / 8) word (effect c (Constant d (word / 8)) s) (omega arith) first last
+      (omega arith))
+    where
+      first : (effect c (Constant d (word / 8)) s).values d ≡ word / 8
+      first = put_same s.values d (low_bits 64 (word / 8)) ∙ omega (arith, low)
+
+      last : sum 64 (shifted_left 64 (word / 8) 3) (word % 8) ≡ word
+      last = omega (arith, low)
+
+  pub constant_gives : (s : State) (word : ℕ) → word < 2 ^ 64 → Gives (constant_code d word) s word
+  unfolding constant_code
+  constant_gives s word low = cases (is_short word)
+    where
+      long : (b : Bool) → nat_lt word (2 ^ 33) ≡ b
+          → Gives (if b then medium_code d word else wide_code d word) s word
+      long true e = medium_gives s word (ltb-true word (2 ^ 33) e)
+      long false e = wide_gives s word low
 
       whole : low_bits 64 word ≡ word
       whole = omega arith
 
-      cases : (b : Bool) → Gives (if b then Constant d word ∷ [] else wide_code d word) s word
+      cases : (b : Bool) → Gives (if b then Constant d word ∷ [] else long_code d word) s word
       cases true = ((tt, tt), is_value n d (low_bits 64 word) word s _ whole (one_set n d _ _ s))
-      cases false =
-          then_gives (Constant d high) (appended d middle ++ appended d (word % 2 ^ 20)) (low_bits 64 high) word s tt
-          (one_set n d _ _ s) wide
+      cases false = long (nat_lt word (2 ^ 33)) refl
 
   -- ---- conversions
 
@@ -445,4 +466,17 @@ length_right t d a b n =
 
 pub length_constant : (d w : ℕ) → length (constant_code d w) ≤ 5
 unfolding constant_code
-length_constant d w = length_if (is_short w) (Constant d w ∷ []) (wide_code d w) 5 (omega arith) (omega arith)
+length_constant d w =
+    length_if (is_short w) (Constant d w ∷ []) (long_code d w) 5 (omega arith)
+    (length_if (nat_lt w (2 ^ 33)) (medium_code d w) (wide_code d w) 5 (omega arith) (omega arith))
+
+-- of at most 33 bits
+pub few_constant : (d w : ℕ) → w < 2 ^ 33 → length (constant_code d w) ≤ 3
+unfolding constant_code
+few_constant d w low =
+    length_if (is_short w) (Constant d w ∷ []) (long_code d w) 3 (omega arith)
+    (by (nat_lt w (2 ^ 33)) (lt-ltb w (2 ^ 33) low))
+  where
+    by : (b : Bool) → b ≡ true → length (if b then medium_code d w else wide_code d w) ≤ 3
+    by true e = omega arith
+    by false e = cc

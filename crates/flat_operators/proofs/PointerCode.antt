@@ -1,5 +1,5 @@
 -- The code of pointers that move by elements, and of their differences, gives its value.
-use Rattle.std.proofs.Common.{◌≡◌, ℕ, ◌+◌, ◌-◌, ◌*◌, ◌%◌, ◌^◌, ◌<◌, ◌≤◌, Bool, true, false, ◌==◌, if◌then◌else◌}
+use Rattle.std.proofs.Common.{◌≡◌, ℕ, ◌+◌, ◌*◌, ◌%◌, ◌^◌, ◌<◌, ◌≤◌, Bool, true, false, ◌==◌, if◌then◌else◌}
 use Rattle.std.proofs.Common.{[], ◌∷◌, ◌++◌, length, Option, Some, None, refl, sym, ap, ap₂, ◌∙◌, subst, arith}
 use Rattle.std.proofs.Common.{length-append}
 use Rattle.std.proofs.lemmas.Bool.{eqb-true, ne_eqb}
@@ -25,7 +25,8 @@ use Rattle.flat_operators.specs.Pointers.{offset_code, difference_code}
 use Rattle.flat_operators.specs.Results.{HasResult, IsUnchanged, Anywhere, AreOperands, IsResult}
 use Rattle.flat_operators.proofs.Sets.{does_straight, one_set, is_value, set_again, set_behind}
 use Rattle.flat_operators.proofs.Values.{product_by, sum_by, difference_by, quotient_by}
-use Rattle.flat_operators.proofs.Operators.{Gives, both_give, both_all, constant_gives, length_constant, length_if}
+use Rattle.flat_operators.proofs.Operators.{Gives, both_give, both_all, constant_gives, length_constant, few_constant}
+use Rattle.flat_operators.proofs.Operators.{length_if}
 use Rattle.flat_routines.proofs.Straight.{effects_append}
 
 -- ---- in the scratch register
@@ -188,16 +189,27 @@ module _ (c : Context) (line d a b n size : ℕ) (low : size < 2 ^ 64) (some : 1
               (set_behind n d _ s s1 s3 kept (set_again n d _ _ s1 s2 s3 first last)),
         )
 
-    pub difference_does : Does c (difference_code size d a b n) Anywhere (λ s. 7)
+    -- as many steps as its constant, and two
+    within : (most : ℕ) → length (constant_code n size) ≤ most
+        → Does c (difference_code size d a b n) Anywhere (λ s. most + 2)
         (λ s. IsResult (Some (elements_between size (s.values a) (s.values b))) line d n s)
     unfolding difference_code
-    difference_does =
-        does_straight c (difference_code size d a b n) 7
+    within most few =
+        does_straight c (difference_code size d a b n) (most + 2)
         (λ s. IsResult (Some (elements_between size (s.values a) (s.values b))) line d n s)
         (omega (
           arith,
           length-append (constant_code n size)
               (Operate op.Sub d a (Register b) ∷ Operate op.Div d d (Register n) ∷ []),
-          length_constant n size,
+          few,
         ))
         (λ s w. let r = difference_gives s w in (r.0, record { by = r.1 }))
+
+    pub difference_does : Does c (difference_code size d a b n) Anywhere (λ s. 7)
+        (λ s. IsResult (Some (elements_between size (s.values a) (s.values b))) line d n s)
+    difference_does = within 5 (length_constant n size)
+
+    -- of a size of at most 33 bits
+    pub difference_few : size < 2 ^ 33 → Does c (difference_code size d a b n) Anywhere (λ s. 5)
+        (λ s. IsResult (Some (elements_between size (s.values a) (s.values b))) line d n s)
+    difference_few few = within 3 (few_constant n size few)

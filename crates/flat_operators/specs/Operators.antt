@@ -32,15 +32,23 @@ use Rattle.flat_meaning.specs.declared.instruction.FlatInstruction.TheVariants.{
 abbrev pub is_short : ℕ → Bool
 is_short w = nat_lt w (2 ^ 31 - 2 ^ 11) || nat_le (2 ^ 64 - 2 ^ 31) w
 
--- 20 more bits behind those of a register
-abbrev pub appended : (into bits : ℕ) → List FlatInstruction
-appended d n = Operate op.Sll d d (Number 20) ∷ Operate op.Add d d (Number n) ∷ []
+-- so many more bits behind those of a register
+abbrev pub appended : (count into bits : ℕ) → List FlatInstruction
+appended k d n = Operate op.Sll d d (Number k) ∷ Operate op.Add d d (Number n) ∷ []
 
 abbrev pub wide_code : (into word : ℕ) → List FlatInstruction
-wide_code d w = Constant d (w / 2 ^ 40) ∷ (appended d (w / 2 ^ 20 % 2 ^ 20) ++ appended d (w % 2 ^ 20))
+wide_code d w = Constant d (w / 2 ^ 40) ∷ (appended 20 d (w / 2 ^ 20 % 2 ^ 20) ++ appended 20 d (w % 2 ^ 20))
+
+-- Sizes of objects, offsets and their sums have at most 33 bits: the last three stand behind the others, which are
+-- short.
+abbrev pub medium_code : (into word : ℕ) → List FlatInstruction
+medium_code d w = Constant d (w / 8) ∷ appended 3 d (w % 8)
+
+abbrev pub long_code : (into word : ℕ) → List FlatInstruction
+long_code d w = if nat_lt w (2 ^ 33) then medium_code d w else wide_code d w
 
 unfoldable pub constant_code : (into word : ℕ) → List FlatInstruction
-constant_code d w = if is_short w then Constant d w ∷ [] else wide_code d w
+constant_code d w = if is_short w then Constant d w ∷ [] else long_code d w
 
 -- ---- conversions
 

@@ -17,10 +17,12 @@ ghost use Rattle.flat_operators.specs.Pointers.{address_back, address_forward, d
 ghost use Rattle.flat_operators.specs.Pointers.{offset_code};
 ghost use Rattle.flat_operators.specs.Results.{AreOperands, Anywhere, IsResult};
 
-/// A word gets into a register within five steps.
+/// A word gets into a register within five steps, and one of 33 bits within three.
 pub fn constants_get_there()
-    ensures { (c : Context) (line d n w : ℕ) → d < n → w < 2 ^ 64
+    ensures any { (c : Context) (line d n w : ℕ) → d < n → w < 2 ^ 64
         → Does c (constant_code d w) Anywhere (λ s. 5) (λ s. IsResult (Some w) line d n s) }
+    ensures few { (c : Context) (line d n w : ℕ) → d < n → w < 2 ^ 33
+        → Does c (constant_code d w) Anywhere (λ s. 3) (λ s. IsResult (Some w) line d n s) }
 {}
 
 /// A conversion gives the value that fits the type (C99 6.3.1.3), within two steps.
@@ -60,11 +62,19 @@ pub fn differences_are_in_elements()
         (λ s. IsResult (Some (elements_between size (s.values a) (s.values b))) line d n s) }
 {}
 
-/// A word gets into a register by at most five instructions, a pointer moves by elements by at most seven, and a
-/// difference of pointers is made by at most seven. They name no register behind `scratch`, hold their numbers, take no
-/// input and put no output.
+/// So it is within five steps, where a size has at most 33 bits.
+pub fn differences_by_few_bits_are_in_elements()
+    ensures { (c : Context) (line d a b n size : ℕ) → size < 2 ^ 33 → 1 ≤ size → AreOperands d a b n
+        → Does c (difference_code size d a b n) Anywhere (λ s. 5)
+        (λ s. IsResult (Some (elements_between size (s.values a) (s.values b))) line d n s) }
+{}
+
+/// A word gets into a register by at most five instructions, and one of 33 bits by at most three. A pointer moves by
+/// elements by at most seven, and a difference of pointers is made by at most seven. They name no register behind
+/// `scratch`, hold their numbers, take no input and put no output.
 pub fn lists_for_pointers_have_shapes()
     ensures constant { (d n w : ℕ) → d < n → w < 2 ^ 64 → HasShape (constant_code d w) 5 n }
+    ensures few { (d n w : ℕ) → d < n → w < 2 ^ 33 → HasShape (constant_code d w) 3 n }
     ensures moved { (o : RegOp) (size d a i n : ℕ) → size < 2 ^ 64 → AreOperands d a i n
         → HasShape (offset_code o size d a i n) 7 (n + 1) }
     ensures difference { (size d a b n : ℕ) → size < 2 ^ 64 → AreOperands d a b n

@@ -1,6 +1,5 @@
 pub mod Homes
 pub mod Numbers
-pub mod Ways
 pub mod Joins
 pub mod Tables
 pub mod Numbering

@@ -3,6 +3,7 @@
 ghost use Rattle.std.specs.Prelude.{◌≡◌, ◌+◌, ◌<◌, ◌≤◌, ◌^◌, ◌++◌, if◌then◌else◌};
 ghost use Rattle.std.specs.Prelude.{[], length, true, OnOk, IfOk};
 ghost use Rattle.tac_ir.specs.Edges.{successors};
+ghost use Rattle.tac_ir.specs.Ways.{nodes_of};
 ghost use Rattle.metadata_plan.specs.Registers.{words_of, words_in};
 ghost use Rattle.metadata_plan.specs.Blocks.{prologue, zero_variables, zeros};
 ghost use Rattle.metadata_plan.specs.Laid.{begin_code, body_of, laid_from};
@@ -10,19 +11,18 @@ ghost use Rattle.metadata_expansion.specs.Numbering.{IsAmong};
 ghost use Rattle.metadata_expansion.specs.Numbers.{AreSmall};
 ghost use Rattle.metadata_plan.specs.OperatorLists.Operators.{operators};
 ghost use Rattle.metadata_expansion.specs.Contexts.{HasRegisters, IsLaid, block_in, jumps_in, place_in};
-ghost use Rattle.metadata_expansion.specs.Ways.{nodes_of};
 
 use crate::blocks::put_block;
 use crate::context::FunctionContext;
 use crate::joins::Joins;
-use crate::jumps::{Ways, follows, jump, put_jump, ways_of};
+use crate::jumps::{follows, jump, put_jump};
 use crate::layout::{Layout, instruction_at, placed};
 use crate::list::put;
 use crate::registers::{words_in, words_of};
 use c_tree::Variable;
 use flat_meaning::FlatInstruction;
 use std::alloc::{AllocError, Global};
-use tac_ir::{CodeFunction, Instruction};
+use tac_ir::{CodeFunction, Instruction, Ways, ways_of};
 
 // Puts what makes so many registers 0 behind a list.
 fn put_zeros(code: &mut Vec<FlatInstruction>, register: u32, count: u32) -> Result<(), AllocError>

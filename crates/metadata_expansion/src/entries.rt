@@ -8,6 +8,7 @@ ghost use Rattle.c_tree.specs.Kinds.{routine_signature};
 ghost use Rattle.source_meaning.specs.Good.{plain_type};
 ghost use Rattle.tac_ir.specs.Meaning.{function_in};
 ghost use Rattle.tac_ir.specs.Temporaries.{temporaries};
+ghost use Rattle.tac_ir.specs.Ways.{nodes_of};
 ghost use Rattle.metadata_plan.specs.Registers.{all_variables, most_temporaries};
 ghost use Rattle.metadata_plan.specs.Entries.{AreClosed, can_compare, converted_from, entry_source, given};
 ghost use Rattle.metadata_plan.specs.Entries.{is_among, is_argument_with_entry, is_fixed};
@@ -17,16 +18,14 @@ ghost use Rattle.metadata_expansion.specs.TemporarySets.{is_in, room};
 ghost use Rattle.metadata_expansion.specs.EntryTables.{AreNone, HaveRoom, ReadsNoEntry, entries_in, entries_of, has_at};
 ghost use Rattle.metadata_expansion.specs.EntryTables.{is_passed_on, needs};
 ghost use Rattle.metadata_expansion.specs.Numbers.{register_count};
-ghost use Rattle.metadata_expansion.specs.Ways.{nodes_of};
 
-use crate::jumps::{Ways, ways_of};
 use crate::layout::instruction_at;
 use crate::registers::most_temporaries;
 use crate::temporary_set::TemporarySet;
 use c_tree::{Kind, OffsetForm, Routine, Variable};
 use obj_memory::Scalar;
 use std::alloc::{AllocError, Global};
-use tac_ir::{Base, CodeFunction, Instruction, Key, Member, Tac, Test};
+use tac_ir::{Base, CodeFunction, Instruction, Key, Member, Tac, Test, Ways, ways_of};
 
 /// The temporaries of a function that have entries at each of its nodes.
 #[derive(Drop)]

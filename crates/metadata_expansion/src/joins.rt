@@ -1,14 +1,13 @@
 //! The nodes that more than one way leads to.
 
+ghost use Rattle.tac_ir.specs.Ways.{nodes_of};
 ghost use Rattle.std.specs.Prelude.{◌≡◌, ◌≤◌, [], ◌∷◌, length, replicate, IfOk};
 ghost use Rattle.metadata_plan.specs.Laid.{falls};
 ghost use Rattle.metadata_expansion.specs.declared.joins.Arrivals.TheVariants.{Never};
 ghost use Rattle.metadata_expansion.specs.Joins.{Adds, AreJoins, and_one, is_often, ways_in};
-ghost use Rattle.metadata_expansion.specs.Ways.{nodes_of};
 
-use crate::jumps::{Ways, ways_of};
 use std::alloc::{AllocError, Global};
-use tac_ir::CodeFunction;
+use tac_ir::{CodeFunction, Ways, ways_of};
 use tree_containers::Items;
 
 /// How many ways lead to a node.

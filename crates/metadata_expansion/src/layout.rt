@@ -13,9 +13,9 @@ ghost use Rattle.metadata_expansion.specs.Contexts.{HasRegisters, IsLaid, block_
 use crate::blocks::put_block;
 use crate::context::FunctionContext;
 use crate::joins::Joins;
-use crate::jumps::{jump_count, ways_of};
+use crate::jumps::jump_count;
 use std::alloc::{AllocError, Global};
-use tac_ir::{CodeFunction, Instruction};
+use tac_ir::{CodeFunction, Instruction, ways_of};
 use tree_containers::Items;
 
 // How many instructions the block of an instruction has.

@@ -73,12 +73,15 @@ pub record IsHere (program : FlatProgram) (position : Position) (code : List Fla
   pub has : HasAt (body_of (function_in program position.function)) position.place code
   pub words : IsOfWords position.state
 
--- Wherever it stands, the code of an operator comes to its end with the operator's value; a constant that an instruction
--- holds is one.
+-- Wherever it stands, the code of an operator comes to its end with the operator's value. A constant of 33 bits takes
+-- at most three instructions, and one that an instruction holds is one.
 pub record AreOperators (operators : OperatorCode) : Type 0 where
   pub constant : (map : MapSizes) (p : FlatProgram) (x : Position) (into word scratch : ℕ) → into < scratch
       → word < 2 ^ 64 → IsHere p x (operators.constant into word scratch)
       → Computes map p x (x.place + length (operators.constant into word scratch)) into word scratch 5
+  pub few_constant : (map : MapSizes) (p : FlatProgram) (x : Position) (into word scratch : ℕ) → into < scratch
+      → word < 2 ^ 33 → IsHere p x (operators.constant into word scratch)
+      → Computes map p x (x.place + length (operators.constant into word scratch)) into word scratch 3
   pub short_constant : (map : MapSizes) (p : FlatProgram) (x : Position) (into word scratch : ℕ) → into < scratch
       → word < 2 ^ 31 - 2 ^ 11 → IsHere p x (operators.constant into word scratch)
       → Computes map p x (x.place + length (operators.constant into word scratch)) into word scratch 1

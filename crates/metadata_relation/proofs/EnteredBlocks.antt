@@ -796,4 +796,5 @@ enter_step c IsGood right u n temps ws s v xs h words k line next at e f =
     (λ b a. Stands u next temps (Entered k b ∷ ws) a)) (flat.Stands u (c.layout.address u n) v xs)) (sym h.there)
     (enters c IsGood right u n temps ws s v xs h words k line next at p.0 (sized_by vs q.0)
     (ltb-true (block_bytes vs) (2 ^ 64) q.1)
-    (ap (λ o. have_no_homes s.frame (if_there (slice_get (blocks_in o) k))) (sym h.there) ∙ f))
+    (ap (λ o. have_no_homes s.frame (if_there (slice_get (blocks_in o) k))) (sym h.there)
+    ∙ (and_parts (has_objects (objects_in (code_in (expansion_of c).code u) k)) _ f).1))

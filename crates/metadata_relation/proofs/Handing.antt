@@ -23,7 +23,7 @@ use Rattle.tac_ir.specs.declared.instruction.Instruction.{Instruction}
 use Rattle.tac_ir.specs.declared.function.CodeFunction.{CodeFunction}
 use Rattle.tac_ir.specs.declared.function.Tac.{Tac}
 use Rattle.tac_ir.specs.Accesses.{is_place}
-use Rattle.tac_ir.specs.Fitting.{is_word, is_of_type, is_passed, are_passed, taken_by}
+use Rattle.tac_ir.specs.Fitting.{is_word, has_no_tag, is_of_type, is_plain_word, is_passed, are_passed, taken_by}
 use Rattle.tac_ir.specs.Stage.{Temps, gathered, Waiting, Frame, Waits, Stage}
 use Rattle.tac_ir.specs.Costs.{spent}
 use Rattle.tac_ir.specs.Meaning.{function_in as code_in, header_of_code, begun}
@@ -72,7 +72,9 @@ use Rattle.metadata_relation.proofs.Entering.{IsPlainCall, call_stage, callee_st
 
 -- a scalar has no contents
 pub scalar_place : (kind : Kind) (v : Rvalue) → is_no_aggregate kind ≡ true → is_passed kind v ≡ true → v.contents ≡ None
-scalar_place Void v e f = place_is v.contents (and_parts (is_place v.contents) (is_word v.value.word) f).0
+scalar_place Void v e f =
+    place_is v.contents (and_parts (is_place v.contents) (is_word v.value.word)
+    (and_parts (is_plain_word v) (has_no_tag v.value.tag) f).0).0
 scalar_place (OfScalar k) v e f = place_is v.contents (and_parts (is_place v.contents) (is_of_type k v.value) f).0
 scalar_place (Structure size) v e f = cc
 scalar_place (Array size) v e f = cc
@@ -139,7 +141,8 @@ module _ (c : Compiled) (IsGood : Bytes → Type 0) (right : IsCompiled c IsGood
       word_of : (kind : Kind) → is_no_aggregate kind ≡ true → is_passed kind (temps i) ≡ true
           → IsOfKind (length (file_scope c.typed).functions) kind (temps i).value
       word_of Void e f = λ low.
-          ltb-true (temps i).value.word (2 ^ 64) (and_parts (is_place (temps i).contents) (is_word (temps i).value.word) f).1
+          ltb-true (temps i).value.word (2 ^ 64) (and_parts (is_place (temps i).contents) (is_word (temps i).value.word)
+          (and_parts (is_plain_word (temps i)) (has_no_tag (temps i).value.tag) f).0).1
       word_of (OfScalar k) e f =
           type_is (length (file_scope c.typed).functions) k (temps i).value
           (and_parts (is_place (temps i).contents) (is_of_type k (temps i).value) f).1

@@ -9,7 +9,7 @@ use Rattle.flat_meaning.specs.declared.instruction.FlatInstruction.{FlatInstruct
 use Rattle.flat_meaning.specs.declared.instruction.FlatInstruction.TheVariants.{Constant, Move, Operate, Operate32}
 use Rattle.flat_meaning.specs.State.{State}
 use Rattle.flat_meaning.specs.Meaning.{Context, Local, Goes, Ends, Fails}
-use Rattle.flat_operators.specs.Operators.{wide_code, constant_code}
+use Rattle.flat_operators.specs.Operators.{long_code, constant_code}
 use Rattle.flat_operators.specs.Pointers.{difference_code}
 use Rattle.flat_operators.specs.Results.{Anywhere}
 use Rattle.flat_routines.specs.Effects.{effects, AreAllowed}
@@ -126,7 +126,7 @@ pub short_difference_list : (size d a b n : ℕ) → size < 2 ^ 31 - 2 ^ 11
     ≡ Constant n size ∷ Operate op.Sub d a (Register b) ∷ Operate op.Div d d (Register n) ∷ []
 unfolding difference_code constant_code
 short_difference_list size d a b n short =
-    ap (λ z. (if z || nat_le (2 ^ 64 - 2 ^ 31) size then Constant n size ∷ [] else wide_code n size)
+    ap (λ z. (if z || nat_le (2 ^ 64 - 2 ^ 31) size then Constant n size ∷ [] else long_code n size)
     ++ (Operate op.Sub d a (Register b) ∷ Operate op.Div d d (Register n) ∷ []))
     (lt-ltb size (2 ^ 31 - 2 ^ 11) short)
 

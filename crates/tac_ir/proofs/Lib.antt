@@ -7,3 +7,4 @@ pub mod Later
 pub mod SameTables
 pub mod PlainVariables
 pub mod Fits
+pub mod SameTags

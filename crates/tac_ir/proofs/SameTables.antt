@@ -7,6 +7,7 @@ use Rattle.obj_memory.specs.declared.value.Value.{Value}
 use Rattle.c_tree.specs.Blocks.{block_objects}
 use Rattle.c_tree.specs.Format.{pieces}
 use Rattle.source_meaning.specs.State.{State, Rvalue, Outcome, Gives, Ended, Paused, Header, Setting}
+use Rattle.source_meaning.specs.Blocks.{has_objects}
 use Rattle.source_meaning.specs.Expressions.{callee}
 use Rattle.source_meaning.specs.Calls.{set_up, result_of}
 use Rattle.source_meaning.specs.Good.{plain_type}
@@ -138,7 +139,10 @@ module _ {t t' : Tac} (same : SameTables t t') where
         ap (λ ts. are_printed (pieces (if_there (slice_get ts x))) (gathered temps d n)) same.texts
     fits_same (Call f line d n m) u temps s = call_same f (gathered temps d n)
     fits_same (EnterBlock b line m) u temps s =
-        ap (λ bs. have_no_homes s.frame (if_there (slice_get bs b))) (blocks_same u)
+        ap (λ vs. has_objects vs && have_no_homes s.frame (if_there (slice_get (blocks_in (function_in t' u)) b)))
+        (objects_same u b)
+        ∙ ap (λ bs. has_objects (objects_in (function_in t u) b) && have_no_homes s.frame (if_there (slice_get bs b)))
+        (blocks_same u)
     fits_same (Return a) u temps s = ap (λ n. is_passed (result_of g n) (temps a)) (type_same u)
     fits_same i u temps s = refl
 

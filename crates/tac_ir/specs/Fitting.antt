@@ -60,9 +60,9 @@ abbrev pub has_bytes : Option ObjectState → (size offset : ℕ) → Bool
 has_bytes None size offset = false
 has_bytes (Some c) size offset = nat_le (offset + size) c.size
 
--- an argument or a result (6.5.2.2, 6.8.6.4): that of a structure is its contents
+-- an argument or a result (6.5.2.2, 6.8.6.4): that of a structure is its contents, and that of `void` is no pointer
 abbrev pub is_passed : Kind → Rvalue → Bool
-is_passed Void v = is_plain_word v
+is_passed Void v = is_plain_word v && has_no_tag v.value.tag
 is_passed (OfScalar k) v = is_scalar_of k v
 is_passed (Structure n) v = has_bytes v.contents n v.value.word
 is_passed (Array n) v = is_plain_word v

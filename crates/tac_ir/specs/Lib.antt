@@ -5,6 +5,7 @@ pub mod Fitting
 pub mod Costs
 pub mod Meaning
 pub mod Edges
+pub mod Ways
 pub mod Temporaries
 pub mod Structures
 pub mod Changes

@@ -25,7 +25,7 @@ use Rattle.source_meaning.specs.Library.{routine}
 use Rattle.source_meaning.specs.Printing.{print_formatted}
 use Rattle.source_meaning.specs.Initializers.{zero_variable, store_bytes}
 use Rattle.source_meaning.specs.Expressions.{function_pointer, callee}
-use Rattle.source_meaning.specs.Blocks.{enter_block, leave_block}
+use Rattle.source_meaning.specs.Blocks.{has_objects, enter_block, leave_block}
 use Rattle.source_meaning.specs.Calls.{caller, set_up, back_to, result_of}
 use Rattle.source_meaning.specs.Good.{plain_type}
 use Rattle.source_meaning.specs.Places.{statics_first}
@@ -289,7 +289,8 @@ fits g t (Print x line d n m) u temps s = are_printed (pieces (text_in t x)) (ga
 fits g t (Call f line d n m) u temps s = fit_call (function_in t f) (gathered temps d n)
 fits g t (CallThrough type_number line d n m) u temps s = fit_type g.functions type_number (gathered temps (d + 1) n)
 fits g t (EnterBlock b line m) u temps s =
-    have_no_homes s.frame (if_there (slice_get (blocks_in (function_in t u)) b))
+    has_objects (objects_in (function_in t u) b)
+    && have_no_homes s.frame (if_there (slice_get (blocks_in (function_in t u)) b))
 fits g t (Return a) u temps s = is_passed (result_of g (type_of (function_in t u))) (temps a)
 fits g t i u temps s = true
 

@@ -4,6 +4,9 @@ ghost use Rattle.std.specs.Prelude.{◌≡◌, ℕ, List, Some, true, false, sli
 ghost use Rattle.behaviours.specs.Behaviour.{Behaviour, Follows, IsSource};
 ghost use Rattle.behaviours.specs.Steps.{run, IsStepping};
 ghost use Rattle.sb_base.specs.Budgets.{BudgetSizes};
+ghost use Rattle.obj_memory.specs.declared.value.Tag.{Tag};
+ghost use Rattle.obj_memory.specs.Objects.{Objects};
+ghost use Rattle.source_meaning.specs.Judging.{is_within, is_live_tag};
 ghost use Rattle.source_meaning.specs.State.{Setting, State};
 ghost use Rattle.tac_ir.specs.declared.instruction.Instruction.{Instruction};
 ghost use Rattle.tac_ir.specs.declared.instruction.Instruction.TheVariants.{Judge};
@@ -11,7 +14,7 @@ ghost use Rattle.tac_ir.specs.declared.instruction.Test.{Test};
 ghost use Rattle.tac_ir.specs.declared.key.Key.{Key};
 ghost use Rattle.tac_ir.specs.Changes.{ends_lives, KeepsLivesAt};
 ghost use Rattle.tac_ir.specs.Edges.{is_local, GoesAlong, StaysIn};
-ghost use Rattle.tac_ir.specs.Keys.{gives};
+ghost use Rattle.tac_ir.specs.Keys.{gives, same_tag};
 ghost use Rattle.tac_ir.specs.Later.{ComesLater};
 ghost use Rattle.tac_ir.specs.declared.function.Tac.{Tac};
 ghost use Rattle.tac_ir.specs.Stage.{Temps, Frame, Stage, Stuck, seen};
@@ -52,6 +55,14 @@ pub fn checks_are_of_their_keys()
     ensures { (g : Setting) (t : Tac) (of : Test) (size line n a m u : ℕ) (temps : Temps) (frames : List Frame)
         (s : State) → (act g t (Judge of size line (Some n) a m) u temps frames s ≡ Stuck → ⊥)
         → (key : Key) × (slice_get (keys_of (function_in t u)) n ≡ Some key) × (gives key s (temps a).value ≡ true) }
+{}
+
+/// Tags that are the same allow the same accesses: their bounds hold the same bytes, and their objects live together.
+pub fn same_tags_allow_the_same_accesses()
+    ensures bounds { (a b : Tag) → same_tag a b ≡ true → (address size : ℕ)
+        → is_within a address size ≡ is_within b address size }
+    ensures life { (a b : Tag) → same_tag a b ≡ true → (objects : Objects)
+        → is_live_tag a objects ≡ is_live_tag b objects }
 {}
 
 /// Objects die at no instructions but `free` and `realloc`, the end of a block and the return of a call.

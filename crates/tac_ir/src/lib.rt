@@ -9,7 +9,9 @@ pub mod function;
 pub mod instruction;
 pub mod key;
 pub mod laws;
+pub mod ways;
 
 pub use crate::function::{CodeFunction, CountedLoop, Span, StaticData, Tac};
 pub use crate::instruction::{Instruction, Mode, RightOperand, Test};
 pub use crate::key::{Base, Key, Member, Scaled};
+pub use crate::ways::{Ways, ways_of};

@@ -22,7 +22,8 @@ use Rattle.rv_isa.specs.declared.instruction.RegOp32.TheVariants.{Addw, Subw, Mu
 use Rattle.flat_meaning.specs.declared.instruction.FlatInstruction.{FlatInstruction}
 use Rattle.flat_meaning.specs.declared.instruction.FlatInstruction.TheVariants as flat
 use Rattle.machine_laws.specs.Blocks.Blocks.{IsShort, RightIsShort}
-use Rattle.flat_operators.specs.Operators.{wide_code, constant_code, conversion_code, converted, wrapping_code}
+use Rattle.flat_operators.specs.Operators.{medium_code, long_code, wide_code, constant_code, conversion_code}
+use Rattle.flat_operators.specs.Operators.{converted, wrapping_code}
 use Rattle.flat_operators.specs.Operators.{shift_left_code, shift_right_code, divided_code, unary_code, binary_code}
 
 -- what is asked of one
@@ -71,18 +72,26 @@ divide_fit line low = (low, omega arith)
 pub short : (n : ℕ) → n < 2 ^ 31 - 2 ^ 11 → IsShort n
 short n lt = inl lt
 
+long_fit : (x w : ℕ) → w < 2 ^ 64 → AreFit (long_code x w)
+long_fit x w below = by (nat_lt w (2 ^ 33)) refl
+  where
+    by : (b : Bool) → nat_lt w (2 ^ 33) ≡ b → AreFit (if b then medium_code x w else wide_code x w)
+    by true e =
+        let low = ltb-true w (2 ^ 33) e in (inl (omega (arith, low)), (inl (omega arith), (inl (omega arith), tt)))
+    by false e = (
+      inl (omega arith),
+      (inl (omega arith), (inl (omega arith), (inl (omega arith), (inl (omega arith), tt)))),
+    )
+
 pub constant_fit : (x w : ℕ) → w < 2 ^ 64 → AreFit (constant_code x w)
 unfolding constant_code
 constant_fit x w below = by (nat_lt w (2 ^ 31 - 2 ^ 11)) refl (nat_le (2 ^ 64 - 2 ^ 31) w) refl
   where
     by : (a : Bool) → nat_lt w (2 ^ 31 - 2 ^ 11) ≡ a → (b : Bool) → nat_le (2 ^ 64 - 2 ^ 31) w ≡ b
-        → AreFit (if a || b then flat.Constant x w ∷ [] else wide_code x w)
+        → AreFit (if a || b then flat.Constant x w ∷ [] else long_code x w)
     by true e b h = (inl (ltb-true w (2 ^ 31 - 2 ^ 11) e), tt)
     by false e true h = (inr (leb-true (2 ^ 64 - 2 ^ 31) w h, below), tt)
-    by false e false h = (
-      inl (omega arith),
-      (inl (omega arith), (inl (omega arith), (inl (omega arith), (inl (omega arith), tt)))),
-    )
+    by false e false h = long_fit x w below
 
 pub conversion_fit : (t : IntType) (x y : ℕ) → AreFit (conversion_code t x y)
 unfolding conversion_code

@@ -1,6 +1,6 @@
 -- The code of the operators on integers: what it reads and makes.
 use Rattle.std.proofs.Common.{inl, inr, ℕ, ◌/◌, ◌%◌, ◌^◌, ◌≤◌, refl, Bool, true, false, List, [], ◌∷◌, ◌++◌}
-use Rattle.std.specs.Prelude.{◌==◌, if◌then◌else◌}
+use Rattle.std.specs.Prelude.{◌==◌, nat_lt, if◌then◌else◌}
 use Rattle.rv_isa.specs.declared.instruction.RegOp.{RegOp}
 use Rattle.rv_isa.specs.declared.instruction.RegOp.TheVariants as op
 use Rattle.rv_isa.specs.declared.instruction.RegOp32.{RegOp32}
@@ -23,7 +23,8 @@ use Rattle.flat_meaning.specs.declared.instruction.FlatInstruction.TheVariants.{
 use Rattle.flat_meaning.specs.declared.function.FlatProgram.{FlatProgram}
 use Rattle.flat_meaning.specs.Calls.{function_in}
 use Rattle.flat_meaning.specs.Meaning.{results_of}
-use Rattle.flat_operators.specs.Operators.{is_short, appended, wide_code, constant_code, two_shifts}
+use Rattle.flat_operators.specs.Operators.{is_short, appended, wide_code, medium_code, long_code, constant_code}
+use Rattle.flat_operators.specs.Operators.{two_shifts}
 use Rattle.flat_operators.specs.Operators.{conversion_code, converted, wrapping_code, shift_left_code}
 use Rattle.flat_operators.specs.Operators.{shift_right_code, divided_code, unary_code, binary_code, less_op}
 use Rattle.image_laws.proofs.Plans.Flow.{Registers, With, Flow, Makes, one_has}
@@ -39,21 +40,26 @@ module _ (p : FlatProgram) (f : ℕ) (gives : results_of (function_in p f) ≤ 1
   either R d true is js g h = g
   either R d false is js g h = h
 
-  appended_flow : (R : Registers) (d n : ℕ) (rest : List FlatInstruction) → R d → P d
-      → Flow p f gives ⊥ P (With (With R d) d) rest → Flow p f gives ⊥ P R (appended d n ++ rest)
-  appended_flow R d n rest r t h = ((r, tt), t, tt, ((inr refl, tt), t, tt, h))
+  appended_flow : (R : Registers) (k d n : ℕ) (rest : List FlatInstruction) → R d → P d
+      → Flow p f gives ⊥ P (With (With R d) d) rest → Flow p f gives ⊥ P R (appended k d n ++ rest)
+  appended_flow R k d n rest r t h = ((r, tt), t, tt, ((inr refl, tt), t, tt, h))
 
   wide_flow : (R : Registers) (d w : ℕ) → P d → Flow p f gives ⊥ P R (wide_code d w)
   wide_flow R d w t =
-      let again = appended_flow (With (With (With R d) d) d) d (w % 2 ^ 20) [] (inr refl) t tt in
-      (tt, t, tt, appended_flow (With R d) d (w / 2 ^ 20 % 2 ^ 20) (appended d (w % 2 ^ 20)) (inr refl) t again)
+      let again = appended_flow (With (With (With R d) d) d) 20 d (w % 2 ^ 20) [] (inr refl) t tt in
+      (tt, t, tt, appended_flow (With R d) 20 d (w / 2 ^ 20 % 2 ^ 20) (appended 20 d (w % 2 ^ 20)) (inr refl) t again)
+
+  medium_flow : (R : Registers) (d w : ℕ) → P d → Flow p f gives ⊥ P R (medium_code d w)
+  medium_flow R d w t = (tt, t, tt, appended_flow (With R d) 3 d (w % 8) [] (inr refl) t tt)
 
   pub constant_gives : (R : Registers) (d w : ℕ) → P d → Gives R (constant_code d w) d
   unfolding constant_code
   constant_gives R d w t =
-      either R d (is_short w) _ (wide_code d w)
+      either R d (is_short w) _ (long_code d w)
       (record { flow = (tt, t, tt, tt); made = inl (one_has d) })
-      (record { flow = wide_flow R d w t; made = inl (one_has d) })
+      (either R d (nat_lt w (2 ^ 33)) (medium_code d w) (wide_code d w)
+      (record { flow = medium_flow R d w t; made = inl (one_has d) })
+      (record { flow = wide_flow R d w t; made = inl (one_has d) }))
 
   shifted : (R : Registers) (back : RegOp) (n d x : ℕ) → R x → P d → Gives R (two_shifts back n d x) d
   shifted R back n d x r t = record {

@@ -24,7 +24,8 @@ use Rattle.flat_meaning.specs.declared.instruction.FlatInstruction.{FlatInstruct
 use Rattle.flat_meaning.specs.declared.instruction.FlatInstruction.TheVariants.{Constant, Operate}
 use Rattle.flat_meaning.specs.declared.function.FlatFunction.{FlatFunction}
 use Rattle.flat_meaning.specs.declared.function.FlatProgram.{FlatProgram}
-use Rattle.flat_operators.specs.Operators.{appended, wide_code, constant_code, two_shifts, conversion_code}
+use Rattle.flat_operators.specs.Operators.{appended, wide_code, medium_code, long_code, constant_code, two_shifts}
+use Rattle.flat_operators.specs.Operators.{conversion_code}
 use Rattle.flat_operators.specs.Operators.{converted, wrapping_code, shift_left_code, shift_right_code, divided_code}
 use Rattle.flat_operators.specs.Operators.{turned, equal_code, unary_code, binary_code}
 use Rattle.image_laws.proofs.Sizes.Numbers.{few_constant, low_constant}
@@ -47,30 +48,43 @@ module _ (p : FlatProgram) (g : FlatFunction) where
 
   -- ---- constants
 
-  appended_words : (d n : ℕ) → n < 2 ^ 20 → body_most p g (appended d n) ≤ 18
-  appended_words d n lt =
-      let a = operate_most p g op.Sll d d 20 (omega arith) in
+  appended_words : (k d n : ℕ) → k < 64 → n < 2 ^ 20 → body_most p g (appended k d n) ≤ 18
+  appended_words k d n shift lt =
+      let a = operate_most p g op.Sll d d k (omega (arith, shift)) in
       let b = operate_most p g op.Add d d n (omega (arith, lt)) in
       omega (arith, a, b)
 
   wide_words : (d w : ℕ) → w < 2 ^ 64 → body_most p g (wide_code d w) ≤ 41
   wide_words d w lt =
       let first = few_constant (w / 2 ^ 40) (omega (arith, lt)) in
-      let a = appended_words d (w / 2 ^ 20 % 2 ^ 20) (omega arith) in
-      let b = appended_words d (w % 2 ^ 20) (omega arith) in
-      let both = words_append (appended d (w / 2 ^ 20 % 2 ^ 20)) (appended d (w % 2 ^ 20)) in
+      let a = appended_words 20 d (w / 2 ^ 20 % 2 ^ 20) (omega arith) (omega arith) in
+      let b = appended_words 20 d (w % 2 ^ 20) (omega arith) (omega arith) in
+      let both = words_append (appended 20 d (w / 2 ^ 20 % 2 ^ 20)) (appended 20 d (w % 2 ^ 20)) in
       omega (arith, first, a, b, both)
+
+  medium_words : (d w : ℕ) → w < 2 ^ 33 → body_most p g (medium_code d w) ≤ 23
+  medium_words d w lt =
+      let first = few_constant (w / 8) (omega (arith, lt)) in
+      let rest = appended_words 3 d (w % 8) (omega arith) (omega arith) in
+      omega (arith, first, rest)
+
+  long_words : (d w : ℕ) → w < 2 ^ 64 → body_most p g (long_code d w) ≤ 41
+  long_words d w lt = by (nat_lt w (2 ^ 33)) refl
+    where
+      by : (b : Bool) → nat_lt w (2 ^ 33) ≡ b → body_most p g (if b then medium_code d w else wide_code d w) ≤ 41
+      by true e = let h = medium_words d w (ltb-true w (2 ^ 33) e) in omega (arith, h)
+      by false e = wide_words d w lt
 
   pub constant_code_words : (d w : ℕ) → w < 2 ^ 64 → body_most p g (constant_code d w) ≤ 41
   unfolding constant_code
   constant_code_words d w lt = by (nat_lt w (2 ^ 31 - 2 ^ 11)) (nat_le (2 ^ 64 - 2 ^ 31) w) refl refl
     where
       by : (a b : Bool) → nat_lt w (2 ^ 31 - 2 ^ 11) ≡ a → nat_le (2 ^ 64 - 2 ^ 31) w ≡ b
-          → body_most p g (if a || b then Constant d w ∷ [] else wide_code d w) ≤ 41
+          → body_most p g (if a || b then Constant d w ∷ [] else long_code d w) ≤ 41
       by true b e f = let h = few_constant w (ltb-true w (2 ^ 31 - 2 ^ 11) e) in omega (arith, h)
       by false true e f =
           let h = low_constant w (leb-true (2 ^ 64 - 2 ^ 31) w f) lt in omega (arith, h)
-      by false false e f = wide_words d w lt
+      by false false e f = long_words d w lt
 
   -- ---- conversions
 

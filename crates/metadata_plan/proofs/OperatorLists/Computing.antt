@@ -37,13 +37,14 @@ use Rattle.flat_routines.proofs.Straight.{run_straight}
 use Rattle.flat_routines.proofs.Lifted.{lifted}
 use Rattle.metadata_plan.specs.Operators.{Position, Computes, EndsBy, AreOperators, binary_most}
 use Rattle.flat_operators.specs.Operators.{conversion_code, converted, divided_code, unary_code, binary_code}
-use Rattle.flat_operators.specs.Operators.{is_short, wide_code, constant_code}
+use Rattle.flat_operators.specs.Operators.{is_short, long_code, constant_code}
 use Rattle.flat_operators.proofs.Values.{int_sum, int_difference, int_product, quotient_by, remainder_by, less_by}
 use Rattle.flat_operators.proofs.Values.{sum_by, difference_by, product_by, and_by, or_by, xor_by}
 use Rattle.flat_operators.proofs.Operators.{Gives, conversion_gives, operator_gives, alone_gives, wrapping_gives}
 use Rattle.flat_operators.proofs.Operators.{turned_gives, equal_gives, unequal_gives, shift_left_gives}
 use Rattle.flat_operators.proofs.Operators.{shift_right_gives, unary_gives, constant_gives, length_converted}
 use Rattle.flat_operators.proofs.Operators.{length_conversion, length_wrapping, length_unary, length_constant}
+use Rattle.flat_operators.proofs.Operators.{few_constant}
 use Rattle.flat_operators.proofs.Operators.{length_left, length_right}
 use Rattle.metadata_plan.specs.OperatorLists.Operators.{operators}
 use Rattle.metadata_plan.proofs.OperatorLists.Plain.{ArePlain, plain_effects, plain_conversion, plain_converted}
@@ -249,8 +250,8 @@ module _ (m : MapSizes) (p : FlatProgram) (x : Position) where
 one_constant : (d w : ℕ) → w < 2 ^ 31 - 2 ^ 11 → length (constant_code d w) ≤ 1
 unfolding constant_code
 one_constant d w short =
-    let list : (if is_short w then Constant d w ∷ [] else wide_code d w) ≡ Constant d w ∷ [] =
-    ap (λ b. if b || nat_le (2 ^ 64 - 2 ^ 31) w then Constant d w ∷ [] else wide_code d w)
+    let list : (if is_short w then Constant d w ∷ [] else long_code d w) ≡ Constant d w ∷ [] =
+    ap (λ b. if b || nat_le (2 ^ 64 - 2 ^ 31) w then Constant d w ∷ [] else long_code d w)
     (lt-ltb w (2 ^ 31 - 2 ^ 11) short) in
     let count = ap length list in
     omega arith
@@ -262,6 +263,10 @@ computing = record {
       straight m p x (constant_code d v) d v n 5 here.has
       (constant_gives (context m p x.function x.frames) d n x.state v low)
       (plain_constant d v) (length_constant d v);
+  few_constant = λ m p x d v n into low here.
+      straight m p x (constant_code d v) d v n 3 here.has
+      (constant_gives (context m p x.function x.frames) d n x.state v (omega (arith, low)))
+      (plain_constant d v) (few_constant d v low);
   short_constant = λ m p x d v n into short here.
       straight m p x (constant_code d v) d v n 1 here.has
       (constant_gives (context m p x.function x.frames) d n x.state v (omega (arith, short)))

@@ -1,7 +1,7 @@
 -- Lists of instructions that change registers alone: each does its weight of work.
-use Rattle.std.proofs.Common.{◌≡◌, ℕ, suc, ◌+◌, ◌*◌, Bool, true, false, List, [], ◌∷◌, length, refl}
+use Rattle.std.proofs.Common.{◌≡◌, ℕ, suc, ◌+◌, ◌*◌, ◌^◌, Bool, true, false, List, [], ◌∷◌, length, refl}
 use Rattle.std.proofs.Common.{ap, ◌∙◌, arith, if◌then◌else◌}
-use Rattle.std.specs.Prelude.{◌==◌}
+use Rattle.std.specs.Prelude.{◌==◌, nat_lt}
 use Rattle.std.proofs.Math.Nat.{suc-mul}
 use Rattle.rv_isa.specs.declared.instruction.RegOp.{RegOp}
 use Rattle.rv_isa.specs.declared.instruction.RegOp.TheVariants as op
@@ -23,7 +23,8 @@ use Rattle.flat_meaning.specs.declared.instruction.FlatInstruction.TheVariants.{
 use Rattle.flat_meaning.specs.State.{State}
 use Rattle.flat_meaning.specs.Meaning.{Context}
 use Rattle.flat_routines.specs.Effects.{effect, effects}
-use Rattle.flat_operators.specs.Operators.{is_short, wide_code, constant_code, conversion_code, converted}
+use Rattle.flat_operators.specs.Operators.{is_short, medium_code, long_code, wide_code, constant_code}
+use Rattle.flat_operators.specs.Operators.{conversion_code, converted}
 use Rattle.flat_operators.specs.Operators.{wrapping_code, shift_left_code, shift_right_code, unary_code}
 
 abbrev pub IsPlain : FlatInstruction → Type 0
@@ -101,7 +102,9 @@ plain_converted t d = plain_if (size_of t == 8) [] (conversion_code t d d) tt (p
 pub plain_constant : (d w : ℕ) → ArePlain (constant_code d w)
 unfolding constant_code
 plain_constant d w =
-    plain_if (is_short w) (Constant d w ∷ []) (wide_code d w) (tt, tt) (tt, (tt, (tt, (tt, (tt, tt)))))
+    plain_if (is_short w) (Constant d w ∷ []) (long_code d w) (tt, tt)
+    (plain_if (nat_lt w (2 ^ 33)) (medium_code d w) (wide_code d w) (tt, (tt, (tt, tt)))
+    (tt, (tt, (tt, (tt, (tt, tt))))))
 
 pub plain_wrapping : (o : RegOp) (o32 : RegOp32) (t : IntType) (d a b : ℕ) → ArePlain (wrapping_code o o32 t d a b)
 unfolding wrapping_code

@@ -1,5 +1,5 @@
 use Rattle.std.proofs.Common.{ap}
-use Rattle.check_elim.specs.Ways.{nodes_of}
+use Rattle.tac_ir.specs.Ways.{nodes_of}
 use Rattle.check_elim.proofs.Exploring.{follows_both}
 use Rattle.check_elim.proofs.graph.follow_ways.Goals as goal
 

@@ -1,9 +1,12 @@
-use Rattle.flat_operators.proofs.Shapes.{constant_shape, offset_shape, difference_shape}
+use Rattle.flat_operators.proofs.Shapes.{constant_shape, few_shape, offset_shape, difference_shape}
 use Rattle.flat_operators.proofs.Shapes.{constant_computes, offset_computes, difference_computes}
 use Rattle.flat_operators.proofs.laws.lists_for_pointers_have_shapes.Goals as goal
 
 pub returns-clause-constant : goal.returns-clause-constant
 returns-clause-constant _ = λ d n w l low. constant_shape d n w l low
+
+pub returns-clause-few : goal.returns-clause-few
+returns-clause-few _ = λ d n w l low. few_shape d n w l low
 
 pub returns-clause-moved : goal.returns-clause-moved
 returns-clause-moved _ = λ o size d a i n low h. offset_shape o size d a i n low h

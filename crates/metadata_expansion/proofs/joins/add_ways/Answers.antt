@@ -1,6 +1,6 @@
 use Rattle.std.proofs.Common.{sym, subst}
 use Rattle.metadata_expansion.specs.Joins.{Adds, ways_in}
-use Rattle.metadata_expansion.specs.Ways.{nodes_of}
+use Rattle.tac_ir.specs.Ways.{nodes_of}
 use Rattle.metadata_expansion.proofs.Counting.{adds_both, adds_nothing}
 use Rattle.metadata_expansion.proofs.joins.add_ways.Goals as goal
 

@@ -1,7 +1,7 @@
 -- The nodes that an instruction leads to, as a list.
 use Rattle.std.specs.Prelude.{ℕ, List, [], ◌∷◌}
-use Rattle.check_elim.specs.declared.graph.Ways.{Ways}
-use Rattle.check_elim.specs.declared.graph.Ways.TheVariants.{Nowhere, To, Either}
+use Rattle.tac_ir.specs.declared.ways.Ways.{Ways}
+use Rattle.tac_ir.specs.declared.ways.Ways.TheVariants.{Nowhere, To, Either}
 
 abbrev pub nodes_of : Ways → List ℕ
 nodes_of Nowhere = []

@@ -80,14 +80,15 @@ argument_given_sound sets call given outer x tokens e known sound = record {
 }
 
 -- sets were made before tokens were put in
-pub sets_then_puts : (tokens : List HidingToken) (old new : Unread) (sets : HideSets) → Grows old.sets sets
-    → Puts tokens (record old { sets = sets }) new → Puts tokens old new
-sets_then_puts tokens old new sets grows p = record {
-  below = p.below;
-  put = p.put;
-  room = p.room;
+pub sets_then_puts : (tokens : List HidingToken) (old between new : Unread) → Grows old.sets between.sets
+    → between.tokens ≡ old.tokens → between.room ≡ old.room → Puts tokens between new → Puts tokens old new
+sets_then_puts tokens old between new grows same room p = record {
+  below = ap (λ (v : Vec Hiding Global). take (length v.items) new.tokens.items) (sym same) ∙ p.below
+      ∙ ap (λ (v : Vec Hiding Global). v.items) same;
+  put = ap (λ (v : Vec Hiding Global). above (length v.items) new.sets new.tokens.items) (sym same) ∙ p.put;
+  room = p.room ∙ room;
   known = p.known;
-  grows = grows_twice old.sets sets new.sets grows p.grows;
+  grows = grows_twice old.sets between.sets new.sets grows p.grows;
 }
 
 -- tokens were put in, or there was no room for them
@@ -141,12 +142,14 @@ module _ (tokens : List HidingToken) (old new : Unread) (calls : List declared.C
       λ macros. same macros ∙ put_refused macros line p.1 ∙ ap stops (sym p.0)
 
 -- the same, where sets were made first
-pub sets_then_put : {X : Type 0} (tokens : List HidingToken) (old new : Unread) (sets : HideSets) (line : ℕ)
-    (result : Result X PreError) → Grows old.sets sets → PutsIn tokens (record old { sets = sets }) new line result
-    → PutsIn tokens old new line result
-sets_then_put tokens old new sets line (Ok x) grows p = sets_then_puts tokens old new sets grows p
-sets_then_put tokens old new sets line (Err Memory) grows p = p
-sets_then_put tokens old new sets line (Err (Fault fault)) grows p = p
+pub sets_then_put : {X : Type 0} (tokens : List HidingToken) (old between new : Unread) (line : ℕ)
+    (result : Result X PreError) → Grows old.sets between.sets → between.tokens ≡ old.tokens → between.room ≡ old.room
+    → PutsIn tokens between new line result → PutsIn tokens old new line result
+sets_then_put tokens old between new line (Ok x) grows same room p =
+    sets_then_puts tokens old between new grows same room p
+sets_then_put tokens old between new line (Err Memory) grows same room p = p
+sets_then_put tokens old between new line (Err (Fault fault)) grows same room p =
+    (p.0, subst (λ n. n < length tokens) room p.1)
 
 -- a step by another word for the same
 pub steps_by : {X : Type 0} (whole other : Macros → Expansion) (new : declared_expander.Expander) (result : Result X PreError)

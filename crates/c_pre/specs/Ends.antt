@@ -39,6 +39,12 @@ pub record Stays (old new : Unread) : Type 0 where
   pub sets : new.sets ≡ old.sets
   pub room : new.room ≡ old.room
 
+-- a token was put before all others
+pub record Pushed (old new : Unread) (x : Hiding) : Type 0 where
+  pub tokens : new.tokens.items ≡ old.tokens.items ++ x ∷ []
+  pub sets : new.sets ≡ old.sets
+  pub room : new.room ≡ old.room
+
 abbrev pub NextIs : Unread → Unread → ℕ → Option Hiding → Type 0
 NextIs old new end None = (length old.tokens.items ≤ end) × Stays old new
 NextIs old new end (Some x) = Popped old new end x

@@ -172,9 +172,10 @@ impl<'t, 'a> Expander<'t, 'a> {
             result }
     {
         let line = self.line(&x.token);
-        let here = self.unread.sets.with(name, x.hidden)?;
         let none = Vec::new(self.alloc);
-        self.unread.put_in(line, here, &list[..0], &none, list)
+        let unread = &mut self.unread;
+        let here = unread.sets.with(name, x.hidden)?;
+        unread.put_in(line, here, &list[..0], &none, list)
     }
 
     /// The name of a function-like macro: begins a call, or gives the name where no `(` follows.
@@ -267,8 +268,9 @@ impl<'t, 'a> Expander<'t, 'a> {
         if !fits(count(call.parameters), call.is_empty, call.done.len()) {
             return Err(bad_call(call.line));
         }
-        let shared = self.unread.sets.common(self.alloc, call.hidden, close)?;
-        let here = self.unread.sets.with(call.name, shared)?;
+        let unread = &mut self.unread;
+        let shared = unread.sets.common(self.alloc, call.hidden, close)?;
+        let here = unread.sets.with(call.name, shared)?;
         let done = call.done.as_slice();
         self.unread
             .put_in(call.line, here, call.parameters, done, call.list)

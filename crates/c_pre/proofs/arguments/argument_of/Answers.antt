@@ -3,7 +3,7 @@ use Rattle.std.proofs.lemmas.Option.{slice_get_read, slice_get_past}
 use Rattle.c_pre.specs.Directives.{names_among}
 use Rattle.c_pre.specs.Pending.{all_hiding}
 use Rattle.c_pre.proofs.Putting.{no_argument, placed}
-use Rattle.c_pre.proofs.unread.argument_of.Goals as goal
+use Rattle.c_pre.proofs.arguments.argument_of.Goals as goal
 
 pub returns-in_default-parameter_at-clause-argument : goal.returns-in_default-parameter_at-clause-argument
 returns-in_default-parameter_at-clause-argument c = λ sets.

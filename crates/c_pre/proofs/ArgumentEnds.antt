@@ -7,14 +7,13 @@ use Rattle.c_pre.specs.declared.arguments.Ends.{Ends}
 use Rattle.c_pre.specs.declared.hide_set.HideSets.{HideSets}
 use Rattle.c_pre.specs.declared.hiding.Hiding.{Hiding}
 use Rattle.c_pre.specs.declared.unread.Unread.{Unread}
-use Rattle.c_pre.specs.ArgumentEnds.{role_in, roles, height_by, height, ends_of, each_ends}
+use Rattle.c_pre.specs.ArgumentEnds.{role_in, roles, height, ends_of, each_ends}
 use Rattle.c_pre.specs.Arguments.{Role, opens, closes, parts, other, role, Call, taken_by, taken}
 use Rattle.c_pre.specs.Ends.{length_by, argument_length, EndIs}
 use Rattle.c_pre.specs.HideSets.{HidingToken}
 use Rattle.c_pre.specs.InnerFirst.{onto, inner_first}
 use Rattle.c_pre.specs.Pending.{above, hiding}
 use Rattle.c_pre.proofs.Heights.{take_and_drop, map_append, inner_append, length_map, length_above}
-use Rattle.c_pre.proofs.Splitting.{mapped_some}
 use Rattle.c_pre.proofs.Stacks.{last_is_inner, length_inner}
 
 -- the roles of the tokens of a vector
@@ -157,7 +156,8 @@ behind_is tokens =
     length_of_taken (suc n) (x ∷ xs) h = ap suc (length_of_taken n xs (omega arith))
 
 -- behind a `(`, and behind other tokens
-pub opened_ends : (tokens : List Hiding) (e : Ends) → e ≡ ends_of (roles (take (height false 0 (roles tokens) - 1) tokens))
+pub opened_ends : (tokens : List Hiding) (e : Ends) → e
+    ≡ ends_of (roles (take (height false 0 (roles tokens) - 1) tokens))
     → e ≡ ends_of (opens ∷ roles tokens)
 opened_ends tokens e is =
     let rs = roles tokens in

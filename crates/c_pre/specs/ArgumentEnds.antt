@@ -12,8 +12,8 @@ role_in x = role x.token.kind
 abbrev pub roles : List Hiding → List Role
 roles unread = inner_first (map role_in unread)
 
--- inside of so many inner parentheses, how many tokens are unread from the first `)` on that stands outside of those, or
--- with `at_comma` from the first comma or `)`; 0 where none does. `here` tokens are unread from the first one on.
+-- inside of so many inner parentheses, how many tokens are unread from the first `)` on that stands outside of those,
+-- or with `at_comma` from the first comma or `)`; 0 where none does. `here` tokens are unread from the first one on.
 abbrev pub height_by : Bool → Role → ℕ → ℕ → (ℕ → ℕ) → ℕ
 height_by at_comma opens depth here more = more (suc depth)
 height_by at_comma closes zero here more = here

@@ -1,5 +1,6 @@
 -- For the code: the next token, and where an argument ends.
-use Rattle.std.specs.Prelude.{◌≡◌, ℕ, zero, suc, ◌+◌, ◌≤◌, ◌<◌, List, [], ◌∷◌, ◌++◌, length, Option, Some, None, option_map}
+use Rattle.std.specs.Prelude.{◌≡◌, ℕ, zero, suc, ◌+◌, ◌≤◌, ◌<◌, List, [], ◌∷◌, ◌++◌, length, Option, Some, None}
+use Rattle.std.specs.Prelude.{option_map}
 use Rattle.c_pre.specs.declared.arguments.Role.{Role}
 use Rattle.c_pre.specs.declared.arguments.Role.TheVariants as r
 use Rattle.c_pre.specs.declared.hiding.Hiding.{Hiding}

@@ -19,7 +19,7 @@ pub struct Unread<'a> {
     pub sets: HideSets<'a>,
     /// The tokens, the next one last.
     pub tokens: Vec<Hiding<'a>>,
-    /// For each of the tokens, where what begins with it ends. What is behind a token does not change while it is unread.
+    /// For each of the tokens, where what begins with it ends: what is behind a token stays while that is unread.
     ends: Vec<Ends>,
     /// How many tokens replacement lists may still put in.
     pub room: usize,
@@ -27,7 +27,6 @@ pub struct Unread<'a> {
 }
 
 impl<'a> Unread<'a> {
-    ghost use Rattle.std.specs.List.{AllByRecursion};
     ghost use Rattle.c_pre.specs.ArgumentEnds.{ends_of, roles};
     ghost use Rattle.c_pre.specs.Arguments as arguments;
     ghost use Rattle.c_pre.specs.Arguments.{role};
@@ -76,7 +75,7 @@ impl<'a> Unread<'a> {
         self.ends[height - 1]
     }
 
-    /// The ends of what begins with a token before all others. Behind a `(` stands what is behind its `)`, if that is there.
+    /// The ends of what begins with a token before all others. What begins with a `(` ends as what is behind its `)`.
     fn ends_before(&self, token: &Token<'a>) -> Ends
         ensures { result ≡ ends_of (role token.now.kind ∷ roles self.now.tokens.items) }
     {
@@ -138,8 +137,8 @@ impl<'a> Unread<'a> {
         }
     }
 
-    /// The end of the argument that begins with the next token: how many tokens are unread from the comma or `)` on that
-    /// ends it, if that stands above `end` tokens.
+    /// The end of the argument that begins with the next token: how many tokens are unread from the comma or `)` on
+    /// that ends it, if that stands above `end` tokens.
     pub fn argument_end(&self, end: usize) -> Option<usize>
         ensures { EndIs self.now end result }
     {
@@ -158,8 +157,8 @@ impl<'a> Unread<'a> {
     fn put(&mut self, line: Line, token: &Token<'a>, hidden: HideSet) -> Result<(), PreError>
         requires known { AreKnown self.old.sets self.old.tokens.items }
         requires set { IsKnown self.old.sets hidden }
-        ensures { PutsIn (expansion.put_token line (names_of self.old.sets hidden) token.now None) self.old self.new line
-            result }
+        ensures { PutsIn (expansion.put_token line (names_of self.old.sets hidden) token.now None) self.old self.new
+            line result }
     {
         if self.room == 0 {
             return Err(PreError::Fault(PreFault::new(PreFaultKind::TooMany, line)));

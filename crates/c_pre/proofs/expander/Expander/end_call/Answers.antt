@@ -1,4 +1,5 @@
-use Rattle.std.proofs.Common.{◌≡◌, List, [], ◌∷◌, map, length, true, false, refl, sym, ap, subst, Vec, Global, ◌∙◌, arith}
+use Rattle.std.proofs.Common.{◌≡◌, List, [], ◌∷◌, map, length, true, false, refl, sym, ap, subst, Vec, Global, ◌∙◌}
+use Rattle.std.proofs.Common.{arith}
 use Rattle.c_pre.specs.declared.fault.PreFaultKind.TheVariants.{BadCall}
 use Rattle.c_pre.specs.Arguments.{fits}
 use Rattle.c_pre.specs.Directives.{names_among}
@@ -70,9 +71,11 @@ returns c =
     (length_map (λ v. all_hiding sets v.items) call.done.items
     ∙ (let e : length call.done.items ≡ c.len.result = omega (arith, c.len.ensures) in e))
     ∙ ap (λ n. fits n call.is_empty c.len.result) (sym c.count.ensures) ∙ sym c.if-not-fits.ensures in
-    let same_arguments : put_in call.line here parameters (map (λ v. all_hiding made v.items) c.as_slice-done.result.now)
+    let same_arguments : put_in call.line here parameters
+    (map (λ v. all_hiding made v.items) c.as_slice-done.result.now)
     call.list.now ≡ tokens =
-    ap (λ (items : List (Vec Hiding Global)). put_in call.line here parameters (map (λ v. all_hiding made v.items) items)
+    ap (λ (items : List (Vec Hiding Global)). put_in call.line here parameters
+    (map (λ v. all_hiding made v.items) items)
     call.list.now) c.as_slice-done.ensures.value in
     let again : List HidingToken → Macros → Expansion = λ ts macros. resumed (expansion macros) l.frames
     (read_again (expansion macros) l.line call.line l.room ts l.tokens) in

@@ -1,6 +1,6 @@
-use Rattle.std.proofs.Common.{◌≡◌, true, length, ap, ◌∙◌, arith}
+use Rattle.std.proofs.Common.{ap, ◌∙◌, arith}
 use Rattle.c_pre.specs.declared.arguments.Ends.{Ends}
-use Rattle.c_pre.specs.ArgumentEnds.{roles, height, ends_of}
+use Rattle.c_pre.specs.ArgumentEnds.{roles, ends_of}
 use Rattle.c_pre.proofs.ArgumentEnds.{argument_ends, no_argument_ends}
 use Rattle.c_pre.proofs.Heights.{take_all}
 use Rattle.c_pre.proofs.unread.Unread.argument_end.Goals as goal

@@ -1,4 +1,4 @@
-use Rattle.std.proofs.Common.{◌≡◌, ◌-◌, ◌≤◌, ◌∷◌, false, length, take, sym, ap, subst, ◌∙◌, arith}
+use Rattle.std.proofs.Common.{◌≡◌, ◌-◌, ◌∷◌, false, take, sym, ap, ◌∙◌, arith}
 use Rattle.c_pre.specs.declared.arguments.Ends.{Ends}
 use Rattle.c_pre.specs.ArgumentEnds.{roles, height, ends_of}
 use Rattle.c_pre.specs.Ends.{role_of}

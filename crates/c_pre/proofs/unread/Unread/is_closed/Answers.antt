@@ -1,6 +1,6 @@
-use Rattle.std.proofs.Common.{◌≡◌, false, length, nat_lt, ap, ◌∙◌, arith}
+use Rattle.std.proofs.Common.{nat_lt, ap, ◌∙◌, arith}
 use Rattle.c_pre.specs.declared.arguments.Ends.{Ends}
-use Rattle.c_pre.specs.ArgumentEnds.{roles, height, ends_of}
+use Rattle.c_pre.specs.ArgumentEnds.{roles, ends_of}
 use Rattle.c_pre.proofs.ArgumentEnds.{call_closed}
 use Rattle.c_pre.proofs.Heights.{take_all}
 use Rattle.c_pre.proofs.unread.Unread.is_closed.Goals as goal

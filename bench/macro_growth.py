@@ -1,6 +1,6 @@
 #!/usr/bin/env python3
-"""Calls of function-like macros: makes texts of them at three sizes each, and prints the processor seconds and the memory
-of a whole run of crates/c_pre_vectors on each, with the first line of what it answered. Wants that program built.
+"""Calls of function-like macros: makes texts of them at three sizes each, and prints the processor seconds and the
+memory of a whole run of crates/c_pre_vectors on each, with the first line of what it answered. Wants that program built.
 
 usage: bench/macro_growth.py [SECONDS]      (a run that takes longer is given up; 60 where no number is given)
 """

@@ -75,7 +75,11 @@ module _ (sets : HideSets) (outer : List declared.Call) (tokens : List Hiding) (
   sound_call known sound = record {
     calls = (known, sound.calls);
     unread = sound.unread;
-    closed = (beyond_closed, subst (λ items. AllByRecursion IsClosed (frames sets outer items)) (sym below) sound.closed);
+    closed = (
+      beyond_closed,
+      subst (λ items. AllByRecursion IsClosed (frames sets outer items))
+          (sym below) sound.closed,
+    );
   }
 
   -- the first one
@@ -107,7 +111,8 @@ module _ (sets : HideSets) (outer : List declared.Call) (tokens : List Hiding) (
       ∙ ap (λ d. resumed go (frames sets outer (take (end_of outer) tokens))
       (behind_argument go (with_parts (map (λ v. all_hiding sets v.items) d) []) t.given t.end)) (sym done)
       ∙ ap (λ g. resumed go (frames sets outer (take (end_of outer) tokens))
-      (behind_argument go (with_parts (map (λ v. all_hiding sets v.items) call.done.items) (all_hiding sets g)) t.given t.end))
+      (behind_argument go (with_parts (map (λ v. all_hiding sets v.items) call.done.items) (all_hiding sets g)) t.given
+      t.end))
       (sym given)
       ∙ ap (λ items. resumed go (frames sets outer items)
       (behind_argument go (frame sets call o beyond) t.given t.end)) (sym below)

@@ -11,9 +11,12 @@ use Rattle.c_lexer.specs.declared.punctuator.Punctuator.TheVariants.{Hash}
 use Rattle.c_pre.specs.declared.header.Header.{Header}
 use Rattle.c_pre.specs.declared.directive.DirectiveName.{DirectiveName}
 use Rattle.c_pre.specs.declared.directive.DirectiveName.TheVariants as d
-use Rattle.c_pre.specs.Directives.{Line, if_defined, if_other, undef, unknown_directive, named_or, only_name, is_left_out}
-use Rattle.c_pre.specs.Directives.{begins_parameters, behind_first, to_close, are_parameters, function_like, define_named}
-use Rattle.c_pre.specs.Directives.{definition, header_of, included, directive_named, directive_or_unknown, directive, line_by}
+use Rattle.c_pre.specs.Directives.{Line, if_defined, if_other, undef, unknown_directive, named_or, only_name}
+use Rattle.c_pre.specs.Directives.{is_left_out}
+use Rattle.c_pre.specs.Directives.{begins_parameters, behind_first, to_close, are_parameters, function_like}
+use Rattle.c_pre.specs.Directives.{define_named}
+use Rattle.c_pre.specs.Directives.{definition, header_of, included, directive_named, directive_or_unknown, directive}
+use Rattle.c_pre.specs.Directives.{line_by}
 use Rattle.c_pre.specs.Directives.{line_kind}
 use Rattle.c_pre.specs.Names.{Name, name_of}
 use Rattle.c_pre.specs.Reading.{is_text, before_run, runs}
@@ -255,7 +258,8 @@ runs-run_len [] some = absurd (omega arith)
 runs-run_len (t ∷ more) some = by (is_hash t.kind) refl
   where
     by : (b : Bool) → is_hash t.kind ≡ b
-        → runs (lines (t ∷ more)) ≡ take (run_len (t ∷ more)) (t ∷ more) ∷ runs (lines (drop (run_len (t ∷ more)) (t ∷ more)))
+        → runs (lines (t ∷ more)) ≡ take (run_len (t ∷ more)) (t ∷ more) ∷ runs
+        (lines (drop (run_len (t ∷ more)) (t ∷ more)))
     by true e = rw e (hash_run t more e)
     by false e = rw e (text_run (length more) t more (omega arith) e)
 

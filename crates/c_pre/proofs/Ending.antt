@@ -5,11 +5,13 @@ use Rattle.c_pre.specs.declared.expander.Call as declared
 use Rattle.c_pre.specs.declared.hide_set.HideSets.{HideSets}
 use Rattle.c_pre.specs.declared.hiding.Hiding.{Hiding}
 use Rattle.c_pre.specs.Arguments.{Call, opens, closes, parts, role, behind_open, taken, taken_by, with_argument}
-use Rattle.c_pre.specs.Expansion.{Expansion, Expander, Used, trace_of, expansion, turn, replacement, replaced, called, with_call}
+use Rattle.c_pre.specs.Expansion.{Expansion, Expander, Used, trace_of, expansion, turn, replacement, replaced, called}
+use Rattle.c_pre.specs.Expansion.{with_call}
 use Rattle.c_pre.specs.HideSets.{HidingToken}
 use Rattle.c_pre.specs.Names.{Name, Names, Macros}
 use Rattle.c_pre.specs.Lines.{Tokens}
-use Rattle.c_pre.specs.Pending.{Frame, left_in, above, hiding, all_hiding, end_of, line_of_calls, frame, frames, resumed}
+use Rattle.c_pre.specs.Pending.{Frame, left_in, above, hiding, all_hiding, end_of, line_of_calls, frame, frames}
+use Rattle.c_pre.specs.Pending.{resumed}
 use Rattle.c_pre.specs.Pending.{rest_of_call, comes_to, AreKnown, IsClosed, SoundIn}
 use Rattle.c_pre.specs.Ends.{Popped, Stays}
 use Rattle.c_pre.specs.Trace.{after}
@@ -102,7 +104,8 @@ module _ (old new : Unread) (calls : List declared.Call) (x : Hiding) (p : Poppe
 
   pub popped_reads : (macros : Macros) → comes_to macros (left_in old.sets calls old.tokens.items old.room)
       ≡ resumed (expansion macros) (left_in new.sets calls new.tokens.items new.room).frames
-      (turn (expansion macros) (line_of_calls calls) (hiding new.sets x) (replacement macros (hiding new.sets x)) new.room
+      (turn (expansion macros) (line_of_calls calls) (hiding new.sets x)
+      (replacement macros (hiding new.sets x)) new.room
       (above height new.sets new.tokens.items))
   popped_reads macros =
       let go = expansion macros in
@@ -130,7 +133,8 @@ module _ (old new : Unread) (outer : List declared.Call) (x : Hiding) (p : Poppe
   behind_sound sound = popped_sound old new outer x p (record {
     calls = sound.calls.1;
     unread = sound.unread;
-    closed = subst (λ (items : List Hiding). AllByRecursion IsClosed (frames old.sets outer (take (end_of outer) items)))
+    closed =
+        subst (λ (items : List Hiding). AllByRecursion IsClosed (frames old.sets outer (take (end_of outer) items)))
         (take_all call.end old.tokens.items none) sound.closed.1;
   })
 
@@ -148,9 +152,11 @@ module _ (old new : Unread) (outer : List declared.Call) (x : Hiding) (p : Poppe
       let all = map (λ v. all_hiding new.sets v.items) call.done.items ++ (all_hiding new.sets call.given.items ∷ []) in
       argument_ends old.sets outer call old.tokens.items new.tokens.items x old.room none p.tokens p.above_end macros
       ∙ ap (λ c. resumed go (frames old.sets outer items) (rest_of_call go (frame old.sets call line [])
-      (map (λ v. all_hiding old.sets v.items) call.done.items ++ (all_hiding old.sets call.given.items ∷ [])) old.room c)) e
+      (map (λ v. all_hiding old.sets v.items) call.done.items ++ (all_hiding old.sets call.given.items ∷ [])) old.room
+      c)) e
       ∙ ap (λ s. resumed go (frames s outer items) (rest_of_call go (frame s call line [])
-      (map (λ v. all_hiding s v.items) call.done.items ++ (all_hiding s call.given.items ∷ [])) old.room (o s))) (sym p.sets)
+      (map (λ v. all_hiding s v.items) call.done.items ++ (all_hiding s call.given.items ∷ [])) old.room (o s)))
+      (sym p.sets)
       ∙ ap (λ r. resumed go (frames new.sets outer items) (rest_of_call go f all r (o new.sets))) (sym p.room)
       ∙ ap (resumed go (frames new.sets outer items))
       (rest_parts go f (map (λ v. all_hiding new.sets v.items) after.done.items) all
@@ -164,7 +170,8 @@ module _ (old new : Unread) (outer : List declared.Call) (x : Hiding) (p : Poppe
 
 -- a `(` was taken behind the name of a function-like macro
 pub opens_call : (old new : Unread) (calls : List declared.Call) (y : Hiding) → Popped old new (end_of calls) y
-    → role y.token.kind ≡ opens → (macros : Macros) (name : Name) (line : ℕ) (list : Tokens) (parameters : Names) (x : Hiding)
+    → role y.token.kind ≡ opens → (macros : Macros) (name : Name) (line : ℕ) (list : Tokens) (parameters : Names)
+    (x : Hiding)
     → resumed (expansion macros) (left_in old.sets calls old.tokens.items old.room).frames
     (replaced (expansion macros) (line_of_calls calls)
     (record { name = name; hidden = names_of old.sets x.hidden; line = line; list = list }) (Some parameters)
@@ -207,7 +214,8 @@ nothing_left macros old new calls before e none room =
     ∙ ap (λ r. record { given = before; end = Ok r }) (sym room)
 
 -- a call is the innermost one
-pub innermost : (macros : Macros) (old new : Unread) (calls outer : List declared.Call) (call : declared.Call) → Stays old new
+pub innermost : (macros : Macros) (old new : Unread) (calls outer : List declared.Call) (call : declared.Call)
+    → Stays old new
     → calls ≡ call ∷ outer → comes_to macros (left_in old.sets calls old.tokens.items old.room)
     ≡ comes_to macros (left_in new.sets (call ∷ outer) new.tokens.items new.room)
 innermost macros old new calls outer call stays e =

@@ -76,7 +76,8 @@ onto_append (x ∷ xs) ys done = onto_append xs ys (x ∷ done)
 onto_behind : {A : Type 0} (xs done : List A) → onto xs done ≡ inner_first xs ++ done
 onto_behind [] done = refl
 onto_behind (x ∷ xs) done =
-    onto_behind xs (x ∷ done) ∙ sym (append_assoc (inner_first xs) (x ∷ []) done) ∙ ap (λ l. l ++ done) (sym (onto_behind xs (x ∷ [])))
+    onto_behind xs (x ∷ done) ∙ sym (append_assoc (inner_first xs) (x ∷ []) done)
+    ∙ ap (λ l. l ++ done) (sym (onto_behind xs (x ∷ [])))
 
 -- what stands behind in the vector is read first
 pub inner_append : {A : Type 0} (xs ys : List A) → inner_first (xs ++ ys) ≡ inner_first ys ++ inner_first xs
@@ -147,7 +148,8 @@ module _ (old new : HideSets) (more : Grows old new) where
   pub same_hiding : (xs : List Hiding) → AreKnown old xs → all_hiding new xs ≡ all_hiding old xs
   same_hiding [] a = refl
   same_hiding (x ∷ xs) a =
-      ap (λ (names : List (List ℕ)). record { token = x.token; hidden = names } ∷ all_hiding new xs) (more.same x.hidden a.0)
+      ap (λ (names : List (List ℕ)). record { token = x.token; hidden = names } ∷ all_hiding new xs)
+      (more.same x.hidden a.0)
       ∙ ap (λ l. hiding old x ∷ l) (same_hiding xs a.1)
 
   pub still_are_known : (xs : List Hiding) → AreKnown old xs → AreKnown new xs
@@ -157,6 +159,7 @@ module _ (old new : HideSets) (more : Grows old new) where
   same_above height xs a =
       ap inner_first (same_hiding (drop height xs) (all_drop _ height xs a))
 
-pub length_above : (sets : HideSets) (height : ℕ) (xs : List Hiding) → length (above height sets xs) ≡ length xs - height
+pub length_above : (sets : HideSets) (height : ℕ) (xs : List Hiding) → length (above height sets xs)
+    ≡ length xs - height
 length_above sets height xs =
     length_inner (all_hiding sets (drop height xs)) ∙ length_map (hiding sets) (drop height xs) ∙ length-drop height xs

@@ -25,7 +25,8 @@ module _ (old new : HideSets) (more : Grows old new) where
       ap (λ l. l ∷ map (λ w. all_hiding new (items w)) vs) (same_hiding old new more (items v) a.0)
       ∙ ap (λ ls. all_hiding old (items v) ∷ ls) (same_done items vs a.1)
 
-  abbrev frame_with : declared.Call → Option ℕ → Names → List (List HidingToken) → List HidingToken → List HidingToken → Frame
+  abbrev frame_with : declared.Call → Option ℕ → Names → List (List HidingToken) → List HidingToken → List HidingToken
+      → Frame
   frame_with call outer hidden done given beyond = record {
     used = record { name = call.name; hidden = hidden; line = call.line; list = call.list.now };
     parameters = names_among call.parameters.now;
@@ -43,7 +44,8 @@ module _ (old new : HideSets) (more : Grows old new) where
       (all_hiding new call.given.items) a) (more.same call.hidden known.hidden)
       ∙ ap (λ done. frame_with call outer (names_of old call.hidden) done (all_hiding new call.given.items) a)
       (same_done (λ v. v.items) call.done.items known.done)
-      ∙ ap (λ given. frame_with call outer (names_of old call.hidden) (map (λ v. all_hiding old v.items) call.done.items)
+      ∙ ap (λ given. frame_with call outer (names_of old call.hidden)
+      (map (λ v. all_hiding old v.items) call.done.items)
       given a) (same_hiding old new more call.given.items known.given)
       ∙ ap (λ beyond. frame_with call outer (names_of old call.hidden)
       (map (λ v. all_hiding old v.items) call.done.items) (all_hiding old call.given.items) beyond) e
@@ -105,7 +107,8 @@ module _ (tokens : List HidingToken) (old new : Unread) (p : Puts tokens old new
   left_put =
       ap (λ fs. with_parts fs (above low new.sets new.tokens.items) new.room) put_frames
       ∙ ap (λ ts. with_parts (frames old.sets calls (take low old.tokens.items)) ts new.room) put_tokens
-      ∙ ap (with_parts (frames old.sets calls (take low old.tokens.items)) (tokens ++ above low old.sets old.tokens.items))
+      ∙ ap (with_parts (frames old.sets calls (take low old.tokens.items))
+      (tokens ++ above low old.sets old.tokens.items))
       (let e : new.room ≡ old.room - length tokens = omega (arith, p.room) in e)
 
   pub enough_room : length tokens ≤ old.room

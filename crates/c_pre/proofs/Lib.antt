@@ -13,6 +13,7 @@ pub mod Sets
 pub mod Unfolding
 pub mod Heights
 pub mod Splitting
+pub mod ArgumentEnds
 pub mod Putting
 pub mod Steps
 pub mod Lefts

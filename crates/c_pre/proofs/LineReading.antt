@@ -40,4 +40,5 @@ pub text_line_failed : (s : State) (line old : Tokens) (error : PreError)
     → Fails (after old (trace_of (expansion s.macros None s.room (of_text line)))) error
     → Fails (after old (read_text_line s line)) error
 unfolding read_text_line
-text_line_failed s line old error h = bind_failed old (trace_of (expansion s.macros None s.room (of_text line))) (leaving_room s) error h
+text_line_failed s line old error h =
+    bind_failed old (trace_of (expansion s.macros None s.room (of_text line))) (leaving_room s) error h

@@ -24,16 +24,19 @@ use Rattle.c_pre.specs.Conditions.{condition_at, judged, judged_at_end, marked_b
 use Rattle.c_pre.specs.Directives.{Line, text_line, if_defined, if_other, if_condition, elif, else_group, endif_line}
 use Rattle.c_pre.specs.Directives.{define, undef}
 use Rattle.c_pre.specs.Directives.{include, null_directive, unknown_include, unknown_directive, named_or, only_name}
-use Rattle.c_pre.specs.Directives.{is_empty, begins_parameters, behind_first, is_close, to_close, is_left_out, are_parameters}
+use Rattle.c_pre.specs.Directives.{is_empty, begins_parameters, behind_first, is_close, to_close, is_left_out}
+use Rattle.c_pre.specs.Directives.{are_parameters}
 use Rattle.c_pre.specs.Directives.{function_like, define_named, definition, header_of, included}
 use Rattle.c_pre.specs.Directives.{directive_named, directive_or_unknown, directive, line_by, line_kind}
 use Rattle.c_pre.specs.declared.fault.PreFaultKind.TheVariants.{TooMany, BadCall}
 use Rattle.c_pre.specs.HideSets.{HidingToken, common}
-use Rattle.c_pre.specs.Arguments.{Role, opens, closes, parts, other, Call, role, first_begins, with_token, with_argument}
+use Rattle.c_pre.specs.Arguments.{Role, opens, closes, parts, other, Call, role, first_begins, with_token}
+use Rattle.c_pre.specs.Arguments.{with_argument}
 use Rattle.c_pre.specs.Arguments.{taken_by, taken, behind_open, opened, begins_empty, fits}
 use Rattle.c_pre.specs.Expansion.{Expander, Expanded, Used, stops, of_text, with_macro_of, macro_named}
 use Rattle.c_pre.specs.Expansion.{replacement, argument_named, argument_of, put_argument, put_token, put_in, read_again}
-use Rattle.c_pre.specs.Expansion.{before_others, then_others, each_expanded, with_arguments, with_call, called, replaced}
+use Rattle.c_pre.specs.Expansion.{before_others, then_others, each_expanded, with_arguments, with_call, called}
+use Rattle.c_pre.specs.Expansion.{replaced}
 use Rattle.c_pre.specs.Expansion.{use_of, turn, expand_by, expansion, trace_of}
 use Rattle.c_pre.specs.Headers.{header_tokens}
 use Rattle.c_pre.specs.Limits.{max_expanded_tokens}
@@ -129,7 +132,8 @@ module _ (P : Token → Type 0) (moves : (line : ℕ) (t : Token) → P t → P 
   ArgumentIs None = Unit {0}
   ArgumentIs (Some argument) = AllHiding argument
 
-  chosen_is : (b : Bool) (argument : List HidingToken) (o : Option (List HidingToken)) → AllHiding argument → ArgumentIs o
+  chosen_is : (b : Bool) (argument : List HidingToken) (o : Option (List HidingToken)) → AllHiding argument
+      → ArgumentIs o
       → ArgumentIs (if b then Some argument else o)
   chosen_is true argument o a b = a
   chosen_is false argument o a b = b
@@ -194,7 +198,8 @@ module _ (P : Token → Type 0) (moves : (line : ℕ) (t : Token) → P t → P 
         then_is (go outer room argument).given (go outer room argument).end (λ left. each_expanded (go outer) left more)
         (is outer room argument a.0) (λ left. each_is outer more left a.1)
 
-    again_is : (outer : Option ℕ) (line room : ℕ) (tokens follow : List HidingToken) → AllHiding tokens → AllHiding follow
+    again_is : (outer : Option ℕ) (line room : ℕ) (tokens follow : List HidingToken) → AllHiding tokens
+        → AllHiding follow
         → AllHiding (read_again go outer line room tokens follow).given
     again_is outer line room tokens follow a b = by (nat_le (length tokens) room)
       where
@@ -310,7 +315,8 @@ module _ (P : Token → Type 0) (moves : (line : ℕ) (t : Token) → P t → P 
       let t = expand_by (length (of_text line) + s.room) s.macros None s.room (of_text line) in
       bind (trace_of t) (leaving_room s) (λ _. Unit {0}) StateIs
       (record {
-        given = tokens_of t.given (expanding (length (of_text line) + s.room) s.macros is.macros None s.room (of_text line)
+        given =
+            tokens_of t.given (expanding (length (of_text line) + s.room) s.macros is.macros None s.room (of_text line)
             (all_of_text line a));
         end = any_end t.end;
       })

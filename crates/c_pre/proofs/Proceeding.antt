@@ -18,7 +18,8 @@ use Rattle.c_pre.specs.HideSets.{HidingToken}
 use Rattle.c_pre.specs.InnerFirst.{inner_first}
 use Rattle.c_pre.specs.Lines.{Tokens}
 use Rattle.c_pre.specs.Names.{Macros}
-use Rattle.c_pre.specs.Pending.{Frame, Left, left_in, left, above, hiding, all_hiding, end_of, line_of_calls, frame, frames}
+use Rattle.c_pre.specs.Pending.{Frame, Left, left_in, left, above, hiding, all_hiding, end_of, line_of_calls, frame}
+use Rattle.c_pre.specs.Pending.{frames}
 use Rattle.c_pre.specs.Pending.{resumed, comes_to, AreKnown, IsClosed, SoundIn, IsSound}
 use Rattle.c_pre.specs.Limits.{max_expanded_tokens}
 use Rattle.c_pre.specs.Outcomes.{Fails, Emits, EndsBy}
@@ -35,7 +36,8 @@ use Rattle.c_pre.proofs.Steps.{resumed_given, resumed_stops, again_goes, again_s
 -- a token is given to the text
 pub text_given : (macros : Macros) (l : Left) (x : HidingToken) (before now : Tokens) → l.frames ≡ []
     → now ≡ before ++ x.token ∷ []
-    → after before (trace_of (resumed (expansion macros) l.frames (gives_first x (expansion macros l.line l.room l.tokens))))
+    → after before (trace_of (resumed (expansion macros) l.frames
+    (gives_first x (expansion macros l.line l.room l.tokens))))
     ≡ after now (trace_of (comes_to macros l))
 text_given macros l x before now none given =
     let t = expansion macros l.line l.room l.tokens in
@@ -58,7 +60,8 @@ argument_given macros sets call given outer x tokens room e =
     let f = frame sets call (line_of_calls outer) beyond in
     let t = expansion macros (Some call.line) room (above call.end sets tokens) in
     resumed_given (expansion macros) (frames sets outer (take low (take call.end tokens))) f (hiding sets x) t
-    ∙ ap (λ gs. resumed (expansion macros) (record f { given = gs } ∷ frames sets outer (take low (take call.end tokens))) t)
+    ∙ ap (λ gs. resumed (expansion macros)
+    (record f { given = gs } ∷ frames sets outer (take low (take call.end tokens))) t)
     (sym (map_append (hiding sets) call.given.items (x ∷ [])) ∙ ap (all_hiding sets) (sym e))
 
 pub argument_given_sound : (sets : HideSets) (call : declared.Call) (given : Vec Hiding Global)
@@ -80,14 +83,15 @@ argument_given_sound sets call given outer x tokens e known sound = record {
 }
 
 -- sets were made before tokens were put in
-pub sets_then_puts : (tokens : List HidingToken) (old new : Unread) (sets : HideSets) → Grows old.sets sets
-    → Puts tokens (record old { sets = sets }) new → Puts tokens old new
-sets_then_puts tokens old new sets grows p = record {
-  below = p.below;
-  put = p.put;
-  room = p.room;
+pub sets_then_puts : (tokens : List HidingToken) (old between new : Unread) → Grows old.sets between.sets
+    → between.tokens ≡ old.tokens → between.room ≡ old.room → Puts tokens between new → Puts tokens old new
+sets_then_puts tokens old between new grows same room p = record {
+  below = ap (λ (v : Vec Hiding Global). take (length v.items) new.tokens.items) (sym same) ∙ p.below
+      ∙ ap (λ (v : Vec Hiding Global). v.items) same;
+  put = ap (λ (v : Vec Hiding Global). above (length v.items) new.sets new.tokens.items) (sym same) ∙ p.put;
+  room = p.room ∙ room;
   known = p.known;
-  grows = grows_twice old.sets sets new.sets grows p.grows;
+  grows = grows_twice old.sets between.sets new.sets grows p.grows;
 }
 
 -- tokens were put in, or there was no room for them
@@ -132,7 +136,8 @@ module _ (tokens : List HidingToken) (old new : Unread) (calls : List declared.C
   put_steps whole line after (Ok x) u cs same p = record {
     same = λ macros. same macros ∙ put_goes macros line p
         ∙ ap (λ l. comes_to macros (left_in new.sets l new.tokens.items new.room)) (sym cs)
-        ∙ ap (λ (v : Unread). comes_to macros (left_in v.sets (inner_first after.calls.items) v.tokens.items v.room)) (sym u);
+        ∙ ap (λ (v : Unread). comes_to macros (left_in v.sets (inner_first after.calls.items) v.tokens.items v.room))
+        (sym u);
     sound = subst (λ (v : Unread). SoundIn v.sets (inner_first after.calls.items) v.tokens.items) (sym u)
         (subst (λ l. SoundIn new.sets l new.tokens.items) (sym cs) (put_sound p));
   }
@@ -141,15 +146,18 @@ module _ (tokens : List HidingToken) (old new : Unread) (calls : List declared.C
       λ macros. same macros ∙ put_refused macros line p.1 ∙ ap stops (sym p.0)
 
 -- the same, where sets were made first
-pub sets_then_put : {X : Type 0} (tokens : List HidingToken) (old new : Unread) (sets : HideSets) (line : ℕ)
-    (result : Result X PreError) → Grows old.sets sets → PutsIn tokens (record old { sets = sets }) new line result
-    → PutsIn tokens old new line result
-sets_then_put tokens old new sets line (Ok x) grows p = sets_then_puts tokens old new sets grows p
-sets_then_put tokens old new sets line (Err Memory) grows p = p
-sets_then_put tokens old new sets line (Err (Fault fault)) grows p = p
+pub sets_then_put : {X : Type 0} (tokens : List HidingToken) (old between new : Unread) (line : ℕ)
+    (result : Result X PreError) → Grows old.sets between.sets → between.tokens ≡ old.tokens → between.room ≡ old.room
+    → PutsIn tokens between new line result → PutsIn tokens old new line result
+sets_then_put tokens old between new line (Ok x) grows same room p =
+    sets_then_puts tokens old between new grows same room p
+sets_then_put tokens old between new line (Err Memory) grows same room p = p
+sets_then_put tokens old between new line (Err (Fault fault)) grows same room p =
+    (p.0, subst (λ n. n < length tokens) room p.1)
 
 -- a step by another word for the same
-pub steps_by : {X : Type 0} (whole other : Macros → Expansion) (new : declared_expander.Expander) (result : Result X PreError)
+pub steps_by : {X : Type 0} (whole other : Macros → Expansion) (new : declared_expander.Expander)
+    (result : Result X PreError)
     → ((macros : Macros) → whole macros ≡ other macros) → Steps other new result → Steps whole new result
 steps_by whole other new (Ok x) e s = record { same = λ macros. e macros ∙ s.same macros; sound = s.sound }
 steps_by whole other new (Err Memory) e s = λ macros. tt
@@ -168,7 +176,8 @@ goes_by whole new given (Err (Fault fault)) few s = λ macros. (
 )
 
 -- one step, from that of all macros
-pub advances : (X : Type 0) (whole : Macros → Expansion) (macros : Macros) (all : Expansion) (new : declared_expander.Expander)
+pub advances : (X : Type 0) (whole : Macros → Expansion) (macros : Macros) (all : Expansion)
+    (new : declared_expander.Expander)
     (before now : Tokens) (error : PreError) → all ≡ whole macros
     → Goes {X = X} whole new before now (Err error) → StopsBehind before all error
 advances X whole macros all new before now Memory e g = tt
@@ -221,7 +230,8 @@ pub empty_list : {A : Type 0} (xs : List A) → length xs ≡ 0 → xs ≡ []
 empty_list [] e = refl
 empty_list (x ∷ xs) e = absurd (omega arith)
 
-pub reads_steps : {X : Type 0} (whole : Expansion) (w : Macros → Expansion) (macros : Macros) (new : declared_expander.Expander)
+pub reads_steps : {X : Type 0} (whole : Expansion) (w : Macros → Expansion) (macros : Macros)
+    (new : declared_expander.Expander)
     (before : Tokens) (result : Result X PreError) → length before ≤ max_expanded_tokens → whole ≡ w macros
     → Steps w new result → Reads macros whole new before before result
 reads_steps whole w macros new before (Ok x) few e s = record {
@@ -235,7 +245,8 @@ reads_steps whole w macros new before (Err (Fault fault)) few e s = (
   λ h. e ∙ s macros,
 )
 
-pub steps_memory : {X : Type 0} (whole : Macros → Expansion) (new : declared_expander.Expander) (result : Result X PreError)
+pub steps_memory : {X : Type 0} (whole : Macros → Expansion) (new : declared_expander.Expander)
+    (result : Result X PreError)
     (error : PreError) → result ≡ Err error → error ≡ Memory → Steps whole new result
 steps_memory {X} whole new result error e memory =
     subst (λ (r : Result X PreError). Steps whole new r) (sym (e ∙ ap Err memory)) (λ macros. tt)

@@ -69,7 +69,8 @@ puts_sets first a b c p grows tokens room = record {
   put = ap (above (length a.tokens.items) c.sets) tokens
       ∙ same_above b.sets c.sets grows (length a.tokens.items) b.tokens.items p.known ∙ p.put;
   room = omega (arith, p.room, room);
-  known = subst (λ items. AreKnown c.sets items) (sym tokens) (still_are_known b.sets c.sets grows b.tokens.items p.known);
+  known = subst (λ items. AreKnown c.sets items) (sym tokens)
+      (still_are_known b.sets c.sets grows b.tokens.items p.known);
   grows = grows_twice a.sets b.sets c.sets p.grows grows;
 }
 
@@ -239,7 +240,8 @@ argument_at (parameter ∷ more) (argument ∷ others) name =
     by true e = refl
     by false e = e ∙ sym (at_suc argument others (parameter_index name more))
 
-pub at_mapped : {A B : Type 0} (f : A → B) (xs : List A) (k : ℕ) → slice_get (map f xs) k ≡ option_map f (slice_get xs k)
+pub at_mapped : {A B : Type 0} (f : A → B) (xs : List A) (k : ℕ) → slice_get (map f xs) k
+    ≡ option_map f (slice_get xs k)
 at_mapped f [] k = refl
 at_mapped f (x ∷ xs) zero = refl
 at_mapped f (x ∷ xs) (suc k) = at_mapped f xs k

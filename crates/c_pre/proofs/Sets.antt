@@ -1,6 +1,7 @@
 -- Hide sets that share their names.
 use Rattle.std.proofs.Common.{◌≡◌, ℕ, zero, suc, ◌≤◌, ◌<◌, Bool, true, false, List, [], ◌∷◌, ◌++◌, length, Option}
-use Rattle.std.proofs.Common.{Some, None, refl, sym, ap, subst, ◌∙◌, nat_lt, slice_get, length-append, arith, if◌then◌else◌}
+use Rattle.std.proofs.Common.{Some, None, refl, sym, ap, subst, ◌∙◌, nat_lt, slice_get, length-append, arith}
+use Rattle.std.proofs.Common.{if◌then◌else◌}
 use Rattle.std.proofs.lemmas.Bool.{lt-ltb, le-ltb, ltb-true}
 use Rattle.std.specs.Prelude.{bytes_eq, ◌||◌}
 use Rattle.std.specs.List.{AllByRecursion}
@@ -102,7 +103,8 @@ module _ (old new : HideSets) (node : HideNode) (pushed : new.nodes.items ≡ ol
       let at : slice_get new.nodes.items (length old.nodes.items) ≡ Some node =
       ap (λ nodes. slice_get nodes (length old.nodes.items)) pushed ∙ slice_get-last old.nodes.items node in
       let below : node.others.number < made.number = omega (arith, known.below) in
-      names_taken new made node.others (length old.nodes.items) node e at (sym (earlier_is made.number node.others.number below))
+      names_taken new made node.others (length old.nodes.items) node e at
+      (sym (earlier_is made.number node.others.number below))
       ∙ ap (λ names. node.name ∷ names) (grows_by.same node.others known)
 
 pub grows_not : (sets : HideSets) → Grows sets sets
@@ -111,7 +113,8 @@ grows_not sets = record { more = omega arith; same = λ set known. refl }
 pub grows_twice : (a b c : HideSets) → Grows a b → Grows b c → Grows a c
 grows_twice a b c first second = record {
   more = omega (arith, first.more, second.more);
-  same = λ set known. second.same set (record { below = omega (arith, first.more, known.below) }) ∙ first.same set known;
+  same = λ set known. second.same set (record { below = omega (arith, first.more, known.below) })
+      ∙ first.same set known;
 }
 
 pub still_known : (a b : HideSets) (set : HideSet) → Grows a b → IsKnown a set → IsKnown b set

@@ -25,7 +25,8 @@ suc_not_zero (Some k) e = let s : suc k ≡ 0 = ap (λ o. unwrap_or o 0) e in ab
 zero_not_suc : (n : ℕ) → Some 0 ≡ Some (suc n) → ⊥
 zero_not_suc n e = let s : 0 ≡ suc n = ap (λ o. unwrap_or o 0) e in absurd (omega arith)
 
-argument_first : (o : Option Call) → option_map with_argument o ≡ option_map (with_first []) (option_map with_argument o)
+argument_first : (o : Option Call) → option_map with_argument o
+    ≡ option_map (with_first []) (option_map with_argument o)
 argument_first None = refl
 argument_first (Some call) = refl
 
@@ -66,7 +67,8 @@ before_end other depth x first follow rest e f =
     ∙ token_first x first rest
 
 -- the first argument of a call is what stands before its end
-pub first_taken : (first rest : List HidingToken) (depth : ℕ) → argument_length depth (first ++ rest) ≡ Some (length first)
+pub first_taken : (first rest : List HidingToken) (depth : ℕ) → argument_length depth (first ++ rest)
+    ≡ Some (length first)
     → taken depth (first ++ rest) ≡ option_map (with_first first) (taken zero rest)
 first_taken [] [] depth e = absurd (not_none 0 e)
 first_taken [] (x ∷ follow) depth e = at_end (role x.token.kind) depth x follow e

@@ -64,7 +64,8 @@ module _ (go : Expander) where
         (sym (append_assoc done (given ∷ []) others.0))
     argument_done call arguments done given (Err fault) = refl
 
-    by_end : (call : Call) (done : List (List HidingToken)) (others : List (List HidingToken)) (given beyond : List HidingToken)
+    by_end : (call : Call) (done : List (List HidingToken)) (others : List (List HidingToken))
+        (given beyond : List HidingToken)
         → taken zero beyond ≡ Some (record call { arguments = others }) → (end : Result ℕ PreFault)
         → with_arguments go outer used parameters is_empty call (after_done done
         (then_others given end (λ left. each_expanded (go (Some used.line)) left (other_arguments others))))
@@ -131,7 +132,8 @@ module _ (go : Expander) where
   abbrev is_first : List HidingToken → Bool
   is_first first = begins_empty (first ∷ [])
 
-  first_only : (first : List HidingToken) (more : List (List HidingToken)) → begins_empty (first ∷ more) ≡ is_first first
+  first_only : (first : List HidingToken) (more : List (List HidingToken)) → begins_empty (first ∷ more)
+      ≡ is_first first
   first_only [] more = refl
   first_only (x ∷ first) more = refl
 

@@ -8,10 +8,13 @@ use Rattle.c_pre.specs.declared.fault.PreFault.{PreFault}
 use Rattle.c_pre.specs.declared.fault.PreFaultKind.TheVariants.{BadCall, TooMany}
 use Rattle.c_pre.specs.Names.{Name, Names, Macro, Macros}
 use Rattle.c_pre.specs.HideSets.{HidingToken, common}
-use Rattle.c_pre.specs.Arguments.{Role, opens, closes, parts, other, Call, role, first_begins, with_token, with_argument}
+use Rattle.c_pre.specs.Arguments.{Role, opens, closes, parts, other, Call, role, first_begins, with_token}
+use Rattle.c_pre.specs.Arguments.{with_argument}
 use Rattle.c_pre.specs.Arguments.{taken_by, taken, behind_open, opened, begins_empty, fits}
-use Rattle.c_pre.specs.Expansion.{Expansion, Expander, Expanded, Used, ends, stops, gives_first, replacement, read_again}
-use Rattle.c_pre.specs.Expansion.{before_others, then_others, each_expanded, with_arguments, with_call, called, replaced}
+use Rattle.c_pre.specs.Expansion.{Expansion, Expander, Expanded, Used, ends, stops, gives_first, replacement}
+use Rattle.c_pre.specs.Expansion.{read_again}
+use Rattle.c_pre.specs.Expansion.{before_others, then_others, each_expanded, with_arguments, with_call, called}
+use Rattle.c_pre.specs.Expansion.{replaced}
 use Rattle.c_pre.specs.Expansion.{use_of, turn, expand_by, expansion, put_in}
 use Rattle.c_pre.specs.Trace.{fault_at}
 
@@ -76,8 +79,10 @@ module _ (go : Expander) (falls : Falls go) where
   again_falls outer line room bound tokens follow h = by (nat_le (length tokens) room)
     where
       by : (b : Bool)
-          → IfEnd bound (if b then go outer (room - length tokens) (tokens ++ follow) else stops (fault_at line TooMany)).end
-      by true = lower (room - length tokens) bound (go outer (room - length tokens) (tokens ++ follow)).end (omega arith)
+          → IfEnd bound (if b then go outer (room - length tokens) (tokens ++ follow) else stops
+          (fault_at line TooMany)).end
+      by true =
+          lower (room - length tokens) bound (go outer (room - length tokens) (tokens ++ follow)).end (omega arith)
           (falls outer (room - length tokens) (tokens ++ follow))
       by false = tt
 
@@ -103,7 +108,8 @@ module _ (go : Expander) (falls : Falls go) where
   either_falls true room t fault h = h
   either_falls false room t fault h = tt
 
-  with_falls : (outer : Option ℕ) (used : Used) (parameters : Names) (is_empty : Bool) (call : Call) (e : Expanded) (room : ℕ)
+  with_falls : (outer : Option ℕ) (used : Used) (parameters : Names) (is_empty : Bool) (call : Call) (e : Expanded)
+      (room : ℕ)
       → IfLeft room e → IfEnd room (with_arguments go outer used parameters is_empty call e).end
   with_falls outer used parameters is_empty call (Ok arguments) room h =
       either_falls (fits (length parameters) is_empty (length arguments.0)) room
@@ -182,7 +188,8 @@ module _ (n : ℕ) (go go' : Expander) (falls : Falls go) (agree : Agree n go go
 
   with_agrees : (outer : Option ℕ) (used : Used) (parameters : Names) (is_empty : Bool) (call : Call) (e : Expanded)
       (room : ℕ) → IfLeft room e → length call.follow + room ≤ n
-      → with_arguments go outer used parameters is_empty call e ≡ with_arguments go' outer used parameters is_empty call e
+      → with_arguments go outer used parameters is_empty call e
+      ≡ with_arguments go' outer used parameters is_empty call e
   with_agrees outer used parameters is_empty call (Ok arguments) room left h =
       ap (λ t. if fits (length parameters) is_empty (length arguments.0) then t else stops (fault_at used.line BadCall))
       (again_agrees outer used.line arguments.1
@@ -264,7 +271,8 @@ expansion_turn macros outer room x follow =
     let n = length follow + room in
     let e : length (x ∷ follow) + room ≡ suc n = omega arith in
     ap (λ depth. expand_by depth macros outer room (x ∷ follow)) e
-    ∙ turn_agrees n (expand_by n macros) (λ outer left tokens. expand_by (length tokens + left) macros outer left tokens)
+    ∙ turn_agrees n (expand_by n macros)
+    (λ outer left tokens. expand_by (length tokens + left) macros outer left tokens)
     (expand_falls n macros)
     (λ outer left tokens h. enough n (length tokens + left) macros outer left tokens h (omega arith))
     outer x (replacement macros x) room follow (omega arith)

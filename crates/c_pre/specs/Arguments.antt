@@ -68,8 +68,8 @@ abbrev pub begins_empty : List (List HidingToken) → Bool
 begins_empty ([] ∷ more) = true
 begins_empty arguments = false
 
--- whether the number of arguments is that of the parameters (6.10.3 paragraph 4): where there is no parameter, no tokens
--- between the parentheses are no argument and not one
+-- whether the number of arguments is that of the parameters (6.10.3 paragraph 4): where there is no parameter, no
+-- tokens between the parentheses are no argument and not one
 abbrev pub fits : ℕ → Bool → ℕ → Bool
 fits zero true (suc zero) = true
 fits parameters is_empty arguments = nat_eq parameters arguments

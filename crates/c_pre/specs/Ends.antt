@@ -1,5 +1,6 @@
 -- For the code: the next token, and where an argument ends.
-use Rattle.std.specs.Prelude.{◌≡◌, ℕ, zero, suc, ◌+◌, ◌≤◌, ◌<◌, List, [], ◌∷◌, ◌++◌, length, Option, Some, None, option_map}
+use Rattle.std.specs.Prelude.{◌≡◌, ℕ, zero, suc, ◌+◌, ◌≤◌, ◌<◌, List, [], ◌∷◌, ◌++◌, length, Option, Some, None}
+use Rattle.std.specs.Prelude.{option_map}
 use Rattle.c_pre.specs.declared.arguments.Role.{Role}
 use Rattle.c_pre.specs.declared.arguments.Role.TheVariants as r
 use Rattle.c_pre.specs.declared.hiding.Hiding.{Hiding}
@@ -36,6 +37,12 @@ pub record Popped (old new : Unread) (end : ℕ) (x : Hiding) : Type 0 where
 
 pub record Stays (old new : Unread) : Type 0 where
   pub tokens : new.tokens.items ≡ old.tokens.items
+  pub sets : new.sets ≡ old.sets
+  pub room : new.room ≡ old.room
+
+-- a token was put before all others
+pub record Pushed (old new : Unread) (x : Hiding) : Type 0 where
+  pub tokens : new.tokens.items ≡ old.tokens.items ++ x ∷ []
   pub sets : new.sets ≡ old.sets
   pub room : new.room ≡ old.room
 

@@ -6,8 +6,8 @@ use Rattle.c_pre.specs.Directives.{line_kind}
 use Rattle.c_pre.specs.Lines.{Tokens}
 
 mutual
-  -- nothing; a line and what is behind it; an if-section, which is its first line, its first group and its other groups,
-  -- and what is behind it
+  -- nothing; a line and what is behind it; an if-section, which is its first line, its first group and its
+  -- other groups, and what is behind it
   pub data Group : Type 0 where
     no_lines : Group
     plain : (line : Tokens) (more : Group) → Group

@@ -13,6 +13,7 @@ pub mod Sections
 pub mod Groups
 pub mod Reading
 pub mod InnerFirst
+pub mod ArgumentEnds
 pub mod SharedSets
 pub mod Pending
 pub mod Ends

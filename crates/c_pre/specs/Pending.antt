@@ -1,6 +1,7 @@
 -- What the code keeps in place of expansions inside of one another: the calls whose arguments are being expanded, and
 -- all unread tokens in one vector.
-use Rattle.std.specs.Prelude.{◌≡◌, ℕ, zero, Bool, true, is_some, List, [], ◌∷◌, ◌++◌, map, take, drop, Option, Some, None, Result}
+use Rattle.std.specs.Prelude.{◌≡◌, ℕ, zero, Bool, true, is_some, List, [], ◌∷◌, ◌++◌, map, take, drop, Option, Some}
+use Rattle.std.specs.Prelude.{None, Result}
 use Rattle.std.specs.Prelude.{Ok, Err}
 use Rattle.std.specs.List.{AllByRecursion}
 use Rattle.c_pre.specs.declared.expander.Call as declared

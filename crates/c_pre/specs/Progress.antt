@@ -1,5 +1,6 @@
 -- What the steps of the code do: each leaves something that comes to the same.
-use Rattle.std.specs.Prelude.{◌≡◌, zero, ◌≤◌, ◌<◌, Bool, true, false, [], ◌∷◌, ◌++◌, length, map, Option, Some, None, Result}
+use Rattle.std.specs.Prelude.{◌≡◌, zero, ◌≤◌, ◌<◌, Bool, true, false, [], ◌∷◌, ◌++◌, length, map, Option, Some, None}
+use Rattle.std.specs.Prelude.{Result}
 use Rattle.std.specs.Prelude.{Ok, Err, option_map, ⊤}
 use Rattle.c_pre.specs.declared.expander.Call as declared
 use Rattle.c_pre.specs.declared.expander.Expander as declared_expander
@@ -9,7 +10,8 @@ use Rattle.c_pre.specs.declared.hide_set.HideSet.{HideSet}
 use Rattle.c_pre.specs.declared.hiding.Hiding.{Hiding}
 use Rattle.c_pre.specs.Arguments.{taken, with_argument}
 use Rattle.c_pre.specs.Directives.{names_among}
-use Rattle.c_pre.specs.Expansion.{Expansion, Used, stops, gives_first, replaced, with_call, line_at, turn, replacement, expansion}
+use Rattle.c_pre.specs.Expansion.{Expansion, Used, stops, gives_first, replaced, with_call, line_at, turn, replacement}
+use Rattle.c_pre.specs.Expansion.{expansion}
 use Rattle.c_pre.specs.Expansion.{trace_of}
 use Rattle.c_pre.specs.Limits.{max_expanded_tokens}
 use Rattle.c_pre.specs.Lines.{Tokens}
@@ -95,7 +97,8 @@ Steps whole new (Ok x) = GoesOn whole new
 Steps whole new (Err error) = (macros : Macros) → StopsAt (whole macros) error
 
 pub record GivesOn (whole : Macros → Expansion) (new : declared_expander.Expander) (before now : Tokens) : Type 0 where
-  pub same : (macros : Macros) → after before (trace_of (whole macros)) ≡ after now (trace_of (comes_to macros (left new)))
+  pub same : (macros : Macros) → after before (trace_of (whole macros))
+      ≡ after now (trace_of (comes_to macros (left new)))
   pub sound : IsSound new
   pub few : length now ≤ max_expanded_tokens
 
@@ -106,7 +109,8 @@ Goes whole new before now (Ok x) = GivesOn whole new before now
 Goes whole new before now (Err error) = (macros : Macros) → StopsBehind before (whole macros) error
 
 -- one step
-pub record Comes (whole : Expansion) (macros : Macros) (new : declared_expander.Expander) (before now : Tokens) : Type 0 where
+pub record Comes (whole : Expansion) (macros : Macros) (new : declared_expander.Expander)
+    (before now : Tokens) : Type 0 where
   pub same : after before (trace_of whole) ≡ after now (trace_of (comes_to macros (left new)))
   pub sound : IsSound new
   pub few : length now ≤ max_expanded_tokens

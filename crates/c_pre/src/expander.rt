@@ -142,8 +142,8 @@ impl<'t, 'a> Expander<'t, 'a> {
         requires few { length out.old.items ≤ max_expanded_tokens }
         requires sound { pending.IsSound self.old }
         requires set { IsKnown self.old.unread.sets x.hidden }
-        ensures { progress.Goes (λ macros. progress.staying macros self.old x.entry) self.new out.old.items out.new.items
-            result }
+        ensures { progress.Goes (λ macros. progress.staying macros self.old x.entry) self.new out.old.items
+            out.new.items result }
     {
         let depth = self.calls.len();
         if depth == 0 {
@@ -172,9 +172,10 @@ impl<'t, 'a> Expander<'t, 'a> {
             result }
     {
         let line = self.line(&x.token);
-        let here = self.unread.sets.with(name, x.hidden)?;
         let none = Vec::new(self.alloc);
-        self.unread.put_in(line, here, &list[..0], &none, list)
+        let unread = &mut self.unread;
+        let here = unread.sets.with(name, x.hidden)?;
+        unread.put_in(line, here, &list[..0], &none, list)
     }
 
     /// The name of a function-like macro: begins a call, or gives the name where no `(` follows.
@@ -267,8 +268,9 @@ impl<'t, 'a> Expander<'t, 'a> {
         if !fits(count(call.parameters), call.is_empty, call.done.len()) {
             return Err(bad_call(call.line));
         }
-        let shared = self.unread.sets.common(self.alloc, call.hidden, close)?;
-        let here = self.unread.sets.with(call.name, shared)?;
+        let unread = &mut self.unread;
+        let shared = unread.sets.common(self.alloc, call.hidden, close)?;
+        let here = unread.sets.with(call.name, shared)?;
         let done = call.done.as_slice();
         self.unread
             .put_in(call.line, here, call.parameters, done, call.list)
@@ -307,8 +309,8 @@ impl<'t, 'a> Expander<'t, 'a> {
         requires sound { pending.IsSound self.old }
         requires set { IsKnown self.old.unread.sets x.hidden }
         requires within { pending.end_of (inner_first self.old.calls.items) ≤ length self.old.unread.tokens.items }
-        ensures { progress.Reads (macros_of macros.now) (progress.reading (macros_of macros.now) self.old x.entry) self.new
-            out.old.items out.new.items result }
+        ensures { progress.Reads (macros_of macros.now) (progress.reading (macros_of macros.now) self.old x.entry)
+            self.new out.old.items out.new.items result }
     {
         let Some(definition) = self.macro_for(macros, &x) else {
             return self.give(x, out);
@@ -328,8 +330,8 @@ impl<'t, 'a> Expander<'t, 'a> {
     ) -> Result<bool, PreError>
         requires few { length out.old.items ≤ max_expanded_tokens }
         requires sound { pending.IsSound self.old }
-        ensures { progress.Advances (pending.comes_to (macros_of macros.now) (pending.left self.old)) (macros_of macros.now)
-            self.new out.old.items out.new.items result }
+        ensures { progress.Advances (pending.comes_to (macros_of macros.now) (pending.left self.old))
+            (macros_of macros.now) self.new out.old.items out.new.items result }
     {
         let end = self.end();
         if let Some(x) = self.unread.next(end) {

@@ -24,8 +24,8 @@ pub enum PreFaultKind {
     /// A call of a function-like macro whose `)` does not stand before the next directive or the end, or with another
     /// number of arguments than the macro has parameters (6.10.3 paragraph 4).
     BadCall,
-    /// A condition that is read and is no conditional expression of at most 200 levels over constants, or that divides by
-    /// zero in an operand that is evaluated (6.10.1).
+    /// A condition that is read and is no conditional expression of at most 200 levels over constants, or that divides
+    /// by zero in an operand that is evaluated (6.10.1).
     BadCondition,
 }
 

@@ -140,8 +140,8 @@ impl<'t, 'a> Preprocessor<'t, 'a> {
     /// `#elif`.
     #[tactic(auto, using(crate::proofs::Stacks::last_is_inner))]
     fn begin_elif(&mut self, at: Line, condition: Condition<'t, 'a>) -> Result<(), PreError>
-        ensures { Steps (spec.elif_at at condition.entry.tokens.now (state_of self.old) (inner_first self.old.sections.items))
-            (λ _. state_of self.new) result }
+        ensures { Steps (spec.elif_at at condition.entry.tokens.now (state_of self.old)
+            (inner_first self.old.sections.items)) (λ _. state_of self.new) result }
     {
         let Some(section) = self.sections.pop() else {
             return Err(fault(PreFaultKind::StrayEnd, at));

@@ -13,16 +13,19 @@ use Rattle.c_pre.proofs.expander.Expander.call.Goals as goal
 pub begin_call-requires-clause-sound : goal.begin_call-requires-clause-sound
 begin_call-requires-clause-sound c =
     let old = c.args.self.now.unread in
-    let is_open = subst (λ end. OpenIs old c.open.new.self end c.in_ok-open.field-0) c.end-end.ensures c.in_ok-open.ensures in
+    let is_open = subst (λ end. OpenIs old c.open.new.self end c.in_ok-open.field-0) c.end-end.ensures
+    c.in_ok-open.ensures in
     let here = rw c.in-Some.is at is_open in
     popped_sound old c.open.new.self (inner_first c.args.self.now.calls.items) c.in-Some.field-0 here.0 c.requires.sound
 
 pub returns-in-Some : goal.returns-in-Some
 returns-in-Some c =
     let old = c.args.self.now.unread in
-    let is_open = subst (λ end. OpenIs old c.open.new.self end c.in_ok-open.field-0) c.end-end.ensures c.in_ok-open.ensures in
+    let is_open = subst (λ end. OpenIs old c.open.new.self end c.in_ok-open.field-0) c.end-end.ensures
+    c.in_ok-open.ensures in
     let here = rw c.in-Some.is at is_open in
-    let whole : Macros → Expansion = λ macros. function_like macros c.args.self.now c.args.x c.args.name c.args.parameters.now c.args.list.now in
+    let whole : Macros → Expansion = λ macros. function_like macros c.args.self.now c.args.x c.args.name
+    c.args.parameters.now c.args.list.now in
     goes_by whole c.begin_call.new.self c.args.out.now.items c.begin_call.result c.requires.few
     (steps_by whole _ c.begin_call.new.self c.begin_call.result
     (λ macros. opens_call old c.open.new.self (inner_first c.args.self.now.calls.items) c.in-Some.field-0 here.0 here.1

@@ -1,4 +1,5 @@
-use Rattle.std.proofs.Common.{◌≡◌, List, [], ◌∷◌, map, length, true, false, refl, sym, ap, subst, Vec, Global, ◌∙◌, arith}
+use Rattle.std.proofs.Common.{◌≡◌, List, [], ◌∷◌, map, length, true, false, refl, sym, ap, subst, Vec, Global, ◌∙◌}
+use Rattle.std.proofs.Common.{arith}
 use Rattle.c_pre.specs.declared.fault.PreFaultKind.TheVariants.{BadCall}
 use Rattle.c_pre.specs.Arguments.{fits}
 use Rattle.c_pre.specs.Directives.{names_among}
@@ -70,6 +71,12 @@ returns c =
     (length_map (λ v. all_hiding sets v.items) call.done.items
     ∙ (let e : length call.done.items ≡ c.len.result = omega (arith, c.len.ensures) in e))
     ∙ ap (λ n. fits n call.is_empty c.len.result) (sym c.count.ensures) ∙ sym c.if-not-fits.ensures in
+    let same_arguments : put_in call.line here parameters
+    (map (λ v. all_hiding made v.items) c.as_slice-done.result.now)
+    call.list.now ≡ tokens =
+    ap (λ (items : List (Vec Hiding Global)). put_in call.line here parameters
+    (map (λ v. all_hiding made v.items) items)
+    call.list.now) c.as_slice-done.ensures.value in
     let again : List HidingToken → Macros → Expansion = λ ts macros. resumed (expansion macros) l.frames
     (read_again (expansion macros) l.line call.line l.room ts l.tokens) in
     let same : put_in call.line (call.name ∷ common (names_of sets call.hidden) close) parameters done call.list.now
@@ -83,7 +90,5 @@ returns c =
     (λ macros. ap (resumed (expansion macros) l.frames)
     (call_ends (expansion macros) f done l.room close l.tokens yes)
     ∙ ap (λ ts. again ts macros) same)
-    (sets_then_put tokens u c.put_in.new.self made call.line c.put_in.result grows
-    (subst (λ (items : List (Vec Hiding Global)). PutsIn (put_in call.line here parameters
-    (map (λ v. all_hiding made v.items) items) call.list.now) (record u { sets = made }) c.put_in.new.self call.line
-    c.put_in.result) c.as_slice-done.ensures.value c.put_in.ensures))
+    (subst (λ ts. PutsIn ts u c.put_in.new.self call.line c.put_in.result) same_arguments
+    (sets_then_put _ u _ c.put_in.new.self call.line c.put_in.result grows refl refl c.put_in.ensures))

@@ -18,7 +18,8 @@ returns-then-depth-eq0 c =
     text_goes (λ macros. staying macros c.args.self.now x)
     (λ macros. comes_to macros (left_in u.sets (inner_first c.args.self.now.calls.items) u.tokens.items u.room)) _
     c.args.out.now.items c.give.new.out.items x.token c.give.result c.give.ensures
-    (λ macros. subst (λ (cs : List declared.Call). trace_of (resumed (expansion macros) (left_in u.sets cs u.tokens.items u.room).frames
+    (λ macros. subst (λ (cs : List declared.Call). trace_of
+    (resumed (expansion macros) (left_in u.sets cs u.tokens.items u.room).frames
     (gives_first (hiding u.sets x) (expansion macros (left_in u.sets cs u.tokens.items u.room).line u.room
     (left_in u.sets cs u.tokens.items u.room).tokens)))
     ≡ (gives x.token >>= λ _. trace_of (comes_to macros (left_in u.sets cs u.tokens.items u.room)))) (sym old) refl)

@@ -23,5 +23,5 @@ returns c =
     (put_in n (c.args.name ∷ names_of old.sets c.args.x.hidden) [] [] list) l.tokens)) (sym c.line-line.ensures)
     ∙ ap (λ h. resumed (expansion macros) l.frames (read_again (expansion macros) l.line line l.room
     (put_in line h [] [] list) l.tokens)) (sym c.in_ok-here.ensures.names))
-    (sets_then_put (put_in line here [] [] list) old new sets line c.put_in.result c.in_ok-here.ensures.grows
+    (sets_then_put (put_in line here [] [] list) old _ new line c.put_in.result c.in_ok-here.ensures.grows refl refl
     c.put_in.ensures)

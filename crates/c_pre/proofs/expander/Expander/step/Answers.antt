@@ -25,7 +25,8 @@ read-requires-clause-set c =
 
 pub returns-in-Some : goal.returns-in-Some
 returns-in-Some c =
-    let whole = popped_reads c.args.self.now.unread c.next.new.self (inner_first c.args.self.now.calls.items) c.in-Some.x
+    let whole = popped_reads c.args.self.now.unread c.next.new.self
+    (inner_first c.args.self.now.calls.items) c.in-Some.x
     (subst (λ end. Popped c.args.self.now.unread c.next.new.self end c.in-Some.x) c.end-end.ensures c.in-Some.ensures)
     (macros_of c.args.macros.now) in
     record {
@@ -36,7 +37,8 @@ returns-in-Some c =
 
 pub returns-in_err-read : goal.returns-in_err-read
 returns-in_err-read c =
-    let whole = popped_reads c.args.self.now.unread c.next.new.self (inner_first c.args.self.now.calls.items) c.in-Some.x
+    let whole = popped_reads c.args.self.now.unread c.next.new.self
+    (inner_first c.args.self.now.calls.items) c.in-Some.x
     (subst (λ end. Popped c.args.self.now.unread c.next.new.self end c.in-Some.x) c.end-end.ensures c.in-Some.ensures)
     (macros_of c.args.macros.now) in
     let error = err_from_is_err_and c.from_residual.result c.from_residual.ensures.1 in

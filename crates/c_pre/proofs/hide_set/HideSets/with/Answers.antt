@@ -7,7 +7,8 @@ pub returns-clause-names : goal.returns-clause-names
 returns-clause-names c =
     let old = c.args.self.now in
     let node : HideNode = record { name = c.args.name; others = c.args.set } in
-    made_names old (record { nodes = c.push.new.self }) node c.in_ok-push.ensures.items (record { number = c.len.result })
+    made_names old (record { nodes = c.push.new.self }) node c.in_ok-push.ensures.items
+    (record { number = c.len.result })
     (omega (
       arith,
       c.len.ensures,

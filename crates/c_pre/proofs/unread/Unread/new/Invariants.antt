@@ -5,8 +5,9 @@ use Rattle.c_pre.proofs.unread.Unread.new.Given as goal
 
 abbrev pub invariant-loop-n : goal.invariant-loop-n
 invariant-loop-n l = record {
-  same : above 0 l.sets l.tokens.items ≡ of_text (drop l.n l.text);
-  known : AreKnown l.sets l.tokens.items;
+  same : above 0 l.unread.sets l.unread.tokens.items ≡ of_text (drop l.n l.text);
+  known : AreKnown l.unread.sets l.unread.tokens.items;
+  room : l.unread.room ≡ l.fn.room;
   within : l.n ≤ length l.text;
 }
 

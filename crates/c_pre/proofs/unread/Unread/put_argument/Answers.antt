@@ -7,9 +7,8 @@ use Rattle.c_pre.proofs.unread.Unread.put_argument.Goals as goal
 pub loop-n-preserved : goal.loop-n-preserved
 loop-n-preserved c =
     let b = c.loop-n.self in
-    let d : Unread = record { sets = c.joined.new.self; tokens = b.tokens; room = b.room } in
     record {
-      puts = argument_step c.args.line c.args.here c.args.argument.now c.args.self.now b d c.put.new.self c.loop-n.n
+      puts = argument_step c.args.line c.args.here c.args.argument.now c.args.self.now b _ c.put.new.self c.loop-n.n
           c.index-argument-n.result c.in_ok-hidden.hidden c.requires.argument c.requires.set c.loop-n.invariant.puts
           c.loop-n-test.true c.loop-n.invariant.within c.index-argument-n.is c.in_ok-hidden.ensures.grows refl refl
           c.in_ok-hidden.ensures.names c.in_ok-put.ensures;
@@ -19,7 +18,7 @@ loop-n-preserved c =
 pub returns-in_err-put : goal.returns-in_err-put
 returns-in_err-put c =
     let b = c.loop-n.self in
-    let d : Unread = record { sets = c.joined.new.self; tokens = b.tokens; room = b.room } in
+    let d : Unread = record b { sets = c.joined.new.self; ends_are = c.self-1.given.0 } in
     let error = err_from_is_err_and c.from_residual-in_err-put.result c.from_residual-in_err-put.ensures.1 in
     rw (error.1, error.2)
     (argument_refused c.args.line c.args.here c.args.argument.now c.args.self.now b d c.put.new.self c.loop-n.n

@@ -3,7 +3,7 @@ use Rattle.std.proofs.lemmas.Option.{slice_get_read, slice_get_past}
 use Rattle.c_pre.specs.Directives.{names_among}
 use Rattle.c_pre.specs.Pending.{all_hiding}
 use Rattle.c_pre.proofs.Putting.{no_argument, placed}
-use Rattle.c_pre.proofs.unread.argument_of.Goals as goal
+use Rattle.c_pre.proofs.arguments.argument_of.Goals as goal
 
 pub returns-in_default-parameter_at-clause-argument : goal.returns-in_default-parameter_at-clause-argument
 returns-in_default-parameter_at-clause-argument c = λ sets.
@@ -18,7 +18,8 @@ returns-then-place-arguments-clause-argument c = λ sets.
     ∙ sym (placed (λ w. all_hiding sets w.items) (names_among c.args.parameters.now) vs c.in-Some.name _
     c.in-Some-parameter_at.place (Some v) (sym c.of.ensures ∙ c.in-Some.is)
     (sym c.parameter_at.ensures ∙ c.in-Some-parameter_at.is)
-    (slice_get_read vs (length vs) c.in-Some-parameter_at.place v refl c.if-place-arguments.true c.index-arguments-place.is))
+    (slice_get_read vs (length vs) c.in-Some-parameter_at.place v refl c.if-place-arguments.true
+    c.index-arguments-place.is))
 
 pub returns-else-place-arguments-clause-argument : goal.returns-else-place-arguments-clause-argument
 returns-else-place-arguments-clause-argument c = λ sets.

@@ -1,4 +1,6 @@
+pub mod Blocks
 pub mod Lists
 pub mod Operands
-pub mod PlainTypes
 pub mod OneEntry
+pub mod PlainTypes
+pub mod Statics

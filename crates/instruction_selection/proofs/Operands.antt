@@ -115,3 +115,36 @@ pub scalar_below : (h : HeldScalar) (k : Scalar) (d a s : ℕ) → h ≡ held_sc
     → AreBelow s (a ∷ registers_of (holder_in h))
 scalar_below h k d a s e below lt =
     subst (λ z. AreBelow s (a ∷ registers_of (holder_in z))) (sym e) (one_below k d a s below lt)
+
+-- a new address behind the registers of the old pointer, whose entry stays
+pub moved_below : (h : Held) (a d : ℕ) → h ≡ record { value = d + 5; tag = (held_from d).tag } → a < d
+    → AreBelow (d + 6) (a ∷ held_registers h)
+moved_below h a d e below =
+    subst (λ z. AreBelow (d + 6) (a ∷ held_registers z)) (sym e)
+    (omega (arith, below), (omega arith, (omega arith, (omega arith, (omega arith, (omega arith, tt))))))
+
+-- an address in a register below those of a value
+pub below_apart : (h : Held) (d a : ℕ) → h ≡ held_from d → a < d → AreDistinct (a ∷ held_registers h)
+below_apart h d a e below =
+    subst (λ z. AreDistinct (a ∷ held_registers z)) (sym e) (
+      (
+        under a d below,
+        (
+          under a (d + 1) (omega (arith, below)),
+          (
+            under a (d + 2) (omega (arith, below)),
+            (
+              under a (d + 3) (omega (arith, below)),
+              (
+                under a (d + 4) (omega (arith, below)),
+                tt,
+              ),
+            ),
+          ),
+        ),
+      ),
+      are_distinct d,
+    )
+
+pub held_below : (h : Held) (d s : ℕ) → h ≡ held_from d → d + 5 ≤ s → AreBelow s (held_registers h)
+held_below h d s e below = subst (λ z. AreBelow s (held_registers z)) (sym e) (are_below d s below)

@@ -1,4 +1,7 @@
 pub mod Words
+pub mod Calls
 pub mod Registers
+pub mod Statics
+pub mod Blocks
 pub mod Contexts
 pub mod Selected

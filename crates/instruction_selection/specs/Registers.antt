@@ -1,12 +1,16 @@
 -- The numbers of a function's virtual registers, as a struct has them.
-use Rattle.std.specs.Prelude.{◌≡◌, ℕ, ◌+◌, ◌*◌, ◌^◌, ◌≤◌, get_or}
+use Rattle.std.specs.Prelude.{◌≡◌, ℕ, ◌+◌, ◌*◌, ◌^◌, ◌≤◌, Bool, true, Some, get_or}
+use Rattle.source_meaning.specs.Blocks.{has_objects}
 use Rattle.tac_ir.specs.declared.instruction.Instruction.{Instruction}
+use Rattle.tac_ir.specs.declared.instruction.Instruction.TheVariants as tac
+use Rattle.tac_ir.specs.Meaning.{objects_in}
 use Rattle.tac_ir.specs.declared.function.CodeFunction.{CodeFunction}
 use Rattle.tac_ir.specs.Temporaries.{temporaries}
 use Rattle.metadata_plan.specs.Registers.{most_temporaries}
 use Rattle.metadata_relation.specs.Registers.{variable_register, home_register, homes_end, tops_end}
 use Rattle.metadata_relation.specs.Registers.{first_free}
 use Rattle.instruction_selection.specs.declared.registers.Registers.{Registers}
+use Rattle.instruction_selection.specs.Calls.{argument_count}
 
 -- so many registers from the first free one on a block needs for itself at most
 abbrev pub block_registers : ℕ
@@ -25,6 +29,23 @@ pub record AreRegisters (registers : Registers) (function : CodeFunction) : Type
   pub free : registers.free ≡ first_free function
   pub small : HasFewRegisters function
 
--- an instruction names no more temporaries than its function has
+-- the arguments of a routine of the library are temporaries of the function
+abbrev pub last_handed : Instruction → ℕ
+last_handed (tac.Library r line d n m) = d + argument_count r
+last_handed i = 0
+
+abbrev pub function_named : Instruction → ℕ
+function_named (tac.FunctionPointer d f m) = f
+function_named i = 0
+
+-- a block that is left has objects
+abbrev pub leaves_objects : CodeFunction → Instruction → Bool
+leaves_objects c (tac.LeaveBlock b m) = has_objects (objects_in (Some c) b)
+leaves_objects c i = true
+
+-- an instruction names temporaries and objects of its function, and functions that have an address in the jump table
 pub record IsAmong (function : CodeFunction) (instruction : Instruction) : Type 0 where
   pub temporaries : temporaries instruction ≤ most_temporaries function.code
+  pub handed : last_handed instruction ≤ most_temporaries function.code
+  pub functions : function_named instruction ≤ 2 ^ 12
+  pub left : leaves_objects function instruction ≡ true

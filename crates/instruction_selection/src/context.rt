@@ -1,12 +1,16 @@
 //! What the flat code of the instructions of a function is made from.
 
-ghost use Rattle.std.specs.Prelude.{◌≡◌, ◌+◌, ◌<◌, ◌≤◌, ◌^◌};
+ghost use Rattle.std.specs.Prelude.{◌≡◌, ◌+◌, ◌-◌, ◌*◌, ◌<◌, ◌≤◌, ◌^◌, length};
 ghost use Rattle.metadata_plan.specs.Registers.{most_temporaries};
 ghost use Rattle.metadata_relation.specs.Registers.{variable_register, home_register, temporary_register};
+ghost use Rattle.metadata_relation.specs.Registers.{moved_register};
 ghost use Rattle.metadata_relation.specs.Registers.{first_free};
-ghost use Rattle.instruction_selection.specs.Contexts.{HasRegisters};
+ghost use Rattle.metadata_relation.specs.Registers.{block_top_register, body_top_register, parameters_end, total};
+ghost use Rattle.metadata_relation.specs.Registers.{variable_words};
+ghost use Rattle.instruction_selection.specs.Contexts.{HasRegisters, type_at};
 
-use crate::registers::Registers;
+use crate::registers::{Registers, argument_words};
+use crate::statics::StaticPlace;
 use addr_map::AddrMap;
 use std::alloc::Global;
 use tac_ir::{CodeFunction, Tac};
@@ -24,6 +28,10 @@ pub struct FunctionContext<'a> {
     pub function: &'a CodeFunction,
     /// The numbers of its virtual registers.
     pub registers: &'a Registers,
+    /// Where the static objects stand, by their numbers.
+    pub statics: &'a [StaticPlace],
+    /// What the keys of pointers to the functions tell of their types, by their numbers.
+    pub types: &'a [u64],
 }
 
 impl<'a> FunctionContext<'a> {
@@ -40,9 +48,46 @@ impl<'a> FunctionContext<'a> {
     pub fn home(&self, number: usize) -> u32
         requires { HasRegisters self.now }
         ensures value { result ≡ home_register self.now.function.now number }
-        ensures room { result ≤ self.now.registers.now.free }
+        ensures room { result < self.now.registers.now.free }
     {
         self.registers.home(self.function, number)
+    }
+
+    /// How many registers the arguments take.
+    pub fn parameters_end(&self) -> u32
+        requires { HasRegisters self.now }
+        ensures value { result ≡ parameters_end self.now.function.now }
+        ensures room { result + 1 + total variable_words self.now.function.now.variables
+            ≡ self.now.registers.now.first_home }
+    {
+        argument_words(self.function.parameters.as_slice())
+    }
+
+    /// The first register of the argument of a parameter.
+    pub fn parameter(&self, number: usize) -> u32
+        requires registers { HasRegisters self.now }
+        requires there { number < length self.now.function.now.parameters }
+        ensures value { result ≡ variable_register self.now.function.now number }
+        ensures room { result + 5 ≤ self.now.registers.now.free }
+    {
+        self.registers.variable(self.function, number)
+    }
+
+    /// The register of the end of the object stack from before the block of the body.
+    pub fn body_top(&self) -> u32
+        requires { HasRegisters self.now }
+        ensures { result ≡ body_top_register self.now.function.now }
+    {
+        self.registers.first_top
+    }
+
+    /// The register of the end of the object stack from before another block.
+    pub fn block_top(&self, block: usize) -> u32
+        requires registers { HasRegisters self.now }
+        requires there { block < 2 ^ 31 }
+        ensures { result ≡ block_top_register self.now.function.now block }
+    {
+        self.registers.first_top + 1 + block as u32
     }
 
     /// The first register of a temporary.
@@ -55,6 +100,17 @@ impl<'a> FunctionContext<'a> {
         self.registers.temporary(self.function, number)
     }
 
+    /// The first register of the arguments of a call whose first stands in a temporary.
+    pub fn moved(&self, first: usize) -> u32
+        requires registers { HasRegisters self.now }
+        requires there { first ≤ most_temporaries self.now.function.now.code }
+        ensures value { result ≡ moved_register self.now.function.now (5 * first) }
+        ensures room { result + 5 * (most_temporaries self.now.function.now.code - first)
+            ≤ self.now.registers.now.free }
+    {
+        self.registers.moved(self.function, 5 * first)
+    }
+
     /// The first register that is free.
     pub fn free(&self) -> u32
         requires { HasRegisters self.now }
@@ -63,5 +119,15 @@ impl<'a> FunctionContext<'a> {
         ensures room { result + 16 ≤ 2 ^ 31 }
     {
         self.registers.free
+    }
+
+    /// What the key of a pointer to a function tells of its type.
+    pub fn type_of(&self, function: usize) -> u64
+        ensures { result ≡ type_at self.now function }
+    {
+        match self.types.get(function) {
+            Some(type_number) => *type_number,
+            None => 0,
+        }
     }
 }

@@ -3,20 +3,31 @@
 #![tactic(auto)]
 
 pub mod accesses;
+pub mod blocks;
+pub mod bodies;
+pub mod call_tests;
+pub mod calls;
+pub mod checks;
 pub mod context;
 pub mod entries;
+pub mod handing;
 pub mod initializers;
 pub mod instructions;
 pub mod laws;
 mod list;
 pub mod named;
 pub mod numbers;
+pub mod place_updates;
 pub mod pointers;
 pub mod registers;
+pub mod runtime_calls;
+pub mod selection;
+pub mod statics;
 mod temporaries;
 pub mod updates;
 pub mod values;
 pub mod variables;
 
 pub use crate::context::FunctionContext;
+pub use crate::instructions::put_instruction;
 pub use crate::registers::Registers;

@@ -182,3 +182,15 @@ impl Registers {
         self.first_moved + word as u32
     }
 }
+
+/// How many registers the arguments of parameters take.
+pub fn argument_words(parameters: &[Variable]) -> u32
+    requires { total parameter_words parameters.now < 2 ^ 31 }
+    ensures { result ≡ total parameter_words parameters.now }
+{
+    let mut count = 0;
+    for variable in parameters {
+        count += Words::OfParameter.count(variable);
+    }
+    count
+}

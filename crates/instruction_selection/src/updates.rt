@@ -59,7 +59,7 @@ fn right_register(context: &FunctionContext, right: RightOperand, register: u32)
 }
 
 // Which of the registers of the old value and the new one is given.
-fn given_register(fixity: Fixity, old: u32, new: u32) -> u32
+pub(crate) fn given_register(fixity: Fixity, old: u32, new: u32) -> u32
     ensures value { result ≡ given_register fixity old new }
 {
     match fixity {

@@ -1,6 +1,7 @@
 //! Types of plain variables.
 
 ghost use Rattle.std.specs.Prelude.{◌≡◌, ◌<◌, ◌∷◌, [], length, Some, slice_get};
+ghost use Rattle.c_tree.specs.Valid.{at_number};
 ghost use Rattle.source_meaning.specs.Good.{plain_type};
 ghost use Rattle.metadata_plan.specs.Registers.{all_variables};
 
@@ -50,4 +51,27 @@ pub fn plain_type(function: &CodeFunction, number: usize) -> Option<Scalar>
         return type_in(parameters, number);
     }
     type_in(function.variables.as_slice(), number - parameters.len())
+}
+
+// The kind of one of some variables, by its number; a number that is none's has that of no value.
+#[tactic(auto, using(crate::proofs::PlainTypes::kind_at, crate::proofs::PlainTypes::kind_past))]
+fn kind_in(variables: &[Variable], number: usize) -> Kind
+    ensures { result ≡ (at_number variables.now number).kind }
+{
+    if number >= variables.len() {
+        return Kind::Void;
+    }
+    variable_at(variables, number).kind
+}
+
+/// The kind of a variable of a function, by its number.
+#[tactic(auto, using(crate::proofs::PlainTypes::kind_before, crate::proofs::PlainTypes::kind_behind))]
+pub fn kind_of(function: &CodeFunction, number: usize) -> Kind
+    ensures { result ≡ (at_number (all_variables function.now) number).kind }
+{
+    let parameters = function.parameters.as_slice();
+    if number < parameters.len() {
+        return kind_in(parameters, number);
+    }
+    kind_in(function.variables.as_slice(), number - parameters.len())
 }

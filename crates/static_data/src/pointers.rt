@@ -27,9 +27,9 @@ pub fn size_of(kind: Kind) -> u64
     }
 }
 
-// The next multiple of 16.
-fn rounded(offset: u64) -> u64
-    requires { offset ≤ 2 ^ 32 }
+/// The next multiple of 16.
+pub fn rounded(offset: u64) -> u64
+    requires { offset ≤ 2 ^ 63 }
     ensures { result ≡ rounded_up 16 offset }
 {
     (offset + 15) / 16 * 16

@@ -238,11 +238,7 @@ fn make_list(
 
 /// The run ends at `line` where no key is left, by the register that `keys_list` leaves it in. The only refusal is that
 /// memory fails.
-pub fn key_test(
-    alloc: Global,
-    left: u32,
-    line: Line,
-) -> Result<Vec<FlatInstruction>, AllocError>
+pub fn key_test(alloc: Global, left: u32, line: Line) -> Result<Vec<FlatInstruction>, AllocError>
     ensures { IfOk result (λ r. r.items ≡ key_test left line) }
 {
     let code = [

@@ -18,6 +18,7 @@ use Rattle.source_meaning.specs.Blocks.{Block}
 use Rattle.source_meaning.specs.Places.{stack_first, statics_first}
 use Rattle.source_meaning.specs.Structures.{rvalue}
 use Rattle.source_meaning.specs.Good.{EndsMade, Leaves}
+use Rattle.source_meaning.specs.Keeping.{LivesOn}
 use Rattle.source_meaning.proofs.Holding.{live_made}
 use Rattle.tac_ir.specs.declared.instruction.Instruction.{Instruction}
 use Rattle.tac_ir.specs.declared.function.CodeFunction.{CodeFunction}
@@ -124,6 +125,17 @@ placed_static first (d ∷ ds) offset (suc n) lt =
     let made = r.made in
     record { made = omega arith; static = r.static }
 
+-- static objects live on
+pub statics_live_on : (c : Compiled) (old new : Objects) → LivesOn old new
+    → Continues (objects_before (expansion_of c).code c.setting) old
+    → ((n : ℕ) → n < length (expansion_of c).code.statics → (object_at old n).is_live ≡ true)
+    → (n : ℕ) → n < length (expansion_of c).code.statics → (object_at new n).is_live ≡ true
+statics_live_on c old new lives statics live n lt =
+    let is = placed_static (statics_first c.setting) (expansion_of c).code.statics 0 n lt in
+    let made = is.made in
+    let longer = statics.longer in
+    lives.live n (omega arith) (ap is_allocated (statics.storage n made ∙ is.static)) (live n lt)
+
 pub steady_on : (c : Compiled) (u : ℕ) (ws : List Frame) (s s' : State) → Leaves (context_at (names c) u ws) s s'
     → s'.keys ≤ (map_of c).budgets.keys → IsSteady c u ws s → IsSteady c u ws s'
 steady_on c u ws s s' l keys h = record {
@@ -132,11 +144,7 @@ steady_on c u ws s s' l keys h = record {
   keys = keys;
   statics = continues_then (objects_before (expansion_of c).code c.setting) s.objects s'.objects h.statics
       l.lives.continues;
-  statics_live = λ n lt.
-      (let is = placed_static (statics_first c.setting) (expansion_of c).code.statics 0 n lt in
-      let made = is.made in
-      let longer = h.statics.longer in
-      l.lives.live n (omega arith) (ap is_allocated (h.statics.storage n made ∙ is.static)) (h.statics_live n lt));
+  statics_live = statics_live_on c s.objects s'.objects l.lives h.statics h.statics_live;
 }
 
 -- ---- the memory stands for other objects

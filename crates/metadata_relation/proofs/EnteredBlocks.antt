@@ -1,6 +1,6 @@
 -- A block is entered: a function of the runtime makes its objects, whose homes are placed, and the object stack ends
 -- behind them; or the run ends, where they have no room or no key.
-use Rattle.std.proofs.Common.{◌≡◌, ◌≢◌, ◌⊎◌, inl, inr, ℕ, suc, ◌+◌, ◌-◌, ◌*◌, ◌%◌, ◌^◌, ◌<◌, ◌≤◌, Bool, true, false}
+use Rattle.std.proofs.Common.{◌≡◌, ◌⊎◌, inl, inr, ℕ, suc, ◌+◌, ◌-◌, ◌*◌, ◌^◌, ◌<◌, ◌≤◌, Bool, true, false}
 use Rattle.std.proofs.Common.{List, ◌∷◌, ◌++◌, length, get_or, Some, refl, sym, ap, ◌∙◌}
 use Rattle.std.proofs.Common.{subst, arith}
 use Rattle.std.specs.Prelude.{◌&&◌, slice_get, nat_le, nat_lt}
@@ -28,10 +28,9 @@ use Rattle.tac_ir.specs.Stage.{came, Entered, Frame, Over, Stage, Stands, Temps}
 use Rattle.flat_meaning.specs.declared.instruction.FlatInstruction.{FlatInstruction}
 use Rattle.flat_meaning.specs.Calls.{function_in}
 use Rattle.flat_meaning.specs.Meaning.{body_of, step}
-use Rattle.flat_meaning.specs.Memory.{Bytes, put}
+use Rattle.flat_meaning.specs.Memory.{Bytes}
 use Rattle.flat_meaning.specs.State as flat
 use Rattle.flat_meaning.specs.Words.{HasWords}
-use Rattle.flat_routines.specs.Objects.StandsFor.{Keys}
 use Rattle.flat_routines.proofs.Steps.{has_front}
 use Rattle.flat_actions.proofs.Standing.{for_worked}
 use Rattle.lib_wrappers.specs.AllocatingRoutines.Entering.{AreSized, block_bytes}

@@ -1,8 +1,8 @@
 -- A function is entered whose body has objects: they are made, parameters that are objects are stored, and the run comes
 -- to the function's first node.
-use Rattle.std.proofs.Common.{◌≡◌, ◌≢◌, ℕ, zero, suc, ◌+◌, ◌-◌, ◌*◌, ◌^◌, ◌<◌, ◌≤◌, Bool, true, false}
+use Rattle.std.proofs.Common.{◌≡◌, ℕ, zero, suc, ◌+◌, ◌-◌, ◌*◌, ◌^◌, ◌<◌, ◌≤◌, Bool, true, false}
 use Rattle.std.proofs.Common.{List, [], ◌∷◌, ◌++◌, length, length-append, map, get_or, Some, refl, sym, ap, ◌∙◌, subst, arith}
-use Rattle.std.specs.Prelude.{slice_get, nat_le, nat_lt, ◌&&◌, if◌then◌else◌}
+use Rattle.std.specs.Prelude.{slice_get, nat_le, nat_lt, if◌then◌else◌}
 use Rattle.std.proofs.lemmas.Bool.{and_parts, le-leb, ltb-true}
 use Rattle.behaviours.specs.Steps.{run}
 use Rattle.behaviours.proofs.Running.{run_add}
@@ -26,7 +26,7 @@ use Rattle.tac_ir.specs.Meaning.{begun, header_of_code, objects_before}
 use Rattle.tac_ir.specs.Stage.{came, Frame, no_temps, Stage, Stands}
 use Rattle.flat_meaning.specs.declared.instruction.FlatInstruction.{FlatInstruction}
 use Rattle.flat_meaning.specs.declared.function.FlatProgram.{FlatProgram}
-use Rattle.flat_meaning.specs.Calls.{arguments, charged, function_in}
+use Rattle.flat_meaning.specs.Calls.{arguments, function_in}
 use Rattle.flat_meaning.specs.Meaning.{body_of, step}
 use Rattle.flat_meaning.specs.Memory.{Bytes}
 use Rattle.flat_meaning.specs.State as flat

@@ -1,15 +1,15 @@
 -- What comes of a step that stays in its function and changes objects and memory: callers and blocks wait on, states stay
 -- good, and what is asked of a state at every node holds again.
-use Rattle.std.proofs.Common.{◌≡◌, ◌⊎◌, inl, inr, ℕ, zero, suc, ◌+◌, ◌*◌, ◌<◌, ◌≤◌, Bool, true, false, List, [], ◌∷◌}
+use Rattle.std.proofs.Common.{◌≡◌, ◌⊎◌, inl, inr, ℕ, ◌+◌, ◌*◌, ◌<◌, ◌≤◌, Bool, true, false, List, [], ◌∷◌}
 use Rattle.std.proofs.Common.{length, Some, None, refl, sym, ap, ◌∙◌, subst, arith}
 use Rattle.std.proofs.lemmas.Bool.{cases_lt}
 use Rattle.behaviours.specs.Steps.{run}
 use Rattle.behaviours.proofs.Running.{run_add}
 use Rattle.addr_map.specs.declared.region.Region.TheVariants.{StructureValues, Cells}
 use Rattle.addr_map.specs.Places.{MapSizes, region_size, region_start}
-use Rattle.obj_memory.specs.declared.object.Storage.TheVariants.{Automatic, Static}
+use Rattle.obj_memory.specs.declared.object.Storage.TheVariants.{Automatic}
 use Rattle.obj_memory.specs.declared.value.Value.{Value}
-use Rattle.obj_memory.specs.Heap.{rounded_up, is_allocated}
+use Rattle.obj_memory.specs.Heap.{is_allocated}
 use Rattle.obj_memory.specs.Objects.{Objects, object_at}
 use Rattle.obj_memory.specs.Sound.{Continues}
 use Rattle.obj_memory.proofs.Continuing.{continues_then}
@@ -22,9 +22,8 @@ use Rattle.source_meaning.specs.Keeping.{LivesOn}
 use Rattle.source_meaning.proofs.Holding.{live_made}
 use Rattle.tac_ir.specs.declared.instruction.Instruction.{Instruction}
 use Rattle.tac_ir.specs.declared.function.CodeFunction.{CodeFunction}
-use Rattle.tac_ir.specs.declared.function.StaticData.{StaticData}
 use Rattle.tac_ir.specs.Edges.{LeadsTo}
-use Rattle.tac_ir.specs.Meaning.{objects_before, placed_data}
+use Rattle.tac_ir.specs.Meaning.{objects_before}
 use Rattle.tac_ir.specs.Stage.{Temps, with_temp, Frame, Waits, Entered, Stage, Stands}
 use Rattle.flat_meaning.specs.declared.function.FlatProgram.{FlatProgram}
 use Rattle.flat_meaning.specs.Memory.{Bytes}
@@ -51,6 +50,7 @@ use Rattle.metadata_relation.specs.Stages.{activation, level, IsAt, MatchesBy}
 use Rattle.metadata_relation.specs.Steps.{IsCompiled}
 use Rattle.metadata_relation.specs.Waiting.{IsEnteredAs, IsBodyAs, Layout, AllWait}
 use Rattle.metadata_relation.proofs.Holding.{gives_called, holds_on}
+use Rattle.metadata_relation.proofs.Statics.{placed_static}
 use Rattle.metadata_relation.proofs.Standing.{good_then, IsNode, fewer, none_more, none_less, Result}
 use Rattle.metadata_relation.proofs.Waiting.{waits_on, waits_at}
 
@@ -110,20 +110,6 @@ bytes_on old new on ends h = record { some = λ n live is. by n live is (cases_l
         omega arith
     by n live is (inr le) = absurd
         (let made = ends n le live in let both : true ≡ false = sym made ∙ ap is_allocated is in cc)
-
--- static objects are there, at the numbers of their data
-pub record IsPlacedStatic (n : ℕ) (objects : Objects) : Type 0 where
-  pub made : n < length objects
-  pub static : (object_at objects n).storage ≡ Static
-
-pub placed_static : (first : ℕ) (ds : List StaticData) (offset n : ℕ) → n < length ds
-    → IsPlacedStatic n (placed_data first ds offset)
-placed_static first [] offset n lt = absurd (omega arith)
-placed_static first (d ∷ ds) offset zero lt = record { made = omega arith; static = refl }
-placed_static first (d ∷ ds) offset (suc n) lt =
-    let r = placed_static first ds (rounded_up 16 offset + d.size) n (omega arith) in
-    let made = r.made in
-    record { made = omega arith; static = r.static }
 
 -- static objects live on
 pub statics_live_on : (c : Compiled) (old new : Objects) → LivesOn old new

@@ -1,5 +1,5 @@
 -- Where a run begins: the global lock word and the end of the object stack are stored, and `main` is called.
-use Rattle.std.proofs.Common.{◌≡◌, ⊎_elim, inl, ℕ, zero, suc, ◌+◌, ◌-◌, ◌*◌, ◌^◌, ◌<◌, ◌≤◌, Bool, true, false}
+use Rattle.std.proofs.Common.{◌≡◌, ⊎_elim, inl, ℕ, ◌+◌, ◌-◌, ◌*◌, ◌^◌, ◌<◌, ◌≤◌, Bool, true, false}
 use Rattle.std.proofs.Common.{List, [], ◌∷◌, ◌++◌, length, map, Option, Some, None, refl, sym, ap, ◌∙◌, subst, arith}
 use Rattle.std.proofs.Common.{le-leb, mod-eq_of_lt}
 use Rattle.std.specs.Prelude.{slice_get, nat_le, nat_lt, not, ◌||◌, ◌&&◌, ◌==◌, if◌then◌else◌}
@@ -13,7 +13,6 @@ use Rattle.sb_base.specs.declared.ending.Ending.{Ending}
 use Rattle.sb_base.specs.declared.ending.Ending.TheVariants.{Keys, Stack}
 use Rattle.sb_base.specs.Endings.{code_of, report_of}
 use Rattle.obj_memory.specs.declared.object.Storage.TheVariants.{Static, Automatic}
-use Rattle.obj_memory.specs.Heap.{rounded_up}
 use Rattle.obj_memory.specs.Objects.{Objects, object_at}
 use Rattle.obj_memory.proofs.Continuing.{continues_same}
 use Rattle.c_tree.specs.declared.program.Variable.{Variable}
@@ -25,11 +24,10 @@ use Rattle.source_meaning.specs.Good.{IsGood as IsGoodState, IsSetUp, ArgumentsA
 use Rattle.source_meaning.specs.Meaning.{setting_of, fresh}
 use Rattle.source_meaning.specs.Places.{stack_first, stack_end}
 use Rattle.tac_ir.specs.declared.function.CodeFunction.{CodeFunction}
-use Rattle.tac_ir.specs.declared.function.StaticData.{StaticData}
 use Rattle.tac_ir.specs.declared.function.Tac.{Tac}
 use Rattle.tac_ir.specs.Stage.{no_temps, Stage, Begins, Stands, Over, came}
 use Rattle.tac_ir.specs.Costs.{spent, fourfold}
-use Rattle.tac_ir.specs.Meaning.{function_in as code_in, header_of_code, begun, called_at, line_in, objects_before, placed_data}
+use Rattle.tac_ir.specs.Meaning.{function_in as code_in, header_of_code, begun, called_at, line_in, objects_before}
 use Rattle.tac_ir.specs.Meaning.{step as tac_step}
 use Rattle.rv_isa.specs.Results.{wrap}
 use Rattle.rv_isa.specs.declared.instruction.StoreOp.TheVariants.{Sd}
@@ -69,7 +67,8 @@ use Rattle.metadata_relation.proofs.Calls.{spare_or}
 use Rattle.metadata_relation.proofs.EnteredBodies.{enters}
 use Rattle.metadata_relation.proofs.Entering.{call_stage, earlier, entry_there, EntryIsThere, few_parameters, IsScalarCall}
 use Rattle.metadata_relation.proofs.Entering.{scalar_call}
-use Rattle.metadata_relation.proofs.Named.{placed_static}
+use Rattle.source_meaning.proofs.Holding.{live_made}
+use Rattle.metadata_relation.proofs.Statics.{placed_count, placed_static}
 use Rattle.metadata_relation.proofs.ObjectTests.{IsObjectTested, keys_spent, objects_tested, space_spent}
 use Rattle.metadata_relation.proofs.Standing.{ends, ends_where, leaves_same, Result}
 
@@ -104,13 +103,6 @@ aside : (m : MapSizes) (p : FlatProgram) (u pc : ℕ) (v : flat.State) (xs : Lis
     (w most : ℕ) → Comes m p u pc v xs q (record after { work = w }) most → Comes m p u pc v xs q after most
 aside m p u pc v xs q after w most h =
     record { steps = h.steps; work = h.work; few = h.few; comes = h.comes }
-
--- static objects live before the run
-placed_live : (first : ℕ) (ds : List StaticData) (offset n : ℕ) → n < length ds
-    → (object_at (placed_data first ds offset) n).is_live ≡ true
-placed_live first [] offset n low = absurd (omega arith)
-placed_live first (d ∷ ds) offset zero low = refl
-placed_live first (d ∷ ds) offset (suc n) low = placed_live first ds (rounded_up 16 offset + d.size) n (omega arith)
 
 runtime_entry : (c : Compiled) (q : Option FlatFunction) → EntersAt c.layout.expansion q → is_runtime_function q ≡ true
 runtime_entry c None h = absurd h
@@ -487,18 +479,20 @@ module _ (c : Compiled) (IsGood : Bytes → Type 0) (right : IsCompiled c IsGood
               work = omega (arith, start_few, few, none);
               stands = in_stands;
               separate = separate;
-              bytes = record { some = λ x live automatic. absurd (not_automatic x automatic) };
+              bytes = record { some = λ x live automatic. absurd (not_automatic x (live_made old x live) automatic) };
               few_keys = omega arith;
               statics = continues_same old;
-              statics_live = λ x low. placed_live _ c.layout.expansion.code.statics 0 x low;
+              statics_live = λ x low. (placed_static _ c.layout.expansion.code.statics 0 x low).live;
               set_up_good = set_good;
               good = good;
               wait = (refl, (refl, (let long = ap length before_is in omega (arith, long)), refl));
             })
           where
-            not_automatic : (x : ℕ) → (object_at old x).storage ≡ Automatic → ⊥
-            not_automatic x e = (let static = placed_static (region_start c.setting.sizes Globals)
-                c.layout.expansion.code.statics 0 x in apart (sym static ∙ e))
+            not_automatic : (x : ℕ) → x < length old → (object_at old x).storage ≡ Automatic → ⊥
+            not_automatic x low e = (let first = region_start c.setting.sizes Globals in
+                let count = placed_count first c.layout.expansion.code.statics 0 in
+                let static = (placed_static first c.layout.expansion.code.statics 0 x (omega arith)).static in
+                apart (sym static ∙ e))
               where
                 apart : Static ≡ Automatic → ⊥
                 apart e = cc

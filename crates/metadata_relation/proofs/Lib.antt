@@ -57,6 +57,7 @@ pub mod Simulating
 pub mod Standing
 pub mod StartData
 pub mod StartFile
+pub mod Statics
 pub mod Statuses
 pub mod StoredParameters
 pub mod StoredParts

@@ -34,6 +34,7 @@ use Rattle.metadata_plan.specs.Registers.{most_temporaries}
 use Rattle.metadata_plan.specs.Entries.{given}
 use Rattle.metadata_plan.specs.Expanded.{Leads}
 use Rattle.metadata_plan.specs.Operators.{OperatorCode}
+use Rattle.metadata_plan.proofs.Calling.{below}
 use Rattle.metadata_plan.proofs.Flat.{Comes, next_comes, then_comes, at_place, operate_comes}
 use Rattle.metadata_plan.proofs.Flat.{branch_taken_comes, branch_passed_comes}
 use Rattle.metadata_relation.specs.Registers.{temporary_register, first_free}
@@ -43,7 +44,6 @@ use Rattle.metadata_relation.specs.Steps.{IsCompiled}
 use Rattle.metadata_relation.proofs.Ranges.{behind, compared, too_small, Told}
 use Rattle.metadata_relation.proofs.ObjectTests.{ends_at}
 use Rattle.metadata_relation.proofs.Registers.{temporary_free}
-use Rattle.metadata_relation.proofs.RoomTests.{below}
 use Rattle.metadata_relation.proofs.Simple.{goes_on, led}
 use Rattle.metadata_relation.proofs.Standing.{IsNode, Result}
 

@@ -47,6 +47,7 @@ use Rattle.lib_wrappers.specs.AllocatingRoutines.Entering.{block_bytes, round_co
 use Rattle.lib_wrappers.proofs.AllocatingRoutines.FreeLocks.{stack_laid_out}
 use Rattle.lib_wrappers.proofs.AllocatingRoutines.SourceEntries.{end_by_bytes}
 use Rattle.metadata_plan.specs.Expanded.{Falls}
+use Rattle.metadata_plan.proofs.Calling.{below}
 use Rattle.metadata_plan.proofs.Flat.{Comes, branch_passed_comes, branch_taken_comes, constant_comes, next_comes}
 use Rattle.metadata_plan.proofs.Flat.{at_place, leads_comes, operate_comes, then_comes, weaker}
 use Rattle.metadata_relation.specs.Blocks.{object_tests, objects_of_body, space_test, top_cell, units_tests}
@@ -57,7 +58,7 @@ use Rattle.metadata_relation.specs.Stages.{Compiled, factor, IsAt, map_of, names
 use Rattle.metadata_relation.specs.Steps.{IsCompiled}
 use Rattle.metadata_relation.proofs.CalleeTests.{differs, equal, masked, shifted}
 use Rattle.metadata_relation.proofs.Ranges.{Told}
-use Rattle.metadata_relation.proofs.RoomTests.{added, below}
+use Rattle.metadata_relation.proofs.RoomTests.{added}
 use Rattle.metadata_relation.proofs.Standing.{ends_where, good_now, Result}
 use Rattle.metadata_relation.proofs.TopCell.{space_loaded, stack_low, top_read}
 

@@ -1,6 +1,6 @@
 -- Pointers to what has a name: static objects and functions. Their words and entries are constants.
 use Rattle.std.proofs.Common.{◌≡◌, ◌≢◌, ◌⊎◌, inl, inr, ℕ, ◌+◌, ◌-◌, ◌*◌, ◌^◌, ◌<◌, ◌≤◌, Bool, true, false, List}
-use Rattle.std.proofs.Common.{[], ◌∷◌, ◌++◌, length, length-append, Some, refl, sym, ◌∙◌, subst, arith, ltb-true}
+use Rattle.std.proofs.Common.{◌++◌, length, length-append, Some, refl, sym, ◌∙◌, subst, arith, ltb-true}
 use Rattle.std.specs.Prelude.{slice_get, nat_lt}
 use Rattle.addr_map.specs.declared.region.Region.TheVariants.{Globals, Locks}
 use Rattle.addr_map.specs.Places.{MapSizes, function_address, region_start}

@@ -309,7 +309,9 @@ module _ (c : Compiled) (IsGood : Bytes → Type 0) (right : IsCompiled c IsGood
             first_part has_spaces fits_charge (omega arith) e
 
       called : Gives (called_at c.setting (Some k) f vs line (Waits waits ∷ ws) (spent 6 s))
-      called = ⊎_elim (λ more. exhausts more) (λ fits. by_space fits (nat_le (objects_end (objects_of_body k) s.stacked) (stack_end c.setting)) refl)
+      called =
+          ⊎_elim (λ more. exhausts more)
+          (λ fits. by_space fits (nat_le (objects_end (objects_of_body k) s.stacked) (stack_end c.setting)) refl)
           (cases_lt (map_of c).budgets.calls (s.charged + k.room))
 
     pub call_step : fit_call (code_in c.layout.expansion.code f) (gathered temps d count) ≡ true

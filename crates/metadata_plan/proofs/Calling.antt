@@ -48,7 +48,7 @@ use Rattle.metadata_plan.proofs.Flat.{branch_passed_comes, move_comes, end_step}
 
 -- ---- the test of the charge
 
-below : (x y : ℕ) (b : Bool) → nat_lt x y ≡ b → branch_taken Bltu x y ≡ b
+pub below : (x y : ℕ) (b : Bool) → nat_lt x y ≡ b → branch_taken Bltu x y ≡ b
 unfolding branch_taken
 below x y b e = e
 

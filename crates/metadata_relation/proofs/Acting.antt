@@ -1,15 +1,15 @@
 -- What comes of a step that stays in its function and changes objects and memory: callers and blocks wait on, states stay
 -- good, and what is asked of a state at every node holds again.
-use Rattle.std.proofs.Common.{◌≡◌, ◌⊎◌, inl, inr, ℕ, zero, suc, ◌+◌, ◌*◌, ◌<◌, ◌≤◌, Bool, true, false, List, [], ◌∷◌}
+use Rattle.std.proofs.Common.{◌≡◌, ◌⊎◌, inl, inr, ℕ, ◌+◌, ◌*◌, ◌<◌, ◌≤◌, Bool, true, false, List, [], ◌∷◌}
 use Rattle.std.proofs.Common.{length, Some, None, refl, sym, ap, ◌∙◌, subst, arith}
 use Rattle.std.proofs.lemmas.Bool.{cases_lt}
 use Rattle.behaviours.specs.Steps.{run}
 use Rattle.behaviours.proofs.Running.{run_add}
 use Rattle.addr_map.specs.declared.region.Region.TheVariants.{StructureValues, Cells}
 use Rattle.addr_map.specs.Places.{MapSizes, region_size, region_start}
-use Rattle.obj_memory.specs.declared.object.Storage.TheVariants.{Automatic, Static}
+use Rattle.obj_memory.specs.declared.object.Storage.TheVariants.{Automatic}
 use Rattle.obj_memory.specs.declared.value.Value.{Value}
-use Rattle.obj_memory.specs.Heap.{rounded_up, is_allocated}
+use Rattle.obj_memory.specs.Heap.{is_allocated}
 use Rattle.obj_memory.specs.Objects.{Objects, object_at}
 use Rattle.obj_memory.specs.Sound.{Continues}
 use Rattle.obj_memory.proofs.Continuing.{continues_then}
@@ -18,12 +18,12 @@ use Rattle.source_meaning.specs.Blocks.{Block}
 use Rattle.source_meaning.specs.Places.{stack_first, statics_first}
 use Rattle.source_meaning.specs.Structures.{rvalue}
 use Rattle.source_meaning.specs.Good.{EndsMade, Leaves}
+use Rattle.source_meaning.specs.Keeping.{LivesOn}
 use Rattle.source_meaning.proofs.Holding.{live_made}
 use Rattle.tac_ir.specs.declared.instruction.Instruction.{Instruction}
 use Rattle.tac_ir.specs.declared.function.CodeFunction.{CodeFunction}
-use Rattle.tac_ir.specs.declared.function.StaticData.{StaticData}
 use Rattle.tac_ir.specs.Edges.{LeadsTo}
-use Rattle.tac_ir.specs.Meaning.{objects_before, placed_data}
+use Rattle.tac_ir.specs.Meaning.{objects_before}
 use Rattle.tac_ir.specs.Stage.{Temps, with_temp, Frame, Waits, Entered, Stage, Stands}
 use Rattle.flat_meaning.specs.declared.function.FlatProgram.{FlatProgram}
 use Rattle.flat_meaning.specs.Memory.{Bytes}
@@ -50,6 +50,7 @@ use Rattle.metadata_relation.specs.Stages.{activation, level, IsAt, MatchesBy}
 use Rattle.metadata_relation.specs.Steps.{IsCompiled}
 use Rattle.metadata_relation.specs.Waiting.{IsEnteredAs, IsBodyAs, Layout, AllWait}
 use Rattle.metadata_relation.proofs.Holding.{gives_called, holds_on}
+use Rattle.metadata_relation.proofs.Statics.{placed_static}
 use Rattle.metadata_relation.proofs.Standing.{good_then, IsNode, fewer, none_more, none_less, Result}
 use Rattle.metadata_relation.proofs.Waiting.{waits_on, waits_at}
 
@@ -110,19 +111,16 @@ bytes_on old new on ends h = record { some = λ n live is. by n live is (cases_l
     by n live is (inr le) = absurd
         (let made = ends n le live in let both : true ≡ false = sym made ∙ ap is_allocated is in cc)
 
--- static objects are there, at the numbers of their data
-pub record IsPlacedStatic (n : ℕ) (objects : Objects) : Type 0 where
-  pub made : n < length objects
-  pub static : (object_at objects n).storage ≡ Static
-
-pub placed_static : (first : ℕ) (ds : List StaticData) (offset n : ℕ) → n < length ds
-    → IsPlacedStatic n (placed_data first ds offset)
-placed_static first [] offset n lt = absurd (omega arith)
-placed_static first (d ∷ ds) offset zero lt = record { made = omega arith; static = refl }
-placed_static first (d ∷ ds) offset (suc n) lt =
-    let r = placed_static first ds (rounded_up 16 offset + d.size) n (omega arith) in
-    let made = r.made in
-    record { made = omega arith; static = r.static }
+-- static objects live on
+pub statics_live_on : (c : Compiled) (old new : Objects) → LivesOn old new
+    → Continues (objects_before (expansion_of c).code c.setting) old
+    → ((n : ℕ) → n < length (expansion_of c).code.statics → (object_at old n).is_live ≡ true)
+    → (n : ℕ) → n < length (expansion_of c).code.statics → (object_at new n).is_live ≡ true
+statics_live_on c old new lives statics live n lt =
+    let is = placed_static (statics_first c.setting) (expansion_of c).code.statics 0 n lt in
+    let made = is.made in
+    let longer = statics.longer in
+    lives.live n (omega arith) (ap is_allocated (statics.storage n made ∙ is.static)) (live n lt)
 
 pub steady_on : (c : Compiled) (u : ℕ) (ws : List Frame) (s s' : State) → Leaves (context_at (names c) u ws) s s'
     → s'.keys ≤ (map_of c).budgets.keys → IsSteady c u ws s → IsSteady c u ws s'
@@ -132,11 +130,7 @@ steady_on c u ws s s' l keys h = record {
   keys = keys;
   statics = continues_then (objects_before (expansion_of c).code c.setting) s.objects s'.objects h.statics
       l.lives.continues;
-  statics_live = λ n lt.
-      (let is = placed_static (statics_first c.setting) (expansion_of c).code.statics 0 n lt in
-      let made = is.made in
-      let longer = h.statics.longer in
-      l.lives.live n (omega arith) (ap is_allocated (h.statics.storage n made ∙ is.static)) (h.statics_live n lt));
+  statics_live = statics_live_on c s.objects s'.objects l.lives h.statics h.statics_live;
 }
 
 -- ---- the memory stands for other objects

@@ -1,32 +1,33 @@
 -- Where a run begins: the global lock word and the end of the object stack are stored, and `main` is called.
-use Rattle.std.proofs.Common.{◌≡◌, ⊎_elim, inl, ℕ, zero, suc, ◌+◌, ◌-◌, ◌*◌, ◌^◌, ◌<◌, ◌≤◌, Bool, true, false}
+use Rattle.std.proofs.Common.{◌≡◌, ⊎_elim, inl, ℕ, ◌+◌, ◌-◌, ◌*◌, ◌^◌, ◌<◌, ◌≤◌, Bool, true, false}
 use Rattle.std.proofs.Common.{List, [], ◌∷◌, ◌++◌, length, map, Option, Some, None, refl, sym, ap, ◌∙◌, subst, arith}
 use Rattle.std.proofs.Common.{le-leb, mod-eq_of_lt}
-use Rattle.std.specs.Prelude.{slice_get, not, ◌&&◌, ◌==◌, if◌then◌else◌}
+use Rattle.std.specs.Prelude.{slice_get, nat_le, nat_lt, not, ◌||◌, ◌&&◌, ◌==◌, if◌then◌else◌}
 use Rattle.std.proofs.lemmas.Bool.{and_parts, cases_lt, eqb-true, lt-leb}
 use Rattle.words.specs.TwosComplement.{low_bits}
 use Rattle.behaviours.specs.Shown.{Write}
 use Rattle.addr_map.specs.declared.region.Region.TheVariants.{Globals, Locks, Cells, Stack as StackRegion, StructureValues}
 use Rattle.addr_map.specs.Places.{MapSizes, region_size, region_start, region_end, spaces_begin}
 use Rattle.addr_map.proofs.Order.{ends_low}
-use Rattle.sb_base.specs.declared.ending.Ending.TheVariants.{Stack}
+use Rattle.sb_base.specs.declared.ending.Ending.{Ending}
+use Rattle.sb_base.specs.declared.ending.Ending.TheVariants.{Keys, Stack}
 use Rattle.sb_base.specs.Endings.{code_of, report_of}
 use Rattle.obj_memory.specs.declared.object.Storage.TheVariants.{Static, Automatic}
-use Rattle.obj_memory.specs.Heap.{rounded_up}
 use Rattle.obj_memory.specs.Objects.{Objects, object_at}
 use Rattle.obj_memory.proofs.Continuing.{continues_same}
 use Rattle.c_tree.specs.declared.program.Variable.{Variable}
-use Rattle.source_meaning.specs.State.{State}
-use Rattle.source_meaning.specs.Calls.{body_objects}
+use Rattle.source_meaning.specs.State.{Ended, Gives as GivesRun, Setting, State}
+use Rattle.source_meaning.specs.Blocks.{has_objects, objects_end}
+use Rattle.source_meaning.specs.Calls.{set_up}
+use Rattle.source_meaning.specs.Keeping.{AreSeparate}
 use Rattle.source_meaning.specs.Good.{IsGood as IsGoodState, IsSetUp, ArgumentsAre, file_scope, program_context}
 use Rattle.source_meaning.specs.Meaning.{setting_of, fresh}
 use Rattle.source_meaning.specs.Places.{stack_first, stack_end}
 use Rattle.tac_ir.specs.declared.function.CodeFunction.{CodeFunction}
-use Rattle.tac_ir.specs.declared.function.StaticData.{StaticData}
 use Rattle.tac_ir.specs.declared.function.Tac.{Tac}
 use Rattle.tac_ir.specs.Stage.{no_temps, Stage, Begins, Stands, Over, came}
 use Rattle.tac_ir.specs.Costs.{spent, fourfold}
-use Rattle.tac_ir.specs.Meaning.{function_in as code_in, header_of_code, begun, called_at, line_in, objects_before, placed_data}
+use Rattle.tac_ir.specs.Meaning.{function_in as code_in, header_of_code, begun, called_at, line_in, objects_before}
 use Rattle.tac_ir.specs.Meaning.{step as tac_step}
 use Rattle.rv_isa.specs.Results.{wrap}
 use Rattle.rv_isa.specs.declared.instruction.StoreOp.TheVariants.{Sd}
@@ -38,6 +39,7 @@ use Rattle.flat_meaning.specs.Memory.{Bytes, put, store}
 use Rattle.flat_meaning.specs.Spaces.{is_of_objects, is_allowed}
 use Rattle.flat_meaning.specs.State as flat
 use Rattle.flat_meaning.specs.Calls.{function_in, charged}
+use Rattle.flat_meaning.specs.Words.{HasWords}
 use Rattle.flat_meaning.specs.Meaning.{Goes, Fails, body_of, started, weight_of, is_runtime_function, goes_to}
 use Rattle.flat_meaning.proofs.Stored.{put_same, put_other, store_beside, load_stored}
 use Rattle.flat_routines.specs.Objects.StandsFor.{StandsFor, global_lock}
@@ -51,23 +53,24 @@ use Rattle.lib_wrappers.proofs.AreaRoutines.Behind.{spaces_kept, stands_kept}
 use Rattle.metadata_plan.specs.Blocks.{call_tests}
 use Rattle.metadata_plan.proofs.Calling.{tested, tests_pass, tests_end}
 use Rattle.metadata_plan.proofs.Entering.{no_rooms}
-use Rattle.metadata_plan.proofs.Flat.{one, weight_small, Comes, next_comes, turn_comes, constant_comes}
-use Rattle.metadata_plan.proofs.SetUp.{laid_out, exhausted, set_up_gives, homes_of}
+use Rattle.metadata_plan.proofs.Flat.{at_place, Comes, constant_comes, next_comes, one, then_comes, turn_comes, weight_small}
+use Rattle.metadata_plan.proofs.Flat.{words_kept}
+use Rattle.metadata_plan.proofs.SetUp.{exhausted}
 use Rattle.metadata_relation.specs.Blocks.{objects_of_body, start_code, main_tests, before_main}
-use Rattle.metadata_relation.specs.Blocks.{space_test}
+use Rattle.metadata_relation.specs.Blocks.{object_tests}
 use Rattle.metadata_relation.specs.Expanded.{EntersAt}
-use Rattle.metadata_relation.specs.Scopes.{context_at}
-use Rattle.metadata_relation.specs.Stages.{Compiled, map_of, views, names, world, expansion_of, IsFirst}
-use Rattle.metadata_relation.specs.Steps.{IsCompiled, is_plain_call, is_plain_main, CoversMain}
-use Rattle.metadata_relation.specs.Waiting.{BodyBy}
-use Rattle.metadata_relation.proofs.CallHolds.{none_has, no_homes, none_between}
+use Rattle.metadata_relation.specs.Scopes.{AreGood, context_at}
+use Rattle.metadata_relation.specs.Stages.{Compiled, expansion_of, IsFirst, map_of, names, StandsIn, views}
+use Rattle.metadata_relation.specs.Steps.{IsCompiled, is_scalar_call, is_scalar_main, CoversMain}
 use Rattle.metadata_relation.proofs.CallStates.{entered_from, fresh_good}
-use Rattle.metadata_relation.proofs.Entering.{entry_there, EntryIsThere, IsPlainCall, plain_call, call_stage, callee_state, enters}
-use Rattle.metadata_relation.proofs.Entering.{earlier, few_parameters}
-use Rattle.metadata_relation.proofs.Named.{placed_static}
-use Rattle.metadata_relation.proofs.Standing.{leaves_same, ends, Result}
-use Rattle.lib_wrappers.specs.AllocatingRoutines.Allocating.{keys_code, key_test}
-use Rattle.lib_wrappers.specs.AllocatingRoutines.Entering.{block_bytes}
+use Rattle.metadata_relation.proofs.Calls.{spare_or}
+use Rattle.metadata_relation.proofs.EnteredBodies.{enters}
+use Rattle.metadata_relation.proofs.Entering.{call_stage, earlier, entry_there, EntryIsThere, few_parameters, IsScalarCall}
+use Rattle.metadata_relation.proofs.Entering.{scalar_call}
+use Rattle.source_meaning.proofs.Holding.{live_made}
+use Rattle.metadata_relation.proofs.Statics.{placed_count, placed_static}
+use Rattle.metadata_relation.proofs.ObjectTests.{IsObjectTested, keys_spent, objects_tested, space_spent}
+use Rattle.metadata_relation.proofs.Standing.{ends, ends_where, leaves_same, Result}
 
 -- ---- a store by a function of the runtime
 
@@ -101,13 +104,6 @@ aside : (m : MapSizes) (p : FlatProgram) (u pc : ℕ) (v : flat.State) (xs : Lis
 aside m p u pc v xs q after w most h =
     record { steps = h.steps; work = h.work; few = h.few; comes = h.comes }
 
--- static objects live before the run
-placed_live : (first : ℕ) (ds : List StaticData) (offset n : ℕ) → n < length ds
-    → (object_at (placed_data first ds offset) n).is_live ≡ true
-placed_live first [] offset n low = absurd (omega arith)
-placed_live first (d ∷ ds) offset zero low = refl
-placed_live first (d ∷ ds) offset (suc n) low = placed_live first ds (rounded_up 16 offset + d.size) n (omega arith)
-
 runtime_entry : (c : Compiled) (q : Option FlatFunction) → EntersAt c.layout.expansion q → is_runtime_function q ≡ true
 runtime_entry c None h = absurd h
 runtime_entry c (Some f) h = h.of_runtime
@@ -116,7 +112,7 @@ module _ (c : Compiled) (IsGood : Bytes → Type 0) (right : IsCompiled c IsGood
     (local : IsLocal (map_of c) c.entry IsGood) (covered : CoversMain c) (input : List ℕ) (memory : Bytes)
     (k : CodeFunction)
     (found : code_in c.layout.expansion.code c.layout.expansion.code.main ≡ Some k)
-    (plain : IsPlainCall c IsGood right k false) (nothing : length k.parameters ≡ 0) where
+    (plain : IsScalarCall c IsGood right k false) (nothing : length k.parameters ≡ 0) where
   abbrev m : MapSizes
   m = map_of c
 
@@ -144,22 +140,25 @@ module _ (c : Compiled) (IsGood : Bytes → Type 0) (right : IsCompiled c IsGood
   abbrev ending : List FlatInstruction
   ending = flat_code.Call c.layout.expansion.code.main 0 0 ∷ flat_code.Exit 0 ∷ []
 
-  -- what stands before the call, without tests of objects
-  before_is : before_main (map_of c) c.layout.expansion.code
-      ≡ flat_code.Turn ∷ flat_code.Turn ∷ flat_code.Turn ∷ (start_code (map_of c) ++ (tests ++ []))
-  before_is =
-      ap (λ o. flat_code.Turn ∷ flat_code.Turn ∷ flat_code.Turn ∷ (start_code m ++ main_tests m o)) found
-      ∙ ap (λ b. flat_code.Turn ∷ flat_code.Turn ∷ flat_code.Turn ∷ (start_code m ++ (tests ++ (if b
-      then space_test m (block_bytes (objects_of_body k)) k.line 0 ++ (keys_code m 0 (0 + 1) ++ key_test 0 k.line)
-      else [])))) plain.none
+  abbrev spaces : List FlatInstruction
+  spaces = object_tests (map_of c) (objects_of_body k) k.line 0
 
-  has_all : HasAt body 0
-      ((flat_code.Turn ∷ flat_code.Turn ∷ flat_code.Turn ∷ (start_code (map_of c) ++ (tests ++ []))) ++ ending)
+  abbrev before_list : List FlatInstruction
+  before_list = flat_code.Turn ∷ flat_code.Turn ∷ flat_code.Turn ∷ (start_code (map_of c) ++ (tests ++ spaces))
+
+  -- what stands before the call
+  before_is : before_main (map_of c) c.layout.expansion.code ≡ before_list
+  before_is = ap (λ o. flat_code.Turn ∷ flat_code.Turn ∷ flat_code.Turn ∷ (start_code m ++ main_tests m o)) found
+
+  has_all : HasAt body 0 (before_list ++ ending)
   has_all = subst (λ z. HasAt body 0 (z ++ ending)) before_is entry.has
 
-  starting : HasAt body 0 (flat_code.Turn ∷ flat_code.Turn ∷ flat_code.Turn ∷ (start_code (map_of c) ++ (tests ++ [])))
-  starting = has_front body 0
-      (flat_code.Turn ∷ flat_code.Turn ∷ flat_code.Turn ∷ (start_code m ++ (tests ++ []))) ending has_all
+  starting : HasAt body 0 before_list
+  starting = has_front body 0 before_list ending has_all
+
+  -- where `main` is called
+  abbrev at_call : ℕ
+  at_call = 13 + length spaces
 
   runtime : is_runtime_function (function_in c.layout.program c.layout.program.entry) ≡ true
   runtime = runtime_entry c (function_in p p.entry) right.expanded.enters
@@ -279,12 +278,19 @@ module _ (c : Compiled) (IsGood : Bytes → Type 0) (right : IsCompiled c IsGood
       (record v0 { turns = 3; values = values_two; memory = store 8 (store 8 memory lock z) cell (values_two 1) }) 18)
       one_is k9)
 
-  has_tests : HasAt body 9 tests
-  has_tests = has_front body 9 tests [] (has_back body 3 (start_code m) (tests ++ []) starting.1.1.1)
+  has_both : HasAt body 9 (tests ++ spaces)
+  has_both = has_back body 3 (start_code m) (tests ++ spaces) starting.1.1.1
 
-  calls : slice_get body 13 ≡ Some (flat_code.Call c.layout.expansion.code.main 0 0)
-  calls = (has_back body 0 (flat_code.Turn ∷ flat_code.Turn ∷ flat_code.Turn ∷ (start_code m ++ (tests ++ []))) ending
-      has_all).0
+  has_tests : HasAt body 9 tests
+  has_tests = has_front body 9 tests spaces has_both
+
+  has_spaces : HasAt body 13 spaces
+  has_spaces = has_back body 9 tests spaces has_both
+
+  calls : slice_get body at_call ≡ Some (flat_code.Call c.layout.expansion.code.main 0 0)
+  calls = (let place : 0 + length before_list ≡ at_call = omega arith in
+      subst (λ z. slice_get body z ≡ Some (flat_code.Call c.layout.expansion.code.main 0 0)) place
+      (has_back body 0 before_list ending has_all).0)
 
   -- ---- `main` is called
 
@@ -296,7 +302,7 @@ module _ (c : Compiled) (IsGood : Bytes → Type 0) (right : IsCompiled c IsGood
 
   module _ (stands : StandsFor (views c) (start_keys (views c)) (objects_before c.layout.expansion.code c.setting)
       (store 8 memory (global_lock (map_of c)) 1))
-      (spaces : AreSpacesGood (map_of c) IsGood (store 8 memory (global_lock (map_of c)) 1)) where
+      (spaces_good : AreSpacesGood (map_of c) IsGood (store 8 memory (global_lock (map_of c)) 1)) where
     abbrev v9 : flat.State
     v9 = record v0 { turns = 3; values = values_two; memory = stacked_memory; work = 0 + stored.work }
 
@@ -313,7 +319,7 @@ module _ (c : Compiled) (IsGood : Bytes → Type 0) (right : IsCompiled c IsGood
     Gives a = Result c IsGood a (flat.Stands c.layout.program.entry 9 v9 [])
 
     abbrev stage : Stage
-    stage = call_stage c IsGood right c.layout.program.entry 9 13 v9 [] c.layout.expansion.code.main k found plain k.line
+    stage = call_stage c IsGood right c.layout.program.entry 9 at_call v9 [] c.layout.expansion.code.main k found plain k.line
         0 0 [] [] s0
 
     exhausts : (map_of c).budgets.calls < 0 + k.room → Gives stage
@@ -336,138 +342,203 @@ module _ (c : Compiled) (IsGood : Bytes → Type 0) (right : IsCompiled c IsGood
         (omega (arith, few, start_few)) in
         subst (λ z. Gives (came (fourfold (0 + 4) z) (λ _ y. Stands f k.entry no_temps [] y))) (sym none) result
 
-    module _ (fits : 0 + k.room ≤ (map_of c).budgets.calls) where
-      inside : charged c.layout.program c.layout.program.entry [] + k.room ≤ (map_of c).budgets.calls
-      inside = let free = charge in omega (arith, fits, free)
+    module _ (fits : 0 + k.room ≤ (map_of c).budgets.calls) (words : HasWords (started c.layout.program memory input))
+      where
+        inside : charged c.layout.program c.layout.program.entry [] + k.room ≤ (map_of c).budgets.calls
+        inside = let free = charge in omega (arith, fits, free)
 
-      abbrev values : flat.Values
-      values = (tested (map_of c) c.layout.program c.layout.program.entry 9 v9 [] k.room k.line 0 has_tests
-          low_calls).values
+        abbrev values : flat.Values
+        values = (tested (map_of c) c.layout.program c.layout.program.entry 9 v9 [] k.room k.line 0 has_tests
+            low_calls).values
 
-      room_left : stack_first c.setting ≤ stack_end c.setting
-      room_left = omega arith
+        first_part : Comes (map_of c) c.layout.program c.layout.program.entry 9 v9 [] 13
+            (record v9 { turns = v9.turns + 1; values = values }) 6
+        first_part = tests_pass m p u 9 v9 [] k.room k.line 0 has_tests low_calls inside
 
-      abbrev callee : State
-      callee = callee_state c IsGood right c.layout.program.entry 9 13 v9 [] c.layout.expansion.code.main k found plain
-          k.line 0 0 [] [] s0
+        fits_budget : nat_le (0 + k.room) c.setting.sizes.budgets.calls ≡ true
+        fits_budget = (let budget = budgets_same in
+            le-leb (0 + k.room) c.setting.sizes.budgets.calls (omega (arith, fits, budget)))
 
-      set_good : IsSetUp (context_at (names c) c.layout.expansion.code.main []) old callee
-      set_good =
-          let budget = budgets_same in
-          let g = fresh_good c IsGood right input in
-          let good : IsGoodState (program_context c.typed (setting_of c.typed (map_of c).budgets).sizes
-          (file_scope c.typed)) (begun s0) = record {
-            kept = g.kept;
-            low = g.low;
-            statics = g.statics;
-            homes = g.homes;
-            plain = g.plain;
-            typed = g.typed;
-            separate = g.separate;
-          } in
-          let up = entered_from c IsGood right f k found (file_scope c.typed) [] k.line (begun s0)
-          (laid_out (header_of_code k) [] (begun s0)) good (no_arguments k.parameters nothing)
-          (set_up_gives c.setting (header_of_code k) [] k.line (begun s0) (none_has (objects_of_body k) plain.none)
-          room_left (le-leb (0 + k.room) c.setting.sizes.budgets.calls (omega (arith, fits, budget)))) in
-          record { good = up.good; lives = up.lives; new = up.new; ends = up.ends }
-        where
-          no_arguments : (ps : List Variable) → length ps ≡ 0
-              → ArgumentsAre (length (file_scope c.typed).functions) (map (λ v. v.kind) ps) [] old
-          no_arguments [] e = tt
-          no_arguments (q ∷ ps) e = absurd (omega arith)
+        -- ---- the state of the source
 
-      same_below : (a : ℕ) → a < region_start (map_of c) StructureValues → stacked_memory a ≡ locked a
-      same_below a lt = (let there = words_there in let behind = there.behind in
-          store_beside 8 locked cell stack a (inl (omega (arith, lt, behind))))
+        good_begun : IsGoodState (program_context c.typed (setting_of c.typed (map_of c).budgets).sizes
+            (file_scope c.typed)) (begun s0)
+        good_begun = (let g = fresh_good c IsGood right input in record {
+          kept = g.kept;
+          low = g.low;
+          statics = g.statics;
+          homes = g.homes;
+          plain = g.plain;
+          typed = g.typed;
+          separate = g.separate;
+        })
 
-      enters_it : Gives stage
-      enters_it =
-          let there = words_there in
-          let stack_low = there.stack_low in
-          let start_few = stored.few in
-          let few = few_parameters c IsGood right k.parameters in
-          let none = nothing in
-          enters c IsGood right u 9 13 v9 [] f k found plain k.line 0 0 [] [] s0 values 6 (start_keys (views c))
-          (record {
-            comes = tests_pass m p u 9 v9 [] k.room k.line 0 has_tests low_calls inside;
-            at = λ w. one m p u 13 (record v9 { turns = v9.turns + 1; values = values; work = w }) []
-                (flat_code.Call f 0 0) calls;
-            arguments_are = λ x t typed low. absurd (omega (arith, low, none));
-            charge = charge;
-            fits = fits;
-            room = room_left;
-            work = omega (arith, start_few, few, none);
-            stands = record {
+        separate : AreSeparate (map_of c) (stack_first c.setting) old
+        separate = subst (λ z. AreSeparate z (stack_first c.setting) old)
+            (ap (λ (g : Setting). g.sizes) (sym right.setting_is) ∙ right.sizes) good_begun.separate
+
+        no_arguments : (ps : List Variable) → length ps ≡ 0
+            → ArgumentsAre (length (file_scope c.typed).functions) (map (λ v. v.kind) ps) [] old
+        no_arguments [] e = tt
+        no_arguments (q ∷ ps) e = absurd (omega arith)
+
+        set_good : (z : State) → set_up c.setting (header_of_code k) [] k.line (begun s0) ≡ GivesRun tt z
+            → IsSetUp (context_at (names c) c.layout.expansion.code.main []) old z
+        set_good z e =
+            entered_from c IsGood right f k found (file_scope c.typed) [] k.line (begun s0) z good_begun
+            (no_arguments k.parameters nothing) e
+
+        good : (z : State) → IsSetUp (context_at (names c) c.layout.expansion.code.main []) old z
+            → AreGood (names c) c.layout.expansion.code.main [] z
+        good z up = record {
+          by = record { behind = z; since = leaves_same (context_at (names c) f []) z up.good };
+        }
+
+        -- ---- memory
+
+        same_below : (a : ℕ) → a < region_start (map_of c) StructureValues → stacked_memory a ≡ locked a
+        same_below a lt = (let there = words_there in let behind = there.behind in
+            store_beside 8 locked cell stack a (inl (omega (arith, lt, behind))))
+
+        in_stands : StandsIn c IsGood (start_keys (views c)) s0 v9
+        in_stands =
+            let there = words_there in
+            let stack_low = there.stack_low in
+            record {
               for = record {
                 objects = stands_kept m right.mapped (length c.setting.functions) c.layout.expansion.types c.entry IsGood
-                    local (start_keys (views c)) locked stacked_memory same_below spaces old stands;
+                    local (start_keys (views c)) locked stacked_memory same_below spaces_good old stands;
                 spaces = spaces_kept m right.mapped (length c.setting.functions) c.layout.expansion.types c.entry IsGood
-                    local (start_keys (views c)) locked stacked_memory same_below spaces;
+                    local (start_keys (views c)) locked stacked_memory same_below spaces_good;
                 keys = refl;
                 shown = record { input = refl; output = refl; taken = refl; accesses = refl };
               };
               top = load_stored 8 locked cell stack (omega (arith, stack_low))
                   ∙ ap (λ z. region_start z StackRegion) (sym right.sizes);
               turns = omega arith;
-            };
-            steady = record {
-              good = record {
-                by = record {
-                  behind = callee;
-                  since = leaves_same (context_at (names c) f []) callee set_good.good;
-                };
-              };
-              bytes = record {
-                some = λ x live automatic. absurd (not_automatic x automatic);
-              };
-              keys = omega arith;
-              statics = continues_same old;
-              statics_live = λ x low. placed_live _ c.layout.expansion.code.statics 0 x low;
-            };
-            wait = λ after. (
-              record {
-                by = subst (BodyBy (world c (start_keys (views c)) s0 v9) callee k (stack_first c.setting)
-                    (stack_first c.setting) (homes_of (body_objects (header_of_code k))) after) (sym plain.none)
-                    (refl, no_homes (body_objects (header_of_code k)));
-                mark = length old;
-                within = omega arith;
-                own = none_between (body_objects (header_of_code k)) (length old) (length old);
-              },
-              (refl, (let long = ap length before_is in omega (arith, long)), refl),
-            );
-          })
-        where
-          not_automatic : (x : ℕ) → (object_at old x).storage ≡ Automatic → ⊥
-          not_automatic x e = (let static = placed_static (region_start c.setting.sizes Globals)
-              c.layout.expansion.code.statics 0 x in apart (sym static ∙ e))
-            where
-              apart : Static ≡ Automatic → ⊥
-              apart e = cc
+            }
 
-    main_called : Result c IsGood stage (started c.layout.program memory input)
-    main_called =
+        words_at : HasWords (flat.Stands c.layout.program.entry 9 v9 [])
+        words_at = subst HasWords stored.comes (words_kept m p stored.steps (started p memory input) words)
+
+        -- ---- the tests of its objects
+
+        abbrev has_room : Bool
+        has_room = nat_le (objects_end (objects_of_body k) (stack_first c.setting)) (stack_end c.setting)
+
+        abbrev has_key : Bool
+        has_key = nat_lt 0 c.setting.sizes.budgets.keys
+
+        abbrev v13 : flat.State
+        v13 = record v9 { turns = v9.turns + 1; values = values; work = v9.work + first_part.work }
+
+        tested_objects : IsObjectTested (map_of c) right.mapped c.layout.program c.layout.program.entry 13 v13 [] k.line 0
+            (13 + length spaces) 34 has_room (not (has_objects (objects_of_body k)) || has_key)
+        tested_objects = objects_tested c IsGood right u [] (start_keys (views c)) s0 v9 in_stands separate.top 13 v13 refl
+            k.line 0 (objects_of_body k) has_spaces
+
+        to_tested : Comes (map_of c) c.layout.program c.layout.program.entry 9 v9 [] tested_objects.place
+            (record v9 { turns = v9.turns + 1; values = tested_objects.values }) 40
+        to_tested = (let j = tested_objects.comes in
+            then_comes m p u 9 v9 [] 13 tested_objects.place (record v9 { turns = v9.turns + 1; values = values })
+            (record v9 { turns = v9.turns + 1; values = tested_objects.values }) 6 34 first_part
+            (record { steps = j.steps; work = j.work; few = j.few; comes = j.comes }))
+
+        -- one of them has failed
+        stops : (e : Ending) → set_up c.setting (header_of_code k) [] k.line (begun s0)
+            ≡ Ended e (record (begun s0) { work = 0 + 4 + 1 })
+            → slice_get body tested_objects.place ≡ Some (flat_code.End e) → Gives stage
+        stops e is at =
+            let z : State = record (begun s0) { work = 0 + 4 + 1 } in
+            let few = stored.few in
+            subst (λ o. Gives (came (fourfold (0 + 4) o) (λ _ y. Stands f k.entry no_temps [] y))) (sym is)
+            (ends_where c IsGood u 9 s0 v9 [] in_stands.for.shown (omega (arith, few)) e
+            (spent (3 * (z.work - (0 + 4))) z) tested_objects.place 40 (v9.turns + 1) tested_objects.values to_tested at
+            (refl, refl, refl, refl) (omega arith) (omega arith))
+
+        -- ---- it is entered
+
+        enters_it : has_room ≡ true → (has_objects (objects_of_body k) ≡ true → has_key ≡ true) → Gives stage
+        enters_it space spare =
+            let start_few = stored.few in
+            let none = nothing in
+            let few = few_parameters c IsGood right k.parameters in
+            let t = tested_objects in
+            enters c IsGood right u 9 at_call v9 [] f k found plain k.line 0 0 [] [] s0 t.values 40 (start_keys (views c))
+            (record {
+              words = words_at;
+              comes = at_place m p u 9 v9 [] t.place at_call (record v9 { turns = v9.turns + 1; values = t.values }) 40 to_tested
+                  (t.behind space (spare_or (has_objects (objects_of_body k)) has_key spare));
+              at = λ w. one m p u at_call (record v9 { turns = v9.turns + 1; values = t.values; work = w }) []
+                  (flat_code.Call f 0 0) calls;
+              arguments_are = λ x t kind low. absurd (omega (arith, low, none));
+              charge = charge;
+              fits = fits;
+              space = space;
+              spare = spare;
+              work = omega (arith, start_few, few, none);
+              stands = in_stands;
+              separate = separate;
+              bytes = record { some = λ x live automatic. absurd (not_automatic x (live_made old x live) automatic) };
+              few_keys = omega arith;
+              statics = continues_same old;
+              statics_live = λ x low. (placed_static _ c.layout.expansion.code.statics 0 x low).live;
+              set_up_good = set_good;
+              good = good;
+              wait = (refl, (refl, (let long = ap length before_is in omega (arith, long)), refl));
+            })
+          where
+            not_automatic : (x : ℕ) → x < length old → (object_at old x).storage ≡ Automatic → ⊥
+            not_automatic x low e = (let first = region_start c.setting.sizes Globals in
+                let count = placed_count first c.layout.expansion.code.statics 0 in
+                let static = (placed_static first c.layout.expansion.code.statics 0 x (omega arith)).static in
+                apart (sym static ∙ e))
+              where
+                apart : Static ≡ Automatic → ⊥
+                apart e = cc
+
+        by_keys : has_room ≡ true → (a b : Bool) → has_objects (objects_of_body k) ≡ a → has_key ≡ b → Gives stage
+        by_keys space true true some spare = enters_it space (λ e. spare)
+        by_keys space true false some none =
+            stops (Keys k.line) (keys_spent c.setting (header_of_code k) [] k.line (begun s0) fits_budget space some none)
+            (tested_objects.no_key space (ap (λ b. not b || has_key) some ∙ none))
+        by_keys space false b none e = enters_it space (λ some. (let both : true ≡ false = sym some ∙ none in cc))
+
+        by_space : (a : Bool) → has_room ≡ a → Gives stage
+        by_space true e = by_keys e (has_objects (objects_of_body k)) has_key refl refl
+        by_space false e =
+            stops (Stack k.line) (space_spent c.setting (header_of_code k) [] k.line (begun s0) fits_budget e)
+            (tested_objects.no_room e)
+
+        called_so : Gives stage
+        called_so = by_space has_room refl
+
+    main_called : HasWords (started c.layout.program memory input)
+        → Result c IsGood stage (started c.layout.program memory input)
+    main_called words =
         earlier c IsGood right stage stored.steps (flat.Stands u 0 v0 []) (flat.Stands u 9 v9 []) stored.comes
-        (⊎_elim (λ more. exhausts more) (λ fits. enters_it fits) (cases_lt (map_of c).budgets.calls (0 + k.room)))
+        (⊎_elim (λ more. exhausts more) (λ fits. called_so fits words) (cases_lt (map_of c).budgets.calls (0 + k.room)))
 
 pub begins : (c : Compiled) (IsGood : Bytes → Type 0) (right : IsCompiled c IsGood)
-    → IsLocal (map_of c) c.entry IsGood → CoversMain c → (s : State) (x : flat.Stage) → IsFirst c IsGood s x
+    → IsLocal (map_of c) c.entry IsGood → CoversMain c → (s : State) (x : flat.Stage) → IsFirst c IsGood s x → HasWords x
     → Result c IsGood (tac_step c.setting (expansion_of c).code (Begins s)) x
-begins c IsGood right local covered s x h =
+begins c IsGood right local covered s x h words =
     subst (λ z. Result c IsGood (tac_step c.setting (expansion_of c).code (Begins z)) x) (sym h.fresh_is)
     (subst (λ z. Result c IsGood (tac_step c.setting (expansion_of c).code
     (Begins (fresh c.setting (objects_before (expansion_of c).code c.setting) h.input))) z) (sym h.started_is)
     (by (code_in c.layout.expansion.code c.layout.expansion.code.main) refl covered.main))
   where
     by : (o : Option CodeFunction) → code_in c.layout.expansion.code c.layout.expansion.code.main ≡ o
-        → is_plain_main c.layout.expansion.code o ≡ true
+        → is_scalar_main c.layout.expansion.code o ≡ true
         → Result c IsGood (tac_step c.setting (expansion_of c).code
         (Begins (fresh c.setting (objects_before (expansion_of c).code c.setting) h.input)))
         (started c.layout.program h.memory h.input)
     by None found e = cc
     by (Some k) found e =
-        let parts = and_parts (is_plain_call c.layout.expansion.code (Some k) false) (length k.parameters == 0) e in
+        let parts = and_parts (is_scalar_call c.layout.expansion.code (Some k) false) (length k.parameters == 0) e in
         subst (λ z. Result c IsGood (called_at c.setting z c.layout.expansion.code.main [] (line_in z) []
         (spent 4 (fresh c.setting (objects_before (expansion_of c).code c.setting) h.input)))
         (started c.layout.program h.memory h.input)) (sym found)
         (main_called c IsGood right local covered h.input h.memory k found
-        (plain_call c IsGood right k false parts.0) (eqb-true (length k.parameters) 0 parts.1) h.stands h.spaces)
+        (scalar_call c IsGood right k false parts.0) (eqb-true (length k.parameters) 0 parts.1) h.stands h.spaces
+        (subst HasWords h.started_is words))

@@ -1,5 +1,5 @@
 -- Which variables a block of a function enters: objects of the function, which have no homes before.
-use Rattle.std.proofs.Common.{◌≡◌, ℕ, zero, suc, ◌+◌, ◌<◌, Bool, true, false, ◌||◌, if◌then◌else◌, List, [], ◌∷◌}
+use Rattle.std.proofs.Common.{◌≡◌, ℕ, zero, suc, ◌+◌, ◌<◌, Bool, true, false, ◌||◌, if◌then◌else◌, List, [], ◌∷◌, ◌++◌}
 use Rattle.std.proofs.Common.{get_or, length, map, refl, sym, ap, ◌∙◌, Option, Some, None, arith}
 use Rattle.std.specs.Prelude.{◌==◌, slice_get}
 use Rattle.std.proofs.lemmas.Bool.{and_parts, eqb-true}
@@ -117,3 +117,23 @@ module _ (c : CodeFunction) (k : ℕ) where
       let place : y ≡ 0 + y = omega arith in
       among_none frame numbers y none
       (ap (is_among numbers) place ∙ (opened_object numbers 0 (all_variables c) y e).1)
+
+-- ---- the block of a body
+
+-- what is an object among some variables, behind others, is the same among all of them
+pub behind_others : (ps os vs : List Variable)
+    → ((y : ℕ) → is_object_in os y ≡ true → (is_object_in vs y ≡ true) × (at_number os y ≡ at_number vs y))
+    → (y : ℕ) → is_object_in (ps ++ os) y ≡ true
+    → (is_object_in (ps ++ vs) y ≡ true) × (at_number (ps ++ os) y ≡ at_number (ps ++ vs) y)
+behind_others [] os vs same y e = same y e
+behind_others (p ∷ ps) os vs same zero e = (e, refl)
+behind_others (p ∷ ps) os vs same (suc y) e = behind_others ps os vs same y e
+
+-- so of the objects that the body of a function declares, and those among its parameters
+pub body_declares : (numbers : List ℕ) (n : ℕ) (ps vs : List Variable) (y : ℕ)
+    → is_object_in (ps ++ opened numbers n vs (map closed vs)) y ≡ true
+    → (is_object_in (ps ++ vs) y ≡ true)
+    × (at_number (ps ++ opened numbers n vs (map closed vs)) y ≡ at_number (ps ++ vs) y)
+body_declares numbers n ps vs =
+    behind_others ps (opened numbers n vs (map closed vs)) vs
+    (λ y e. ((opened_object numbers n vs y e).0, opened_number numbers n vs y e))

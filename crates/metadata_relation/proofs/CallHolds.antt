@@ -30,11 +30,13 @@ use Rattle.metadata_plan.specs.Registers.{all_variables}
 use Rattle.metadata_plan.proofs.Calling.{first_is, rest_at, others_at, values_length}
 use Rattle.metadata_plan.proofs.SetUp.{homes_of}
 use Rattle.metadata_relation.specs.Holding.{World, world_of, IsHeldAt, IsPlain, HasNoTag, is_pointer_type, Activation}
-use Rattle.metadata_relation.specs.Holding.{Holds}
-use Rattle.metadata_relation.specs.Registers.{parameters_end, variable_register, temporary_register, moved_register}
+use Rattle.metadata_relation.specs.Holding.{HasHomes, Holds}
+use Rattle.metadata_relation.specs.Registers.{first_free, moved_register, parameters_end, temporary_register, tops_end}
+use Rattle.metadata_relation.specs.Registers.{variable_register, variables_end}
 use Rattle.metadata_relation.specs.Waiting.{AreBetween, AreNoObjects}
 use Rattle.metadata_relation.proofs.Holding.{same_world, at_node, AreFewer, variables_on, temporaries_on, homes_on}
 use Rattle.metadata_relation.proofs.Packing.{behind_parameters}
+use Rattle.metadata_relation.proofs.Registers.{count_in, variable_low}
 
 -- ---- a caller
 
@@ -116,11 +118,19 @@ zero_held w b r values none =
       sound = tt;
     }
 
+-- of a plain variable as many as a value of its type has
+plain_zero : (w : World) (t : Scalar) (r : ℕ) (values : flat.Values)
+    → ((j : ℕ) → j < count_in t → values (r + j) ≡ 0) → IsHeldAt w (is_pointer_type t) (integer 0) r values
+plain_zero w (Integer t) r values none =
+    record { word = ap values (omega arith) ∙ none 0 (omega arith); entry = λ e. cc; sound = tt }
+plain_zero w Pointer r values none = zero_held w true r values none
+
 pub callee_holds : (w : World) (tac : Tac) (k : CodeFunction) (charge : ℕ) (entries contents : ℕ → Bool)
-    (vs : List Rvalue) (values : flat.Values)
+    (vs : List Rvalue) (frame : List Home) (values : flat.Values)
     → ((x : ℕ) (t : Scalar) → plain_type (all_variables k) x ≡ Some t → x < length k.parameters
     → IsPlain w t (get_or vs x (rvalue (integer 0))).value (variable_register k x) values)
-    → ((y : ℕ) → parameters_end k ≤ y → values y ≡ 0)
+    → ((y : ℕ) → parameters_end k ≤ y → y < variables_end k → values y ≡ 0)
+    → ((y : ℕ) → tops_end k ≤ y → y < first_free k → values y ≡ 0) → HasHomes w k frame values
     → Holds w (record {
       tac = tac;
       code = k;
@@ -128,20 +138,15 @@ pub callee_holds : (w : World) (tac : Tac) (k : CodeFunction) (charge : ℕ) (en
       entries = entries;
       contents = contents;
       unknown = λ i. false;
-    }) no_temps (plain_values (header_of_code k) vs) (homes_of (body_objects (header_of_code k))) values
-callee_holds w tac k charge entries contents vs values args none = record {
+    }) no_temps (plain_values (header_of_code k) vs) frame values
+callee_holds w tac k charge entries contents vs frame values args none_low none_high homes = record {
   temporaries = λ i lt known. record {
     by = zero_held w (entries i) (temporary_register k i) values
-        (λ j few. none (temporary_register k i + j) (omega arith));
+        (λ j few. none_high (temporary_register k i + j) (omega arith) (omega arith));
     none = λ e. refl;
   };
   variables = λ x t e. by x t e (nat_lt x (length k.parameters)) refl;
-  homes = record {
-    declared = λ x o e. absurd (no_home (body_objects (header_of_code k)) x o e);
-    homes = λ x o e. absurd (no_home (body_objects (header_of_code k)) x o e);
-    automatic = λ x o e. absurd (no_home (body_objects (header_of_code k)) x o e);
-    sizes = λ x o e. absurd (no_home (body_objects (header_of_code k)) x o e);
-  };
+  homes = homes;
   count = values_length k.parameters vs k.variables;
 }
   where
@@ -162,7 +167,18 @@ callee_holds w tac k charge entries contents vs values args none = record {
         let above = behind_parameters k.parameters k.variables x outside in
         subst (λ z. IsPlain w t z (variable_register k x) values) (sym (others_at k.parameters vs k.variables x outside))
         (record {
-          value = zero_held w (is_pointer_type t) (variable_register k x) values
-              (λ j few. none (variable_register k x + j) (omega (arith, above)));
+          value = plain_zero w t (variable_register k x) values
+              (λ j few. none_low (variable_register k x + j) (omega (arith, above))
+              (let within = variable_low k x t e in omega (arith, within, few)));
           no_tag = no_tag t;
         })
+
+-- a function without objects has no homes
+pub no_homes_held : (w : World) (k : CodeFunction) (values : flat.Values)
+    → HasHomes w k (homes_of (body_objects (header_of_code k))) values
+no_homes_held w k values = record {
+  declared = λ x o e. absurd (no_home (body_objects (header_of_code k)) x o e);
+  homes = λ x o e. absurd (no_home (body_objects (header_of_code k)) x o e);
+  automatic = λ x o e. absurd (no_home (body_objects (header_of_code k)) x o e);
+  sizes = λ x o e. absurd (no_home (body_objects (header_of_code k)) x o e);
+}

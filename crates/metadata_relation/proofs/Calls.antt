@@ -1,8 +1,8 @@
--- Calls of functions whose bodies have no objects: the tests, the arguments, and where the function begins.
+-- Calls by name: the tests, the arguments, and where the function begins.
 use Rattle.std.proofs.Common.{◌≡◌, ⊎_elim, inl, ℕ, ◌+◌, ◌-◌, ◌*◌, ◌^◌, ◌<◌, ◌≤◌, Bool, true, false, List}
 use Rattle.std.proofs.Common.{[], ◌∷◌, ◌++◌, length, length-append, map, Option, Some, None, refl, sym, ap, ◌∙◌, subst, arith}
 use Rattle.std.proofs.Common.{get_or, le-leb, mul-le-mul_right}
-use Rattle.std.specs.Prelude.{slice_get, nat_le, nat_lt, if◌then◌else◌}
+use Rattle.std.specs.Prelude.{slice_get, nat_le, nat_lt, not, ◌||◌, if◌then◌else◌}
 use Rattle.std.proofs.lemmas.Bool.{and_from, cases_lt, eq-eqb, lt-leb, lt-ltb}
 use Rattle.std.proofs.lemmas.List.{length-map}
 use Rattle.addr_map.specs.Places.{MapSizes}
@@ -12,7 +12,9 @@ use Rattle.obj_memory.specs.declared.value.Scalar.TheVariants.{Pointer}
 use Rattle.c_tree.specs.declared.expression.Kind.TheVariants.{Void, Scalar as OfScalar}
 use Rattle.c_tree.specs.declared.program.Variable.{Variable}
 use Rattle.source_meaning.specs.State.{State, Rvalue}
+use Rattle.source_meaning.specs.Blocks.{has_objects, objects_end}
 use Rattle.source_meaning.specs.Calls.{caller}
+use Rattle.source_meaning.specs.Places.{stack_end}
 use Rattle.tac_ir.specs.declared.instruction.Instruction.{Instruction}
 use Rattle.tac_ir.specs.declared.instruction.Instruction.TheVariants as tac
 use Rattle.tac_ir.specs.declared.function.CodeFunction.{CodeFunction}
@@ -28,37 +30,43 @@ use Rattle.flat_meaning.specs.Memory.{Bytes}
 use Rattle.flat_meaning.specs.State as flat
 use Rattle.flat_meaning.specs.Calls.{function_in, charged}
 use Rattle.flat_meaning.specs.Meaning.{body_of, weight_of}
+use Rattle.flat_meaning.specs.Words.{HasWords}
 use Rattle.flat_meaning.proofs.Stored.{put_other}
 use Rattle.flat_routines.specs.Routine.{HasAt}
 use Rattle.flat_routines.proofs.Steps.{has_front, has_back}
-use Rattle.lib_wrappers.specs.AllocatingRoutines.Allocating.{keys_code, key_test}
-use Rattle.lib_wrappers.specs.AllocatingRoutines.Entering.{block_bytes}
 use Rattle.metadata_plan.specs.Blocks.{call_tests}
 use Rattle.metadata_plan.specs.Registers.{most_temporaries}
 use Rattle.metadata_plan.specs.Entries.{is_among, is_moved_with_entry, is_argument_with_entry, parameter_kinds}
 use Rattle.metadata_plan.specs.Expanded.{Leads}
 use Rattle.metadata_plan.proofs.Calling.{tested, tests_pass, tests_end}
-use Rattle.metadata_plan.proofs.Flat.{weight_small, Comes, end_step, one}
+use Rattle.metadata_plan.proofs.Flat.{at_place, weight_small, Comes, end_step, one}
 use Rattle.metadata_plan.proofs.SetUp.{exhausted}
 use Rattle.metadata_relation.specs.Blocks.{objects_of_body, result_of, result_entry, pack, call_code}
-use Rattle.metadata_relation.specs.Blocks.{space_test, call_of}
+use Rattle.metadata_relation.specs.Blocks.{call_of, object_tests}
 use Rattle.metadata_relation.specs.Registers.{temporary_register}
 use Rattle.metadata_relation.specs.Registers.{moved_register, first_free}
 use Rattle.metadata_relation.specs.Stages.{Compiled, map_of, expansion_of}
 use Rattle.metadata_relation.specs.Stages.{IsAt}
-use Rattle.metadata_relation.specs.Steps.{IsCompiled, is_plain_call}
+use Rattle.metadata_relation.specs.Steps.{IsCompiled, is_scalar_call}
 use Rattle.metadata_relation.proofs.Assigning.{assigned}
 use Rattle.metadata_relation.proofs.Handing as handing
 use Rattle.metadata_relation.proofs.Packing.{ways_of}
 use Rattle.metadata_relation.proofs.Packing.{count_passed}
+use Rattle.metadata_relation.proofs.ObjectTests.{IsTestedHere, no_key_stops, no_room_stops, tested_here}
 use Rattle.metadata_relation.proofs.Standing.{IsNode, node, ends, Result}
-use Rattle.metadata_relation.proofs.Entering.{IsPlainCall, plain_call, call_stage}
+use Rattle.metadata_relation.proofs.Entering.{IsScalarCall, scalar_call, call_stage}
+
+-- where there are objects there is a key
+pub spare_or : (some key : Bool) → (some ≡ true → key ≡ true) → (not some || key) ≡ true
+spare_or true key h = h refl
+spare_or false key h = refl
 
 -- ---- a call at a node
 
 module _ (c : Compiled) (IsGood : Bytes → Type 0) (right : IsCompiled c IsGood) (u n : ℕ) (temps : Temps)
     (ws : List Frame) (s : State) (v : flat.State) (xs : List flat.Frame)
-    (h : IsAt c IsGood u n temps ws s u (c.layout.address u n) v xs) where
+    (h : IsAt c IsGood u n temps ws s u (c.layout.address u n) v xs)
+    (words : HasWords (flat.Stands u (c.layout.address u n) v xs)) where
   abbrev pc : ℕ
   pc = c.layout.address u n
 
@@ -118,7 +126,7 @@ module _ (c : Compiled) (IsGood : Bytes → Type 0) (right : IsCompiled c IsGood
 
     module _ (k : CodeFunction) (found : code_in c.layout.expansion.code f ≡ Some k)
         (passed : are_passed (taken_by (header_of_code k)) (gathered temps d count) ≡ true)
-        (plain : IsPlainCall c IsGood right k (c.layout.expansion.entries u next d)) where
+        (plain : IsScalarCall c IsGood right k (c.layout.expansion.entries u next d)) where
       count_is : count ≡ length k.parameters
       count_is = count_passed (taken_by (header_of_code k)) temps d count passed ∙ length-map k.parameters _
 
@@ -135,41 +143,49 @@ module _ (c : Compiled) (IsGood : Bytes → Type 0) (right : IsCompiled c IsGood
       abbrev calls : List FlatInstruction
       calls = flat_code.Call f (moved_register h.code (5 * d)) (temporary_register h.code d) ∷ behind
 
-      abbrev with_objects : Bool → List FlatInstruction
-      with_objects b = tests ++ ((if b
-          then space_test (map_of c) (block_bytes (objects_of_body k)) line (first_free h.code)
-          ++ (keys_code (map_of c) (first_free h.code) (first_free h.code + 1) ++ key_test (first_free h.code) line)
-          else []) ++ (moves ++ calls))
+      abbrev spaces : List FlatInstruction
+      spaces = object_tests (map_of c) (objects_of_body k) line (first_free h.code)
 
       abbrev Stood : List FlatInstruction → Type 0
       Stood list = HasAt body (c.layout.address u n) list
           × Leads body (c.layout.address u n + length list) (c.layout.address u next)
 
-      stood : HasAt (body_of (function_in c.layout.program u)) (c.layout.address u n) (tests ++ (moves ++ calls))
-          × Leads (body_of (function_in c.layout.program u)) (c.layout.address u n + length (tests ++ (moves ++ calls)))
-          (c.layout.address u next)
+      stood : HasAt (body_of (function_in c.layout.program u)) (c.layout.address u n)
+          (tests ++ (spaces ++ (moves ++ calls)))
+          × Leads (body_of (function_in c.layout.program u))
+          (c.layout.address u n + length (tests ++ (spaces ++ (moves ++ calls)))) (c.layout.address u next)
       stood =
-          subst (λ b. Stood (with_objects b)) plain.none
-          (subst (λ b. Stood (if b then call_code map_now code h.code k f line d with_entry
+          subst (λ b. Stood (if b then call_code map_now code h.code k f line d with_entry
           else flat_code.End (AbortAt line) ∷ [])) (eq-eqb (length k.parameters) count (sym count_is))
           (subst (λ o. Stood (call_of map_now code h.code o f line d count with_entry)) found
-          (label.put.has, label.put.leads)))
+          (label.put.has, label.put.leads))
+
+      abbrev at_moves : ℕ
+      at_moves = c.layout.address u n + 4 + length spaces
 
       abbrev q : ℕ
-      q = c.layout.address u n + 4 + length moves
+      q = at_moves + length moves
 
       has_tests : HasAt body pc tests
-      has_tests = has_front body pc tests (moves ++ calls) stood.0
+      has_tests = has_front body pc tests (spaces ++ (moves ++ calls)) stood.0
 
-      has_rest : HasAt body (pc + 4) (moves ++ calls)
-      has_rest = has_back body pc tests (moves ++ calls) stood.0
+      has_more : HasAt body (pc + 4) (spaces ++ (moves ++ calls))
+      has_more = has_back body pc tests (spaces ++ (moves ++ calls)) stood.0
+
+      has_rest : HasAt body at_moves (moves ++ calls)
+      has_rest = has_back body (pc + 4) spaces (moves ++ calls) has_more
 
       has_call : HasAt body q calls
-      has_call = has_back body (pc + 4) moves calls has_rest
+      has_call = has_back body at_moves moves calls has_rest
 
       leads_behind : Leads body (q + 1 + length behind) (c.layout.address u next)
       leads_behind = subst (λ z. Leads body z (c.layout.address u next))
-          (omega (arith, length-append tests (moves ++ calls), length-append moves calls)) stood.1
+          (omega (
+            arith,
+            length-append tests (spaces ++ (moves ++ calls)),
+            length-append spaces (moves ++ calls),
+            length-append moves calls,
+          )) stood.1
 
       low_calls : (map_of c).budgets.calls < 2 ^ 63
       low_calls = let z = right.mapped.budgets.calls.greatest in omega (arith, z)
@@ -177,9 +193,9 @@ module _ (c : Compiled) (IsGood : Bytes → Type 0) (right : IsCompiled c IsGood
       abbrev vs : List Rvalue
       vs = gathered temps d count
 
-      plain_enough : IsPlainCall c IsGood right k false
+      plain_enough : IsScalarCall c IsGood right k false
       plain_enough =
-          record { none = plain.none; scalars = plain.scalars; result = plain.result; valued = λ e. refl }
+          record { entered = plain.entered; scalars = plain.scalars; result = plain.result; valued = λ e. refl }
 
       -- no bytes are left for it
       exhausts : (map_of c).budgets.calls < s.charged + k.room
@@ -219,9 +235,31 @@ module _ (c : Compiled) (IsGood : Bytes → Type 0) (right : IsCompiled c IsGood
             low_calls) 6
         first_part = tests_pass map_now program u pc v xs k.room line free has_tests low_calls inside
 
-        abbrev between : flat.Values
-        between = (tested (map_of c) c.layout.program u (c.layout.address u n) v xs k.room line (first_free h.code)
+        abbrev first_values : flat.Values
+        first_values = (tested (map_of c) c.layout.program u (c.layout.address u n) v xs k.room line (first_free h.code)
             has_tests low_calls).values
+
+        fits_charge : nat_le (s.charged + k.room) c.setting.sizes.budgets.calls ≡ true
+        fits_charge = (let budget = ap (λ (z : MapSizes). z.budgets.calls) right.sizes in
+            le-leb (s.charged + k.room) c.setting.sizes.budgets.calls (omega (arith, fits, budget)))
+
+        abbrev has_room : Bool
+        has_room = nat_le (objects_end (objects_of_body k) s.stacked) (stack_end c.setting)
+
+        abbrev has_key : Bool
+        has_key = nat_lt s.keys c.setting.sizes.budgets.keys
+
+        abbrev go_on : Unit {0} → State → Stage
+        go_on _ z = Stands f k.entry no_temps (Waits waits ∷ ws) z
+
+        has_spaces : HasAt body (pc + 4) spaces
+        has_spaces = has_front body (pc + 4) spaces (moves ++ calls) has_more
+
+        passed_tests : IsTestedHere c IsGood right u n temps ws s v xs h (header_of_code k) (gathered temps d count) line 6
+            go_on (c.layout.address u n + 4) 6 first_values first_part has_spaces fits_charge (omega arith) has_room
+            (not (has_objects (objects_of_body k)) || has_key)
+        passed_tests = tested_here c IsGood right u n temps ws s v xs h (header_of_code k) (gathered temps d count) line 6
+            go_on (pc + 4) 6 first_values first_part has_spaces fits_charge (omega arith)
 
         handed : (x : ℕ) → x < count → get_or (map (λ (z : Variable). z.kind) k.parameters) x Void ≡ OfScalar Pointer
             → c.layout.expansion.entries u n (d + x) ≡ true
@@ -235,31 +273,57 @@ module _ (c : Compiled) (IsGood : Bytes → Type 0) (right : IsCompiled c IsGood
             (ap (λ z. is_moved_with_entry (get_or (map (λ (z : Variable). z.kind) k.parameters) z Void))
             (omega arith) ∙ ap is_moved_with_entry kind))
 
-        enters_it : Gives (call_stage c IsGood right u pc q v xs f k found plain_enough line packed_at (T d) vs
+        abbrev Entered : Type 0
+        Entered = Gives (call_stage c IsGood right u pc q v xs f k found plain_enough line packed_at (T d) vs
             (Waits waits ∷ ws) (spent 6 s))
-        enters_it =
-            handing.enters_it c IsGood right u n temps ws s v xs h i label d d count next 6 refl (inl refl) lows.0 lows.1
-            (omega arith) f line k found passed plain handed (flat_code.Call f packed_at (T d)) (pc + 4) 6 between has_rest
-            leads_behind first_part (omega arith)
-            (λ y lt. put_other v.values free _ y (λ e. omega (arith, lt, e))) fits
+
+        enters_it : has_room ≡ true → (has_objects (objects_of_body k) ≡ true → has_key ≡ true) → Entered
+        enters_it space spare =
+            let t = passed_tests in
+            let keyed : (not (has_objects (objects_of_body k)) || has_key) ≡ true =
+            spare_or (has_objects (objects_of_body k)) has_key spare in
+            let part : Comes (map_of c) c.layout.program u pc v xs at_moves
+            (record v { turns = v.turns + 1; values = t.values }) 40 =
+            at_place (map_of c) c.layout.program u pc v xs t.place at_moves
+            (record v { turns = v.turns + 1; values = t.values }) 40 t.comes (t.behind space keyed) in
+            handing.enters_it c IsGood right u n temps ws s v xs h words i label d d count next 6 refl (inl refl) lows.0
+            lows.1 (omega arith) f line k found passed plain handed (flat_code.Call f packed_at (T d)) at_moves 40 t.values
+            has_rest leads_behind part (omega arith)
+            (λ y lt. t.others y lt ∙ put_other v.values free _ y (λ e. omega (arith, lt, e))) fits space spare
             (λ w. one map_now program u q
-            (record v { turns = v.turns + 1; values = assigned moves between; work = w }) xs
+            (record v { turns = v.turns + 1; values = assigned moves t.values; work = w }) xs
             (flat_code.Call f packed_at (T d)) has_call.0)
 
+        -- the tests of its objects
+        by_keys : has_room ≡ true → (a b : Bool) → has_objects (objects_of_body k) ≡ a → has_key ≡ b → Entered
+        by_keys space true true some spare = enters_it space (λ e. spare)
+        by_keys space true false some none =
+            no_key_stops c IsGood right u n temps ws s v xs h (header_of_code k) vs line 6 go_on (pc + 4) 6 first_values
+            first_part has_spaces fits_charge (omega arith) space some none
+        by_keys space false b none e = enters_it space (λ some. (let both : true ≡ false = sym some ∙ none in cc))
+
+        by_space : (a : Bool) → has_room ≡ a → Entered
+        by_space true e = by_keys e (has_objects (objects_of_body k)) has_key refl refl
+        by_space false e =
+            no_room_stops c IsGood right u n temps ws s v xs h (header_of_code k) vs line 6 go_on (pc + 4) 6 first_values
+            first_part has_spaces fits_charge (omega arith) e
+
       called : Gives (called_at c.setting (Some k) f vs line (Waits waits ∷ ws) (spent 6 s))
-      called = ⊎_elim (λ more. exhausts more) (λ fits. enters_it fits)
+      called =
+          ⊎_elim (λ more. exhausts more)
+          (λ fits. by_space fits (nat_le (objects_end (objects_of_body k) s.stacked) (stack_end c.setting)) refl)
           (cases_lt (map_of c).budgets.calls (s.charged + k.room))
 
     pub call_step : fit_call (code_in c.layout.expansion.code f) (gathered temps d count) ≡ true
-        → is_plain_call c.layout.expansion.code (code_in c.layout.expansion.code f)
+        → is_scalar_call c.layout.expansion.code (code_in c.layout.expansion.code f)
         (c.layout.expansion.entries u next d) ≡ true
         → Gives (effect c.setting (expansion_of c).code (tac.Call f line d count next) u temps ws (spent 6 s))
     call_step = by (code_in c.layout.expansion.code f) refl
       where
         by : (o : Option CodeFunction) → code_in c.layout.expansion.code f ≡ o
             → fit_call o (gathered temps d count) ≡ true
-            → is_plain_call c.layout.expansion.code o (c.layout.expansion.entries u next d) ≡ true
+            → is_scalar_call c.layout.expansion.code o (c.layout.expansion.entries u next d) ≡ true
             → Gives (called_at c.setting o f (gathered temps d count) line (Waits waits ∷ ws) (spent 6 s))
         by None found passed plain = missing found
         by (Some k) found passed plain =
-            called k found passed (plain_call c IsGood right k (c.layout.expansion.entries u next d) plain)
+            called k found passed (scalar_call c IsGood right k (c.layout.expansion.entries u next d) plain)

@@ -1,21 +1,25 @@
--- Calls through pointers of functions whose bodies have no objects: the callee is tested, and called as by name.
+-- Calls through pointers: the callee is tested, and called as by name.
 use Rattle.std.proofs.Common.{◌≡◌, ⊎_elim, inl, ℕ, ◌+◌, ◌-◌, ◌*◌, ◌^◌, ◌<◌, ◌≤◌, Bool, true, false, List}
 use Rattle.std.proofs.Common.{[], ◌∷◌, ◌++◌, length, length-append, map, Option, Some, None, refl, sym, ap, ◌∙◌, subst, arith}
 use Rattle.std.proofs.Common.{get_or, le-leb}
-use Rattle.std.specs.Prelude.{slice_get, nat_le, nat_lt, min, ◌==◌, ◌&&◌, ◌/◌, ◌%◌, if◌then◌else◌}
+use Rattle.std.specs.Prelude.{slice_get, nat_le, nat_lt, not, ◌||◌, min, ◌==◌, ◌&&◌, ◌/◌, ◌%◌, if◌then◌else◌}
 use Rattle.std.proofs.Math.Nat.{le-min, min-le_left}
 use Rattle.std.proofs.Common.{ap₂, ◌⊎◌, inr, le-ltb}
-use Rattle.std.proofs.lemmas.Bool.{and_from, cases_lt, eq-eqb, eqb-true, lt-leb, lt-ltb}
+use Rattle.std.proofs.lemmas.Bool.{and_from, and_parts, cases_lt, eq-eqb, eqb-true, lt-leb, lt-ltb, ne_eqb}
 use Rattle.std.proofs.lemmas.List.{length-map}
-use Rattle.addr_map.specs.Places.{MapSizes}
-use Rattle.sb_base.specs.declared.ending.Ending.TheVariants.{Abort as AbortAt, BadCall, Stack}
+use Rattle.addr_map.specs.declared.region.Region.TheVariants.{Stack as StackRegion}
+use Rattle.addr_map.specs.Places.{MapSizes, region_end}
+use Rattle.sb_base.specs.declared.ending.Ending.TheVariants.{Abort as AbortAt, BadCall, Keys, Stack}
 use Rattle.obj_memory.specs.declared.value.Scalar.TheVariants.{Pointer}
 use Rattle.obj_memory.specs.Sound.{IsSoundTag}
 use Rattle.c_tree.specs.declared.expression.Kind.{Kind}
 use Rattle.c_tree.specs.declared.expression.Kind.TheVariants.{Void, Scalar as OfScalar}
 use Rattle.c_tree.specs.declared.program.Variable.{Variable}
 use Rattle.source_meaning.specs.State.{State, Rvalue}
-use Rattle.source_meaning.specs.Calls.{body_objects, caller}
+use Rattle.source_meaning.specs.Blocks.{has_objects, objects_end}
+use Rattle.source_meaning.specs.Calls.{caller}
+use Rattle.source_meaning.specs.Keeping.{AreSeparate}
+use Rattle.source_meaning.specs.Places.{stack_end}
 use Rattle.tac_ir.specs.declared.instruction.Instruction.{Instruction}
 use Rattle.tac_ir.specs.declared.instruction.Instruction.TheVariants as tac
 use Rattle.tac_ir.specs.declared.function.CodeFunction.{CodeFunction}
@@ -31,28 +35,30 @@ use Rattle.flat_meaning.specs.Memory.{Bytes}
 use Rattle.flat_meaning.specs.State as flat
 use Rattle.flat_meaning.specs.Calls.{function_in, charged}
 use Rattle.flat_meaning.specs.Meaning.{body_of}
+use Rattle.flat_meaning.specs.Words.{HasWords}
 use Rattle.flat_routines.specs.Routine.{HasAt}
 use Rattle.flat_routines.proofs.Steps.{has_front, has_back}
 use Rattle.lib_wrappers.specs.AllocatingRoutines.Entering.{block_bytes}
+use Rattle.lib_wrappers.proofs.AllocatingRoutines.SourceEntries.{some_bytes}
 use Rattle.metadata_plan.specs.Registers.{most_temporaries}
 use Rattle.metadata_plan.specs.Entries.{is_among}
 use Rattle.metadata_plan.specs.Expanded.{Leads}
-use Rattle.metadata_plan.proofs.Flat.{Comes, then_comes, at_place, one}
+use Rattle.metadata_plan.proofs.Flat.{Comes, then_comes, at_place, weaker, one}
 use Rattle.metadata_plan.proofs.SetUp.{exhausted}
-use Rattle.metadata_relation.specs.Blocks.{result_of, result_entry, pack}
+use Rattle.metadata_relation.specs.Blocks.{objects_of_body, result_of, result_entry, pack}
 use Rattle.metadata_relation.specs.Holding.{IsHeldAt}
 use Rattle.metadata_relation.specs.Registers.{parameters_end}
 use Rattle.metadata_relation.specs.Registers.{temporary_register}
 use Rattle.metadata_relation.specs.Registers.{moved_register, first_free}
-use Rattle.metadata_relation.specs.Stages.{Compiled, map_of, views, world, expansion_of}
+use Rattle.metadata_relation.specs.Stages.{Compiled, map_of, names, views, world, expansion_of}
 use Rattle.metadata_relation.specs.Stages.{IsAt}
 use Rattle.metadata_relation.specs.Steps.{IsCompiled}
 use Rattle.metadata_relation.proofs.Assigning.{assigned}
 use Rattle.metadata_relation.proofs.Packing.{ways_of}
 use Rattle.metadata_relation.proofs.Packing.{count_passed}
 use Rattle.metadata_relation.proofs.Registers.{temporary_free}
-use Rattle.metadata_relation.proofs.Standing.{IsNode, node, Result}
-use Rattle.metadata_relation.proofs.Entering.{there, IsPlainCall, plain_call, call_stage}
+use Rattle.metadata_relation.proofs.Standing.{good_now, IsNode, node, Result}
+use Rattle.metadata_relation.proofs.Entering.{there, IsScalarCall, scalar_call, call_stage}
 use Rattle.addr_map.specs.Places.{functions_begin, function_address}
 use Rattle.obj_memory.specs.declared.object.Storage.{Storage}
 use Rattle.obj_memory.specs.declared.object.Storage.TheVariants.{Static, Automatic, Allocated}
@@ -75,7 +81,7 @@ use Rattle.metadata_relation.specs.Blocks.{Expansion, callee_tests, room_tests, 
 use Rattle.metadata_relation.specs.Expanded.{ExpandsAt}
 use Rattle.metadata_relation.specs.FunctionTypes.{first_of_type, object_units, room_told, type_key_of}
 use Rattle.metadata_relation.specs.Registers.{area_words, result_words}
-use Rattle.metadata_relation.specs.Steps.{are_plain_calls}
+use Rattle.metadata_relation.specs.Steps.{are_scalar_calls, are_sized}
 use Rattle.metadata_relation.proofs.CalleeTests as callee_run
 use Rattle.metadata_relation.proofs.Handing as handing
 use Rattle.metadata_relation.proofs.Handing.{held_at}
@@ -83,8 +89,11 @@ use Rattle.metadata_relation.proofs.FunctionTypes.{is_callee, FindsBy, finds, no
 use Rattle.metadata_relation.proofs.FunctionTypes.{units_told, room_told_by}
 use Rattle.metadata_relation.proofs.FunctionsOfType.{there_at, plain_at, passed_to, take_alike, headers_are, kind_low, inside_list}
 use Rattle.metadata_relation.proofs.FunctionsOfType.{units_low, room_low, key_is, kind_tells, code_count}
-use Rattle.metadata_relation.proofs.ObjectTests.{ends_at}
-use Rattle.metadata_relation.proofs.RoomTests.{IsRoomTested, room_tested, HasNoUnits, no_units}
+use Rattle.metadata_relation.proofs.BlockHomes.{sized_by}
+use Rattle.metadata_relation.proofs.Calls.{spare_or}
+use Rattle.metadata_relation.proofs.ObjectTests.{counted_is, ends_at, key_same, keys_spent, none_fit, room_same}
+use Rattle.metadata_relation.proofs.ObjectTests.{some_units_tested, space_spent, stops_at, top_is, units_fit}
+use Rattle.metadata_relation.proofs.RoomTests.{IsRoomTested, room_tested, no_units}
 
 -- ---- the address of a function
 
@@ -142,7 +151,8 @@ static_or Allocated = inr (λ e. cc)
 
 module _ (c : Compiled) (IsGood : Bytes → Type 0) (right : IsCompiled c IsGood) (u n : ℕ) (temps : Temps)
     (ws : List Frame) (s : State) (v : flat.State) (xs : List flat.Frame)
-    (h : IsAt c IsGood u n temps ws s u (c.layout.address u n) v xs) where
+    (h : IsAt c IsGood u n temps ws s u (c.layout.address u n) v xs)
+    (words : HasWords (flat.Stands u (c.layout.address u n) v xs)) where
   abbrev pc : ℕ
   pc = c.layout.address u n
 
@@ -283,7 +293,7 @@ module _ (c : Compiled) (IsGood : Bytes → Type 0) (right : IsCompiled c IsGood
 
     module _ (like : CodeFunction) (first : slice_get c.layout.expansion.code.functions kind ≡ Some like)
         (fit : fit_type c.setting.functions type (gathered temps (d + 1) count) ≡ true)
-        (plains : are_plain_calls c.layout.expansion.code type c.layout.expansion.code.functions
+        (plains : are_scalar_calls c.layout.expansion.code type c.layout.expansion.code.functions
         (c.layout.expansion.entries u next d) ≡ true) where
       typed_like : like.type_number ≡ type
       typed_like = first_typed fs type like first
@@ -363,13 +373,13 @@ module _ (c : Compiled) (IsGood : Bytes → Type 0) (right : IsCompiled c IsGood
       module _ (f : ℕ) (k : CodeFunction) (found : code_in c.layout.expansion.code f ≡ Some k)
           (typed : k.type_number ≡ type) (tag_is : (temps d).value.tag ≡ OfFunction f)
           (word_is : (temps d).value.word ≡ function_address f) (passed_all : passes ≡ true) where
-        plain : IsPlainCall c IsGood right k (c.layout.expansion.entries u next d)
-        plain = plain_call c IsGood right k (c.layout.expansion.entries u next d)
+        plain : IsScalarCall c IsGood right k (c.layout.expansion.entries u next d)
+        plain = scalar_call c IsGood right k (c.layout.expansion.entries u next d)
             (plain_at code type with_entry fs f k plains found typed)
 
-        plain_enough : IsPlainCall c IsGood right k false
+        plain_enough : IsScalarCall c IsGood right k false
         plain_enough =
-            record { none = plain.none; scalars = plain.scalars; result = plain.result; valued = λ e. refl }
+            record { entered = plain.entered; scalars = plain.scalars; result = plain.result; valued = λ e. refl }
 
         passed : are_passed (taken_by (header_of_code k)) (gathered temps (d + 1) count) ≡ true
         passed = passed_to type vs fs f k fits_code found typed
@@ -509,30 +519,110 @@ module _ (c : Compiled) (IsGood : Bytes → Type 0) (right : IsCompiled c IsGood
           to_objects = at_place map_now program u pc v xs B.place at_objects
               (record v { turns = v.turns + 1; values = B.values }) 22 (to_place true B) (B.behind refl)
 
-          no_objects : object_units k ≡ 0
-          no_objects = ap (λ b. if b then min (rounded_up 16 (block_bytes (body_objects (header_of_code k))) / 16)
-              (2 ^ 18 + 1) else 0) plain.none
-
           abbrev v2 : flat.State
           v2 = record v { turns = v.turns + 1; values = B.values; work = v.work + to_objects.work }
 
-          C : HasNoUnits (map_of c) c.layout.program u at_objects v2 xs (temporary_register h.code d) line
-              (first_free h.code) apart
-          C = no_units map_now program u at_objects v2 xs (T d) line free apart
-              (has_front body at_objects object_list (moves ++ calls) has_more)
-              (ap (λ z. z / 2 ^ 12 % 2 ^ 19) (B.others (T d + 3) (omega (arith, apart)) ∙ key_stays ∙ key_value)
+          has_tests : HasAt body at_objects object_list
+          has_tests = has_front body at_objects object_list (moves ++ calls) has_more
+
+          units_there : B.values (temporary_register h.code d + 3) / 2 ^ 12 % 2 ^ 19 ≡ object_units k
+          units_there =
+              ap (λ z. z / 2 ^ 12 % 2 ^ 19) (B.others (T d + 3) (omega (arith, apart)) ∙ key_stays ∙ key_value)
               ∙ units_told (first_of_type fs k.type_number) (object_units k) (room_told k) kind_fits
-              (units_low c IsGood right k) (room_low c IsGood right k) ∙ no_objects)
+              (units_low c IsGood right k) (room_low c IsGood right k)
 
-          to_moves : ComesTo at_moves (record v { turns = v.turns + 1; values = C.values }) 28
-          to_moves =
+          separate : AreSeparate (map_of c) s.stacked s.objects
+          separate = (good_now (names c) u ws s h.steady.good).separate
+
+          top_inside : s.stacked ≤ region_end (map_of c) StackRegion
+          top_inside = separate.top
+
+          abbrev has_room_left : Bool
+          has_room_left = nat_le (objects_end (objects_of_body k) s.stacked) (stack_end c.setting)
+
+          abbrev has_key : Bool
+          has_key = nat_lt s.keys c.setting.sizes.budgets.keys
+
+          -- the run is behind the tests of objects just where those of the source's meaning pass
+          record AreTested (room key : Bool) : Type 0 where
+            values : flat.Values
+            others : (y : ℕ) → y < first_free h.code → values y ≡ B.values y
+            place : ℕ
+            comes : ComesTo place (record v { turns = v.turns + 1; values = values }) 66
+            behind : room ≡ true → key ≡ true → place ≡ at_moves
+            no_room : room ≡ false → instruction_at c.layout.program u place ≡ Some (flat_code.End (Stack line))
+            no_key : room ≡ true → key ≡ false → instruction_at c.layout.program u place ≡ Some (flat_code.End (Keys line))
+
+          none_tested : has_objects (objects_of_body k) ≡ false → AreTested has_room_left true
+          none_tested none =
+              let C = no_units map_now program u at_objects v2 xs (T d) line free apart has_tests
+              (units_there ∙ ap (λ b. if b then min (rounded_up 16 (block_bytes (objects_of_body k)) / 16) (2 ^ 18 + 1)
+              else 0) none) in
               let j = C.comes in
-              then_comes map_now program u pc v xs at_objects at_moves (record v { turns = v.turns + 1; values = B.values })
-              (record v { turns = v.turns + 1; values = C.values }) 22 6 to_objects
-              (record { steps = j.steps; work = j.work; few = j.few; comes = j.comes })
+              let space = none_fit c IsGood right u xs h.keys s v h.stands top_inside at_objects v2 refl line free
+              (objects_of_body k) none in
+              let most : 22 + 6 ≤ 66 = omega arith in
+              record {
+                values = C.values;
+                others = C.others;
+                place = at_moves;
+                comes = weaker map_now program u pc v xs at_moves (record v { turns = v.turns + 1; values = C.values })
+                    (22 + 6) 66
+                    (then_comes map_now program u pc v xs at_objects at_moves
+                    (record v { turns = v.turns + 1; values = B.values })
+                    (record v { turns = v.turns + 1; values = C.values }) 22 6 to_objects
+                    (record { steps = j.steps; work = j.work; few = j.few; comes = j.comes })) most;
+                behind = λ a b. refl;
+                no_room = λ no. (let both : true ≡ false = sym space ∙ no in cc);
+                no_key = λ a no. cc;
+              }
 
-          between_stays : (y : ℕ) → y < first_free h.code → C.values y ≡ v.values y
-          between_stays y lt = C.others y lt ∙ B.others y lt ∙ A.others y lt
+          some_tested : has_objects (objects_of_body k) ≡ true → AreTested has_room_left has_key
+          some_tested some =
+              let vs = objects_of_body k in
+              let sized = sized_by vs
+              (and_parts (are_sized vs) _ (and_parts (has_objects vs) _ (plain.entered some)).1).0 in
+              let bytes = some_bytes vs 0 some sized in
+              let units_are : object_units k ≡ min (rounded_up 16 (block_bytes vs) / 16) (2 ^ 18 + 1) =
+              ap (λ b. if b then min (rounded_up 16 (block_bytes vs) / 16) (2 ^ 18 + 1) else 0) some in
+              let least : 1 ≤ min (rounded_up 16 (block_bytes vs) / 16) (2 ^ 18 + 1) =
+              le-min (omega (arith, bytes)) (omega arith) in
+              let C = some_units_tested map_now right.mapped program u at_objects v2 xs (T d) line free s.stacked s.keys
+              (object_units k) apart
+              (top_is c IsGood right u xs h.keys s v h.stands top_inside at_objects v2 refl line free) top_inside
+              (counted_is c IsGood right u xs h.keys s v h.stands top_inside at_objects v2 refl line free) units_there
+              has_tests
+              (ne_eqb (object_units k) 0 (λ e. omega (arith, e, units_are, least))) has_room_left has_key
+              (units_fit map_now right.mapped s.stacked separate.bottom k some
+              ∙ room_same c IsGood right u xs h.keys s v h.stands top_inside at_objects v2 refl line free vs some)
+              (key_same c IsGood right u xs h.keys s v h.stands top_inside at_objects v2 refl line free) in
+              let j = C.comes in
+              let long : at_objects + 24 ≡ at_moves = omega (arith, tests_long) in
+              record {
+                values = C.values;
+                others = C.others;
+                place = C.place;
+                comes = then_comes map_now program u pc v xs at_objects C.place
+                    (record v { turns = v.turns + 1; values = B.values })
+                    (record v { turns = v.turns + 1; values = C.values }) 22 44 to_objects
+                    (record { steps = j.steps; work = j.work; few = j.few; comes = j.comes });
+                behind = λ a b. C.behind a b ∙ long;
+                no_room = C.no_room;
+                no_key = C.no_key;
+              }
+            where
+              tests_long : length object_list ≡ 24
+              tests_long = refl
+
+          objects_tested_here : (b : Bool) → has_objects (objects_of_body k) ≡ b → AreTested has_room_left (not b || has_key)
+          objects_tested_here true some = some_tested some
+          objects_tested_here false none = none_tested none
+
+          D : AreTested has_room_left (not (has_objects (objects_of_body k)) || has_key)
+          D = objects_tested_here (has_objects (objects_of_body k)) refl
+
+          between_stays : (y : ℕ) → y < first_free h.code → D.values y ≡ v.values y
+          between_stays y lt = D.others y lt ∙ B.others y lt ∙ A.others y lt
 
           reads : (x : ℕ) → x < count → get_or (map (λ (z : Variable). z.kind) k.parameters) x Void ≡ OfScalar Pointer
               → c.layout.expansion.entries u n (d + 1 + x) ≡ true
@@ -542,34 +632,70 @@ module _ (c : Compiled) (IsGood : Bytes → Type 0) (right : IsCompiled c IsGood
               (le-leb d (d + 1 + x) (omega arith)) (lt-ltb (d + 1 + x) (d + (count + 1)) (omega (arith, low))))
 
           abbrev packed : flat.Values
-          packed = assigned moves C.values
+          packed = assigned moves D.values
 
-          -- the address is still there
-          address_there : packed (temporary_register h.code d) ≡ function_address f
-          address_there =
-              handing.stay c IsGood right u n temps ws s v xs h i label d (d + 1) count next 8 refl (inl refl) lows.0
-              lows.1 (omega arith) f line k found passed plain reads (call_with (parameters_end k) (result_of code k))
-              at_moves 28 C.values has_rest leads_behind to_moves (omega arith) between_stays fits (T d)
-              (omega (arith, apart, lows.0))
-              ∙ entry.word ∙ word_is
-
-          enters_it : Gives (call_stage c IsGood right u pc q v xs f k found plain_enough line packed_at (T d) vs
+          abbrev Entered : Type 0
+          Entered = Gives (call_stage c IsGood right u pc q v xs f k found plain_enough line packed_at (T d) vs
               (Waits waits ∷ ws) (spent 8 s))
-          enters_it =
-              let callee = there c IsGood right f k found in
-              handing.enters_it c IsGood right u n temps ws s v xs h i label d (d + 1) count next 8 refl (inl refl) lows.0
-              lows.1 (omega arith) f line k found passed plain reads (call_with (parameters_end k) (result_of code k))
-              at_moves 28 C.values has_rest leads_behind to_moves (omega arith) between_stays fits
-              (λ w. by_name map_now program u q (record v { turns = v.turns + 1; values = packed; work = w }) xs f (T d)
-              packed_at (parameters_end k + area_words (result_of code k)) (T d) (result_words (result_of code k))
-              has_call.0
-              (ap (function_at program) address_there
-              ∙ names_function program f (of_program c.layout.expansion f k (c.layout.address f)
-              (function_in program f) (right.expanded.functions f k found)))
-              (sym callee.parameters) (sym callee.results))
+
+          abbrev go_on : Unit {0} → State → Stage
+          go_on _ z = Stands f k.entry no_temps (Waits waits ∷ ws) z
+
+          fits_budget : nat_le (s.charged + k.room) c.setting.sizes.budgets.calls ≡ true
+          fits_budget = (let budget = ap (λ (z : MapSizes). z.budgets.calls) right.sizes in
+              le-leb (s.charged + k.room) c.setting.sizes.budgets.calls (omega (arith, fits, budget)))
+
+          module _ (space : has_room_left ≡ true) (spare : has_objects (objects_of_body k) ≡ true → has_key ≡ true) where
+            to_moves : ComesTo at_moves (record v { turns = v.turns + 1; values = D.values }) 66
+            to_moves = at_place map_now program u pc v xs D.place at_moves
+                (record v { turns = v.turns + 1; values = D.values }) 66 D.comes
+                (D.behind space (spare_or (has_objects (objects_of_body k)) has_key spare))
+
+            -- the address is still there
+            address_there : packed (temporary_register h.code d) ≡ function_address f
+            address_there =
+                handing.stay c IsGood right u n temps ws s v xs h words i label d (d + 1) count next 8 refl (inl refl) lows.0
+                lows.1 (omega arith) f line k found passed plain reads (call_with (parameters_end k) (result_of code k))
+                at_moves 66 D.values has_rest leads_behind to_moves (omega arith) between_stays fits space spare (T d)
+                (omega (arith, apart, lows.0))
+                ∙ entry.word ∙ word_is
+
+            enters_it : Entered
+            enters_it =
+                let callee = there c IsGood right f k found in
+                handing.enters_it c IsGood right u n temps ws s v xs h words i label d (d + 1) count next 8 refl (inl refl)
+                lows.0 lows.1 (omega arith) f line k found passed plain reads
+                (call_with (parameters_end k) (result_of code k)) at_moves 66 D.values has_rest leads_behind to_moves
+                (omega arith) between_stays fits space spare
+                (λ w. by_name map_now program u q (record v { turns = v.turns + 1; values = packed; work = w }) xs f (T d)
+                packed_at (parameters_end k + area_words (result_of code k)) (T d) (result_words (result_of code k))
+                has_call.0
+                (ap (function_at program) address_there
+                ∙ names_function program f (of_program c.layout.expansion f k (c.layout.address f)
+                (function_in program f) (right.expanded.functions f k found)))
+                (sym callee.parameters) (sym callee.results))
+
+          -- the tests of its objects
+          by_keys : has_room_left ≡ true → (a b : Bool) → has_objects (objects_of_body k) ≡ a → has_key ≡ b → Entered
+          by_keys space true true some spare = enters_it space (λ e. spare)
+          by_keys space true false some none =
+              stops_at c IsGood right u n temps ws s v xs h (header_of_code k) vs line 8 go_on (Keys line)
+              (keys_spent c.setting (header_of_code k) vs line (begun (spent 8 s)) fits_budget space some none) D.place 66
+              D.values D.comes (D.no_key space (ap (λ b. not b || has_key) some ∙ none)) (omega arith)
+          by_keys space false b none e = enters_it space (λ some. (let both : true ≡ false = sym some ∙ none in cc))
+
+          by_space : (a : Bool) → has_room_left ≡ a → Entered
+          by_space true e = by_keys e (has_objects (objects_of_body k)) has_key refl refl
+          by_space false e =
+              stops_at c IsGood right u n temps ws s v xs h (header_of_code k) vs line 8 go_on (Stack line)
+              (space_spent c.setting (header_of_code k) vs line (begun (spent 8 s)) fits_budget e) D.place 66 D.values
+              D.comes (D.no_room e) (omega arith)
+
+          called_so : Entered
+          called_so = by_space has_room_left refl
 
         called_one : Gives (called_at c.setting (Some k) f vs line (Waits waits ∷ ws) (spent 8 s))
-        called_one = ⊎_elim (λ more. exhausts more) (λ fits. enters_it fits)
+        called_one = ⊎_elim (λ more. exhausts more) (λ fits. called_so fits)
             (cases_lt (map_of c).budgets.calls (s.charged + k.room))
 
       -- the callee is as the tests say
@@ -597,7 +723,7 @@ module _ (c : Compiled) (IsGood : Bytes → Type 0) (right : IsCompiled c IsGood
           passes_same)
 
     pub call_through_step : fit_type c.setting.functions type (gathered temps (d + 1) count) ≡ true
-        → are_plain_calls c.layout.expansion.code type c.layout.expansion.code.functions
+        → are_scalar_calls c.layout.expansion.code type c.layout.expansion.code.functions
         (c.layout.expansion.entries u next d) ≡ true
         → Gives (effect c.setting (expansion_of c).code (tac.CallThrough type line d count next) u temps ws (spent 8 s))
     call_through_step fit plains = by (slice_get c.layout.expansion.code.functions kind) refl

@@ -1,16 +1,13 @@
 -- A check of a pointer whose key begins with an object's name compares its address with that of the object.
-use Rattle.std.proofs.Common.{◌≡◌, inl, inr, ℕ, ◌+◌, ◌-◌, ◌*◌, ◌%◌, ◌^◌, ◌<◌, ◌≤◌, Bool, true, false, List, []}
+use Rattle.std.proofs.Common.{◌≡◌, inl, inr, ℕ, ◌+◌, ◌-◌, ◌%◌, ◌^◌, ◌<◌, ◌≤◌, Bool, true, false, List, []}
 use Rattle.std.proofs.Common.{◌∷◌, ◌++◌, length, length-append, Some, None, refl, sym, ap, ap₂, ◌∙◌}
 use Rattle.std.proofs.Common.{subst, arith}
 use Rattle.std.specs.Prelude.{nat_lt, if◌then◌else◌}
-use Rattle.std.proofs.Math.Nat.{mod-eq_of_lt, mul-le-mul_right}
+use Rattle.std.proofs.Math.Nat.{mod-eq_of_lt}
 use Rattle.std.proofs.lemmas.Bool.{lt-ltb}
 use Rattle.std.proofs.lemmas.Bool.Decides.{leb_tells}
-use Rattle.behaviours.specs.Steps.{run}
-use Rattle.behaviours.proofs.Running.{run_add}
 use Rattle.sb_base.specs.declared.ending.Ending.{Ending}
 use Rattle.sb_base.specs.declared.ending.Ending.TheVariants.{Spatial as SpatialAt}
-use Rattle.sb_base.specs.Endings.{code_of, report_of}
 use Rattle.words.specs.Operations.{difference}
 use Rattle.obj_memory.specs.Judgement.{are_within}
 use Rattle.source_meaning.specs.State.{State}
@@ -28,7 +25,7 @@ use Rattle.flat_meaning.specs.declared.instruction.FlatInstruction.TheVariants.{
 use Rattle.flat_meaning.specs.Memory.{Bytes, put}
 use Rattle.flat_meaning.specs.State as flat
 use Rattle.flat_meaning.specs.Calls.{function_in}
-use Rattle.flat_meaning.specs.Meaning.{body_of, instruction_at, weight_of, step}
+use Rattle.flat_meaning.specs.Meaning.{body_of, instruction_at}
 use Rattle.flat_meaning.specs.Words.{IsOfWords}
 use Rattle.flat_meaning.proofs.Stored.{put_same, put_other}
 use Rattle.flat_routines.specs.Routine.{HasAt}
@@ -37,24 +34,22 @@ use Rattle.metadata_plan.specs.Registers.{most_temporaries}
 use Rattle.metadata_plan.specs.Entries.{given}
 use Rattle.metadata_plan.specs.Expanded.{Leads}
 use Rattle.metadata_plan.specs.Operators.{OperatorCode}
-use Rattle.metadata_plan.proofs.Flat.{weight_small, Comes, next_comes, then_comes, at_place, operate_comes}
-use Rattle.metadata_plan.proofs.Flat.{branch_taken_comes, branch_passed_comes, end_step}
+use Rattle.metadata_plan.proofs.Calling.{below}
+use Rattle.metadata_plan.proofs.Flat.{Comes, next_comes, then_comes, at_place, operate_comes}
+use Rattle.metadata_plan.proofs.Flat.{branch_taken_comes, branch_passed_comes}
 use Rattle.metadata_relation.specs.Registers.{temporary_register, first_free}
 use Rattle.metadata_relation.specs.Blocks.{is_short, number_code, number_operand, Range, range_code}
 use Rattle.metadata_relation.specs.Stages.{Compiled, map_of, IsAt}
 use Rattle.metadata_relation.specs.Steps.{IsCompiled}
 use Rattle.metadata_relation.proofs.Ranges.{behind, compared, too_small, Told}
+use Rattle.metadata_relation.proofs.ObjectTests.{ends_at}
 use Rattle.metadata_relation.proofs.Registers.{temporary_free}
 use Rattle.metadata_relation.proofs.Simple.{goes_on, led}
-use Rattle.metadata_relation.proofs.Standing.{IsNode, ends, Result}
+use Rattle.metadata_relation.proofs.Standing.{IsNode, Result}
 
 difference_is : (x y : ℕ) → reg_result Sub x y ≡ difference 64 x y
 unfolding reg_result
 difference_is x y = refl
-
-below : (x y : ℕ) (b : Bool) → nat_lt x y ≡ b → branch_taken Bltu x y ≡ b
-unfolding branch_taken
-below x y b e = e
 
 -- a short number stands in the instruction that takes it
 pub short_code : (o : OperatorCode) (x r s : ℕ) → is_short x ≡ true → number_code o x r s ≡ []
@@ -124,18 +119,8 @@ module _ (c : Compiled) (IsGood : Bytes → Type 0) (right : IsCompiled c IsGood
       → instruction_at c.layout.program u q ≡ Some (End e) → most ≤ 19
       → Gives (came (pass_or_stop false e (spent 1 s)) (λ _ z. Stands u next temps ws z))
   stops e next q most values k at few =
-      let between : flat.State = record v { values = values; work = v.work + k.work } in
-      let l = length (report_of e) in
-      let w = weight_of (function_in c.layout.program u) in
-      let one = end_step (map_of c) c.layout.program u q between xs e at in
-      let scaled = mul-le-mul_right (1 + l) (weight_small (function_in c.layout.program u)) in
-      let shown = h.stands.for.shown in
-      ends c IsGood (flat.Stands u (c.layout.address u n) v xs) e (spent 1 s)
-      (record between { work = v.work + k.work + w * (1 + l) }) (k.steps + 1) (code_of e) (report_of e)
-      (run_add (step (map_of c) c.layout.program) k.steps 1 (flat.Stands u pc v xs)
-      ∙ ap (run (step (map_of c) c.layout.program) 1) k.comes ∙ one) refl refl
-      (record { input = shown.input; output = shown.output; taken = shown.taken; accesses = shown.accesses })
-      h.stands.turns (omega (arith, h.work, k.few, scaled, few))
+      ends_at c IsGood u n temps ws s v xs h e (spent 1 s) q most v.turns values k at (refl, refl, refl, refl) h.stands.turns
+      (omega (arith, few))
 
   -- so many bytes behind the address of an object, in the first free register
   pub record HasAddress (list : List FlatInstruction) (address : ℕ) : Type 0 where

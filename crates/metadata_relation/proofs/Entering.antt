@@ -1,9 +1,10 @@
--- A function without objects is entered: from where its arguments stand packed the run comes to its first node.
+-- A function is called: from where its arguments stand packed the run comes to where its variables are set, and, if its
+-- body has no objects, to its first node.
 use Rattle.std.proofs.Common.{◌≡◌, ℕ, ◌+◌, ◌-◌, ◌*◌, ◌<◌, ◌≤◌, Bool, true, false, List}
 use Rattle.std.proofs.Common.{[], ◌∷◌, ◌++◌, length, length-append, Option, Some, None, refl, sym, ap, ◌∙◌, subst, arith}
-use Rattle.std.proofs.Common.{get_or, le-leb}
-use Rattle.std.specs.Prelude.{slice_get, nat_le, ◌&&◌, ◌||◌, not, ◌==◌, if◌then◌else◌}
-use Rattle.std.proofs.lemmas.Bool.{and_parts, and_from, eq-eqb, not-true}
+use Rattle.std.proofs.Common.{get_or, le-leb, map}
+use Rattle.std.specs.Prelude.{slice_get, nat_le, nat_lt, ◌&&◌, ◌||◌, not, ◌==◌, if◌then◌else◌}
+use Rattle.std.proofs.lemmas.Bool.{and_parts, and_from, eq-eqb}
 use Rattle.behaviours.specs.Steps.{run}
 use Rattle.behaviours.proofs.Running.{run_add}
 use Rattle.addr_map.specs.declared.region.Region.TheVariants.{RuntimeCalls}
@@ -17,11 +18,10 @@ use Rattle.source_meaning.specs.State.{State, Rvalue}
 use Rattle.source_meaning.specs.Actions.{integer}
 use Rattle.source_meaning.specs.Blocks.{has_objects}
 use Rattle.source_meaning.specs.Calls.{body_objects, plain_count, set_up}
-use Rattle.source_meaning.specs.Good.{plain_type}
 use Rattle.source_meaning.specs.Places.{stack_first, stack_end}
 use Rattle.source_meaning.specs.Structures.{rvalue}
 use Rattle.tac_ir.specs.declared.function.CodeFunction.{CodeFunction}
-use Rattle.tac_ir.specs.Stage.{no_temps, Frame, Waits, Entered, Stage, Stands, came}
+use Rattle.tac_ir.specs.Stage.{no_temps, Frame, Stage, Stands, came}
 use Rattle.tac_ir.specs.Costs.{spent, fourfold, heavier}
 use Rattle.tac_ir.specs.Meaning.{header_of_code, begun}
 use Rattle.flat_meaning.specs.declared.instruction.FlatInstruction.{FlatInstruction}
@@ -37,28 +37,47 @@ use Rattle.flat_routines.specs.Objects.StandsFor.{Keys}
 use Rattle.flat_routines.specs.Routine.{HasAt}
 use Rattle.flat_routines.proofs.Steps.{has_front, has_self}
 use Rattle.runtime_functions.specs.Library.{Passed, NoValue, OneWord, WithEntry, register_count}
-use Rattle.metadata_plan.specs.Registers.{words_of, all_variables}
+use Rattle.metadata_plan.specs.Registers.{words_of}
 use Rattle.metadata_plan.specs.Expanded.{Leads}
 use Rattle.metadata_plan.proofs.Calling.{counted}
 use Rattle.metadata_plan.proofs.Calling.{argument_out}
-use Rattle.metadata_plan.proofs.Entering.{room_behind, no_rooms}
+use Rattle.metadata_plan.proofs.Entering.{room_behind}
 use Rattle.metadata_plan.proofs.Flat.{Comes, leads_comes}
 use Rattle.metadata_plan.proofs.SetUp.{laid_out, set_up_gives, homes_of}
 use Rattle.metadata_relation.specs.Blocks.{Expansion, objects_of_body, result_of}
 use Rattle.metadata_relation.specs.Blocks.{enter_body, entry_code, prologue, zero_variables}
 use Rattle.metadata_relation.specs.Expanded.{EntersAt}
-use Rattle.metadata_relation.specs.Holding.{World, IsPlain}
+use Rattle.metadata_relation.specs.Holding.{IsPlain}
 use Rattle.metadata_relation.specs.Registers.{passed_as, parameters_end, variable_words, parameter_words, total, area_words}
 use Rattle.metadata_relation.specs.Registers.{variable_register}
 use Rattle.metadata_relation.specs.Stages.{factor, Compiled, map_of, views, world}
-use Rattle.metadata_relation.specs.Stages.{IsSteady, StandsIn, MatchesBy}
-use Rattle.metadata_relation.specs.Steps.{IsCompiled, is_no_aggregate, are_scalars, is_plain_call}
-use Rattle.metadata_relation.specs.Waiting.{has_value, Level, AllWait}
+use Rattle.metadata_relation.specs.Stages.{StandsIn, MatchesBy}
+use Rattle.metadata_relation.specs.Steps.{IsCompiled, is_no_aggregate, are_scalars, is_scalar_call}
+use Rattle.metadata_relation.specs.Waiting.{has_value}
 use Rattle.metadata_relation.proofs.Assigning.{assigned, assigns}
 use Rattle.metadata_relation.proofs.CallHolds.{none_has, callee_holds}
 use Rattle.metadata_relation.proofs.Holding.{same_world, plain_on}
 use Rattle.metadata_relation.proofs.Packing.{zeros_leave, zeros_assign}
 use Rattle.metadata_relation.proofs.Standing.{there_by, IsThere, Result}
+use Rattle.metadata_relation.specs.Scopes.{AreGood, context_at}
+use Rattle.source_meaning.specs.Keeping.{AreSeparate}
+use Rattle.metadata_relation.specs.Waiting.{BodyBy, IsBodyAs}
+use Rattle.metadata_relation.proofs.Waiting.{body_waits, CallerWaits, waits_same}
+use Rattle.obj_memory.specs.Sound.{Continues}
+use Rattle.flat_meaning.specs.Words.{HasWords}
+use Rattle.lib_wrappers.specs.AllocatingRoutines.Premises.{HaveBytes}
+use Rattle.source_meaning.specs.Good.{IsSetUp}
+use Rattle.metadata_relation.proofs.RuntimeCalls.{caller_rooms}
+use Rattle.metadata_relation.specs.Steps.{can_be_entered, can_enter_body}
+use Rattle.metadata_relation.proofs.ObjectTests.{end_same}
+use Rattle.metadata_relation.specs.Stages.{expansion_of, level, names}
+use Rattle.std.proofs.lemmas.Bool.{leb-true}
+use Rattle.metadata_relation.proofs.CallHolds.{no_homes, no_homes_held, none_between}
+use Rattle.obj_memory.specs.Objects.{object_at}
+use Rattle.tac_ir.specs.Meaning.{objects_before}
+use Rattle.source_meaning.specs.Blocks.{objects_end}
+use Rattle.source_meaning.specs.State.{Gives as GivesRun}
+use Rattle.metadata_relation.proofs.Packing.{plain_parameter}
 
 -- ---- a call that has room
 
@@ -93,16 +112,12 @@ enters_as m p u q v xs f first into fn same found room =
 pub record EntryIsThere (e : Expansion) (q : Option FlatFunction) : Type 0 where
   pub has : HasAt (body_of q) 0 (entry_code e.map e.code)
   pub no_room : room_if false q ≡ 0
-  pub room : room_if true q ≤ region_size e.map RuntimeCalls
 
 pub entry_there : (e : Expansion) (q : Option FlatFunction) → EntersAt e q → EntryIsThere e q
 entry_there e None h = absurd h
 entry_there e (Some f) h = record {
   has = subst (λ z. HasAt z 0 (entry_code e.map e.code)) (sym h.body) (has_self (entry_code e.map e.code));
   no_room = ap (λ b. if b then 0 else f.room) h.of_runtime;
-  room =
-      let same : room_if true (Some f) ≡ f.room = ap (λ b. if b then f.room else 0) h.of_runtime in
-      omega (arith, same, h.room);
 }
 
 module _ (c : Compiled) (IsGood : Bytes → Type 0) (right : IsCompiled c IsGood) where
@@ -118,38 +133,6 @@ module _ (c : Compiled) (IsGood : Bytes → Type 0) (right : IsCompiled c IsGood
   there f k found = there_by c.layout.expansion f k (c.layout.address f) (function_in p f)
       (right.expanded.functions f k found)
 
-  -- of the functions of the runtime only that waits with which the run began
-  pub runtime_rooms : (w : World) (s : State) (first : ℕ) (v : Level) (ws : List Frame) (xs : List flat.Frame)
-      → AllWait w s c.layout first v ws xs → rooms true p xs ≤ region_size (map_of c) RuntimeCalls
-  runtime_rooms w s first v [] [] h = absurd h
-  runtime_rooms w s first v [] (x ∷ []) h =
-      let entry = entry_there c.layout.expansion (function_in p p.entry) right.expanded.enters in
-      let same : room_if true (function_in p x.function) ≡ room_if true (function_in p p.entry) =
-      ap (λ z. room_if true (function_in p z)) h.1.0 in
-      omega (arith, room_behind true p x [], no_rooms true p, entry.room, same)
-  runtime_rooms w s first v [] (x ∷ y ∷ xs) h = absurd h
-  runtime_rooms w s first v (Entered n b ∷ ws) xs h =
-      runtime_rooms w s first (record v { stacked = b.stacked; frame = b.frame; bound = h.0.mark }) ws xs h.1
-  runtime_rooms w s first v (Waits a ∷ ws) [] h = absurd h
-  runtime_rooms w s first v (Waits a ∷ ws) (x ∷ xs) h =
-      let th = there a.function h.1.code h.1.there in
-      let same : room_if true (function_in p x.function) ≡ room_if true (function_in p a.function) =
-      ap (λ z. room_if true (function_in p z)) h.1.function in
-      let none = th.no_room in
-      omega (
-        arith,
-        room_behind true p x xs,
-        same,
-        none,
-        runtime_rooms w s first (record {
-          code = h.1.code;
-          values = x.values;
-          stacked = a.caller.stacked;
-          frame = a.caller.frame;
-          bound = h.0.mark;
-        }) ws xs h.2,
-      )
-
   -- a match further on
   pub earlier : (a : Stage) (n : ℕ) (x y : flat.Stage) → run (step (map_of c) c.layout.program) n x ≡ y
       → Result c IsGood a y → Result c IsGood a x
@@ -160,21 +143,23 @@ module _ (c : Compiled) (IsGood : Bytes → Type 0) (right : IsCompiled c IsGood
   }
 
   -- what is tested of a call
-  pub record IsPlainCall (k : CodeFunction) (with_entry : Bool) : Type 0 where
-    pub none : has_objects (objects_of_body k) ≡ false
+  pub record IsScalarCall (k : CodeFunction) (with_entry : Bool) : Type 0 where
+    pub entered : has_objects (objects_of_body k) ≡ true → can_be_entered (objects_of_body k) ≡ true
     pub scalars : are_scalars k.parameters ≡ true
     pub result : is_no_aggregate (result_of c.layout.expansion.code k) ≡ true
     pub valued : has_value (result_of c.layout.expansion.code k) ≡ false → with_entry ≡ false
 
-  pub plain_call : (k : CodeFunction) (b : Bool) → is_plain_call c.layout.expansion.code (Some k) b ≡ true → IsPlainCall k b
-  plain_call k b e =
+  pub scalar_call : (k : CodeFunction) (b : Bool) → is_scalar_call c.layout.expansion.code (Some k) b ≡ true
+      → IsScalarCall k b
+  scalar_call k b e =
       let t = c.layout.expansion.code in
-      let all = and_parts (not (has_objects (objects_of_body k)) && are_scalars k.parameters)
+      let vs = objects_of_body k in
+      let all = and_parts (can_enter_body vs && are_scalars k.parameters)
       (is_no_aggregate (result_of t k) && (has_value (result_of t k) || not b)) e in
-      let first = and_parts (not (has_objects (objects_of_body k))) (are_scalars k.parameters) all.0 in
+      let first = and_parts (can_enter_body vs) (are_scalars k.parameters) all.0 in
       let second = and_parts (is_no_aggregate (result_of t k)) (has_value (result_of t k) || not b) all.1 in
       record {
-        none = not-true (has_objects (objects_of_body k)) first.0;
+        entered = λ some. ap (λ z. not z || can_be_entered vs) (sym some) ∙ first.0;
         scalars = first.1;
         result = second.0;
         valued = λ no. by (has_value (result_of t k)) b no second.1;
@@ -217,11 +202,11 @@ module _ (c : Compiled) (IsGood : Bytes → Type 0) (right : IsCompiled c IsGood
   no_area (Structure n) e = cc
   no_area (Array n) e = refl
 
-  -- ---- a function is entered
+  -- ---- a function is called
 
-  -- From where the arguments stand packed and the call does, the run comes to the function's first node.
+  -- From where the arguments stand packed and the call does, the run comes to where the function's variables are set.
   module _ (u pc q : ℕ) (v : flat.State) (xs : List flat.Frame) (f : ℕ) (k : CodeFunction)
-      (found : slice_get c.layout.expansion.code.functions f ≡ Some k) (plain : IsPlainCall k false) (line first into : ℕ)
+      (found : slice_get c.layout.expansion.code.functions f ≡ Some k) (plain : IsScalarCall k false) (line first into : ℕ)
       (vs : List Rvalue) (ws : List Frame) (s : State) where
     abbrev pub GivesCall : Stage → Type 0
     GivesCall a = Result c IsGood a (flat.Stands u pc v xs)
@@ -231,65 +216,70 @@ module _ (c : Compiled) (IsGood : Bytes → Type 0) (right : IsCompiled c IsGood
     call_stage = came (heavier (set_up c.setting (header_of_code k) vs line) (begun s))
         (λ _ z. Stands f k.entry no_temps ws z)
 
-    -- the state behind the set-up of a function without objects
-    abbrev pub callee_state : State
-    callee_state =
-        let z = laid_out (header_of_code k) vs (begun s) in spent (3 * (z.work - (begun s).work)) z
-
     abbrev pub frame_of : (values : flat.Values) → flat.Frame
     frame_of values = record { function = u; next = q + 1; into = into; values = values }
 
     -- what is known where the call stands
     pub record IsAtCall (values : flat.Values) (most : ℕ) (keys : Keys) : Type 0 where
+      pub words : HasWords (flat.Stands u pc v xs)
       pub comes : Comes (map_of c) c.layout.program u pc v xs q (record v { turns = v.turns + 1; values = values }) most
       pub at : (w : ℕ) → step (map_of c) c.layout.program
           (flat.Stands u q (record v { turns = v.turns + 1; values = values; work = w }) xs)
           ≡ at_instruction (map_of c) c.layout.program (Some (flat_code.Call f first into)) u q
           (record v { turns = v.turns + 1; values = values; work = w }) xs
-      pub arguments_are : (x : ℕ) (t : Scalar) → plain_type (all_variables k) x ≡ Some t → x < length k.parameters
+      pub arguments_are : (x : ℕ) (t : Scalar)
+          → get_or (map (λ (p : Variable). p.kind) k.parameters) x Void ≡ OfScalar t → x < length k.parameters
           → IsPlain (world c keys s v) t (get_or vs x (rvalue (integer 0))).value (variable_register k x)
           (arguments first (parameters_end k) values)
       pub charge : s.charged ≡ charged c.layout.program u xs
       pub fits : s.charged + k.room ≤ (map_of c).budgets.calls
-      pub room : s.stacked ≤ stack_end c.setting
-      pub work : v.work + most + 8 + 2 * parameters_end k ≤ factor * (s.work + 3 + 4 * length k.parameters)
+      pub space : nat_le (objects_end (objects_of_body k) s.stacked) (stack_end c.setting) ≡ true
+      pub spare : has_objects (objects_of_body k) ≡ true → nat_lt s.keys c.setting.sizes.budgets.keys ≡ true
+      pub work : v.work + most + 88 + 2 * parameters_end k + 60 * length k.parameters
+          ≤ factor * (s.work + 4 + 4 * length k.parameters)
       pub stands : StandsIn c IsGood keys s v
-      pub steady : IsSteady c f ws callee_state
-      pub wait : (after : flat.Values) → AllWait (world c keys s v) callee_state c.layout (stack_first c.setting)
-          (record {
-            code = k;
-            values = after;
-            stacked = s.stacked;
-            frame = homes_of (body_objects (header_of_code k));
-            bound = length s.objects;
-          }) ws (frame_of values ∷ xs)
+      pub separate : AreSeparate (map_of c) s.stacked s.objects
+      pub bytes : HaveBytes s.objects
+      pub few_keys : s.keys ≤ (map_of c).budgets.keys
+      pub statics : Continues (objects_before (expansion_of c).code c.setting) s.objects
+      pub statics_live : (n : ℕ) → n < length (expansion_of c).code.statics → (object_at s.objects n).is_live ≡ true
+      pub set_up_good : (z : State) → set_up c.setting (header_of_code k) vs line (begun s) ≡ GivesRun tt z
+          → IsSetUp (context_at (names c) f []) s.objects z
+      pub good : (z : State) → IsSetUp (context_at (names c) f []) s.objects z → AreGood (names c) f ws z
+      pub wait : CallerWaits (world c keys s v) s c.layout (stack_first c.setting) k s.stacked (length s.objects) ws
+          (frame_of values ∷ xs)
 
     pub calls_same : c.setting.sizes.budgets.calls ≡ (map_of c).budgets.calls
     calls_same = ap (λ z. z.budgets.calls) right.sizes
 
-    pub enters : (values : flat.Values) (most : ℕ) (keys : Keys) → IsAtCall values most keys → GivesCall call_stage
-    enters values most keys h =
+    -- the registers of the function, once its plain variables are 0
+    abbrev pub begun_values : (values : flat.Values) → flat.Values
+    begun_values values = assigned (zero_variables k) (arguments first (parameters_end k) values)
+
+    -- the run is there
+    pub record IsBegun (values : flat.Values) (most : ℕ) : Type 0 where
+      pub steps : ℕ
+      pub work : ℕ
+      pub comes : run (step (map_of c) c.layout.program) steps (flat.Stands u pc v xs)
+          ≡ flat.Stands f (length (zero_variables k))
+          (record v { turns = v.turns + 1; values = begun_values values; work = work }) (frame_of values ∷ xs)
+      pub few : work ≤ v.work + most + 8 + 2 * parameters_end k + 10 * plain_count k.variables
+      pub same : (y : ℕ) → begun_values values y ≡ arguments first (parameters_end k) values y
+
+    pub begins : (values : flat.Values) (most : ℕ) (keys : Keys) → IsAtCall values most keys → IsBegun values most
+    begins values most keys h =
         let m = map_here in
-        let header = header_of_code k in
         let th = there f k found in
         let fn = th.function in
         let K = h.comes in
-        let budget = calls_same in
         let charge = h.charge in
         let fits = h.fits in
-        let set = set_up_gives c.setting header vs line (begun s) (none_has (objects_of_body k) plain.none) h.room
-        (le-leb (s.charged + k.room) c.setting.sizes.budgets.calls (omega (arith, fits, budget))) in
         let frame = frame_of values in
         let in_room : room_if false (Some fn) ≡ k.room = ap (room_if false) (sym th.function_is) ∙ th.room in
         let in_runtime : room_if true (Some fn) ≡ 0 = ap (room_if true) (sym th.function_is) ∙ th.no_room in
         let behind = room_behind false p frame xs in
-        let top = runtime_rooms (world c keys s v) callee_state (stack_first c.setting) (record {
-          code = k;
-          values = values;
-          stacked = s.stacked;
-          frame = homes_of (body_objects header);
-          bound = length s.objects;
-        }) ws (frame ∷ xs) (h.wait values) in
+        let top = caller_rooms c IsGood right (world c keys s v) s (stack_first c.setting) k s.stacked (length s.objects) ws
+        (frame ∷ xs) h.wait in
         let room = and_from (nat_le (room_if false (Some fn) + rooms false p (frame ∷ xs)) m.budgets.calls)
         (nat_le (room_if true (Some fn) + rooms true p (frame ∷ xs)) (region_size m RuntimeCalls))
         (le-leb (room_if false (Some fn) + rooms false p (frame ∷ xs)) m.budgets.calls
@@ -312,45 +302,94 @@ module _ (c : Compiled) (IsGood : Bytes → Type 0) (right : IsCompiled c IsGood
         }) (frame ∷ xs)) n in
         let zero_list = zero_variables k in
         let parts = zeros_assign (parameters_end k + 1) (total variable_words k.variables) in
-        let begun_list : prologue c.layout.expansion k ≡ zero_list ++ [] =
-        ap (λ b. zero_list ++ (if b then enter_body c.layout.expansion k else [])) plain.none in
-        let has_prologue = subst (HasAt (body_of (function_in p f)) 0) begun_list th.begun in
         let z = assigns m p f (frame ∷ xs) zero_list parts.0 0 in_callee
-        (has_front (body_of (function_in p f)) 0 zero_list [] has_prologue) in
-        let after = assigned zero_list regs in
-        let zeroed : flat.State = record in_callee { values = after; work = in_callee.work + z.work } in
-        let long : length (prologue c.layout.expansion k) ≡ 0 + length zero_list =
-        (let x = ap length begun_list in omega (arith, x, length-append {A = FlatInstruction} zero_list [])) in
-        let l = leads_comes m p f (0 + length zero_list) zeroed (frame ∷ xs) (c.layout.address f k.entry)
-        (subst (λ y. Leads (body_of (function_in p f)) y (c.layout.address f k.entry)) long th.begins) in
-        let last : flat.State = record zeroed { work = in_callee.work + z.work + l.work } in
-        let comes : run (step m p) (K.steps + (1 + (z.steps + l.steps))) (flat.Stands u pc v xs)
-        ≡ flat.Stands f (c.layout.address f k.entry) last (frame ∷ xs) =
-        run_add (step m p) K.steps (1 + (z.steps + l.steps)) (flat.Stands u pc v xs)
-        ∙ ap (run (step m p) (1 + (z.steps + l.steps))) K.comes
-        ∙ run_add (step m p) 1 (z.steps + l.steps) (flat.Stands u q called xs)
-        ∙ ap (run (step m p) (z.steps + l.steps)) e
-        ∙ run_add (step m p) z.steps l.steps (flat.Stands f 0 in_callee (frame ∷ xs))
-        ∙ ap (run (step m p) l.steps) z.comes ∙ l.comes in
-        let same : (y : ℕ) → after y ≡ regs y = zeros_leave (parameters_end k + 1) (total variable_words k.variables) regs
-        (λ y le. argument_out first (parameters_end k) y values (omega (arith, le))) in
-        let many = counted k.parameters in
-        let few = few_words k.variables in
+        (has_front (body_of (function_in p f)) 0 zero_list
+        (if has_objects (objects_of_body k) then enter_body c.layout.expansion k else []) th.begun) in
+        let place : 0 + length zero_list ≡ length zero_list = omega arith in
         let K_few = K.few in
         let z_few = z.few in
-        let l_few = l.few in
+        let few = few_words k.variables in
         let count = parts.1 in
+        record {
+          steps = K.steps + (1 + z.steps);
+          work = in_callee.work + z.work;
+          comes = run_add (step m p) K.steps (1 + z.steps) (flat.Stands u pc v xs)
+              ∙ ap (run (step m p) (1 + z.steps)) K.comes
+              ∙ run_add (step m p) 1 z.steps (flat.Stands u q called xs)
+              ∙ ap (run (step m p) z.steps) e ∙ z.comes
+              ∙ ap (λ y. flat.Stands f y (record v {
+                turns = v.turns + 1;
+                values = begun_values values;
+                work = in_callee.work + z.work;
+              }) (frame ∷ xs)) place;
+          few = omega (arith, K_few, z_few, few, count);
+          same = zeros_leave (parameters_end k + 1) (total variable_words k.variables) regs
+              (λ y le. argument_out first (parameters_end k) y values (omega (arith, le)));
+        }
+
+    -- ---- one without objects
+
+    -- the state behind the set-up of a function without objects
+    abbrev callee_state : State
+    callee_state =
+        let z = laid_out (header_of_code k) vs (begun s) in spent (3 * (z.work - (begun s).work)) z
+
+    pub enters_without : has_objects (objects_of_body k) ≡ false → (values : flat.Values) (most : ℕ) (keys : Keys)
+        → IsAtCall values most keys → GivesCall call_stage
+    enters_without none values most keys h =
+        let m = map_here in
+        let header = header_of_code k in
+        let th = there f k found in
+        let b = begins values most keys h in
+        let budget = calls_same in
+        let charge = h.charge in
+        let fits = h.fits in
+        let no_objects = none_has (objects_of_body k) none in
+        let set = set_up_gives c.setting header vs line (begun s) no_objects
+        (leb-true s.stacked (stack_end c.setting)
+        (ap (λ z. nat_le z (stack_end c.setting)) (sym (end_same (objects_of_body k) s.stacked none)) ∙ h.space))
+        (le-leb (s.charged + k.room) c.setting.sizes.budgets.calls (omega (arith, fits, budget))) in
+        let up = h.set_up_good (laid_out header vs (begun s)) set in
+        let frame = frame_of values in
+        let behind = room_behind false p frame xs in
+        let after = begun_values values in
+        let regs = arguments first (parameters_end k) values in
+        let zeroed : flat.State = record v { turns = v.turns + 1; values = after; work = b.work } in
+        let zero_list = zero_variables k in
+        let begun_list : prologue c.layout.expansion k ≡ zero_list ++ [] =
+        ap (λ b. zero_list ++ (if b then enter_body c.layout.expansion k else [])) none in
+        let long : length (prologue c.layout.expansion k) ≡ length zero_list =
+        (let x = ap length begun_list in omega (arith, x, length-append {A = FlatInstruction} zero_list [])) in
+        let l = leads_comes m p f (length zero_list) zeroed (frame ∷ xs) (c.layout.address f k.entry)
+        (subst (λ y. Leads (body_of (function_in p f)) y (c.layout.address f k.entry)) long th.begins) in
+        let last : flat.State = record zeroed { work = b.work + l.work } in
+        let comes : run (step m p) (b.steps + l.steps) (flat.Stands u pc v xs)
+        ≡ flat.Stands f (c.layout.address f k.entry) last (frame ∷ xs) =
+        run_add (step m p) b.steps l.steps (flat.Stands u pc v xs) ∙ ap (run (step m p) l.steps) b.comes ∙ l.comes in
+        let many = counted k.parameters in
+        let b_few = b.few in
+        let l_few = l.few in
         let work = h.work in
         let turned = h.stands.turns in
         let shown = h.stands.for.shown in
+        let set_up_is : IsSetUp (context_at (names c) f []) s.objects callee_state =
+        record { good = up.good; lives = up.lives; new = up.new; ends = up.ends } in
+        let body : IsBodyAs (world c keys s v) s k s.stacked s.stacked (length s.objects)
+        (homes_of (body_objects header)) after = record {
+          by = subst (BodyBy (world c keys s v) s k s.stacked s.stacked (homes_of (body_objects header)) after) (sym none)
+              (refl, no_homes (body_objects header));
+          mark = length s.objects;
+          within = omega arith;
+          own = none_between (body_objects header) (length s.objects) (length s.objects);
+        } in
         let result : GivesCall (Stands f k.entry no_temps ws callee_state) = record {
-          steps = K.steps + (1 + (z.steps + l.steps));
+          steps = b.steps + l.steps;
           matches = subst (MatchesBy c IsGood (Stands f k.entry no_temps ws callee_state)) (sym comes) (record {
             function = refl;
             place = refl;
             code = k;
             there = found;
-            work = omega (arith, K_few, z_few, l_few, work, many, few, count);
+            work = omega (arith, b_few, l_few, work, many);
             charge = omega (arith, behind, th.room, charge);
             fits = omega (arith, fits);
             keys = keys;
@@ -369,15 +408,29 @@ module _ (c : Compiled) (IsGood : Bytes → Type 0) (right : IsCompiled c IsGood
               top = h.stands.top;
               turns = omega (arith, turned);
             };
-            steady = h.steady;
+            steady = record {
+              good = h.good callee_state set_up_is;
+              bytes = h.bytes;
+              keys = h.few_keys;
+              statics = h.statics;
+              statics_live = h.statics_live;
+            };
             holds = callee_holds (world c keys s v) c.layout.expansion.code k callee_state.charged
-                (c.layout.expansion.entries f k.entry) (c.layout.expansion.contents f k.entry) vs after
+                (c.layout.expansion.entries f k.entry) (c.layout.expansion.contents f k.entry) vs
+                (homes_of (body_objects header)) after
                 (λ x t typed inside. plain_on (views c) keys keys s.objects s.objects v.memory v.memory
                 (same_world (views c) keys s.objects v.memory) t (get_or vs x (rvalue (integer 0))).value
-                (variable_register k x) regs after (λ j lt. same (variable_register k x + j))
-                (h.arguments_are x t typed inside))
-                (λ y le. same y ∙ argument_out first (parameters_end k) y values le);
-            wait = record { by = h.wait after };
+                (variable_register k x) regs after (λ j lt. b.same (variable_register k x + j))
+                (h.arguments_are x t (plain_parameter k.parameters k.variables x t typed inside).kind inside))
+                (λ y le lt. b.same y ∙ argument_out first (parameters_end k) y values le)
+                (λ y le lt. b.same y ∙ argument_out first (parameters_end k) y values (omega (arith, le)))
+                (no_homes_held (world c keys s v) k after);
+            wait = record {
+              by = waits_same (views c) keys s callee_state v.memory c.layout (stack_first c.setting) refl
+                  (level k callee_state last) ws (frame ∷ xs)
+                  (body_waits (world c keys s v) s c.layout (stack_first c.setting) k after s.stacked s.stacked
+                  (length s.objects) (homes_of (body_objects header)) body ws (frame ∷ xs) h.wait);
+            };
           });
         } in
         subst (λ z. GivesCall (came (fourfold (begun s).work z) (λ _ y. Stands f k.entry no_temps ws y))) (sym set) result

@@ -186,9 +186,9 @@ module _ (c : Compiled) (IsGood : Bytes → Type 0) (right : IsCompiled c IsGood
   instruction (tac.Library r line d count m) at e f =
       routine_step c IsGood right u n temps ws s v xs h words r line d count m at f
   instruction (tac.Call g line d count m) at e f =
-      call_step c IsGood right u n temps ws s v xs h g line d count m at f (admitted (tac.Call g line d count m) at)
+      call_step c IsGood right u n temps ws s v xs h words g line d count m at f (admitted (tac.Call g line d count m) at)
   instruction (tac.CallThrough type line d count m) at e f =
-      call_through_step c IsGood right u n temps ws s v xs h type line d count m at f
+      call_through_step c IsGood right u n temps ws s v xs h words type line d count m at f
       (admitted (tac.CallThrough type line d count m) at)
   instruction (tac.Return a) at e f =
       return_step c IsGood right u n temps ws s v xs h words a at f

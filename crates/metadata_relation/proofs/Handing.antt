@@ -1,11 +1,11 @@
--- A function whose body has no objects is called: its arguments are packed, the caller waits, and it is entered.
+-- A function is called: its arguments are packed, the caller waits, and it is entered.
 use Rattle.std.proofs.Common.{◌≡◌, ℕ, zero, suc, ◌+◌, ◌*◌, ◌^◌, ◌<◌, ◌≤◌, true, false, List}
 use Rattle.std.proofs.Common.{[], ◌∷◌, ◌++◌, length, map, Some, None, refl, sym, ap, ◌∙◌, subst, arith}
-use Rattle.std.proofs.Common.{get_or, le-leb}
+use Rattle.std.proofs.Common.{get_or}
+use Rattle.std.specs.Prelude.{nat_le, nat_lt}
 use Rattle.std.proofs.lemmas.Bool.{and_parts, ltb-true, false≢true}
 use Rattle.std.proofs.lemmas.List.{length-map}
-use Rattle.addr_map.specs.declared.region.Region.TheVariants.{Stack as StackRegion}
-use Rattle.addr_map.specs.Places.{MapSizes, region_end}
+use Rattle.addr_map.specs.Places.{MapSizes}
 use Rattle.obj_memory.specs.declared.value.Scalar.{Scalar}
 use Rattle.obj_memory.specs.declared.value.Scalar.TheVariants.{Integer, Pointer}
 use Rattle.obj_memory.specs.Sound.{IsSoundTag}
@@ -14,8 +14,9 @@ use Rattle.c_tree.specs.declared.expression.Kind.TheVariants.{Void, Scalar as Of
 use Rattle.c_tree.specs.declared.program.Variable.{Variable}
 use Rattle.source_meaning.specs.State.{State, Rvalue, Gives as GivesRun}
 use Rattle.source_meaning.specs.Actions.{integer}
-use Rattle.source_meaning.specs.Calls.{header_of, body_objects, set_up, caller}
-use Rattle.source_meaning.specs.Good.{IsGood as IsGoodState, file_scope, plain_type, ArgumentIs, ArgumentsAre, TakenOf, IsOfKind, IsSetUp}
+use Rattle.source_meaning.specs.Blocks.{has_objects, objects_end}
+use Rattle.source_meaning.specs.Calls.{header_of, set_up, caller}
+use Rattle.source_meaning.specs.Good.{IsGood as IsGoodState, file_scope, ArgumentIs, ArgumentsAre, TakenOf, IsOfKind, IsSetUp}
 use Rattle.source_meaning.specs.Places.{stack_first, stack_end}
 use Rattle.source_meaning.specs.Structures.{rvalue}
 use Rattle.source_meaning.proofs.Holding.{live_made}
@@ -33,10 +34,11 @@ use Rattle.flat_meaning.specs.declared.function.FlatProgram.{FlatProgram}
 use Rattle.flat_meaning.specs.Memory.{Bytes}
 use Rattle.flat_meaning.specs.State as flat
 use Rattle.flat_meaning.specs.Calls.{function_in, arguments}
+use Rattle.flat_meaning.specs.Words.{HasWords}
 use Rattle.flat_meaning.specs.Meaning.{body_of}
 use Rattle.flat_routines.specs.Routine.{HasAt}
 use Rattle.flat_routines.proofs.Steps.{has_front, has_back}
-use Rattle.metadata_plan.specs.Registers.{all_variables, most_temporaries}
+use Rattle.metadata_plan.specs.Registers.{most_temporaries}
 use Rattle.metadata_plan.specs.Expanded.{Leads}
 use Rattle.metadata_plan.proofs.Calling.{gathered_at}
 use Rattle.metadata_plan.proofs.Calling.{argument_in}
@@ -44,7 +46,6 @@ use Rattle.metadata_plan.proofs.Flat.{Comes}
 use Rattle.metadata_plan.specs.Entries.{given}
 use Rattle.tac_ir.specs.Edges.{LeadsTo}
 use Rattle.flat_meaning.specs.Meaning.{at_instruction, step}
-use Rattle.metadata_plan.proofs.SetUp.{laid_out, set_up_gives, homes_of}
 use Rattle.metadata_relation.specs.Blocks.{objects_of_body, result_of, result_entry, pack}
 use Rattle.metadata_relation.specs.Holding.{IsHeldAt, IsPlain, is_pointer_type}
 use Rattle.metadata_relation.specs.Registers.{passed_as, parameters_end}
@@ -54,19 +55,20 @@ use Rattle.metadata_relation.specs.Scopes.{context_at, AreGood}
 use Rattle.metadata_relation.specs.Stages.{Compiled, map_of, views, names, world, activation, level}
 use Rattle.metadata_relation.specs.Stages.{IsAt}
 use Rattle.metadata_relation.specs.Steps.{IsCompiled, is_no_aggregate, are_scalars}
-use Rattle.metadata_relation.specs.Waiting.{BodyBy, IsWaitingAs, AllWait}
+use Rattle.metadata_relation.specs.Waiting.{IsWaitingAs}
 use Rattle.metadata_relation.proofs.Assigning.{assigned}
-use Rattle.metadata_relation.proofs.CallHolds.{waiting_holds, none_has, no_homes, none_between}
+use Rattle.metadata_relation.proofs.CallHolds.{waiting_holds}
 use Rattle.metadata_relation.proofs.CallStates.{entered_good}
 use Rattle.metadata_relation.proofs.Library.{assigned_behind}
 use Rattle.metadata_relation.proofs.Moving.{held_of}
 use Rattle.metadata_relation.proofs.Packing.{ways_of, words_within, ArePacked, are_packed, pack_assigns}
-use Rattle.metadata_relation.proofs.Packing.{count_passed, passed_at, plain_parameter, held_moved}
+use Rattle.metadata_relation.proofs.Packing.{count_passed, held_moved, parameter_words_are, passed_at}
 use Rattle.metadata_relation.proofs.Registers.{few_in}
 use Rattle.metadata_relation.proofs.Setting.{place_is, no_tag_is, type_is}
 use Rattle.metadata_relation.proofs.Standing.{leaves_same, good_now, IsNode, fewer, Result}
-use Rattle.metadata_relation.proofs.Waiting.{waits_at, waits_same}
-use Rattle.metadata_relation.proofs.Entering.{IsPlainCall, call_stage, callee_state, enters, few_parameters}
+use Rattle.metadata_relation.proofs.Waiting.{CallerWaits, waits_at, waits_same}
+use Rattle.metadata_relation.proofs.EnteredBodies.{enters}
+use Rattle.metadata_relation.proofs.Entering.{call_stage, few_parameters, IsScalarCall}
 
 -- ---- what is handed over
 
@@ -167,7 +169,8 @@ module _ (c : Compiled) (IsGood : Bytes → Type 0) (right : IsCompiled c IsGood
   ComesTo = Comes (map_of c) c.layout.program u (c.layout.address u n) v xs
 
   -- By whatever instruction: its result comes to one temporary, its arguments stand from another on.
-  module _ (i : Instruction) (label : IsNode c u n h.code i) (d first count next cost : ℕ) (gives : given i ≡ Some d)
+  module _ (words : HasWords (flat.Stands u (c.layout.address u n) v xs)) (i : Instruction) (label : IsNode c u n h.code i)
+      (d first count next cost : ℕ) (gives : given i ≡ Some d)
       (leads : LeadsTo i next) (low_result : d < most_temporaries h.code.code)
       (lows : first + count ≤ most_temporaries h.code.code) (paid : 6 ≤ cost) where
     abbrev pub waits : Waiting
@@ -181,15 +184,15 @@ module _ (c : Compiled) (IsGood : Bytes → Type 0) (right : IsCompiled c IsGood
 
     module _ (f line : ℕ) (k : CodeFunction) (found : code_in c.layout.expansion.code f ≡ Some k)
         (passed : are_passed (taken_by (header_of_code k)) (gathered temps first count) ≡ true)
-        (plain : IsPlainCall c IsGood right k (c.layout.expansion.entries u next d))
+        (plain : IsScalarCall c IsGood right k (c.layout.expansion.entries u next d))
         (reads : (x : ℕ) → x < count → get_or (map (λ (z : Variable). z.kind) k.parameters) x Void ≡ OfScalar Pointer
         → c.layout.expansion.entries u n (first + x) ≡ true) where
       count_is : count ≡ length k.parameters
       count_is = count_passed (taken_by (header_of_code k)) temps first count passed ∙ length-map k.parameters _
 
-      pub plain_enough : IsPlainCall c IsGood right k false
+      pub plain_enough : IsScalarCall c IsGood right k false
       plain_enough =
-          record { none = plain.none; scalars = plain.scalars; result = plain.result; valued = λ e. refl }
+          record { entered = plain.entered; scalars = plain.scalars; result = plain.result; valued = λ e. refl }
 
       abbrev moves : List FlatInstruction
       moves = pack h.code (ways_of k.parameters) (moved_register h.code (5 * first)) first
@@ -202,9 +205,11 @@ module _ (c : Compiled) (IsGood : Bytes → Type 0) (right : IsCompiled c IsGood
           (has : HasAt (body_of (function_in c.layout.program u)) at_moves (moves ++ (call ∷ behind)))
           (leads_on : Leads (body_of (function_in c.layout.program u)) (at_moves + length moves + 1 + length behind)
           (c.layout.address u next))
-          (comes : ComesTo at_moves (record v { turns = v.turns + 1; values = between }) most) (cheap : most ≤ 28)
+          (comes : ComesTo at_moves (record v { turns = v.turns + 1; values = between }) most) (cheap : most ≤ 100)
           (between_stays : (y : ℕ) → y < first_free h.code → between y ≡ v.values y)
-          (fits : s.charged + k.room ≤ (map_of c).budgets.calls) where
+          (fits : s.charged + k.room ≤ (map_of c).budgets.calls)
+          (space : nat_le (objects_end (objects_of_body k) s.stacked) (stack_end c.setting) ≡ true)
+          (spare : has_objects (objects_of_body k) ≡ true → nat_lt s.keys c.setting.sizes.budgets.keys ≡ true) where
         abbrev q : ℕ
         q = at_moves + length moves
 
@@ -237,70 +242,49 @@ module _ (c : Compiled) (IsGood : Bytes → Type 0) (right : IsCompiled c IsGood
           separate = g.separate;
         }
 
-        room_left : s.stacked ≤ stack_end c.setting
-        room_left =
-            let top = (good_now (names c) u ws s h.steady.good).separate.top in
-            let same : region_end c.setting.sizes StackRegion ≡ region_end (map_of c) StackRegion =
-            ap (λ z. region_end z StackRegion) right.sizes in
-            omega arith
+        -- the states of the source that the call leaves are good
+        set_good : (z : State) → set_up c.setting (header_of_code k) vs line (begun (spent cost s)) ≡ GivesRun tt z
+            → IsSetUp (context_at (names c) f []) s.objects z
+        set_good z e =
+            entered_good c IsGood right f k found u ws vs line (begun (spent cost s)) z state_good
+            (arguments_are k.parameters first count plain.scalars lows passed) e
 
-        abbrev laid : State
-        laid = laid_out (header_of_code k) vs (begun (spent cost s))
-
-        set : set_up c.setting (header_of_code k) vs line (begun (spent cost s)) ≡ GivesRun tt laid
-        set =
-            let budget = ap (λ (z : MapSizes). z.budgets.calls) right.sizes in
-            set_up_gives c.setting (header_of_code k) vs line (begun (spent cost s))
-            (none_has (objects_of_body k) plain.none) room_left
-            (le-leb (s.charged + k.room) c.setting.sizes.budgets.calls (omega (arith, fits, budget)))
-
-        abbrev callee : State
-        callee = callee_state c IsGood right u pc q v xs f k found plain_enough line packed_at (T d) vs
-            (Waits waits ∷ ws) (spent cost s)
-
-        set_good : IsSetUp (context_at (names c) f []) s.objects callee
-        set_good =
-            let up = entered_good c IsGood right f k found u ws vs line (begun (spent cost s)) laid state_good
-            (arguments_are k.parameters first count plain.scalars lows
-            passed) set in
-            record { good = up.good; lives = up.lives; new = up.new; ends = up.ends }
-
-        good : AreGood (names c) f (Waits waits ∷ ws) callee
-        good = record {
+        good : (z : State) → IsSetUp (context_at (names c) f []) s.objects z → AreGood (names c) f (Waits waits ∷ ws) z
+        good z up = record {
           by = (
             record {
               before = s;
-              behind = callee;
+              behind = z;
               caller_is = refl;
-              set_up = set_good;
-              since = leaves_same (context_at (names c) f []) callee set_good.good;
+              set_up = up;
+              since = leaves_same (context_at (names c) f []) z up.good;
             },
             h.steady.good.by,
           );
         }
 
         -- each parameter holds its argument
-        handed : (x : ℕ) (t : Scalar) → plain_type (all_variables k) x ≡ Some t → x < length k.parameters
+        handed : (x : ℕ) (t : Scalar)
+            → get_or (map (λ (z : Variable). z.kind) k.parameters) x Void ≡ OfScalar t → x < length k.parameters
             → IsPlain (world c h.keys s v) t (get_or vs x (rvalue (integer 0))).value (variable_register k x)
             (arguments packed_at (parameters_end k) packed)
-        handed x t typed low =
-            let par = plain_parameter k.parameters k.variables x t typed low in
+        handed x t kind low =
             let inner : x < count = (let is = count_is in omega (arith, low)) in
             let pass : is_passed (OfScalar t) (temps (first + x)) ≡ true =
-            ap (λ z. is_passed z (temps (first + x))) (sym par.kind)
+            ap (λ z. is_passed z (temps (first + x))) (sym kind)
             ∙ passed_at (taken_by (header_of_code k)) temps first count x passed inner in
             let parts = and_parts (is_place (temps (first + x)).contents) (is_of_type t (temps (first + x)).value) pass in
             let below : first + x < most_temporaries h.code.code = omega (arith, inner, lows) in
             let held = held_at (first + x) below
             (place_is (temps (first + x)).contents parts.0) in
             let within = words_within k.parameters k.variables x low in
-            let words = par.words in
+            let words = parameter_words_are k.parameters x t kind in
             subst (λ (z : Rvalue). IsPlain (world c h.keys s v) t z.value (variable_register k x)
             (arguments packed_at (parameters_end k) packed)) (sym (gathered_at temps first count x inner))
             (record {
               value = held_moved (world c h.keys s v) (c.layout.expansion.entries u n (first + x)) (is_pointer_type t)
                   (temps (first + x)).value (T (first + x)) (variable_register k x) v.values
-                  (arguments packed_at (parameters_end k) packed) (λ e. read_with_entry x t inner par.kind e)
+                  (arguments packed_at (parameters_end k) packed) (λ e. read_with_entry x t inner kind e)
                   (λ j lt.
                   argument_in packed_at (parameters_end k) (variable_register k x + j) packed
                   (omega (arith, lt, within, words))
@@ -340,28 +324,16 @@ module _ (c : Compiled) (IsGood : Bytes → Type 0) (right : IsCompiled c IsGood
               fits = h.fits;
             }
 
-        wait : (after : flat.Values) → AllWait (world c h.keys s v) callee c.layout (stack_first c.setting) (record {
-          code = k;
-          values = after;
-          stacked = s.stacked;
-          frame = homes_of (body_objects (header_of_code k));
-          bound = length s.objects;
-        }) (Waits waits ∷ ws) (frame ∷ xs)
+        wait : CallerWaits (world c h.keys s v) (spent cost s) c.layout (stack_first c.setting) k s.stacked (length s.objects)
+            (Waits waits ∷ ws) (frame ∷ xs)
         unfolding waits_so
-        wait after = (
-          record {
-            by = subst (BodyBy (world c h.keys s v) callee k s.stacked s.stacked
-                (homes_of (body_objects (header_of_code k))) after) (sym plain.none)
-                (refl, no_homes (body_objects (header_of_code k)));
-            mark = length s.objects;
-            within = omega arith;
-            own = none_between (body_objects (header_of_code k)) (length s.objects) (length s.objects);
-          },
+        wait = (
+          refl,
           waits_so,
-          waits_at (world c h.keys s v) callee c.layout (stack_first c.setting) h.code v.values packed
+          waits_at (world c h.keys s v) (spent cost s) c.layout (stack_first c.setting) h.code v.values packed
               (λ r from to. stay r (omega (arith, to))) s.stacked (length s.objects) s.frame ws xs
-              (waits_same (views c) h.keys s callee v.memory c.layout (stack_first c.setting) refl (level h.code s v) ws xs
-              h.wait.by),
+              (waits_same (views c) h.keys s (spent cost s) v.memory c.layout (stack_first c.setting) refl
+              (level h.code s v) ws xs h.wait.by),
         )
 
         -- the function is entered, where the step at the call is that of a call by name
@@ -381,12 +353,14 @@ module _ (c : Compiled) (IsGood : Bytes → Type 0) (right : IsCompiled c IsGood
             enters c IsGood right u pc q v xs f k found plain_enough line packed_at (T d) vs (Waits waits ∷ ws)
             (spent cost s) packed (most + 2 * length moves) h.keys
             (record {
+              words = words;
               comes = run_to;
               at = at;
               arguments_are = handed;
               charge = h.charge;
               fits = fits;
-              room = room_left;
+              space = space;
+              spare = spare;
               work = omega (arith, count, ways, few, before, paid, cheap);
               stands = record {
                 for = record {
@@ -403,12 +377,12 @@ module _ (c : Compiled) (IsGood : Bytes → Type 0) (right : IsCompiled c IsGood
                 top = h.stands.top;
                 turns = h.stands.turns;
               };
-              steady = record {
-                good = good;
-                bytes = h.steady.bytes;
-                keys = h.steady.keys;
-                statics = h.steady.statics;
-                statics_live = h.steady.statics_live;
-              };
+              separate = (good_now (names c) u ws s h.steady.good).separate;
+              bytes = h.steady.bytes;
+              few_keys = h.steady.keys;
+              statics = h.steady.statics;
+              statics_live = h.steady.statics_live;
+              set_up_good = set_good;
+              good = good;
               wait = wait;
             })

@@ -35,7 +35,8 @@ use Rattle.metadata_relation.specs.Registers.{first_free, lock_register}
 use Rattle.metadata_relation.specs.Stages.{Compiled, expansion_of, IsAt, map_of, StandsIn, views, world}
 use Rattle.metadata_relation.specs.Steps.{IsCompiled}
 use Rattle.metadata_relation.specs.Waiting.{AreBetween, IsBlockAt}
-use Rattle.metadata_relation.proofs.Acting.{bytes_on, placed_static, Reached, reached_next}
+use Rattle.metadata_relation.proofs.Acting.{bytes_on, Reached, reached_next}
+use Rattle.metadata_relation.proofs.Statics.{placed_static}
 use Rattle.metadata_relation.proofs.Behind.{for_behind}
 use Rattle.metadata_relation.proofs.Routines.{passes, Passes}
 use Rattle.metadata_relation.proofs.TopCell.{cell_place, top_written}

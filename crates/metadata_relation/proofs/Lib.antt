@@ -16,6 +16,7 @@ pub mod Checking
 pub mod Comparing
 pub mod Differences
 pub mod EnteredBlocks
+pub mod EnteredBodies
 pub mod Entering
 pub mod Finishing
 pub mod FiveRegisters
@@ -32,6 +33,7 @@ pub mod Library
 pub mod LibraryArguments
 pub mod LibraryCalls
 pub mod LibraryRuns
+pub mod MadeObjects
 pub mod Members
 pub mod Moving
 pub mod Named
@@ -55,7 +57,9 @@ pub mod Simulating
 pub mod Standing
 pub mod StartData
 pub mod StartFile
+pub mod Statics
 pub mod Statuses
+pub mod StoredParameters
 pub mod StoredParts
 pub mod StoredTexts
 pub mod Straight

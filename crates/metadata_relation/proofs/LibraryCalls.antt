@@ -71,7 +71,7 @@ use Rattle.metadata_relation.specs.Holding.{IsHeldAt, World}
 use Rattle.metadata_relation.specs.InlineCode.{InlineCode}
 use Rattle.metadata_relation.specs.Registers.{first_free, moved_register, passed_as, temporary_register}
 use Rattle.metadata_relation.specs.Scopes.{context_at}
-use Rattle.metadata_relation.specs.Stages.{Compiled, expansion_of, factor, IsAt, map_of, names, views, world}
+use Rattle.metadata_relation.specs.Stages.{Compiled, expansion_of, IsAt, map_of, names, views, world}
 use Rattle.metadata_relation.specs.Steps.{IsCompiled}
 use Rattle.metadata_relation.proofs.Acting.{acts_called, behind_action, HasActed, Reached, reached_by, reached_next}
 use Rattle.metadata_relation.proofs.Acting.{reached_then, reached_words}

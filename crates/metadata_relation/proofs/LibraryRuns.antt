@@ -1,5 +1,5 @@
 -- What the routines of the library leave of their caller's state, and with which endings they end.
-use Rattle.std.proofs.Common.{◌≡◌, ◌⊎◌, inl, inr, ℕ, zero, suc, ◌+◌, ◌-◌, ◌*◌, ◌≤◌, ◌==◌, Bool, true, false, List, []}
+use Rattle.std.proofs.Common.{◌≡◌, ◌⊎◌, inl, inr, ℕ, zero, suc, ◌+◌, ◌*◌, ◌≤◌, ◌==◌, Bool, true, false, List, []}
 use Rattle.std.proofs.Common.{◌∷◌, length, Option, Some, None, refl, ◌∙◌, arith, ltb-true}
 use Rattle.std.specs.Prelude.{nat_lt}
 use Rattle.sb_base.specs.declared.ending.Ending.{Ending}

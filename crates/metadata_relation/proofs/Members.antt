@@ -40,6 +40,7 @@ use Rattle.metadata_plan.specs.Registers.{most_temporaries}
 use Rattle.metadata_plan.specs.Entries.{given, entry_source}
 use Rattle.metadata_plan.specs.Expanded.{Leads}
 use Rattle.metadata_plan.specs.Operators.{OperatorCode, AreOperators}
+use Rattle.metadata_plan.proofs.Constants.{any_constant, constant_most, most_constant}
 use Rattle.metadata_plan.proofs.Flat.{one, weight_small, Comes, then_comes}
 use Rattle.metadata_relation.specs.Registers.{temporary_register, first_free}
 use Rattle.metadata_relation.specs.Blocks.{is_short, number_code, number_operand, narrow_code, move_value}
@@ -59,17 +60,17 @@ use Rattle.metadata_relation.proofs.Standing.{IsNode, node, leads_on, Result}
 
 -- a long number is made first
 abbrev pub number_most : (number : ℕ) → ℕ
-number_most n = if is_short n then 0 else 10
+number_most n = if is_short n then 0 else constant_most n * 2
 
 pub short_number : (n : ℕ) → is_short n ≡ true → number_most n ≡ 0
-short_number n e = ap (λ b. if b then 0 else 10) e
+short_number n e = ap (λ b. if b then 0 else constant_most n * 2) e
 
 pub most_number : (n : ℕ) → number_most n ≤ 10
-most_number n = by (is_short n)
+most_number n = by (is_short n) (most_constant n)
   where
-    by : (b : Bool) → (if b then 0 else 10) ≤ 10
-    by true = omega arith
-    by false = omega arith
+    by : (b : Bool) → constant_most n ≤ 5 → (if b then 0 else constant_most n * 2) ≤ 10
+    by true most = omega arith
+    by false most = omega arith
 
 module _ (o : OperatorCode) (ops : AreOperators o) (m : MapSizes) (p : FlatProgram) (u pc : ℕ) (v : flat.State)
     (xs : List flat.Frame) (words : HasWords (flat.Stands u pc v xs)) where
@@ -90,7 +91,7 @@ module _ (o : OperatorCode) (ops : AreOperators o) (m : MapSizes) (p : FlatProgr
           → HasAt (body_of (function_in p u)) q (if b then [] else o.constant r n s)
           → (values : flat.Values)
           × SoFar m p u pc v xs words (q + length (if b then [] else o.constant r n s)) values
-          (k + (if b then 0 else 10))
+          (k + (if b then 0 else constant_most n * 2))
           × (right_value (if b then Number n else Register r) values ≡ n)
           × ((y : ℕ) → y < s → y ≢ r → values y ≡ a y)
       by true has = (
@@ -103,10 +104,10 @@ module _ (o : OperatorCode) (ops : AreOperators o) (m : MapSizes) (p : FlatProgr
       )
       by false has =
           let list = o.constant r n s in
-          let c = ops.constant m p (moment m p u pc v xs words q a k K) r n s low fits
+          let c = any_constant o ops m p (moment m p u pc v xs words q a k K) r n s low fits
           (stands_here m p u pc v xs words q a k K list has) in (
             c.after,
-            then_computed m p u pc v xs words q a k K (q + length list) r n s 5 c,
+            then_computed m p u pc v xs words q a k K (q + length list) r n s (constant_most n) c,
             c.gives,
             λ y lt ne. c.others y lt ne,
           )
@@ -201,13 +202,13 @@ module _ (c : Compiled) (IsGood : Bytes → Type 0) (right : IsCompiled c IsGood
   abbrev Far : (place : ℕ) (values : flat.Values) (most : ℕ) → Type 0
   Far place values most = SoFar (map_of c) c.layout.program u (c.layout.address u n) v xs words place values most
 
-  -- the operands of the list are numbers that fit, and at most one is long
+  -- the operands of the list are numbers that fit, and are made within what narrowing leaves of its cost
   module _ (i : Instruction) (k : IsNode c u n h.code i) (offset size d a next : ℕ) (gives : given i ≡ Some d)
       (source : entry_source i ≡ Some a) (leads : LeadsTo i next) (low : d < most_temporaries h.code.code)
       (from : a < most_temporaries h.code.code)
       (held : IsHeldAt (world c h.keys s v) (c.layout.expansion.entries u n a) (temps a).value
       (temporary_register h.code a) v.values)
-      (offset_fits : offset < 2 ^ 64) (size_fits : size < 2 ^ 64) (few : number_most offset + number_most size ≤ 10)
+      (offset_fits : offset < 2 ^ 64) (size_fits : size < 2 ^ 64) (few : number_most offset + number_most size ≤ 14)
     where
       abbrev value : Value
       value = narrowed offset size (temps a).value
@@ -371,10 +372,10 @@ module _ (c : Compiled) (IsGood : Bytes → Type 0) (right : IsCompiled c IsGood
 
   -- at most one of the numbers is long
   pub few_numbers : (offset size : ℕ) → (is_short offset || is_short size) ≡ true
-      → number_most offset + number_most size ≤ 10
+      → number_most offset + number_most size ≤ 14
   few_numbers offset size e = by (is_short offset) refl e
     where
-      by : (b : Bool) → is_short offset ≡ b → (b || is_short size) ≡ true → number_most offset + number_most size ≤ 10
+      by : (b : Bool) → is_short offset ≡ b → (b || is_short size) ≡ true → number_most offset + number_most size ≤ 14
       by true short e = omega (arith, short_number offset short, most_number size)
       by false long e = omega (arith, short_number size e, most_number offset)
 

@@ -1,12 +1,10 @@
 -- Pointers to what has a name: static objects and functions. Their words and entries are constants.
-use Rattle.std.proofs.Common.{◌≡◌, ◌≢◌, ◌⊎◌, inl, inr, ℕ, zero, suc, ◌+◌, ◌-◌, ◌*◌, ◌^◌, ◌<◌, ◌≤◌, Bool, true, false, List}
-use Rattle.std.proofs.Common.{[], ◌∷◌, ◌++◌, length, length-append, Some, refl, sym, ap, ◌∙◌, subst, arith, ltb-true}
+use Rattle.std.proofs.Common.{◌≡◌, ◌≢◌, ◌⊎◌, inl, inr, ℕ, ◌+◌, ◌-◌, ◌*◌, ◌^◌, ◌<◌, ◌≤◌, Bool, true, false, List}
+use Rattle.std.proofs.Common.{◌++◌, length, length-append, Some, refl, sym, ◌∙◌, subst, arith, ltb-true}
 use Rattle.std.specs.Prelude.{slice_get, nat_lt}
 use Rattle.addr_map.specs.declared.region.Region.TheVariants.{Globals, Locks}
 use Rattle.addr_map.specs.Places.{MapSizes, function_address, region_start}
-use Rattle.obj_memory.specs.declared.object.Storage.TheVariants.{Static}
 use Rattle.obj_memory.specs.declared.value.Value.{Value}
-use Rattle.obj_memory.specs.Heap.{rounded_up}
 use Rattle.obj_memory.specs.Objects.{Objects, object_at, pointer_to}
 use Rattle.obj_memory.specs.Sound.{Continues, IsSoundTag}
 use Rattle.obj_memory.proofs.Judging.{sound_pointer}
@@ -15,7 +13,6 @@ use Rattle.source_meaning.specs.Expressions.{function_pointer}
 use Rattle.source_meaning.specs.Structures.{rvalue}
 use Rattle.tac_ir.specs.declared.instruction.Instruction.{Instruction}
 use Rattle.tac_ir.specs.declared.instruction.Instruction.TheVariants as tac
-use Rattle.tac_ir.specs.declared.function.StaticData.{StaticData}
 use Rattle.tac_ir.specs.Edges.{LeadsTo}
 use Rattle.tac_ir.specs.Stage.{Temps, with_temp, Frame, Stage, Stands}
 use Rattle.tac_ir.specs.Costs.{spent}
@@ -49,6 +46,7 @@ use Rattle.metadata_relation.proofs.Giving.{gives_value}
 use Rattle.metadata_relation.proofs.Holding.{pointer_kept}
 use Rattle.metadata_relation.proofs.Parts.{SoFar, moment, at_first, stands_here, then_computed}
 use Rattle.metadata_relation.proofs.Registers.{temporary_free}
+use Rattle.metadata_relation.proofs.Statics.{placed_static, static_here}
 use Rattle.metadata_relation.proofs.Standing.{IsNode, node, leads_on, Result}
 
 -- ---- the numbers of an entry
@@ -148,17 +146,7 @@ module _ (o : OperatorCode) (ops : AreOperators o) (m : MapSizes) (p : FlatProgr
         };
       }
 
--- ---- static objects before the run
-
-pub placed_count : (first : ℕ) (ds : List StaticData) (offset : ℕ) → length (placed_data first ds offset) ≡ length ds
-placed_count first [] offset = refl
-placed_count first (d ∷ ds) offset = ap suc (placed_count first ds (rounded_up 16 offset + d.size))
-
-pub placed_static : (first : ℕ) (ds : List StaticData) (offset n : ℕ)
-    → (object_at (placed_data first ds offset) n).storage ≡ Static
-placed_static first [] offset n = refl
-placed_static first (d ∷ ds) offset zero = refl
-placed_static first (d ∷ ds) offset (suc n) = placed_static first ds (rounded_up 16 offset + d.size) n
+-- ---- static objects
 
 -- a pointer to an object is spelled by its place, and by the key and the lock word that the object has
 pointer_is : (g : Views) (k : Keys) (n key lock : ℕ) (objects : Objects) → (k.held n).key ≡ key → (k.held n).lock ≡ lock
@@ -348,14 +336,14 @@ module _ (c : Compiled) (IsGood : Bytes → Type 0) (right : IsCompiled c IsGood
       let old : Objects = placed_data first statics 0 in
       let on : Continues old s.objects =
       subst (λ z. Continues (placed_data (region_start z Globals) statics 0) s.objects) right.sizes h.steady.statics in
-      let made : x < length old = omega (arith, there, placed_count first statics 0) in
-      let longer = on.longer in
-      let now : x < length s.objects = omega (arith, made, longer) in
-      let keyed = (h.stands.for.objects.keyed.each x now).static (on.storage x made ∙ placed_static first statics 0 x) in
+      let made = (placed_static first statics 0 x there).made in
+      let here = static_here c right.sizes s.objects h.steady.statics x there in
+      let now = here.made in
+      let keyed = (h.stands.for.objects.keyed.each x now).static here.static in
       let placed = h.stands.for.objects.placed x (h.steady.statics_live x there) in
       let last = placed.last in
-      let same_address = on.address x made in
-      let same_size = on.size x made in
+      let same_address = here.address in
+      let same_size = here.size in
       let lies = laid_out (map_of c) right.mapped in
       let small = lies.small in
       let shadow = lies.few in

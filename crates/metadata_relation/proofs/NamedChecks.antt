@@ -1,13 +1,11 @@
 -- The checks of pointers whose keys begin with the names of objects.
-use Rattle.std.proofs.Common.{◌≡◌, inl, ℕ, suc, ◌+◌, ◌-◌, ◌%◌, ◌^◌, ◌<◌, ◌≤◌, true, List, [], ◌∷◌, ◌++◌}
+use Rattle.std.proofs.Common.{◌≡◌, inl, ℕ, ◌+◌, ◌-◌, ◌%◌, ◌^◌, ◌<◌, ◌≤◌, true, List, [], ◌∷◌, ◌++◌}
 use Rattle.std.proofs.Common.{length, get_or, Option, Some, None, refl, sym, ap, ap₂, ◌∙◌, subst, arith}
 use Rattle.std.specs.Prelude.{slice_get, ◌==◌, ◌&&◌, nat_le, if◌then◌else◌}
 use Rattle.std.proofs.lemmas.Bool.{eq-eqb, eqb-true, false≢true, lt-ltb}
 use Rattle.std.proofs.lemmas.Option.{slice_get_within}
 use Rattle.std.proofs.Math.Nat.{min-le_left}
 use Rattle.sb_base.specs.declared.ending.Ending.TheVariants.{Spatial as SpatialAt, Temporal as TemporalAt}
-use Rattle.addr_map.specs.declared.region.Region.TheVariants.{Globals}
-use Rattle.addr_map.specs.Places.{region_start}
 use Rattle.obj_memory.specs.declared.value.Tag.{Tag}
 use Rattle.obj_memory.specs.declared.value.Tag.TheVariants.{Untagged, OfFunction, OfObject}
 use Rattle.obj_memory.specs.declared.value.Value.{Value}
@@ -32,7 +30,7 @@ use Rattle.tac_ir.specs.Costs.{spent}
 use Rattle.tac_ir.specs.Fitting.{is_whole, is_home_of, is_static_of, is_base_there}
 use Rattle.tac_ir.specs.Keys.{base_value, scaled_value, path_tag, key_tag, key_word, same_tag, gives}
 use Rattle.tac_ir.proofs.KeyWork.{base_work}
-use Rattle.tac_ir.specs.Meaning.{check, placed_data}
+use Rattle.tac_ir.specs.Meaning.{check}
 use Rattle.tac_ir.specs.Stage.{Temps, Frame, Stage, Stands, came}
 use Rattle.rv_isa.specs.declared.instruction.RegOp.TheVariants.{Add}
 use Rattle.rv_isa.specs.Results.{reg_result}
@@ -62,6 +60,7 @@ use Rattle.metadata_relation.proofs.Comparing.{short_code, short_operand, range_
 use Rattle.metadata_relation.proofs.Pointers.{home_word}
 use Rattle.metadata_relation.proofs.Ranges.{behind, fixed_path}
 use Rattle.metadata_relation.proofs.Simple.{position, computed, taken, goes_on}
+use Rattle.metadata_relation.proofs.Statics.{static_here}
 use Rattle.metadata_relation.proofs.Standing.{IsNode, node, Result}
 
 -- ---- what is named
@@ -121,10 +120,6 @@ path_ends size (m ∷ ms) =
 -- an object is whole
 whole_is : (size : ℕ) (o : ObjectState) → is_whole size o ≡ true → (o.is_live ≡ true) × (o.size ≡ size)
 whole_is size o e = (let two = both o.is_live (o.size == size) e in (two.0, eqb-true o.size size two.1))
-
-data_length : (first : ℕ) (ds : List StaticData) (offset : ℕ) → length (placed_data first ds offset) ≡ length ds
-data_length first [] offset = refl
-data_length first (d ∷ ds) offset = ap suc (data_length first ds _)
 
 sum_is : (x y : ℕ) → reg_result Add x y ≡ (x + y) % 2 ^ 64
 unfolding reg_result
@@ -206,23 +201,6 @@ module _ (c : Compiled) (IsGood : Bytes → Type 0) (right : IsCompiled c IsGood
             addressed = automatic_address x o (h.holds.homes.homes x o is);
           }
 
-  -- a static object lies where it did before the run
-  static_address : (q : ℕ) → q < length (expansion_of c).code.statics
-      → (static_object (map_of c) (expansion_of c).code q).address ≡ (object_at s.objects q).address
-  static_address q lt =
-      let t = (expansion_of c).code in
-      let same = h.steady.statics.address q
-      (subst (λ z. q < z) (sym (data_length (region_start c.setting.sizes Globals) t.statics 0)) lt) in
-      ap (λ z. (object_at (placed_data (region_start z Globals) t.statics 0) q).address) (sym right.sizes) ∙ sym same
-
-  static_size : (q : ℕ) → q < length (expansion_of c).code.statics
-      → (static_object (map_of c) (expansion_of c).code q).size ≡ (object_at s.objects q).size
-  static_size q lt =
-      let t = (expansion_of c).code in
-      let same = h.steady.statics.size q
-      (subst (λ z. q < z) (sym (data_length (region_start c.setting.sizes Globals) t.statics 0)) lt) in
-      ap (λ z. (object_at (placed_data (region_start z Globals) t.statics 0) q).size) (sym right.sizes) ∙ sym same
-
   static_named : (q : ℕ) → is_static_of (slice_get (expansion_of c).code.statics q) (object_at s.objects q) ≡ true
       → IsNamed (Static q)
   static_named q e = by (slice_get (expansion_of c).code.statics q) refl e
@@ -232,12 +210,13 @@ module _ (c : Compiled) (IsGood : Bytes → Type 0) (right : IsCompiled c IsGood
       by None is e = absurd (false≢true e)
       by (Some d) is e =
           let lt = slice_get_within (expansion_of c).code.statics q d is in
-          let place = static_address q lt in
+          let here = static_here c right.sizes s.objects h.steady.statics q lt in
+          let place = sym here.address in
           record {
             object = q;
             live = (whole_is d.size (object_at s.objects q) e).0;
             value = refl;
-            size = static_size q lt;
+            size = sym here.size;
             addressed = λ offset low has.
                 (let whole = (static_object (map_of c) (expansion_of c).code q).address + offset in
                 let same : whole ≡ (object_at s.objects q).address + offset = ap (λ z. z + offset) place in

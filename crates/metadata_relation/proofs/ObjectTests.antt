@@ -1,7 +1,7 @@
 -- The tests of a call whose callee's body has objects: the run goes on behind them, or ends with `Stack` or `Keys`.
 use Rattle.std.proofs.Common.{◌≡◌, ◌≢◌, ℕ, ◌+◌, ◌-◌, ◌*◌, ◌/◌, ◌%◌, ◌^◌, ◌<◌, ◌≤◌, Bool, true, false, not, List}
 use Rattle.std.proofs.Common.{◌∷◌, ◌++◌, length, Some, refl, ap, ap₂, ◌∙◌, arith, subst}
-use Rattle.std.proofs.Common.{inl, inr, sym, lt-ltb, le-ltb, le-leb, true≢false, mul-le-mul_right, []}
+use Rattle.std.proofs.Common.{inl, inr, sym, lt-ltb, le-ltb, le-leb, true≢false, []}
 use Rattle.std.proofs.Math.Nat.{le-min, min-le_left}
 use Rattle.std.specs.Prelude.{◌==◌, ◌||◌, if◌then◌else◌, min, nat_le, nat_lt}
 use Rattle.std.proofs.lemmas.Bool.Decides.{leb_tells}
@@ -9,9 +9,6 @@ use Rattle.std.proofs.lemmas.Nat.{and_mask}
 use Rattle.std.proofs.lemmas.Bool.{lt-leb}
 use Rattle.sb_base.specs.declared.ending.Ending.{Ending}
 use Rattle.sb_base.specs.declared.ending.Ending.TheVariants.{Keys, Stack}
-use Rattle.sb_base.specs.Endings.{code_of, report_of}
-use Rattle.behaviours.specs.Steps.{run}
-use Rattle.behaviours.proofs.Running.{run_add}
 use Rattle.addr_map.specs.declared.region.Region.TheVariants.{Cells, Heap, Stack as StackRegion}
 use Rattle.addr_map.specs.Places.{AreMapped, MapSizes, region_end, region_size, region_start, spaces_begin}
 use Rattle.obj_memory.specs.Heap.{rounded_up}
@@ -38,9 +35,10 @@ use Rattle.flat_meaning.specs.declared.function.FlatProgram.{FlatProgram}
 use Rattle.flat_meaning.specs.Memory.{Bytes, load, put}
 use Rattle.flat_meaning.specs.State as flat
 use Rattle.flat_meaning.specs.Calls.{function_in}
-use Rattle.flat_meaning.specs.Meaning.{body_of, instruction_at, right_value, step, weight_of}
+use Rattle.flat_meaning.specs.Meaning.{body_of, instruction_at, right_value}
 use Rattle.flat_meaning.proofs.Stored.{put_same, put_other}
 use Rattle.flat_operators.specs.Operators.{wide_code}
+use Rattle.flat_routines.specs.Objects.StandsFor.{Keys as ObjectKeys}
 use Rattle.flat_routines.specs.Routine.{HasAt}
 use Rattle.flat_routines.proofs.Steps.{has_front}
 use Rattle.lock_space.specs.Locks.{key_counter, keys_cell}
@@ -49,18 +47,19 @@ use Rattle.lib_wrappers.specs.AllocatingRoutines.Entering.{block_bytes, round_co
 use Rattle.lib_wrappers.proofs.AllocatingRoutines.FreeLocks.{stack_laid_out}
 use Rattle.lib_wrappers.proofs.AllocatingRoutines.SourceEntries.{end_by_bytes}
 use Rattle.metadata_plan.specs.Expanded.{Falls}
+use Rattle.metadata_plan.proofs.Calling.{below}
 use Rattle.metadata_plan.proofs.Flat.{Comes, branch_passed_comes, branch_taken_comes, constant_comes, next_comes}
-use Rattle.metadata_plan.proofs.Flat.{at_place, end_step, leads_comes, operate_comes, then_comes, weaker, weight_small}
+use Rattle.metadata_plan.proofs.Flat.{at_place, leads_comes, operate_comes, then_comes, weaker}
 use Rattle.metadata_relation.specs.Blocks.{object_tests, objects_of_body, space_test, top_cell, units_tests}
 use Rattle.metadata_relation.specs.Blocks.{unknown_object_tests}
 use Rattle.metadata_relation.specs.FunctionTypes.{object_units}
 use Rattle.metadata_relation.specs.Registers.{first_free}
-use Rattle.metadata_relation.specs.Stages.{Compiled, factor, IsAt, map_of, names}
+use Rattle.metadata_relation.specs.Stages.{Compiled, factor, IsAt, map_of, names, StandsIn}
 use Rattle.metadata_relation.specs.Steps.{IsCompiled}
 use Rattle.metadata_relation.proofs.CalleeTests.{differs, equal, masked, shifted}
 use Rattle.metadata_relation.proofs.Ranges.{Told}
-use Rattle.metadata_relation.proofs.RoomTests.{added, below}
-use Rattle.metadata_relation.proofs.Standing.{ends, good_now, Result}
+use Rattle.metadata_relation.proofs.RoomTests.{added}
+use Rattle.metadata_relation.proofs.Standing.{ends_where, good_now, Result}
 use Rattle.metadata_relation.proofs.TopCell.{space_loaded, stack_low, top_read}
 
 shifted_up : (x n : ℕ) → reg_result Sll x n ≡ shifted_left 64 x (n % 64)
@@ -538,32 +537,12 @@ module _ (c : Compiled) (IsGood : Bytes → Type 0) (u n : ℕ) (temps : Temps) 
       → (s'.input ≡ s.input) × (s'.output ≡ s.output) × (s'.taken ≡ s.taken) × (s'.accesses ≡ s.accesses)
       → s'.turns ≤ turns → most + 2 + factor * s.work ≤ factor * s'.work
       → Result c IsGood (Over e s') (flat.Stands u (c.layout.address u n) v xs)
-  ends_at e s' q most turns values k at same turned cost =
-      let after : flat.State = record v { turns = turns; values = values; work = v.work + k.work } in
-      let pc = c.layout.address u n in
-      let l = length (report_of e) in
-      let w = weight_of (function_in c.layout.program u) in
-      let scaled = mul-le-mul_right (1 + l) (weight_small (function_in c.layout.program u)) in
-      let shown = h.stands.for.shown in
-      let few = k.few in
-      let before = h.work in
-      ends c IsGood (flat.Stands u pc v xs) e s' (record after { work = v.work + k.work + w * (1 + l) })
-      (k.steps + 1) (code_of e) (report_of e)
-      (run_add (step (map_of c) c.layout.program) k.steps 1 (flat.Stands u pc v xs)
-      ∙ ap (run (step (map_of c) c.layout.program) 1) k.comes ∙ end_step (map_of c) c.layout.program u q after xs e at)
-      refl refl
-      (record {
-        input = shown.input ∙ sym same.0;
-        output = shown.output ∙ sym same.1;
-        taken = shown.taken ∙ sym same.2;
-        accesses = shown.accesses ∙ sym same.3;
-      })
-      turned (omega (arith, before, few, scaled, cost))
+  ends_at = ends_where c IsGood u (c.layout.address u n) s v xs h.stands.for.shown h.work
 
 -- ---- before a call at a node, where nothing of memory was written
 
 -- without objects the object stack ends where it did
-end_same : (vs : List Variable) (top : ℕ) → has_objects vs ≡ false → objects_end vs top ≡ top
+pub end_same : (vs : List Variable) (top : ℕ) → has_objects vs ≡ false → objects_end vs top ≡ top
 end_same [] top none = refl
 end_same (x ∷ vs) top none = by x.is_object refl (λ e. end_same vs top e)
   where
@@ -574,13 +553,13 @@ end_same (x ∷ vs) top none = by x.is_object refl (λ e. end_same vs top e)
         ap (λ z. objects_end vs (if z then rounded_up 16 top + size_of_kind x.kind else top)) is
         ∙ rest (sym (ap (λ z. z || has_objects vs) is) ∙ none)
 
-module _ (c : Compiled) (IsGood : Bytes → Type 0) (right : IsCompiled c IsGood) (u n : ℕ) (temps : Temps)
-    (ws : List Frame) (s : State) (v : flat.State) (xs : List flat.Frame)
-    (h : IsAt c IsGood u n temps ws s u (c.layout.address u n) v xs) (q : ℕ) (w : flat.State)
-    (same : w.memory ≡ v.memory) (line : ℕ) where
+module _ (c : Compiled) (IsGood : Bytes → Type 0) (right : IsCompiled c IsGood) (u : ℕ) (xs : List flat.Frame)
+    (keys : ObjectKeys) (s : State) (v : flat.State) (stands : StandsIn c IsGood keys s v)
+    (inside : s.stacked ≤ region_end (map_of c) StackRegion) (q : ℕ) (w : flat.State) (same : w.memory ≡ v.memory)
+    (line scratch : ℕ) where
   abbrev pub Tested : (behind_tests most : ℕ) → (room key : Bool) → Type 0
   Tested there most room key =
-      IsObjectTested (map_of c) right.mapped c.layout.program u q w xs line (first_free h.code) there most room key
+      IsObjectTested (map_of c) right.mapped c.layout.program u q w xs line scratch there most room key
 
   abbrev pub has_room : List Variable → Bool
   has_room vs = nat_le (objects_end vs s.stacked) (stack_end c.setting)
@@ -588,47 +567,53 @@ module _ (c : Compiled) (IsGood : Bytes → Type 0) (right : IsCompiled c IsGood
   abbrev pub has_key : Bool
   has_key = nat_lt s.keys c.setting.sizes.budgets.keys
 
-  top_is : load 8 w.memory (top_cell (map_of c)) ≡ s.stacked
-  top_is = ap (λ z. load 8 z (top_cell (map_of c))) same ∙ h.stands.top
+  pub top_is : load 8 w.memory (top_cell (map_of c)) ≡ s.stacked
+  top_is = ap (λ z. load 8 z (top_cell (map_of c))) same ∙ stands.top
 
-  inside : s.stacked ≤ region_end (map_of c) StackRegion
-  inside = (good_now (names c) u ws s h.steady.good).separate.top
-
-  counted_is : load 8 w.memory (keys_cell (map_of c)) ≡ s.keys
+  pub counted_is : load 8 w.memory (keys_cell (map_of c)) ≡ s.keys
   counted_is =
-      let counter : key_counter (map_of c) v.memory ≡ 2 + h.keys.made = h.stands.for.objects.counted in
-      let made = h.stands.for.keys in
+      let counter : key_counter (map_of c) v.memory ≡ 2 + keys.made = stands.for.objects.counted in
+      let made = stands.for.keys in
       ap (λ z. load 8 z (keys_cell (map_of c))) same ∙ omega (arith, counter, made)
 
-  key_same : nat_lt s.keys (map_of c).budgets.keys ≡ has_key
+  pub key_same : nat_lt s.keys (map_of c).budgets.keys ≡ has_key
   key_same = sym (ap (λ (z : MapSizes). nat_lt s.keys z.budgets.keys) right.sizes)
+
+  -- no objects always fit
+  pub none_fit : (vs : List Variable) → has_objects vs ≡ false → has_room vs ≡ true
+  none_fit vs none =
+      ap (λ z. nat_le (objects_end vs s.stacked) (region_end z StackRegion)) right.sizes
+      ∙ ap (λ z. nat_le z (region_end (map_of c) StackRegion)) (end_same vs s.stacked none)
+      ∙ le-leb s.stacked (region_end (map_of c) StackRegion) inside
+
+  -- the room that objects have by their bytes
+  pub room_same : (vs : List Variable) → has_objects vs ≡ true
+      → nat_le (rounded_up 16 s.stacked + block_bytes vs) (region_end (map_of c) StackRegion) ≡ has_room vs
+  room_same vs some =
+      ap (λ z. nat_le z (region_end (map_of c) StackRegion)) (sym (end_by_bytes vs s.stacked some))
+      ∙ sym (ap (λ z. nat_le (objects_end vs s.stacked) (region_end z StackRegion)) right.sizes)
 
   -- The run is behind the tests just where those of the source's meaning pass.
   pub objects_tested : (vs : List Variable)
-      → HasAt (body_of (function_in c.layout.program u)) q (object_tests (map_of c) vs line (first_free h.code))
-      → Tested (q + length (object_tests (map_of c) vs line (first_free h.code))) 34 (has_room vs)
+      → HasAt (body_of (function_in c.layout.program u)) q (object_tests (map_of c) vs line scratch)
+      → Tested (q + length (object_tests (map_of c) vs line scratch)) 34 (has_room vs)
       (not (has_objects vs) || has_key)
   objects_tested vs = by (has_objects vs) refl
     where
       by : (b : Bool) → has_objects vs ≡ b
           → HasAt (body_of (function_in c.layout.program u)) q (if b
-          then space_test (map_of c) (block_bytes vs) line (first_free h.code)
-          ++ (keys_code (map_of c) (first_free h.code) (first_free h.code + 1) ++ key_test (first_free h.code) line)
+          then space_test (map_of c) (block_bytes vs) line scratch
+          ++ (keys_code (map_of c) scratch (scratch + 1) ++ key_test scratch line)
           else [])
           → Tested (q + length (if b
-          then space_test (map_of c) (block_bytes vs) line (first_free h.code)
-          ++ (keys_code (map_of c) (first_free h.code) (first_free h.code + 1) ++ key_test (first_free h.code) line)
+          then space_test (map_of c) (block_bytes vs) line scratch
+          ++ (keys_code (map_of c) scratch (scratch + 1) ++ key_test scratch line)
           else [])) 34 (has_room vs) (not b || has_key)
       by true some has =
-          space_tested (map_of c) right.mapped c.layout.program u q w xs line (first_free h.code) s.stacked s.keys top_is
-          inside counted_is (block_bytes vs) has (has_room vs) has_key
-          (ap (λ z. nat_le z (region_end (map_of c) StackRegion)) (sym (end_by_bytes vs s.stacked some))
-          ∙ sym (ap (λ z. nat_le (objects_end vs s.stacked) (region_end z StackRegion)) right.sizes)) key_same
+          space_tested (map_of c) right.mapped c.layout.program u q w xs line scratch s.stacked s.keys top_is
+          inside counted_is (block_bytes vs) has (has_room vs) has_key (room_same vs some) key_same
       by false none has =
-          let space : has_room vs ≡ true =
-          ap (λ z. nat_le (objects_end vs s.stacked) (region_end z StackRegion)) right.sizes
-          ∙ ap (λ z. nat_le z (region_end (map_of c) StackRegion)) (end_same vs s.stacked none)
-          ∙ le-leb s.stacked (region_end (map_of c) StackRegion) inside in
+          let space = none_fit vs none in
           record {
             values = w.values;
             others = λ y lt. refl;
@@ -692,7 +677,8 @@ module _ (c : Compiled) (IsGood : Bytes → Type 0) (right : IsCompiled c IsGood
     pub tested_here : IsTestedHere (nat_le (objects_end (body_objects f) s.stacked) (stack_end c.setting))
         (not (has_objects (body_objects f)) || nat_lt s.keys c.setting.sizes.budgets.keys)
     tested_here =
-        let t = objects_tested c IsGood right u n temps ws s v xs h q w refl line (body_objects f) has in
+        let t = objects_tested c IsGood right u xs h.keys s v h.stands (good_now (names c) u ws s h.steady.good).separate.top q w
+        refl line (first_free h.code) (body_objects f) has in
         let j = t.comes in
         record {
           values = t.values;

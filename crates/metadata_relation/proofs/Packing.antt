@@ -28,7 +28,7 @@ use Rattle.metadata_relation.specs.Holding.{World, IsHeldAt}
 use Rattle.metadata_relation.specs.Registers.{passed_as, parameter_words, total, register_in}
 use Rattle.metadata_relation.specs.Registers.{temporary_register, moved_register}
 use Rattle.metadata_relation.proofs.Assigning.{assigned, are_assignments, moved}
-use Rattle.metadata_relation.proofs.Registers.{count_of, count_in, plain_words}
+use Rattle.metadata_relation.proofs.Registers.{count_of, count_in, plain_words, scalar_words}
 
 -- ---- lists of constants and moves
 
@@ -217,6 +217,13 @@ plain_parameter (p ∷ ps) vs zero k e lt =
     kind_of false kind e = scalar_kind kind e
 plain_parameter (p ∷ ps) vs (suc x) k e lt =
     let rest = plain_parameter ps vs x k e (omega arith) in record { kind = rest.kind; words = rest.words }
+
+-- a parameter of a scalar type has the words of a value of it
+pub parameter_words_are : (ps : List Variable) (x : ℕ) (k : Scalar)
+    → get_or (map (λ (v : Variable). v.kind) ps) x Void ≡ OfScalar k → words_at ps x ≡ count_in k
+parameter_words_are [] x k e = cc
+parameter_words_are (p ∷ ps) zero k e = scalar_words p.kind k e
+parameter_words_are (p ∷ ps) (suc x) k e = parameter_words_are ps x k e
 
 -- ---- values in other registers
 

@@ -52,6 +52,9 @@ kind_words (OfScalar Pointer) k e =
 kind_words (Structure n) k e = none_some k e
 kind_words (Array n) k e = none_some k e
 
+pub scalar_words : (kind : Kind) (k : Scalar) → kind ≡ OfScalar k → register_count (passed_as kind) ≡ count_in k
+scalar_words kind k e = (kind_words kind k (ap scalar_if e)).1
+
 pub plain_words : (v : Variable) (k : Scalar) → (if v.is_object then None else scalar_if v.kind) ≡ Some k
     → (variable_words v ≡ count_in k) × (parameter_words v ≡ count_in k)
 plain_words v k e = by v.is_object e

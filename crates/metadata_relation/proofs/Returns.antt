@@ -21,7 +21,6 @@ use Rattle.source_meaning.specs.Good.{Leaves}
 use Rattle.source_meaning.specs.Places.{stack_first}
 use Rattle.source_meaning.specs.Structures.{rvalue}
 use Rattle.tac_ir.specs.declared.instruction.Instruction.TheVariants as tac
-use Rattle.tac_ir.specs.declared.function.CodeFunction.{CodeFunction}
 use Rattle.tac_ir.specs.Accesses.{is_place}
 use Rattle.tac_ir.specs.Fitting.{is_of_type, is_passed}
 use Rattle.tac_ir.specs.Stage.{Temps, with_temp, Waiting, Frame, Waits, Entered, Stage, Stands, Over, Stuck}
@@ -52,8 +51,8 @@ use Rattle.metadata_relation.specs.Stages.{Compiled, map_of, views, names, world
 use Rattle.metadata_relation.specs.Stages.{IsAt, MatchesBy, StandsIn}
 use Rattle.metadata_relation.specs.Steps.{IsCompiled, is_no_aggregate, gives_scalar}
 use Rattle.metadata_relation.specs.Waiting.{AreNoObjects, BodyBy, IsBodyAs, IsWaitingAs, has_value}
-use Rattle.metadata_relation.specs.Waiting.{Level, AllWait}
-use Rattle.metadata_relation.proofs.Acting.{Reached}
+use Rattle.metadata_relation.specs.Waiting.{AllWait}
+use Rattle.metadata_relation.proofs.Acting.{Reached, waits_below}
 use Rattle.metadata_relation.proofs.Assigning.{assigned, are_assignments, assigns, wider}
 use Rattle.metadata_relation.proofs.CallStates.{left_good}
 use Rattle.metadata_relation.proofs.Handing.{scalar_place, held_at}
@@ -96,40 +95,7 @@ returns_by m p u q v x xs y n at results =
     ∙ ap (λ n. flat.Stands x.function x.next
     (record v { values = with_results x.into n v.values y x.values; work = v.work + (8 + 2 * n) }) xs) results
 
--- ---- what waits knows a number that no object of it reaches
-
-body_higher : (w : World) (s : State) (c : CodeFunction) (stacked outer a b : ℕ) (homes : List Home)
-    (values : flat.Values) → a ≤ b → IsBodyAs w s c stacked outer a homes values → IsBodyAs w s c stacked outer b homes values
-body_higher w s c stacked outer a b homes values le h = record {
-  by = h.by;
-  mark = h.mark;
-  within = (let i = h.within in omega arith);
-  own = λ o q. (let z = h.own o q in let above = z.0 in let below = z.1 in (above, omega arith));
-}
-
-waits_higher : (w : World) (s : State) (l : _) (first : ℕ) (v : Level) (bound : ℕ) → v.bound ≤ bound → (ws : List Frame)
-    (xs : List flat.Frame) → AllWait w s l first v ws xs → AllWait w s l first (record v { bound = bound }) ws xs
-unfolding body_higher
-waits_higher w s l first v bound le [] [] h = h
-waits_higher w s l first v bound le [] (x ∷ []) h =
-    (body_higher w s v.code v.stacked first v.bound bound v.frame v.values le h.0, h.1)
-waits_higher w s l first v bound le [] (x ∷ y ∷ xs) h = h
-waits_higher w s l first v bound le (Entered n b ∷ ws) xs h =
-    let e = h.0 in (
-      record {
-        some = e.some;
-        block = e.block;
-        mark = e.mark;
-        own = λ o q. (let z = e.own o q in let above = z.0 in let below = z.1 in (above, omega arith));
-        below = e.below;
-        over = e.over;
-        homes = e.homes;
-      },
-      h.1,
-    )
-waits_higher w s l first v bound le (Waits a ∷ ws) [] h = h
-waits_higher w s l first v bound le (Waits a ∷ ws) (x ∷ xs) h =
-    (body_higher w s v.code v.stacked a.caller.stacked v.bound bound v.frame v.values le h.0, h.1, h.2)
+-- ---- homes
 
 none_die : (homes : List Home) (objects : Objects) → AreNoObjects homes → without_homes homes objects ≡ objects
 none_die [] objects h = refl
@@ -561,13 +527,8 @@ module _ (c : Compiled) (IsGood : Bytes → Type 0) (right : IsCompiled c IsGood
                     frame = w.caller.frame;
                     bound = length left.objects;
                   }) others rest
-                  (waits_higher left_world left c.layout (stack_first c.setting) (record {
-                    code = k.code;
-                    values = x.values;
-                    stacked = w.caller.stacked;
-                    frame = w.caller.frame;
-                    bound = body_is.mark;
-                  }) (length left.objects) (omega arith) others rest others_wait));
+                  (waits_below left_world left c.layout (stack_first c.setting) k.code x.values body_is.mark
+                  (length left.objects) (omega arith) w.caller.stacked w.caller.frame others rest others_wait));
             };
           });
         } in

@@ -18,6 +18,7 @@ use Rattle.flat_meaning.specs.Calls.{function_in, charged}
 use Rattle.flat_meaning.specs.Meaning.{body_of, instruction_at}
 use Rattle.flat_meaning.proofs.Stored.{put_same, put_other}
 use Rattle.flat_routines.specs.Routine.{HasAt}
+use Rattle.metadata_plan.proofs.Calling.{below}
 use Rattle.metadata_plan.proofs.Flat.{Comes, next_comes, turn_comes, charged_comes, operate_comes, branch_taken_comes}
 use Rattle.metadata_plan.proofs.Flat.{branch_passed_comes, at_place}
 use Rattle.metadata_relation.specs.Blocks.{room_tests, unknown_object_tests, units_tests}
@@ -26,10 +27,6 @@ use Rattle.metadata_relation.proofs.CalleeTests.{shifted, masked, equal}
 pub added : (x y : ℕ) → reg_result Add x y ≡ sum 64 x y
 unfolding reg_result
 added x y = refl
-
-pub below : (x y : ℕ) (b : Bool) → nat_lt x y ≡ b → branch_taken Bltu x y ≡ b
-unfolding branch_taken
-below x y b e = e
 
 module _ (m : MapSizes) (p : FlatProgram) (u pc : ℕ) (v : flat.State) (xs : List flat.Frame) (r line s : ℕ)
     (apart : r + 5 ≤ s) where

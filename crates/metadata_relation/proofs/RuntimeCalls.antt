@@ -8,11 +8,11 @@ use Rattle.addr_map.specs.Places.{region_size}
 use Rattle.obj_memory.specs.declared.value.Value.{Value}
 use Rattle.source_meaning.specs.State.{State, Gives, Run}
 use Rattle.source_meaning.specs.Places.{stack_first}
+use Rattle.tac_ir.specs.declared.function.CodeFunction.{CodeFunction}
 use Rattle.tac_ir.specs.Stage.{Frame, Temps, Waits, Entered}
-use Rattle.flat_meaning.specs.declared.instruction.FlatInstruction.{FlatInstruction}
 use Rattle.flat_meaning.specs.declared.instruction.FlatInstruction.TheVariants.{Call}
 use Rattle.flat_meaning.specs.declared.function.FlatFunction.{FlatFunction}
-use Rattle.flat_meaning.specs.Calls.{function_in, room_if, rooms}
+use Rattle.flat_meaning.specs.Calls.{charged, function_in, room_if, rooms}
 use Rattle.flat_meaning.specs.Meaning.{body_of}
 use Rattle.flat_meaning.specs.Memory.{Bytes}
 use Rattle.flat_meaning.specs.State as flat
@@ -30,6 +30,7 @@ use Rattle.metadata_relation.specs.Steps.{IsCompiled}
 use Rattle.metadata_relation.specs.Waiting.{AllWait, Level}
 use Rattle.metadata_relation.proofs.Acting.{Reached}
 use Rattle.metadata_relation.proofs.Standing.{there_by}
+use Rattle.metadata_relation.proofs.Waiting.{CallerWaits}
 
 -- ---- room
 
@@ -44,7 +45,7 @@ entry_room e (Some f) h =
 
 module _ (c : Compiled) (IsGood : Bytes → Type 0) (right : IsCompiled c IsGood) where
   -- of records that wait it alone is one of the runtime
-  rooms_wait : (w : World) (s : State) (first : ℕ) (v : Level) (ws : List Frame) (xs : List flat.Frame)
+  pub rooms_wait : (w : World) (s : State) (first : ℕ) (v : Level) (ws : List Frame) (xs : List flat.Frame)
       → AllWait w s c.layout first v ws xs
       → rooms true c.layout.program xs + 2 ^ 11 ≤ region_size (map_of c) RuntimeCalls
   unfolding rooms
@@ -70,15 +71,35 @@ module _ (c : Compiled) (IsGood : Bytes → Type 0) (right : IsCompiled c IsGood
       }) ws xs h.2 in
       omega arith
 
-module _ (c : Compiled) (IsGood : Bytes → Type 0) (right : IsCompiled c IsGood) (u n : ℕ) (temps : Temps)
-    (ws : List Frame) (s : State) (v : flat.State) (xs : List flat.Frame)
-    (h : IsAt c IsGood u n temps ws s u (c.layout.address u n) v xs) where
-  abbrev body : List FlatInstruction
-  body = body_of (function_in c.layout.program u)
+  pub caller_rooms : (w : World) (s : State) (first : ℕ) (k : CodeFunction) (outer mark : ℕ) (ws : List Frame)
+      (xs : List flat.Frame) → CallerWaits w s c.layout first k outer mark ws xs
+      → rooms true c.layout.program xs + 2 ^ 11 ≤ region_size (map_of c) RuntimeCalls
+  unfolding rooms
+  caller_rooms w s first k outer mark [] [] h = absurd h
+  caller_rooms w s first k outer mark [] (x ∷ []) h =
+      let room = entry_room c.layout.expansion (function_in c.layout.program c.layout.program.entry) right.expanded.enters in
+      let is = ap (λ z. room_if true (function_in c.layout.program z)) h.1.0 in
+      omega arith
+  caller_rooms w s first k outer mark [] (x ∷ y ∷ xs) h = absurd h
+  caller_rooms w s first k outer mark (Entered n b ∷ ws) xs h = absurd h
+  caller_rooms w s first k outer mark (Waits a ∷ ws) [] h = absurd h
+  caller_rooms w s first k outer mark (Waits a ∷ ws) (x ∷ xs) h =
+      let none = (there_by c.layout.expansion a.function h.1.code (c.layout.address a.function)
+      (function_in c.layout.program a.function) (right.expanded.functions a.function h.1.code h.1.there)).no_room in
+      let is = ap (λ z. room_if true (function_in c.layout.program z)) h.1.function in
+      let rest = rooms_wait w s first (record {
+        code = h.1.code;
+        values = x.values;
+        stacked = a.caller.stacked;
+        frame = a.caller.frame;
+        bound = mark;
+      }) ws xs h.2 in
+      omega arith
 
-  -- a call that stands in the block
-  abbrev pub site : (function place first into : ℕ) → flat.State → CallSite
-  site g place first into y = record {
+module _ (c : Compiled) (IsGood : Bytes → Type 0) (u : ℕ) (xs : List flat.Frame) where
+  -- a call that stands in a function of the program
+  abbrev pub site_in : (function place first into : ℕ) → flat.State → CallSite
+  site_in g place first into y = record {
     caller = u;
     place = place;
     state = y;
@@ -92,36 +113,52 @@ module _ (c : Compiled) (IsGood : Bytes → Type 0) (right : IsCompiled c IsGood
     pub function : FlatFunction
     pub of : IsOfRuntime (map_of c) c.entry IsGood f function
     pub calls : CallsFunction (map_of c) c.layout.program
-        (site (runtime_number c.layout.expansion.code k) place first into y) function
+        (site_in (runtime_number c.layout.expansion.code k) place first into y) function
+
+  module _ (right : IsCompiled c IsGood) (code : CodeFunction)
+      (there : slice_get c.layout.expansion.code.functions u ≡ Some code)
+      (fits : charged c.layout.program u xs ≤ (map_of c).budgets.calls)
+      (room : rooms true c.layout.program xs + 2 ^ 11 ≤ region_size (map_of c) RuntimeCalls) where
+    pub runtime_call_in : (k : ℕ) (f : RuntimeFunction) → slice_get runtime_list k ≡ Some f → (place first into : ℕ)
+        (y : flat.State)
+        → slice_get (body_of (function_in c.layout.program u)) place
+        ≡ Some (Call (runtime_number c.layout.expansion.code k) first into)
+        → RuntimeCall k f place first into y
+    unfolding rooms
+    runtime_call_in k f listed place first into y at =
+        by (function_in c.layout.program (runtime_number c.layout.expansion.code k)) refl
+        (right.expanded.runtime k f listed)
+      where
+        by : (q : Option FlatFunction)
+            → function_in c.layout.program (runtime_number c.layout.expansion.code k) ≡ q
+            → IsRuntimeAt (map_of c) c.entry IsGood f q → RuntimeCall k f place first into y
+        by None e is = absurd is
+        by (Some g) e is =
+            let none = (there_by c.layout.expansion u code (c.layout.address u) (function_in c.layout.program u)
+            (right.expanded.functions u code there)).no_room in
+            let own = is.0.is.room in
+            record {
+              function = g;
+              of = is.0;
+              calls = record { at = at; found = e; fits = fits; room = omega (arith, none, room, own) };
+            }
+
+module _ (c : Compiled) (IsGood : Bytes → Type 0) (right : IsCompiled c IsGood) (u n : ℕ) (temps : Temps)
+    (ws : List Frame) (s : State) (v : flat.State) (xs : List flat.Frame)
+    (h : IsAt c IsGood u n temps ws s u (c.layout.address u n) v xs) where
+  -- a call that stands in the block
+  abbrev pub site : (function place first into : ℕ) → flat.State → CallSite
+  site = site_in c IsGood u xs
 
   pub runtime_call : (k : ℕ) (f : RuntimeFunction) → slice_get runtime_list k ≡ Some f → (place first into : ℕ)
       (y : flat.State)
-      → slice_get body place ≡ Some (Call (runtime_number c.layout.expansion.code k) first into)
-      → RuntimeCall k f place first into y
-  unfolding rooms
-  runtime_call k f listed place first into y at =
-      by (function_in c.layout.program (runtime_number c.layout.expansion.code k)) refl (right.expanded.runtime k f listed)
-    where
-      by : (q : Option FlatFunction)
-          → function_in c.layout.program (runtime_number c.layout.expansion.code k) ≡ q
-          → IsRuntimeAt (map_of c) c.entry IsGood f q → RuntimeCall k f place first into y
-      by None e is = absurd is
-      by (Some g) e is =
-          let none = (there_by c.layout.expansion u h.code (c.layout.address u) (function_in c.layout.program u)
-          (right.expanded.functions u h.code h.there)).no_room in
-          let waits = rooms_wait c IsGood right (world c h.keys s v) s (stack_first c.setting) (level h.code s v) ws xs
-          h.wait.by in
-          let own = is.0.is.room in
-          record {
-            function = g;
-            of = is.0;
-            calls = record {
-              at = at;
-              found = e;
-              fits = subst (λ z. z ≤ (map_of c).budgets.calls) h.charge h.fits;
-              room = omega arith;
-            };
-          }
+      → slice_get (body_of (function_in c.layout.program u)) place
+      ≡ Some (Call (runtime_number c.layout.expansion.code k) first into)
+      → RuntimeCall c IsGood u xs k f place first into y
+  runtime_call =
+      runtime_call_in c IsGood u xs right h.code h.there
+      (subst (λ z. z ≤ (map_of c).budgets.calls) h.charge h.fits)
+      (rooms_wait c IsGood right (world c h.keys s v) s (stack_first c.setting) (level h.code s v) ws xs h.wait.by)
 
 -- ---- what was done
 

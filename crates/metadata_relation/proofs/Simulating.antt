@@ -47,7 +47,7 @@ pub begins_to : (c : Compiled) (IsGood : Bytes → Type 0) (right : IsCompiled c
     → ComesToMatch c IsGood (step c.setting (expansion_of c).code (Begins s)) x
 begins_to c IsGood right local covered s x h =
     from_result c IsGood (step c.setting (expansion_of c).code (Begins s)) x h.words
-    (begins c IsGood right local covered s x h.matches)
+    (begins c IsGood right local covered s x h.matches h.words)
 
 module _ (c : Compiled) (IsGood : Bytes → Type 0) (right : IsCompiled c IsGood)
     (local : IsLocal (map_of c) c.entry IsGood) (covered : AreAllCovered c) where

@@ -1,8 +1,9 @@
 -- Functions and their expansions, and what comes of a step that stays in its function and leaves objects and memory.
 use Rattle.std.proofs.Common.{◌≡◌, ℕ, ◌+◌, ◌*◌, ◌<◌, ◌≤◌, true, false, List, [], ◌∷◌, Option, Some, None, length, refl}
-use Rattle.std.proofs.Common.{sym, ap, ◌∙◌, subst, arith}
+use Rattle.std.proofs.Common.{sym, ap, ◌∙◌, subst, arith, mul-le-mul_right}
 use Rattle.std.specs.Prelude.{slice_get, if◌then◌else◌}
 use Rattle.behaviours.specs.Steps.{run}
+use Rattle.behaviours.proofs.Running.{run_add}
 use Rattle.obj_memory.specs.declared.value.Value.{Value}
 use Rattle.sb_base.specs.declared.ending.Ending.{Ending}
 use Rattle.sb_base.specs.Endings.{code_of, report_of}
@@ -17,11 +18,12 @@ use Rattle.tac_ir.specs.Edges.{LeadsTo}
 use Rattle.tac_ir.specs.Temporaries.{temporaries}
 use Rattle.tac_ir.specs.Stage.{Temps, Frame, Waits, Entered, Stage, Stands, Over}
 use Rattle.flat_meaning.specs.declared.instruction.FlatInstruction.{FlatInstruction}
+use Rattle.flat_meaning.specs.declared.instruction.FlatInstruction.TheVariants.{End}
 use Rattle.flat_meaning.specs.declared.function.FlatFunction.{FlatFunction}
 use Rattle.flat_meaning.specs.Memory.{Bytes}
 use Rattle.flat_meaning.specs.State as flat
 use Rattle.flat_meaning.specs.Calls.{function_in, room_if}
-use Rattle.flat_meaning.specs.Meaning.{body_of, parameters_of, results_of, step}
+use Rattle.flat_meaning.specs.Meaning.{body_of, instruction_at, parameters_of, results_of, step, weight_of}
 use Rattle.flat_routines.specs.Routine.{HasAt}
 use Rattle.flat_actions.specs.Actions.{IsShown}
 use Rattle.metadata_plan.specs.Registers.{most_temporaries}
@@ -37,7 +39,7 @@ use Rattle.metadata_relation.specs.Stages.{factor, Compiled, map_of, views, name
 use Rattle.metadata_relation.specs.Stages.{MatchesBy}
 use Rattle.metadata_relation.specs.Expanded.{IsPut, ExpandsAt}
 use Rattle.metadata_plan.proofs.Numbers.{most_at}
-use Rattle.metadata_plan.proofs.Flat.{Comes, then_comes, leads_comes}
+use Rattle.metadata_plan.proofs.Flat.{Comes, then_comes, leads_comes, end_step, weight_small}
 use Rattle.metadata_relation.proofs.Holding.{AreFewer}
 use Rattle.metadata_relation.proofs.Waiting.{waits_at, waits_same}
 
@@ -165,6 +167,34 @@ module _ (c : Compiled) (IsGood : Bytes → Type 0) where
           work = work;
         });
   }
+
+-- A run ends at an ending that it comes to, where nothing but registers and turns has changed.
+module _ (c : Compiled) (IsGood : Bytes → Type 0) (u pc : ℕ) (s : State) (v : flat.State) (xs : List flat.Frame)
+    (shown : IsShown s v) (before : v.work ≤ factor * s.work) where
+  pub ends_where : (e : Ending) (s' : State) (q most turns : ℕ) (values : flat.Values)
+      → Comes (map_of c) c.layout.program u pc v xs q (record v { turns = turns; values = values }) most
+      → instruction_at c.layout.program u q ≡ Some (End e)
+      → (s'.input ≡ s.input) × (s'.output ≡ s.output) × (s'.taken ≡ s.taken) × (s'.accesses ≡ s.accesses)
+      → s'.turns ≤ turns → most + 2 + factor * s.work ≤ factor * s'.work
+      → Result c IsGood (Over e s') (flat.Stands u pc v xs)
+  ends_where e s' q most turns values k at same turned cost =
+      let after : flat.State = record v { turns = turns; values = values; work = v.work + k.work } in
+      let l = length (report_of e) in
+      let w = weight_of (function_in c.layout.program u) in
+      let scaled = mul-le-mul_right (1 + l) (weight_small (function_in c.layout.program u)) in
+      let few = k.few in
+      ends c IsGood (flat.Stands u pc v xs) e s' (record after { work = v.work + k.work + w * (1 + l) })
+      (k.steps + 1) (code_of e) (report_of e)
+      (run_add (step (map_of c) c.layout.program) k.steps 1 (flat.Stands u pc v xs)
+      ∙ ap (run (step (map_of c) c.layout.program) 1) k.comes ∙ end_step (map_of c) c.layout.program u q after xs e at)
+      refl refl
+      (record {
+        input = shown.input ∙ sym same.0;
+        output = shown.output ∙ sym same.1;
+        taken = shown.taken ∙ sym same.2;
+        accesses = shown.accesses ∙ sym same.3;
+      })
+      turned (omega (arith, before, few, scaled, cost))
 
 module _ (c : Compiled) (IsGood : Bytes → Type 0) (right : IsCompiled c IsGood) (u n : ℕ) (temps : Temps)
     (ws : List Frame) (s : State) (v : flat.State) (xs : List flat.Frame)

@@ -27,9 +27,53 @@ use Rattle.metadata_relation.specs.Registers.{block_top_register}
 use Rattle.metadata_relation.specs.Holding.{World}
 use Rattle.metadata_relation.specs.Blocks.{objects_of_body}
 use Rattle.metadata_relation.specs.Waiting.{AreBetween, IsEnteredAs, BodyBy, IsBodyAs, Layout}
-use Rattle.metadata_relation.specs.Waiting.{IsBlockAt, IsWaitingAs, Level, AllWait}
+use Rattle.metadata_relation.specs.Waiting.{IsBlockAt, IsWaitingAs, Level, AllWait, EntryWaits}
 use Rattle.metadata_relation.specs.Holding.{GoesOn, world_of}
 use Rattle.metadata_relation.proofs.Holding.{homes_on, holds_on, same_world}
+
+-- ---- behind a function that runs
+
+-- what waits behind it: its caller, or the function with which the run began, with objects below a mark
+abbrev pub CallerWaits : World → State → Layout → (first_stacked : ℕ) → (callee : CodeFunction) → (outer mark : ℕ)
+    → List Frame → List flat.Frame → Type 0
+CallerWaits w s l first k outer mark [] [] = ⊥
+CallerWaits w s l first k outer mark [] (x ∷ []) = (outer ≡ first) × EntryWaits l x
+CallerWaits w s l first k outer mark [] (x ∷ y ∷ xs) = ⊥
+CallerWaits w s l first k outer mark (Entered n b ∷ ws) xs = ⊥
+CallerWaits w s l first k outer mark (Waits a ∷ ws) [] = ⊥
+CallerWaits w s l first k outer mark (Waits a ∷ ws) (x ∷ xs) =
+    (outer ≡ a.caller.stacked)
+    × (h : IsWaitingAs w l k mark a x xs)
+    × AllWait w s l first (record {
+      code = h.code;
+      values = x.values;
+      stacked = a.caller.stacked;
+      frame = a.caller.frame;
+      bound = mark;
+    }) ws xs
+
+-- with the function's body this is all that waits
+pub body_waits : (w : World) (s : State) (l : Layout) (first : ℕ) (k : CodeFunction) (values : flat.Values)
+    (stacked outer bound : ℕ) (frame : List Home) (b : IsBodyAs w s k stacked outer bound frame values) (ws : List Frame)
+    (xs : List flat.Frame) → CallerWaits w s l first k outer b.mark ws xs
+    → AllWait w s l first (record { code = k; values = values; stacked = stacked; frame = frame; bound = bound }) ws xs
+body_waits w s l first k values stacked outer bound frame b [] [] h = h
+body_waits w s l first k values stacked outer bound frame b [] (x ∷ []) h =
+    (subst (λ z. IsBodyAs w s k stacked z bound frame values) h.0 b, h.1)
+body_waits w s l first k values stacked outer bound frame b [] (x ∷ y ∷ xs) h = h
+body_waits w s l first k values stacked outer bound frame b (Entered n a ∷ ws) xs h = absurd h
+body_waits w s l first k values stacked outer bound frame b (Waits a ∷ ws) [] h = h
+body_waits w s l first k values stacked outer bound frame b (Waits a ∷ ws) (x ∷ xs) h =
+    subst (λ z. (b : IsBodyAs w s k stacked z bound frame values) → (h : IsWaitingAs w l k b.mark a x xs)
+    → AllWait w s l first (record {
+      code = h.code;
+      values = x.values;
+      stacked = a.caller.stacked;
+      frame = a.caller.frame;
+      bound = b.mark;
+    }) ws xs
+    → AllWait w s l first (record { code = k; values = values; stacked = stacked; frame = frame; bound = bound })
+    (Waits a ∷ ws) (x ∷ xs)) (sym h.0) (λ b h rest. (b, h, rest)) b h.1 h.2
 
 -- ---- whatever happens, as long as objects below a number live on and locks of theirs stay their own
 
@@ -140,6 +184,28 @@ module _ (g : Views) (k k' : Keys) (s s' : State) (m m' : Bytes) (l : Layout) (f
           bound = b.mark;
         }) ws xs low h.2,
       )
+
+  -- what waits behind a function that runs goes on waiting
+  pub caller_by : (callee : CodeFunction) (outer mark : ℕ) (ws : List Frame) (xs : List flat.Frame) → mark ≤ number
+      → CallerWaits (world_of g k s.objects m) s l first callee outer mark ws xs
+      → CallerWaits (world_of g k' s'.objects m') s' l first callee outer mark ws xs
+  unfolding waiting_by
+  caller_by callee outer mark [] [] le h = h
+  caller_by callee outer mark [] (x ∷ []) le h = h
+  caller_by callee outer mark [] (x ∷ y ∷ xs) le h = h
+  caller_by callee outer mark (Entered n b ∷ ws) xs le h = h
+  caller_by callee outer mark (Waits a ∷ ws) [] le h = h
+  caller_by callee outer mark (Waits a ∷ ws) (x ∷ xs) le h = (
+    h.0,
+    waiting_by callee mark a x xs le h.1,
+    waits_by (record {
+      code = h.1.code;
+      values = x.values;
+      stacked = a.caller.stacked;
+      frame = a.caller.frame;
+      bound = mark;
+    }) ws xs le h.2,
+  )
 
 -- what waits knows nothing of a state but its objects
 pub lock_same : (k : Keys) (s s' : State) → s'.objects ≡ s.objects → (homes : List Home) (lock : ℕ)

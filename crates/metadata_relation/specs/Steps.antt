@@ -144,24 +144,27 @@ abbrev pub are_scalars : List Variable → Bool
 are_scalars [] = true
 are_scalars (v ∷ vs) = is_no_aggregate v.kind && are_scalars vs
 
--- A function whose body has no objects, that takes and gives scalars. Where it gives no value, what stands for it has no
--- entry.
-abbrev pub is_plain_call : Tac → Option CodeFunction → (with_entry : Bool) → Bool
-is_plain_call t None b = true
-is_plain_call t (Some k) b =
-    (not (has_objects (objects_of_body k)) && are_scalars k.parameters)
+-- a body may have objects that can be entered as those of a block
+abbrev pub can_enter_body : List Variable → Bool
+can_enter_body vs = not (has_objects vs) || can_be_entered vs
+
+-- A function that takes and gives scalars. Where it gives no value, what stands for it has no entry.
+abbrev pub is_scalar_call : Tac → Option CodeFunction → (with_entry : Bool) → Bool
+is_scalar_call t None b = true
+is_scalar_call t (Some k) b =
+    (can_enter_body (objects_of_body k) && are_scalars k.parameters)
     && (is_no_aggregate (result_of t k) && (has_value (result_of t k) || not b))
 
 -- so is each function of a type
-abbrev pub are_plain_calls : Tac → (type_number : ℕ) → List CodeFunction → (with_entry : Bool) → Bool
-are_plain_calls t type_number [] b = true
-are_plain_calls t type_number (k ∷ ks) b =
-    (not (k.type_number == type_number) || is_plain_call t (Some k) b) && are_plain_calls t type_number ks b
+abbrev pub are_scalar_calls : Tac → (type_number : ℕ) → List CodeFunction → (with_entry : Bool) → Bool
+are_scalar_calls t type_number [] b = true
+are_scalar_calls t type_number (k ∷ ks) b =
+    (not (k.type_number == type_number) || is_scalar_call t (Some k) b) && are_scalar_calls t type_number ks b
 
 -- so is `main`, which takes nothing (C99 5.1.2.2.1)
-abbrev pub is_plain_main : Tac → Option CodeFunction → Bool
-is_plain_main t None = false
-is_plain_main t (Some k) = is_plain_call t (Some k) false && length k.parameters == 0
+abbrev pub is_scalar_main : Tac → Option CodeFunction → Bool
+is_scalar_main t None = false
+is_scalar_main t (Some k) = is_scalar_call t (Some k) false && length k.parameters == 0
 
 abbrev pub gives_scalar : Tac → Option CodeFunction → Bool
 gives_scalar t None = true
@@ -174,9 +177,9 @@ admits c u n (tac.Write kind mode line key d a b m) = not (c.layout.expansion.co
 admits c u n (tac.Update w k f mode line at key d a right m) = not (c.layout.expansion.contents u n a)
 admits c u n (tac.Member offset size d a m) = not (c.layout.expansion.contents u n a)
 admits c u n (tac.Call f line d count m) =
-    is_plain_call c.layout.expansion.code (function_in c.layout.expansion.code f) (c.layout.expansion.entries u m d)
+    is_scalar_call c.layout.expansion.code (function_in c.layout.expansion.code f) (c.layout.expansion.entries u m d)
 admits c u n (tac.CallThrough type_number line d count m) =
-    are_plain_calls c.layout.expansion.code type_number c.layout.expansion.code.functions
+    are_scalar_calls c.layout.expansion.code type_number c.layout.expansion.code.functions
     (c.layout.expansion.entries u m d)
 admits c u n (tac.Return a) = gives_scalar c.layout.expansion.code (function_in c.layout.expansion.code u)
 admits c u n i = true
@@ -192,7 +195,7 @@ pub record IsCovered (c : Compiled) (function node : ℕ) : Type 0 where
 
 -- the first call is covered
 pub record CoversMain (c : Compiled) : Type 0 where
-  pub main : is_plain_main c.layout.expansion.code (function_in c.layout.expansion.code c.layout.expansion.code.main)
+  pub main : is_scalar_main c.layout.expansion.code (function_in c.layout.expansion.code c.layout.expansion.code.main)
       ≡ true
 
 -- all instructions are

@@ -30,7 +30,8 @@ pub fn covered_instructions_are_followed<S: ShadowForm>()
 {}
 
 /// Where a run begins the expansion stores the global lock word and the end of the object stack, which no file holds, and
-/// calls `main`, whose body has no objects and which takes nothing: it comes to where it matches the next stage.
+/// calls `main`, which takes nothing, or the run ends where its objects do not fit: it comes to where it matches the next
+/// stage.
 pub fn the_first_call_is_followed<S: ShadowForm>()
     ensures { (c : Compiled) → IsCompiled c (S.IsGood (map_of c)) → c.entry ≡ S.entry → CoversMain c → (s : State)
         (x : FlatStage) → Matches c (S.IsGood (map_of c)) (Begins s) x

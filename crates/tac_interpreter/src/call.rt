@@ -321,7 +321,7 @@ impl State {
         Ok(())
     }
 
-    /// A block of a function is entered.
+    /// A block of a function is entered, which has objects.
     pub(crate) fn enter_block(
         &mut self,
         function: &CodeFunction,
@@ -332,6 +332,9 @@ impl State {
             return Err(Stop::Stuck);
         };
         let opened = opened_by_block(self.alloc, function, numbers.as_slice())?;
+        if count_objects(&opened) == 0 {
+            return Err(Stop::Stuck);
+        }
         self.test_entry(&opened, line)?;
         let stacked = self.stacked;
         let first = self.objects.len();

@@ -26,7 +26,7 @@ use Rattle.tac_ir.specs.SameTables.{SameFunction, SameAt, SameTables}
 use Rattle.tac_ir.specs.Stage.{Temps, Frame, Stage, Begins, Stands, Over, Stuck, came, seen}
 use Rattle.tac_ir.proofs.Fits.{only_true, act_fits}
 use Rattle.tac_ir.proofs.SameTables.{act_same, begins_same, setting_same, first_same}
-use Rattle.check_elim.specs.Available.{IsAvailableCheck}
+use Rattle.check_elim.specs.Available.{IsAvailableCheck, IsDroppable}
 use Rattle.check_elim.specs.Facts.{Fact}
 use Rattle.check_elim.specs.Dropped.{Choice, skipped, DroppedAt, FunctionDropped, AreDropped, Dropped}
 use Rattle.check_elim.proofs.Keeping.{passes, passed, passed_as, IsKnown}
@@ -226,9 +226,23 @@ module _ (g : Setting) (t : Tac) where
   run_trailed x h (suc k) =
       subst (IsTrailed t) (sym (run_last (step g t) k x)) (step_trailed g t _ (run_trailed x h k))
 
-pub all_skip : (t : Tac) (budgets : BudgetSizes) (input : List ℕ) (k : ℕ)
+all_skip : (t : Tac) (budgets : BudgetSizes) (input : List ℕ) (k : ℕ)
     → SkipsBy (setting_of_code t budgets) t IsAvailableCheck
     (run (step (setting_of_code t budgets) t) k (first_stage t budgets input))
 all_skip t budgets input k =
     trailed_skips (setting_of_code t budgets) t _
     (run_trailed (setting_of_code t budgets) t (first_stage t budgets input) (record { by = tt }) k)
+
+-- and those of them that are dropped
+droppable : (g : Setting) (t : Tac) (x : Stage) → SkipsBy g t IsAvailableCheck x → SkipsBy g t IsDroppable x
+droppable g t (Begins s) h = tt
+droppable g t (Stands u n temps frames s) h = λ c i is has goes fine. h c i is has goes.1 fine
+droppable g t (Over e s) h = tt
+droppable g t Stuck h = tt
+
+pub droppable_skip : (t : Tac) (budgets : BudgetSizes) (input : List ℕ) (k : ℕ)
+    → SkipsBy (setting_of_code t budgets) t IsDroppable
+    (run (step (setting_of_code t budgets) t) k (first_stage t budgets input))
+droppable_skip t budgets input k =
+    droppable (setting_of_code t budgets) t
+    (run (step (setting_of_code t budgets) t) k (first_stage t budgets input)) (all_skip t budgets input k)

@@ -2,6 +2,7 @@
 use Rattle.std.proofs.Common.{◌≡◌, inl, inr, zero, suc, ℕ, List, [], ◌∷◌, Option, Some, None, true}
 use Rattle.std.proofs.Common.{refl, sym, ap, ◌∙◌, subst}
 use Rattle.std.specs.Prelude.{slice_get, map}
+use Rattle.behaviours.specs.Behaviour.{Behaviour, Meets, Follows}
 use Rattle.behaviours.specs.Steps.{run}
 use Rattle.behaviours.proofs.Running.{run_last}
 use Rattle.sb_base.specs.Budgets.{BudgetSizes}
@@ -193,6 +194,12 @@ module _ (t r : Tac) (Goes : Choice) (drops : Dropped Goes t r) (budgets : Budge
 
   pub never_stuck : (k : ℕ) → IsFine (run (step (setting_of_code r budgets) r) k (first_stage r budgets input))
   never_stuck k e = fine k (sym (same_stages k) ∙ e)
+
+  pub same_follows : (c : ℕ) (a : Behaviour) → Follows c a (tac_meaning t budgets input)
+      → Follows c a (tac_meaning r budgets input)
+  same_follows c a f = record {
+    at = λ n. (let q = f.at n in (q.0, subst (Meets c (a n)) (sym (same_meaning q.0)) q.1));
+  }
 
 -- Available checks pass.
 

@@ -1,6 +1,7 @@
 //! Laws of the definitions, each as the contract of a function that does nothing.
 
 ghost use Rattle.std.specs.Prelude.{◌≡◌, ℕ, List};
+ghost use Rattle.behaviours.specs.Behaviour.{Behaviour, Follows};
 ghost use Rattle.behaviours.specs.Steps.{run};
 ghost use Rattle.sb_base.specs.Budgets.{BudgetSizes};
 ghost use Rattle.check_insert.specs.SameButChecks.{SameButChecks};
@@ -23,7 +24,8 @@ pub fn available_is_not_open()
 {}
 
 /// Code without its available checks means the same as with them, moment for moment, where that is never stuck: output,
-/// input, accesses, turns, work and ending. It is never stuck either. The tables are the same.
+/// input, accesses, turns, work and ending. It is never stuck either, and follows what the code with them follows. The
+/// tables are the same.
 pub fn code_without_available_checks_means_the_same()
     ensures tables { (t : Tac) (r : Tac) → Dropped IsDroppable t r → SameTables t r }
     ensures meaning { (t : Tac) (r : Tac) → Dropped IsDroppable t r → (budgets : BudgetSizes) (input : List ℕ)
@@ -32,6 +34,10 @@ pub fn code_without_available_checks_means_the_same()
     ensures never { (t : Tac) (r : Tac) → Dropped IsDroppable t r → (budgets : BudgetSizes) (input : List ℕ)
         → ((k : ℕ) → run (step (setting_of_code t budgets) t) k (first_stage t budgets input) ≡ Stuck → ⊥)
         → (k : ℕ) → run (step (setting_of_code r budgets) r) k (first_stage r budgets input) ≡ Stuck → ⊥ }
+    ensures follows { (t : Tac) (r : Tac) → Dropped IsDroppable t r → (budgets : BudgetSizes) (input : List ℕ)
+        → ((k : ℕ) → run (step (setting_of_code t budgets) t) k (first_stage t budgets input) ≡ Stuck → ⊥)
+        → (c : ℕ) (a : Behaviour) → Follows c a (tac_meaning t budgets input)
+        → Follows c a (tac_meaning r budgets input) }
 {}
 
 /// Code whose available checks are dropped is the same but for checks as the code without any, if it was so with them,

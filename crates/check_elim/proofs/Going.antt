@@ -1,5 +1,5 @@
 -- Checks go one after the other.
-use Rattle.std.proofs.Common.{◌≡◌, ◌⊎◌, inl, inr, ⊎_elim, ℕ, ◌+◌, ◌<◌, ◌≤◌, List, [], ◌∷◌, ◌++◌, length, Some, None}
+use Rattle.std.proofs.Common.{◌≡◌, ◌⊎◌, inl, inr, ⊎_elim, ℕ, ◌+◌, ◌^◌, ◌<◌, ◌≤◌, List, [], ◌∷◌, ◌++◌, length, Some, None}
 use Rattle.std.proofs.Common.{suc, Bool, true, false, refl, sym, ap, ◌∙◌, subst, arith, append_assoc}
 use Rattle.std.specs.Prelude.{slice_get, not}
 use Rattle.std.proofs.lemmas.Bool.{cases_lt}
@@ -9,8 +9,9 @@ use Rattle.tac_ir.specs.declared.instruction.Instruction.TheVariants.{Judge}
 use Rattle.tac_ir.specs.declared.function.CodeFunction.{CodeFunction}
 use Rattle.tac_ir.specs.declared.function.Tac.{Tac}
 use Rattle.check_insert.specs.Counting.{is_check, sum_over, sum_of_functions, checks}
-use Rattle.check_elim.specs.Available.{IsAvailable, IsAvailableCheck, IsOpen}
-use Rattle.check_elim.specs.Dropped.{Choice, skipped, DroppedAt, left_of, FunctionDropped, AreDropped, Dropped}
+use Rattle.check_elim.specs.Available.{IsAvailable, IsAvailableCheck, IsDroppable, IsOpen}
+use Rattle.check_elim.specs.Dropped.{Choice, skipped, DroppedAt, left_of, CodeDropped, FunctionDropped}
+use Rattle.check_elim.specs.Dropped.{AreDropped, Dropped}
 use Rattle.check_elim.specs.Seeking.{fact_of, IsFactOf}
 use Rattle.check_elim.specs.declared.facts.Sought.{Sought}
 use Rattle.check_elim.proofs.Complement.{open_is_not_available, closed_is_available}
@@ -98,6 +99,34 @@ one_dropped Goes function code code' n j gone size more here goes stays old k i 
         let there : slice_get function.code n ≡ Some i = ap (slice_get function.code) (sym e) ∙ at in
         let one : j ≡ i = cc in
         by gone refl e one
+
+-- what goes of a function whose nodes have numbers of 32 bits, and of a larger one
+
+few_dropped : (function : CodeFunction) → length function.code < 2 ^ 32 → (code : List Instruction) (n : ℕ)
+    (i : Instruction) → DroppedAt IsAvailableCheck function code n i → DroppedAt IsDroppable function code n i
+few_dropped function few code n i (inl h) = inl ((few, h.0), h.1)
+few_dropped function few code n i (inr h) = inr (λ goes. h.0 goes.1, h.1)
+
+pub small_function : (function after : CodeFunction) → length function.code < 2 ^ 32
+    → after ≡ record function { code = after.code } → CodeDropped IsAvailableCheck function after.code
+    → FunctionDropped IsDroppable function after
+small_function function after few rest h = record {
+  rest = rest;
+  code = record {
+    size = h.size;
+    nodes = λ n i e. few_dropped function few after.code n i (h.nodes n i e);
+  };
+}
+
+pub large_function : (function : CodeFunction) → 2 ^ 32 ≤ length function.code
+    → FunctionDropped IsDroppable function function
+large_function function many = record {
+  rest = refl;
+  code = record {
+    size = refl;
+    nodes = λ n i e. inr (λ goes. (let few = goes.0 in absurd (omega (arith, few, many))), e);
+  };
+}
 
 -- functions one after the other
 pub one_function : (Goes : Choice) (all cs : List CodeFunction) (done done' : List CodeFunction) (c c' : CodeFunction)

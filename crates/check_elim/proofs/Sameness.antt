@@ -2,6 +2,7 @@
 use Rattle.std.proofs.Common.{◌≡◌, inl, inr, zero, suc, ℕ, List, [], ◌∷◌, Option, Some, None, true}
 use Rattle.std.proofs.Common.{refl, sym, ap, ◌∙◌, subst}
 use Rattle.std.specs.Prelude.{slice_get, map}
+use Rattle.behaviours.specs.Behaviour.{Behaviour, Meets, Follows}
 use Rattle.behaviours.specs.Steps.{run}
 use Rattle.behaviours.proofs.Running.{run_last}
 use Rattle.sb_base.specs.Budgets.{BudgetSizes}
@@ -26,7 +27,7 @@ use Rattle.tac_ir.specs.SameTables.{SameFunction, SameAt, SameTables}
 use Rattle.tac_ir.specs.Stage.{Temps, Frame, Stage, Begins, Stands, Over, Stuck, came, seen}
 use Rattle.tac_ir.proofs.Fits.{only_true, act_fits}
 use Rattle.tac_ir.proofs.SameTables.{act_same, begins_same, setting_same, first_same}
-use Rattle.check_elim.specs.Available.{IsAvailableCheck}
+use Rattle.check_elim.specs.Available.{IsAvailableCheck, IsDroppable}
 use Rattle.check_elim.specs.Facts.{Fact}
 use Rattle.check_elim.specs.Dropped.{Choice, skipped, DroppedAt, FunctionDropped, AreDropped, Dropped}
 use Rattle.check_elim.proofs.Keeping.{passes, passed, passed_as, IsKnown}
@@ -194,6 +195,12 @@ module _ (t r : Tac) (Goes : Choice) (drops : Dropped Goes t r) (budgets : Budge
   pub never_stuck : (k : ℕ) → IsFine (run (step (setting_of_code r budgets) r) k (first_stage r budgets input))
   never_stuck k e = fine k (sym (same_stages k) ∙ e)
 
+  pub same_follows : (c : ℕ) (a : Behaviour) → Follows c a (tac_meaning t budgets input)
+      → Follows c a (tac_meaning r budgets input)
+  same_follows c a f = record {
+    at = λ n. (let q = f.at n in (q.0, subst (Meets c (a n)) (sym (same_meaning q.0)) q.1));
+  }
+
 -- Available checks pass.
 
 module _ (g : Setting) (t : Tac) where
@@ -226,9 +233,23 @@ module _ (g : Setting) (t : Tac) where
   run_trailed x h (suc k) =
       subst (IsTrailed t) (sym (run_last (step g t) k x)) (step_trailed g t _ (run_trailed x h k))
 
-pub all_skip : (t : Tac) (budgets : BudgetSizes) (input : List ℕ) (k : ℕ)
+all_skip : (t : Tac) (budgets : BudgetSizes) (input : List ℕ) (k : ℕ)
     → SkipsBy (setting_of_code t budgets) t IsAvailableCheck
     (run (step (setting_of_code t budgets) t) k (first_stage t budgets input))
 all_skip t budgets input k =
     trailed_skips (setting_of_code t budgets) t _
     (run_trailed (setting_of_code t budgets) t (first_stage t budgets input) (record { by = tt }) k)
+
+-- and those of them that are dropped
+droppable : (g : Setting) (t : Tac) (x : Stage) → SkipsBy g t IsAvailableCheck x → SkipsBy g t IsDroppable x
+droppable g t (Begins s) h = tt
+droppable g t (Stands u n temps frames s) h = λ c i is has goes fine. h c i is has goes.1 fine
+droppable g t (Over e s) h = tt
+droppable g t Stuck h = tt
+
+pub droppable_skip : (t : Tac) (budgets : BudgetSizes) (input : List ℕ) (k : ℕ)
+    → SkipsBy (setting_of_code t budgets) t IsDroppable
+    (run (step (setting_of_code t budgets) t) k (first_stage t budgets input))
+droppable_skip t budgets input k =
+    droppable (setting_of_code t budgets) t
+    (run (step (setting_of_code t budgets) t) k (first_stage t budgets input)) (all_skip t budgets input k)

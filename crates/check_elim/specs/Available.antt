@@ -1,5 +1,5 @@
 -- Available checks (available expressions, with the keys of checks for expressions).
-use Rattle.std.specs.Prelude.{◌≡◌, ℕ, Some, slice_get}
+use Rattle.std.specs.Prelude.{◌≡◌, ◌<◌, ◌^◌, ℕ, Some, length, slice_get}
 use Rattle.tac_ir.specs.declared.instruction.Instruction.{Instruction}
 use Rattle.tac_ir.specs.declared.instruction.Instruction.TheVariants.{Judge}
 use Rattle.tac_ir.specs.declared.key.Key.{Key}
@@ -19,6 +19,10 @@ IsAvailableCheck function n (Judge test size line (Some k) a m) =
     (key : Key) × (slice_get function.keys k ≡ Some key)
     × IsAvailable function (record { test = test; key = key; size = size }) n
 IsAvailableCheck function n i = ⊥
+
+-- which are dropped: those of functions whose nodes have numbers of 32 bits
+abbrev pub IsDroppable : CodeFunction → (node : ℕ) → Instruction → Type 0
+IsDroppable function n i = (length function.code < 2 ^ 32) × IsAvailableCheck function n i
 
 -- The complement, as a least solution: a path leads to the node on which the fact is not known.
 pub data IsOpen (function : CodeFunction) (f : Fact) : (node : ℕ) → Type 0 where

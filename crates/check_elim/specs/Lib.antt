@@ -4,5 +4,4 @@ pub mod Available
 pub mod Dropped
 pub mod Worklists
 pub mod Seeking
-pub mod Nodes
 pub mod Searches

@@ -3,9 +3,8 @@
 ghost use Rattle.std.specs.Prelude.{◌≡◌, ◌+◌, ◌<◌, ◌^◌, ℕ, Bool, IfOk, OnOk, length, slice_get, Some, true, false};
 ghost use Rattle.tac_ir.specs.declared.instruction.Instruction.{Instruction};
 ghost use Rattle.check_insert.specs.Counting.{checks};
-ghost use Rattle.check_elim.specs.Available.{IsAvailableCheck};
+ghost use Rattle.check_elim.specs.Available.{IsAvailableCheck, IsDroppable};
 ghost use Rattle.check_elim.specs.Dropped.{left_of, CodeDropped, FunctionDropped, AreDropped, Dropped};
-ghost use Rattle.check_elim.specs.Nodes.{AreFew, HaveFewNodes};
 ghost use Rattle.check_elim.specs.Searches.{HasPredecessors};
 ghost use Rattle.check_elim.specs.Worklists.{IsWorklist};
 
@@ -70,11 +69,13 @@ fn without_available(alloc: Global, function: &CodeFunction) -> Result<Vec<Instr
     Ok(code)
 }
 
-// A function without its available checks.
+// A function without its available checks, if the numbers of its nodes have 32 bits.
 fn function_without(alloc: Global, function: CodeFunction) -> Result<CodeFunction, AllocError>
-    requires few { length function.code < 2 ^ 32 }
-    ensures { IfOk result (λ r. FunctionDropped IsAvailableCheck function r) }
+    ensures { IfOk result (λ r. FunctionDropped IsDroppable function r) }
 {
+    if function.code.as_slice().len() as u64 >= 1 << 32 {
+        return Ok(function);
+    }
     let code = without_available(alloc, &function)?;
     Ok(CodeFunction {
         code: Items::from_vec(code),
@@ -86,8 +87,7 @@ fn functions_without(
     alloc: Global,
     functions: Vec<CodeFunction>,
 ) -> Result<Vec<CodeFunction>, AllocError>
-    requires few { AreFew functions.items }
-    ensures { IfOk result (λ r. AreDropped IsAvailableCheck functions.items r.items) }
+    ensures { IfOk result (λ r. AreDropped IsDroppable functions.items r.items) }
 {
     let mut without = Vec::new(alloc);
     for function in functions {
@@ -97,11 +97,10 @@ fn functions_without(
 }
 
 /// The program without its available checks, made of the given one, and how many went: exactly these become skips, in
-/// code that no run reaches too. Nodes keep their numbers, and all else stays as it is. Functions have fewer than 2^32
-/// nodes each. An error comes where there is no memory for it.
+/// code that no run reaches too. Nodes keep their numbers, and all else stays as it is. A function of 2^32 nodes or more
+/// keeps its checks. An error comes where there is no memory for it.
 pub fn drop_available(alloc: Global, program: Tac) -> Result<(Tac, u64), AllocError>
-    requires few { HaveFewNodes program }
-    ensures dropped { IfOk result (λ r. Dropped IsAvailableCheck program r.0) }
+    ensures dropped { IfOk result (λ r. Dropped IsDroppable program r.0) }
     ensures count { IfOk result (λ r. checks program < 2 ^ 64 → checks r.0 + r.1 ≡ checks program) }
 {
     let all = checks(&program);

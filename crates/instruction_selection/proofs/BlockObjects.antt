@@ -2,9 +2,15 @@
 use Rattle.std.proofs.Common.{◌≡◌, ℕ, zero, suc, ◌+◌, ◌<◌, ◌≤◌, ◌||◌, Bool, true, false, if◌then◌else◌}
 use Rattle.std.proofs.Common.{List, [], ◌∷◌, ◌++◌, map, length, Option, Some, None, refl, sym, ap, ◌∙◌, subst, arith}
 use Rattle.std.specs.Prelude.{slice_get}
+use Rattle.std.proofs.Common.{drop, get_or, ◌*◌, ◌/◌}
+use Rattle.std.proofs.lemmas.List.{drop_more}
+use Rattle.obj_memory.specs.Heap.{rounded_up}
+use Rattle.c_tree.specs.Kinds.{size_of_kind}
+use Rattle.source_meaning.specs.Blocks.{objects_end}
 use Rattle.std.proofs.lemmas.Bool.{false≢true}
+use Rattle.std.proofs.lemmas.Option.{none-some}
 use Rattle.c_tree.specs.declared.program.Variable.{Variable}
-use Rattle.c_tree.specs.Blocks.{closed, is_among, opened, block_objects}
+use Rattle.c_tree.specs.Blocks.{closed, is_among, no_variable, opened, block_objects}
 use Rattle.source_meaning.specs.Blocks.{has_objects}
 use Rattle.tac_ir.specs.declared.function.CodeFunction.{CodeFunction}
 use Rattle.tac_ir.specs.Meaning.{if_there, objects_in}
@@ -25,16 +31,18 @@ home_in [] (v ∷ vs) among some =
     none : (vs : List Variable) → AreObjectsAmong [] vs → has_objects vs ≡ false
     none [] h = refl
     none (v ∷ vs) h = ap (λ b. b || has_objects vs) h.0 ∙ none vs h.1
-home_in (a ∷ all) (v ∷ vs) among some = by v.is_object refl
+home_in (a ∷ all) (v ∷ vs) among some = by v.is_object refl (home_in all vs among.1)
   where
     by : (b : Bool) → v.is_object ≡ b
-        → before home_words (if v.is_object then 0 else suc (first_object vs)) (a ∷ all) + 4 ≤ home_words a + total home_words all
-    by true is =
+        → (has_objects vs ≡ true → before home_words (first_object vs) all + 4 ≤ total home_words all)
+        → before home_words (if v.is_object then 0 else suc (first_object vs)) (a ∷ all) + 4
+        ≤ home_words a + total home_words all
+    by true is behind =
         let there : home_words a ≡ 4 = ap (λ z. if z then 4 else 0) (among.0 is) in
         subst (λ z. before home_words (if z then 0 else suc (first_object vs)) (a ∷ all) + 4 ≤ home_words a + total home_words all)
         (sym is) (omega (arith, there))
-    by false is =
-        let rest = home_in all vs among.1 (ap (λ z. z || has_objects vs) (sym is) ∙ some) in
+    by false is behind =
+        let rest = behind (ap (λ z. z || has_objects vs) (sym is) ∙ some) in
         subst (λ z. before home_words (if z then 0 else suc (first_object vs)) (a ∷ all) + 4 ≤ home_words a + total home_words all)
         (sym is) (omega (arith, rest))
 
@@ -54,7 +62,7 @@ opened_among ns x (d ∷ ds) = (by (is_among ns x), opened_among ns (suc x) ds)
   where
     shut : (b : Bool) → d.is_object ≡ b → (closed d).is_object ≡ true → d.is_object ≡ true
     shut true is h = is
-    shut false is h = sym (ap (λ z. (if z then record d { is_object = false } else d).is_object) is) ∙ h
+    shut false is h = sym (ap (λ z. (if z then no_variable else d).is_object) is) ∙ h
 
     by : (b : Bool) → (if b then d else closed d).is_object ≡ true → d.is_object ≡ true
     by true h = h
@@ -77,3 +85,53 @@ pub variable_behind : (ps vs : List Variable) (x j : ℕ) → x ≡ length ps + 
 variable_behind [] vs x j e = ap (slice_get vs) (omega (arith, e))
 variable_behind (p ∷ ps) vs zero j e = absurd (omega (arith, e))
 variable_behind (p ∷ ps) vs (suc x) j e = variable_behind ps vs x j (omega (arith, e))
+
+-- ---- the bytes of blocks
+
+pub end_above : (vs : List Variable) (top : ℕ) → top ≤ objects_end vs top
+end_above [] top = omega arith
+end_above (v ∷ vs) top = by v.is_object
+  where
+    behind : (next : ℕ) → next ≤ objects_end vs next
+    behind = end_above vs
+
+    by : (b : Bool) → top ≤ objects_end vs (if b then rounded_up 16 top + size_of_kind v.kind else top)
+    by true = let more = behind (rounded_up 16 top + size_of_kind v.kind) in omega (arith, more)
+    by false = behind top
+
+pub object_ends : (vs : List Variable) (i : ℕ) (v : Variable) (top : ℕ) → i < length vs → v ≡ get_or vs i v
+    → v.is_object ≡ true → rounded_up 16 top + size_of_kind v.kind ≤ objects_end (drop i vs) top
+object_ends vs i v top low at is =
+    let here : objects_end (drop i vs) top ≡ objects_end (v ∷ drop (i + 1) vs) top =
+    ap (λ ws. objects_end ws top) (drop_more vs i v low ∙ ap (λ z. z ∷ drop (i + 1) vs) (sym at)) in
+    let more = end_above (drop (i + 1) vs) (rounded_up 16 top + size_of_kind v.kind) in
+    let step : objects_end (v ∷ drop (i + 1) vs) top
+    ≡ objects_end (drop (i + 1) vs) (rounded_up 16 top + size_of_kind v.kind) =
+    ap (λ b. objects_end (drop (i + 1) vs) (if b then rounded_up 16 top + size_of_kind v.kind else top)) is in
+    omega (arith, here, step, more)
+
+-- ---- variables that are opened
+
+closed_append : (ps vs : List Variable) → map closed (ps ++ vs) ≡ map closed ps ++ map closed vs
+closed_append [] vs = refl
+closed_append (p ∷ ps) vs = ap (λ ws. closed p ∷ ws) (closed_append ps vs)
+
+pub opened_none : (x : ℕ) (ds : List Variable) → opened [] x ds (map closed ds) ≡ map closed ds
+opened_none x [] = refl
+opened_none x (d ∷ ds) = ap (λ ws. closed d ∷ ws) (opened_none (suc x) ds)
+
+opened_length : (ns : List ℕ) (x : ℕ) (ds : List Variable) → length (opened ns x ds (map closed ds)) ≡ length ds
+opened_length ns x [] = refl
+opened_length ns x (d ∷ ds) = ap suc (opened_length ns (suc x) ds)
+
+there_below : (vs : List Variable) (y : ℕ) (v : Variable) → slice_get vs y ≡ Some v → y < length vs
+there_below [] y v at = absurd (none-some _ at)
+there_below (w ∷ vs) zero v at = omega arith
+there_below (w ∷ vs) (suc y) v at = omega (arith, there_below vs y v at)
+
+pub opened_below : (ns : List ℕ) (ds list : List Variable) (y : ℕ) (v : Variable)
+    → list ≡ opened ns 0 ds (map closed ds) → slice_get ds y ≡ Some v → y < length list
+opened_below ns ds list y v same at =
+    let low = there_below ds y v at in
+    let long : length list ≡ length ds = ap length same ∙ opened_length ns 0 ds in
+    omega (arith, low, long)

@@ -3,4 +3,7 @@ pub mod Lists
 pub mod Operands
 pub mod OneEntry
 pub mod PlainTypes
+pub mod Ranges
+pub mod Regions
+pub mod Routines
 pub mod StaticPlaces

@@ -242,7 +242,12 @@ pub fn put_enter(
 pub fn has_objects(variables: &[Variable]) -> bool
     ensures { result ≡ has_objects variables.now }
 {
-    variables.iter().any(|variable| variable.is_object)
+    for variable in variables {
+        if variable.is_object {
+            return true;
+        }
+    }
+    false
 }
 
 // The number of the first variable that is an object, and the count of all where there is none.

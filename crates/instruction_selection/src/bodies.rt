@@ -58,6 +58,8 @@ fn put_store_parameter<S: ShadowForm>(
     kind: Kind,
 ) -> Result<(), AllocError>
     requires registers { HasRegisters context.now }
+    requires object { (v : Variable) → slice_get context.now.function.now.parameters number ≡ Some v
+        → v.is_object ≡ true }
     requires there { number < length context.now.function.now.parameters }
     ensures { OnOk result (code.new.items ≡ code.old.items
         ++ store_parameter (inline_lists S.entry_read S.entry_write context.now.map.now) context.now.function.now kind

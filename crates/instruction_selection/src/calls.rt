@@ -202,7 +202,7 @@ fn put_through_tests(
 {
     let free = context.free();
     let held = held_from(pointer);
-    put_callee_tests(code, kind, line, held, free)?;
+    put_callee_tests(code, kind, line, pointer, free)?;
     put_room_tests(code, context.map, held.tag.key, line, free)?;
     put_unknown_object_tests(code, context.alloc, context.map, held.tag.key, line, free)
 }

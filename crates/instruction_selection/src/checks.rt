@@ -156,6 +156,7 @@ fn path_range(size: u64, path: &[Member]) -> ByteRange
     ensures start { result.start ≡ (path_range size path.now).start }
     ensures end { result.end ≡ (path_range size path.now).end }
     ensures inside { result.end ≤ size }
+    ensures low { result.start < 2 ^ 64 }
 {
     let mut start = 0;
     let mut end = size as u128;
@@ -172,7 +173,8 @@ fn path_range(size: u64, path: &[Member]) -> ByteRange
 // The bytes of the object that a key begins with.
 fn named_size(context: &FunctionContext, base: Base) -> u64
     requires { IsPrepared context.now }
-    ensures { result ≡ named_size context.now.map.now context.now.program.now context.now.function.now base }
+    ensures value { result ≡ named_size context.now.map.now context.now.program.now context.now.function.now base }
+    ensures small { result ≤ 2 ^ 62 }
 {
     match base {
         Base::Plain(_) => 0,
@@ -268,6 +270,7 @@ fn put_range_test(
 /// Puts a check of a pointer behind a list: where its key begins with an object's name nothing is tested of its life,
 /// and where no member of the path moves, its address is compared with that of the object. It fails only for want of
 /// memory.
+#[tactic(auto, using(crate::proofs::Lists::nothing_behind))]
 pub fn put_judge(
     code: &mut Vec<FlatInstruction>,
     context: &FunctionContext,

@@ -1,6 +1,7 @@
 //! What the flat code of the instructions of a function is made from.
 
-ghost use Rattle.std.specs.Prelude.{◌≡◌, ◌+◌, ◌-◌, ◌*◌, ◌<◌, ◌≤◌, ◌^◌, length};
+ghost use Rattle.std.specs.Prelude.{◌≡◌, ◌+◌, ◌-◌, ◌*◌, ◌<◌, ◌≤◌, ◌^◌, true, length, Some, slice_get};
+ghost use Rattle.c_tree.specs.declared.program.Variable.{Variable};
 ghost use Rattle.metadata_plan.specs.Registers.{most_temporaries};
 ghost use Rattle.metadata_relation.specs.Registers.{variable_register, home_register, temporary_register};
 ghost use Rattle.metadata_relation.specs.Registers.{moved_register};
@@ -63,12 +64,12 @@ impl<'a> FunctionContext<'a> {
         argument_words(self.function.parameters.as_slice())
     }
 
-    /// The first register of the argument of a parameter.
+    /// The first register of the argument of a parameter; one that is an object has its home behind it.
     pub fn parameter(&self, number: usize) -> u32
-        requires registers { HasRegisters self.now }
-        requires there { number < length self.now.function.now.parameters }
+        requires { HasRegisters self.now }
         ensures value { result ≡ variable_register self.now.function.now number }
-        ensures room { result + 5 ≤ self.now.registers.now.free }
+        ensures room { (v : Variable) → slice_get self.now.function.now.parameters number ≡ Some v
+            → v.is_object ≡ true → result + 5 ≤ self.now.registers.now.free }
     {
         self.registers.variable(self.function, number)
     }
@@ -84,7 +85,7 @@ impl<'a> FunctionContext<'a> {
     /// The register of the end of the object stack from before another block.
     pub fn block_top(&self, block: usize) -> u32
         requires registers { HasRegisters self.now }
-        requires there { block < 2 ^ 31 }
+        requires there { block < length self.now.function.now.blocks }
         ensures { result ≡ block_top_register self.now.function.now block }
     {
         self.registers.first_top + 1 + block as u32

@@ -1,14 +1,13 @@
 -- Objects of blocks among the variables of a function.
 use Rattle.std.proofs.Common.{◌≡◌, ℕ, zero, suc, ◌+◌, ◌<◌, ◌≤◌, ◌||◌, Bool, true, false, if◌then◌else◌}
 use Rattle.std.proofs.Common.{List, [], ◌∷◌, ◌++◌, map, length, Option, Some, None, refl, sym, ap, ◌∙◌, subst, arith}
-use Rattle.std.specs.Prelude.{slice_get}
-use Rattle.std.proofs.Common.{drop, get_or, ◌*◌, ◌/◌}
+use Rattle.std.specs.Prelude.{slice_get, slice_index_or}
+use Rattle.std.proofs.Common.{drop, ◌*◌, ◌/◌}
 use Rattle.std.proofs.lemmas.List.{drop_more}
 use Rattle.obj_memory.specs.Heap.{rounded_up}
 use Rattle.c_tree.specs.Kinds.{size_of_kind}
 use Rattle.source_meaning.specs.Blocks.{objects_end}
 use Rattle.std.proofs.lemmas.Bool.{false≢true}
-use Rattle.std.proofs.lemmas.Option.{none-some}
 use Rattle.c_tree.specs.declared.program.Variable.{Variable}
 use Rattle.c_tree.specs.Blocks.{closed, is_among, no_variable, opened, block_objects}
 use Rattle.source_meaning.specs.Blocks.{has_objects}
@@ -90,20 +89,20 @@ variable_behind (p ∷ ps) vs (suc x) j e = variable_behind ps vs x j (omega (ar
 
 pub end_above : (vs : List Variable) (top : ℕ) → top ≤ objects_end vs top
 end_above [] top = omega arith
-end_above (v ∷ vs) top = by v.is_object
+end_above (v ∷ vs) top = by v.is_object (end_above vs)
   where
-    behind : (next : ℕ) → next ≤ objects_end vs next
-    behind = end_above vs
+    by : (b : Bool) → ((next : ℕ) → next ≤ objects_end vs next)
+        → top ≤ objects_end vs (if b then rounded_up 16 top + size_of_kind v.kind else top)
+    by true behind = let more = behind (rounded_up 16 top + size_of_kind v.kind) in omega (arith, more)
+    by false behind = behind top
 
-    by : (b : Bool) → top ≤ objects_end vs (if b then rounded_up 16 top + size_of_kind v.kind else top)
-    by true = let more = behind (rounded_up 16 top + size_of_kind v.kind) in omega (arith, more)
-    by false = behind top
-
-pub object_ends : (vs : List Variable) (i : ℕ) (v : Variable) (top : ℕ) → i < length vs → v ≡ get_or vs i v
-    → v.is_object ≡ true → rounded_up 16 top + size_of_kind v.kind ≤ objects_end (drop i vs) top
-object_ends vs i v top low at is =
+pub object_ends : (vs : List Variable) (i : ℕ) (d : Variable) (top : ℕ) → i < length vs
+    → (slice_index_or vs i d).is_object ≡ true
+    → rounded_up 16 top + size_of_kind (slice_index_or vs i d).kind ≤ objects_end (drop i vs) top
+object_ends vs i d top low is =
+    let v = slice_index_or vs i d in
     let here : objects_end (drop i vs) top ≡ objects_end (v ∷ drop (i + 1) vs) top =
-    ap (λ ws. objects_end ws top) (drop_more vs i v low ∙ ap (λ z. z ∷ drop (i + 1) vs) (sym at)) in
+    ap (λ ws. objects_end ws top) (drop_more vs i d low) in
     let more = end_above (drop (i + 1) vs) (rounded_up 16 top + size_of_kind v.kind) in
     let step : objects_end (v ∷ drop (i + 1) vs) top
     ≡ objects_end (drop (i + 1) vs) (rounded_up 16 top + size_of_kind v.kind) =
@@ -112,26 +111,24 @@ object_ends vs i v top low at is =
 
 -- ---- variables that are opened
 
-closed_append : (ps vs : List Variable) → map closed (ps ++ vs) ≡ map closed ps ++ map closed vs
-closed_append [] vs = refl
-closed_append (p ∷ ps) vs = ap (λ ws. closed p ∷ ws) (closed_append ps vs)
+pub opened_append : (ns : List ℕ) (x : ℕ) (ps vs : List Variable)
+    → opened ns x (ps ++ vs) (map closed (ps ++ vs))
+    ≡ opened ns x ps (map closed ps) ++ opened ns (x + length ps) vs (map closed vs)
+opened_append ns x [] vs =
+    let same : x ≡ x + 0 = omega arith in
+    ap (λ k. opened ns k vs (map closed vs)) same
+opened_append ns x (p ∷ ps) vs =
+    let same : suc x + length ps ≡ x + suc (length ps) = omega arith in
+    ap (λ ws. (if is_among ns x then p else closed p) ∷ ws)
+    (opened_append ns (suc x) ps vs
+    ∙ ap (λ k. opened ns (suc x) ps (map closed ps) ++ opened ns k vs (map closed vs)) same)
 
-pub opened_none : (x : ℕ) (ds : List Variable) → opened [] x ds (map closed ds) ≡ map closed ds
-opened_none x [] = refl
-opened_none x (d ∷ ds) = ap (λ ws. closed d ∷ ws) (opened_none (suc x) ds)
-
-opened_length : (ns : List ℕ) (x : ℕ) (ds : List Variable) → length (opened ns x ds (map closed ds)) ≡ length ds
-opened_length ns x [] = refl
-opened_length ns x (d ∷ ds) = ap suc (opened_length ns (suc x) ds)
-
-there_below : (vs : List Variable) (y : ℕ) (v : Variable) → slice_get vs y ≡ Some v → y < length vs
-there_below [] y v at = absurd (none-some _ at)
-there_below (w ∷ vs) zero v at = omega arith
-there_below (w ∷ vs) (suc y) v at = omega (arith, there_below vs y v at)
-
-pub opened_below : (ns : List ℕ) (ds list : List Variable) (y : ℕ) (v : Variable)
-    → list ≡ opened ns 0 ds (map closed ds) → slice_get ds y ≡ Some v → y < length list
-opened_below ns ds list y v same at =
-    let low = there_below ds y v at in
-    let long : length list ≡ length ds = ap length same ∙ opened_length ns 0 ds in
-    omega (arith, low, long)
+-- the objects of a block, parameters first
+pub block_list : (c : CodeFunction) (b : ℕ) (list : List Variable) (ns : List ℕ) → ns ≡ if_there (slice_get c.blocks b)
+    → list ≡ opened ns 0 c.parameters (map closed c.parameters)
+    ++ opened ns (length c.parameters) c.variables (map closed c.variables) → list ≡ objects_in (Some c) b
+block_list c b list ns same made =
+    let zero_more : length c.parameters ≡ 0 + length c.parameters = omega arith in
+    made ∙ (ap (λ k. opened ns 0 c.parameters (map closed c.parameters) ++ opened ns k c.variables (map closed c.variables))
+    zero_more ∙ sym (opened_append ns 0 c.parameters c.variables)
+    ∙ ap (λ z. opened z 0 (all_variables c) (map closed (all_variables c))) same)

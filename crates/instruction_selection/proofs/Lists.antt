@@ -194,3 +194,21 @@ zeros_put before now after r n e put =
     ∙ append_assoc before (zeros r n) (Constant (r + n) 0 ∷ [])
     ∙ ap (λ is. before ++ is) (sym (zeros_more r n))
     ∙ ap (λ k. before ++ zeros r k) next
+
+-- ---- lists put one behind the other
+
+pub three_behind : {A : Type 0} {n m k : List A} (before a b c : List A) → n ≡ before ++ a → m ≡ n ++ b → k ≡ m ++ c
+    → k ≡ before ++ (a ++ (b ++ c))
+three_behind before a b c e f g =
+    g ∙ (ap (λ xs. xs ++ c) (f ∙ ap (λ xs. xs ++ b) e)
+    ∙ (append_assoc (before ++ a) b c ∙ append_assoc before a (b ++ c)))
+
+pub four_behind : {A : Type 0} {n m k l : List A} (before a b c d : List A) → n ≡ before ++ a → m ≡ n ++ b → k ≡ m ++ c
+    → l ≡ k ++ d → l ≡ before ++ (a ++ (b ++ (c ++ d)))
+four_behind {A} {n} {m} before a b c d e f g h =
+    three_behind before a b (c ++ d) e f (h ∙ (ap (λ xs. xs ++ d) g ∙ append_assoc m c d))
+
+pub five_behind : {A : Type 0} {n m k l o : List A} (before a b c d x : List A) → n ≡ before ++ a → m ≡ n ++ b
+    → k ≡ m ++ c → l ≡ k ++ d → o ≡ l ++ x → o ≡ before ++ (a ++ (b ++ (c ++ (d ++ x))))
+five_behind {A} {n} {m} {k} before a b c d x e f g h i =
+    four_behind before a b c (d ++ x) e f g (i ∙ (ap (λ xs. xs ++ x) h ∙ append_assoc k d x))

@@ -41,7 +41,7 @@ end_short None = omega arith
 end_short (Some e) = omega arith
 
 length_append : (xs ys : List FlatInstruction) → length (xs ++ ys) ≡ length xs + length ys
-length_append [] ys = refl
+length_append [] ys = omega arith
 length_append (x ∷ xs) ys = omega (arith, length_append xs ys)
 
 -- each status has two instructions at most

@@ -38,6 +38,7 @@ pub record IsPrepared (context : FunctionContext) : Type 0 where
   pub types : (f : ℕ) → type_at context f < 2 ^ 63
   pub few : length context.program.now.functions ≤ 2 ^ 12
   pub callees : (f : ℕ) (c : CodeFunction) → slice_get context.program.now.functions f ≡ Some c → CanBeCalled c
+  pub variables : length (all_variables context.function.now) < 2 ^ 64
   pub body : block_bytes (objects_of_body context.function.now) ≤ 2 ^ 62
   pub among : AreObjectsAmong (all_variables context.function.now) (objects_of_body context.function.now)
   pub sizes : (x : ℕ) → size_of_kind (at_number (all_variables context.function.now) x).kind ≤ 2 ^ 62

@@ -1,6 +1,6 @@
 //! The tests that stand before a call: of the charge, of the object stack and of the keys.
 
-ghost use Rattle.std.specs.Prelude.{◌≡◌, ◌+◌, ◌<◌, ◌≤◌, ◌^◌, ◌++◌, ◌∷◌, [], OnOk};
+ghost use Rattle.std.specs.Prelude.{◌≡◌, ◌+◌, ◌<◌, ◌≤◌, ◌^◌, ◌++◌, ◌∷◌, [], length, OnOk, IfOk};
 ghost use Rattle.sb_base.specs.declared.ending.Ending.TheVariants.{BadCall, Stack};
 ghost use Rattle.addr_map.specs.declared.region.Region.TheVariants.{Stack as StackRegion};
 ghost use Rattle.addr_map.specs.Places.{region_end};
@@ -12,7 +12,7 @@ ghost use Rattle.lib_wrappers.specs.AllocatingRoutines.Entering.{block_bytes, ro
 ghost use Rattle.metadata_plan.specs.Blocks.{call_tests};
 ghost use Rattle.metadata_relation.specs.Blocks.{callee_tests, object_tests, room_tests, space_test, units_tests};
 ghost use Rattle.metadata_relation.specs.Blocks.{unknown_object_tests};
-ghost use Rattle.instruction_selection.specs.Calls.{units_end};
+ghost use Rattle.instruction_selection.specs.Calls.{units_end, unless_none};
 
 use crate::blocks::{block_bytes, has_objects, put_read_top};
 use crate::entries::held_from;
@@ -266,28 +266,54 @@ fn put_units_end(
     put_operator(code, RegOp::Add, scratch, scratch, right)
 }
 
-// Puts the tests of objects of so many units of 16 bytes, a number in the register behind the first, behind a list.
-fn put_units_tests(
-    code: &mut Vec<FlatInstruction>,
+// The tests of objects of so many units of 16 bytes, a number in the register behind the first.
+fn units_tests(
     alloc: Global,
     map: &AddrMap,
     line: Line,
     scratch: u32,
-) -> Result<(), AllocError>
+) -> Result<Vec<FlatInstruction>, AllocError>
     requires { scratch < 2 ^ 31 }
-    ensures { OnOk result (code.new.items ≡ code.old.items ++ units_tests map.now line scratch) }
+    ensures { IfOk result (λ list. list.items ≡ units_tests map.now line scratch) }
 {
     let units = scratch + 1;
-    put_units_end(code, map, scratch)?;
+    let mut code = Vec::new(alloc);
+    put_units_end(&mut code, map, scratch)?;
     put(
-        code,
+        &mut code,
         FlatInstruction::Constant {
             into: units,
             value: stack_end(map) + 1,
         },
     )?;
-    put_below_or_end(code, scratch, RightOperand::Register(units), line)?;
-    put_key_test(code, alloc, map, line, scratch)
+    put_below_or_end(&mut code, scratch, RightOperand::Register(units), line)?;
+    put_key_test(&mut code, alloc, map, line, scratch)?;
+    Ok(code)
+}
+
+// Puts tests behind a list that are passed over where a number out of a key, which goes to a register, is 0.
+fn put_unless_none(
+    code: &mut Vec<FlatInstruction>,
+    key: u32,
+    register: u32,
+    tests: &[FlatInstruction],
+) -> Result<(), AllocError>
+    requires { length tests.now < 2 ^ 32 }
+    ensures { OnOk result (code.new.items ≡ code.old.items ++ unless_none key register tests.now) }
+{
+    put_operator(code, RegOp::Srl, register, key, RightOperand::Number(12))?;
+    let mask = RightOperand::Number((1 << 19) - 1);
+    put_operator(code, RegOp::And, register, register, mask)?;
+    put(
+        code,
+        FlatInstruction::Branch {
+            op: BranchOp::Beq,
+            left: register,
+            right: RightOperand::Number(0),
+            past: tests.len() as u32,
+        },
+    )?;
+    append(code, tests)
 }
 
 /// Puts the tests of the objects of a callee that a pointer names behind a list, with their units from the key of the
@@ -303,20 +329,7 @@ pub fn put_unknown_object_tests(
     requires { scratch < 2 ^ 31 }
     ensures { OnOk result (code.new.items ≡ code.old.items ++ unknown_object_tests map.now key line scratch) }
 {
-    let units = scratch + 1;
-    let mut tests = Vec::new(alloc);
-    put_units_tests(&mut tests, alloc, map, line, scratch)?;
-    put_operator(code, RegOp::Srl, units, key, RightOperand::Number(12))?;
-    let mask = RightOperand::Number((1 << 19) - 1);
-    put_operator(code, RegOp::And, units, units, mask)?;
-    put(
-        code,
-        FlatInstruction::Branch {
-            op: BranchOp::Beq,
-            left: units,
-            right: RightOperand::Number(0),
-            past: tests.len() as u32,
-        },
-    )?;
-    append(code, &tests)
+    let tests = units_tests(alloc, map, line, scratch)?;
+    put_unless_none(code, key, scratch + 1, tests.as_slice())?;
+    Ok(())
 }

@@ -1,7 +1,6 @@
 //! What the flat code of the instructions of a function is made from.
 
 ghost use Rattle.std.specs.Prelude.{◌≡◌, ◌+◌, ◌-◌, ◌*◌, ◌<◌, ◌≤◌, ◌^◌, true, length, Some, slice_get};
-ghost use Rattle.c_tree.specs.declared.program.Variable.{Variable};
 ghost use Rattle.metadata_plan.specs.Registers.{most_temporaries};
 ghost use Rattle.metadata_relation.specs.Registers.{variable_register, home_register, temporary_register};
 ghost use Rattle.metadata_relation.specs.Registers.{moved_register};
@@ -13,6 +12,7 @@ ghost use Rattle.instruction_selection.specs.Contexts.{HasRegisters, type_at};
 use crate::registers::{Registers, argument_words};
 use crate::statics::StaticPlace;
 use addr_map::AddrMap;
+use c_tree::Variable;
 use std::alloc::Global;
 use tac_ir::{CodeFunction, Tac};
 
@@ -64,12 +64,13 @@ impl<'a> FunctionContext<'a> {
         argument_words(self.function.parameters.as_slice())
     }
 
-    /// The first register of the argument of a parameter; one that is an object has its home behind it.
-    pub fn parameter(&self, number: usize) -> u32
-        requires { HasRegisters self.now }
+    /// The first register of the argument of a parameter that is an object: its home stands behind it.
+    pub fn argument(&self, number: usize, parameter: Variable) -> u32
+        requires registers { HasRegisters self.now }
+        requires there { slice_get self.now.function.now.parameters number ≡ Some parameter }
+        requires object { parameter.is_object ≡ true }
         ensures value { result ≡ variable_register self.now.function.now number }
-        ensures room { (v : Variable) → slice_get self.now.function.now.parameters number ≡ Some v
-            → v.is_object ≡ true → result + 5 ≤ self.now.registers.now.free }
+        ensures room { result + 5 ≤ self.now.registers.now.free }
     {
         self.registers.variable(self.function, number)
     }

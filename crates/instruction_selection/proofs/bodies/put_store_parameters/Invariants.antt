@@ -4,9 +4,9 @@ use Rattle.metadata_relation.specs.Blocks.{store_parameters}
 use Rattle.instruction_selection.proofs.bodies.put_store_parameters.Given as goal
 
 abbrev pub invariant-loop-i : goal.invariant-loop-i
-invariant-loop-i l = l.code.items
-    ++ store_parameters (inline_lists l.S.entry_read l.S.entry_write l.context.map.now) l.context.function.now l.i
-    (drop l.i l.context.function.now.parameters)
+invariant-loop-i g l = l.code.items
+    ++ store_parameters (inline_lists g.S.ShadowForm.entry_read g.S.ShadowForm.entry_write l.context.map.now)
+    l.context.function.now l.i (drop l.i l.context.function.now.parameters)
     ≡ l.initial.code.items
-    ++ store_parameters (inline_lists l.S.entry_read l.S.entry_write l.fn.context.map.now) l.fn.context.function.now 0
-    l.fn.context.function.now.parameters
+    ++ store_parameters (inline_lists g.S.ShadowForm.entry_read g.S.ShadowForm.entry_write l.fn.context.map.now)
+    l.fn.context.function.now 0 l.fn.context.function.now.parameters

@@ -1,9 +1,0 @@
-use Rattle.std.proofs.Common.{arith}
-use Rattle.instruction_selection.proofs.Lists.{parameter_below}
-use Rattle.instruction_selection.proofs.context.FunctionContext.parameter.Goals as goal
-
-pub returns-clause-room : goal.returns-clause-room
-returns-clause-room c = λ v at is.
-    let below = parameter_below c.args.self.now.registers.now c.args.self.now.function.now c.args.number v c.requires at is in
-    let here = c.variable.ensures in
-    omega (arith, below, here)

@@ -1,6 +1,10 @@
 pub mod BlockObjects
+pub mod Joined
 pub mod Lists
 pub mod Operands
 pub mod OneEntry
 pub mod PlainTypes
+pub mod Ranges
+pub mod Regions
+pub mod Routines
 pub mod StaticPlaces

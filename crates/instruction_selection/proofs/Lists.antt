@@ -1,6 +1,12 @@
 -- Lists of registers.
-use Rattle.std.proofs.Common.{◌≡◌, ℕ, zero, suc, ◌+◌, ◌*◌, ◌^◌, ◌≤◌, List, [], ◌∷◌, ◌++◌, get_or, length}
-use Rattle.std.proofs.Common.{ap, refl, sym, ◌∙◌, arith}
+use Rattle.std.proofs.Common.{◌≡◌, ℕ, zero, suc, ◌+◌, ◌*◌, ◌^◌, ◌<◌, ◌≤◌, List, [], ◌∷◌, ◌++◌, get_or, length}
+use Rattle.std.proofs.Common.{ap, refl, sym, ◌∙◌, arith, Bool, true, false, Some, None, if◌then◌else◌}
+use Rattle.std.proofs.Common.{append_assoc}
+use Rattle.std.specs.Prelude.{slice_get}
+use Rattle.flat_meaning.specs.declared.instruction.FlatInstruction.{FlatInstruction}
+use Rattle.flat_meaning.specs.declared.instruction.FlatInstruction.TheVariants.{Constant}
+use Rattle.metadata_relation.specs.Blocks.{zeros}
+use Rattle.std.proofs.lemmas.Option.{same_Some, none-some}
 use Rattle.c_tree.specs.declared.program.Variable.{Variable}
 use Rattle.tac_ir.specs.declared.function.CodeFunction.{CodeFunction}
 use Rattle.metadata_plan.specs.Registers.{all_variables, most_temporaries}
@@ -107,6 +113,7 @@ are_registers r c behind homes_behind begin home middle top variables homes temp
           ≡ r.first_home + before home_words x (all_variables c) =
           registers_at home_words r.first_home (all_variables c) x r.first_top last in
           ap (λ ns. get_or ns x r.first_top) list ∙ omega (arith, here, home_at);
+      begin = home_at;
       tops = top_at;
       temporaries = temporary_at;
       moved = omega (arith, temporary_at, moved);
@@ -147,8 +154,61 @@ variable_below r c x h =
     let free = h.free in
     omega (arith, below, free)
 
-pub home_below : (r : Registers) (c : CodeFunction) (x : ℕ) → AreRegisters r c → home_register c x ≤ r.free
+pub home_below : (r : Registers) (c : CodeFunction) (x : ℕ) → AreRegisters r c → home_register c x < r.free
 home_below r c x h =
     let below = before_all home_words x (all_variables c) in
     let free = h.free in
     omega (arith, below, free)
+
+-- a parameter that is an object has a home behind its argument
+argument_in : (ps vs : List Variable) (x : ℕ) (v : Variable) → slice_get ps x ≡ Some v → v.is_object ≡ true
+    → register_in ps vs x + 5 ≤ total parameter_words ps + 1 + total home_words ps + 1
+argument_in [] vs x v at is = absurd (none-some _ at)
+argument_in (p ∷ ps) vs zero v at is =
+    let there : home_words p ≡ 4 = ap (λ z. if z.is_object then 4 else 0) (same_Some _ _ at) ∙ ap (λ b. if b then 4 else 0) is in
+    omega (arith, there)
+argument_in (p ∷ ps) vs (suc x) v at is = omega (arith, argument_in ps vs x v at is)
+
+pub parameter_below : (r : Registers) (c : CodeFunction) (x : ℕ) (v : Variable) → AreRegisters r c
+    → slice_get c.parameters x ≡ Some v → v.is_object ≡ true → variable_register c x + 5 ≤ r.free
+parameter_below r c x v h at is =
+    let below = argument_in c.parameters c.variables x v at is in
+    let both : total home_words (all_variables c) ≡ total home_words c.parameters + total home_words c.variables =
+    total_append home_words c.parameters c.variables in
+    let free = h.free in
+    omega (arith, below, both, free)
+
+-- ---- zeros one behind the other
+
+zeros_more : (r n : ℕ) → zeros r (suc n) ≡ zeros r n ++ (Constant (r + n) 0 ∷ [])
+zeros_more r zero = let same : r ≡ r + 0 = omega arith in ap (λ k. Constant k 0 ∷ []) same
+zeros_more r (suc n) =
+    let same : r + 1 + n ≡ r + suc n = omega arith in
+    ap (λ is. Constant r 0 ∷ is) (zeros_more (r + 1) n ∙ ap (λ k. zeros (r + 1) n ++ (Constant k 0 ∷ [])) same)
+
+pub zeros_put : (before now after : List FlatInstruction) (r n : ℕ) → now ≡ before ++ zeros r n
+    → after ≡ now ++ (Constant (r + n) 0 ∷ []) → after ≡ before ++ zeros r (n + 1)
+zeros_put before now after r n e put =
+    let next : suc n ≡ n + 1 = omega arith in
+    put ∙ ap (λ is. is ++ (Constant (r + n) 0 ∷ [])) e
+    ∙ append_assoc before (zeros r n) (Constant (r + n) 0 ∷ [])
+    ∙ ap (λ is. before ++ is) (sym (zeros_more r n))
+    ∙ ap (λ k. before ++ zeros r k) next
+
+-- ---- lists put one behind the other
+
+pub three_behind : {A : Type 0} {n m k : List A} (before a b c : List A) → n ≡ before ++ a → m ≡ n ++ b → k ≡ m ++ c
+    → k ≡ before ++ (a ++ (b ++ c))
+three_behind before a b c e f g =
+    g ∙ (ap (λ xs. xs ++ c) (f ∙ ap (λ xs. xs ++ b) e)
+    ∙ (append_assoc (before ++ a) b c ∙ append_assoc before a (b ++ c)))
+
+pub four_behind : {A : Type 0} {n m k l : List A} (before a b c d : List A) → n ≡ before ++ a → m ≡ n ++ b → k ≡ m ++ c
+    → l ≡ k ++ d → l ≡ before ++ (a ++ (b ++ (c ++ d)))
+four_behind {A} {n} {m} before a b c d e f g h =
+    three_behind before a b (c ++ d) e f (h ∙ (ap (λ xs. xs ++ d) g ∙ append_assoc m c d))
+
+pub five_behind : {A : Type 0} {n m k l o : List A} (before a b c d x : List A) → n ≡ before ++ a → m ≡ n ++ b
+    → k ≡ m ++ c → l ≡ k ++ d → o ≡ l ++ x → o ≡ before ++ (a ++ (b ++ (c ++ (d ++ x))))
+five_behind {A} {n} {m} {k} before a b c d x e f g h i =
+    four_behind before a b c (d ++ x) e f g (i ∙ (ap (λ xs. xs ++ x) h ∙ append_assoc k d x))

@@ -1,5 +1,6 @@
 -- Places of static objects in a table.
-use Rattle.std.proofs.Common.{◌≡◌, ℕ, zero, suc, ◌+◌, ◌^◌, ◌≤◌, List, [], ◌∷◌, get_or, refl, ap, ◌∙◌, arith}
+use Rattle.std.proofs.Common.{◌≡◌, ℕ, zero, suc, ◌+◌, ◌*◌, ◌/◌, ◌^◌, ◌<◌, ◌≤◌, drop, length, List, [], ◌∷◌, get_or, refl, ap, ◌∙◌, arith}
+use Rattle.std.proofs.lemmas.List.{drop_more}
 use Rattle.addr_map.specs.declared.region.Region.TheVariants.{Globals}
 use Rattle.addr_map.specs.Places.{MapSizes, region_start}
 use Rattle.obj_memory.specs.Heap.{rounded_up}
@@ -42,3 +43,11 @@ are_places m t places same small first = record {
   each = λ n. ap (λ ps. get_or ps n no_place) same ∙ place_at (region_start m Globals) t.statics 0 n;
   low = λ n. let end = end_at (region_start m Globals) t.statics 0 n in omega (arith, end, small, first);
 }
+
+pub place_ends : (ds : List StaticData) (i : ℕ) (d : StaticData) (offset : ℕ) → i < length ds
+    → rounded_up 16 offset + (get_or ds i d).size ≤ statics_end (drop i ds) offset
+place_ends ds i d offset low =
+    let here : statics_end (drop i ds) offset ≡ statics_end (get_or ds i d ∷ drop (i + 1) ds) offset =
+    ap (λ es. statics_end es offset) (drop_more ds i d low) in
+    let more = end_above (drop (i + 1) ds) (rounded_up 16 offset + (get_or ds i d).size) in
+    omega (arith, here, more)

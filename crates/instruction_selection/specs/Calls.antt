@@ -1,16 +1,21 @@
 -- How values are handed over, and what calls name.
-use Rattle.std.specs.Prelude.{ℕ, Bool, List, [], ◌∷◌, ◌++◌, Option, Some, None, length}
+use Rattle.std.specs.Prelude.{ℕ, ◌+◌, ◌-◌, ◌^◌, Bool, List, [], ◌∷◌, ◌++◌, Option, Some, None, length}
 use Rattle.sb_base.specs.declared.ending.Ending.TheVariants.{Abort as AbortAt}
 use Rattle.obj_memory.specs.declared.int_type.IntType.TheVariants.{UnsignedChar}
 use Rattle.c_tree.specs.declared.expression.Routine.{Routine}
 use Rattle.c_tree.specs.declared.expression.Routine.TheVariants as routine
 use Rattle.flat_meaning.specs.declared.instruction.FlatInstruction.{FlatInstruction}
-use Rattle.flat_meaning.specs.declared.instruction.FlatInstruction.TheVariants.{Put, Get, Exit, End}
+use Rattle.flat_meaning.specs.declared.instruction.FlatInstruction.TheVariants.{Operate, Branch, Put, Get, Exit, End}
+use Rattle.flat_meaning.specs.declared.instruction.RightOperand.TheVariants.{Register, Number}
+use Rattle.rv_isa.specs.declared.instruction.RegOp.TheVariants.{Add, And, Sll, Srl}
+use Rattle.rv_isa.specs.declared.instruction.BranchOp.TheVariants.{Beq}
+use Rattle.addr_map.specs.Places.{MapSizes}
+use Rattle.lib_wrappers.specs.AllocatingRoutines.Entering.{round_code}
 use Rattle.flat_operators.specs.Operators.{conversion_code}
 use Rattle.runtime_functions.specs.declared.library.LibraryFunction.{LibraryFunction}
 use Rattle.runtime_functions.specs.declared.library.LibraryFunction.TheVariants as library
 use Rattle.runtime_functions.specs.Library.{Passed, NoValue, OneWord, WithEntry, signature}
-use Rattle.metadata_relation.specs.Blocks.{untagged}
+use Rattle.metadata_relation.specs.Blocks.{read_top, untagged}
 use Rattle.instruction_selection.specs.declared.handing.Handed.{Handed}
 use Rattle.instruction_selection.specs.declared.handing.Handed.TheVariants.{Word, Held}
 
@@ -59,3 +64,16 @@ own_code routine.Getchar line b r = Get r ∷ untagged b r
 own_code routine.Exit line b r = Exit r ∷ []
 own_code routine.Abort line b r = End (AbortAt line) ∷ []
 own_code r line b x = []
+
+-- where objects of so many units of 16 bytes, a number in the register behind the first, end on the object stack
+abbrev pub units_end : MapSizes → (scratch : ℕ) → List FlatInstruction
+units_end m s =
+    Operate Sll (s + 1) (s + 1) (Number 4) ∷ (read_top m s ++ (round_code s s ++ (Operate Add s s (Register (s + 1)) ∷ [])))
+
+-- tests that are passed over where a number out of a key is 0
+abbrev pub unless_none : (key register : ℕ) → (tests : List FlatInstruction) → List FlatInstruction
+unless_none key r tests =
+    Operate Srl r key (Number 12)
+    ∷ Operate And r r (Number (2 ^ 19 - 1))
+    ∷ Branch Beq r (Number 0) (length tests)
+    ∷ tests

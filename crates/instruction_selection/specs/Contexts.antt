@@ -1,5 +1,7 @@
 -- What the flat code of the instructions of a function is made from.
 use Rattle.std.specs.Prelude.{◌≡◌, ℕ, ◌^◌, ◌<◌, ◌≤◌, get_or, length, Some, slice_get}
+use Rattle.c_tree.specs.Kinds.{size_of_kind}
+use Rattle.c_tree.specs.Valid.{at_number}
 use Rattle.tac_ir.specs.declared.function.CodeFunction.{CodeFunction}
 use Rattle.tac_ir.specs.Meaning.{objects_in}
 use Rattle.lib_wrappers.specs.AllocatingRoutines.Entering.{block_bytes}
@@ -36,6 +38,8 @@ pub record IsPrepared (context : FunctionContext) : Type 0 where
   pub types : (f : ℕ) → type_at context f < 2 ^ 63
   pub few : length context.program.now.functions ≤ 2 ^ 12
   pub callees : (f : ℕ) (c : CodeFunction) → slice_get context.program.now.functions f ≡ Some c → CanBeCalled c
+  pub variables : length (all_variables context.function.now) < 2 ^ 64
   pub body : block_bytes (objects_of_body context.function.now) ≤ 2 ^ 62
   pub among : AreObjectsAmong (all_variables context.function.now) (objects_of_body context.function.now)
+  pub sizes : (x : ℕ) → size_of_kind (at_number (all_variables context.function.now) x).kind ≤ 2 ^ 62
   pub blocks : (b : ℕ) → block_bytes (objects_in (Some context.function.now) b) ≤ 2 ^ 62

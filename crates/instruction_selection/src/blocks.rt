@@ -1,8 +1,9 @@
 //! Blocks whose objects are made and die (C99 6.2.4 paragraph 5, 6.8.2), and the end of the object stack.
 
-ghost use Rattle.std.specs.Prelude.{◌≡◌, ◌+◌, ◌<◌, ◌≤◌, ◌^◌, ◌++◌, true, map, Some, slice_get, OnOk, IfOk};
-ghost use Rattle.c_tree.specs.Blocks.{block_objects, closed};
-ghost use Rattle.tac_ir.specs.Meaning.{objects_in};
+ghost use Rattle.std.specs.Prelude.{◌≡◌, ◌+◌, ◌<◌, ◌≤◌, ◌^◌, ◌++◌, true, length, map, Some, slice_get};
+ghost use Rattle.std.specs.Prelude.{if◌then◌else◌, OnOk, IfOk};
+ghost use Rattle.c_tree.specs.Blocks.{closed, is_among, opened};
+ghost use Rattle.tac_ir.specs.Meaning.{if_there, objects_in};
 ghost use Rattle.c_tree.specs.Kinds.{size_of_kind};
 ghost use Rattle.lib_wrappers.specs.AllocatingRoutines.Entering.{block_bytes};
 ghost use Rattle.metadata_plan.specs.OperatorLists.Operators.{operators};
@@ -242,7 +243,12 @@ pub fn put_enter(
 pub fn has_objects(variables: &[Variable]) -> bool
     ensures { result ≡ has_objects variables.now }
 {
-    variables.iter().any(|variable| variable.is_object)
+    for variable in variables {
+        if variable.is_object {
+            return true;
+        }
+    }
+    false
 }
 
 // The number of the first variable that is an object, and the count of all where there is none.
@@ -308,64 +314,78 @@ pub fn put_zero_object(
     )
 }
 
-// Puts variables behind a list, of which none that is an object is entered.
-fn put_closed(list: &mut Vec<Variable>, variables: &[Variable]) -> Result<(), AllocError>
-    ensures { OnOk result (list.new.items ≡ list.old.items ++ map closed variables.now) }
+// Whether a number is one of some.
+fn is_among(numbers: &[usize], number: usize) -> bool
+    ensures { result ≡ is_among numbers.now number }
+{
+    for one in numbers {
+        if *one == number {
+            return true;
+        }
+    }
+    false
+}
+
+// A variable, which is entered only where that is so.
+fn opened(variable: Variable, is_entered: bool) -> Variable
+    ensures { result ≡ (if is_entered then variable else closed variable) }
+{
+    if variable.is_object && !is_entered {
+        NO_VARIABLE
+    } else {
+        variable
+    }
+}
+
+// Puts variables with numbers from one on behind a list, of which those objects alone are entered that have some
+// numbers.
+fn put_opened(
+    list: &mut Vec<Variable>,
+    numbers: &[usize],
+    first: usize,
+    variables: &[Variable],
+) -> Result<(), AllocError>
+    requires { first + length variables.now < 2 ^ 64 }
+    ensures { OnOk result (list.new.items ≡ list.old.items
+        ++ opened numbers.now first variables.now (map closed variables.now)) }
 {
     for i in 0..variables.len() {
         let variable = variables[i];
-        if variable.is_object {
-            list.push(NO_VARIABLE)?;
-        } else {
-            list.push(variable)?;
-        }
+        list.push(opened(variable, is_among(numbers, first + i)))?;
     }
     Ok(())
 }
 
-// One of all variables of a function, by its number.
-#[tactic(auto, using(crate::proofs::BlockObjects::variable_before, crate::proofs::BlockObjects::variable_behind))]
-fn variable_of(function: &CodeFunction, number: usize) -> Option<Variable>
-    ensures { result ≡ slice_get (all_variables function.now) number }
+// The numbers of the variables that a block declares.
+fn numbers_of(function: &CodeFunction, block: usize) -> &[usize]
+    ensures { result.now ≡ if_there (slice_get function.now.blocks block) }
 {
-    let parameters = function.parameters.as_slice();
-    if number < parameters.len() {
-        return Some(parameters[number]);
-    }
-    function
-        .variables
-        .as_slice()
-        .get(number - parameters.len())
-        .copied()
-}
-
-// Opens the variables with some numbers: they are as they are declared.
-fn open_variables(list: &mut Vec<Variable>, function: &CodeFunction, numbers: &[usize])
-    requires { list.old.items ≡ map closed (all_variables function.now) }
-    ensures { list.new.items ≡ block_objects (all_variables function.now) numbers.now }
-{
-    for i in 0..numbers.len() {
-        let number = numbers[i];
-        if let Some(variable) = variable_of(function, number) {
-            list[number] = variable;
-        }
+    match function.blocks.as_slice().get(block) {
+        Some(numbers) => numbers.as_slice(),
+        None => &[],
     }
 }
 
 /// All variables of a function, of which those alone are objects that one of its blocks declares. It fails only for
 /// want of memory.
+#[tactic(auto, using(crate::proofs::BlockObjects::block_list))]
 pub fn block_objects(
     alloc: Global,
     function: &CodeFunction,
     block: usize,
 ) -> Result<Vec<Variable>, AllocError>
+    requires { length (all_variables function.now) < 2 ^ 64 }
     ensures { IfOk result (λ list. list.items ≡ objects_in (Some function.now) block) }
 {
+    let numbers = numbers_of(function, block);
+    let parameters = function.parameters.as_slice();
     let mut list = Vec::new(alloc);
-    put_closed(&mut list, function.parameters.as_slice())?;
-    put_closed(&mut list, function.variables.as_slice())?;
-    if let Some(numbers) = function.blocks.as_slice().get(block) {
-        open_variables(&mut list, function, numbers.as_slice());
-    }
+    put_opened(&mut list, numbers, 0, parameters)?;
+    put_opened(
+        &mut list,
+        numbers,
+        parameters.len(),
+        function.variables.as_slice(),
+    )?;
     Ok(list)
 }

@@ -1,6 +1,6 @@
 //! Where functions begin and return (C99 6.2.4 paragraph 5, 6.8.6.4, 6.9.1).
 
-ghost use Rattle.std.specs.Prelude.{◌≡◌, ◌+◌, ◌<◌, ◌≤◌, ◌^◌, ◌++◌, ◌∷◌, [], Bool, OnOk, length};
+ghost use Rattle.std.specs.Prelude.{◌≡◌, ◌+◌, ◌<◌, ◌≤◌, ◌^◌, ◌++◌, ◌∷◌, [], Bool, OnOk, length, true, Some, slice_get};
 ghost use Rattle.std.specs.Prelude.{if◌then◌else◌};
 ghost use Rattle.flat_meaning.specs.declared.instruction.FlatInstruction.TheVariants.{Return};
 ghost use Rattle.metadata_plan.specs.Registers.{most_temporaries};
@@ -19,7 +19,7 @@ use crate::blocks::{has_objects, put_enter, put_leave};
 use crate::calls::body_objects;
 use crate::context::FunctionContext;
 use crate::list::put;
-use c_tree::Kind;
+use c_tree::{Kind, Variable};
 use flat_meaning::FlatInstruction;
 use sb_base::{Ending, Line};
 use shadow_space::ShadowForm;
@@ -55,23 +55,53 @@ fn put_store_parameter<S: ShadowForm>(
     code: &mut Vec<FlatInstruction>,
     context: &FunctionContext,
     number: usize,
-    kind: Kind,
+    parameter: Variable,
 ) -> Result<(), AllocError>
     requires registers { HasRegisters context.now }
-    requires there { number < length context.now.function.now.parameters }
+    requires there { slice_get context.now.function.now.parameters number ≡ Some parameter }
+    requires object { parameter.is_object ≡ true }
     ensures { OnOk result (code.new.items ≡ code.old.items
-        ++ store_parameter (inline_lists S.entry_read S.entry_write context.now.map.now) context.now.function.now kind
-        number) }
+        ++ store_parameter (inline_lists S.entry_read S.entry_write context.now.map.now) context.now.function.now
+        parameter.kind number) }
 {
-    match kind {
+    match parameter.kind {
         Kind::Scalar(scalar) => {
             let home = context.home(number);
-            let held = held_scalar(scalar, context.parameter(number));
+            let held = held_scalar(scalar, context.argument(number, parameter));
             put_store::<S>(code, context, home, held, context.free())
         }
         Kind::Void | Kind::Structure(_) | Kind::Array(_) => {
             put(code, FlatInstruction::End(Ending::Abort(Line::first())))
         }
+    }
+}
+
+// One of some variables, by its number.
+fn variable_at(variables: &[Variable], number: usize) -> Variable
+    requires { number < length variables.now }
+    ensures { slice_get variables.now number ≡ Some result }
+{
+    variables[number]
+}
+
+// Puts what gives a parameter its argument behind a list, where it is an object.
+#[tactic(auto, using(crate::proofs::Lists::nothing_behind))]
+fn put_if_object<S: ShadowForm>(
+    code: &mut Vec<FlatInstruction>,
+    context: &FunctionContext,
+    number: usize,
+    parameter: Variable,
+) -> Result<(), AllocError>
+    requires registers { HasRegisters context.now }
+    requires there { slice_get context.now.function.now.parameters number ≡ Some parameter }
+    ensures { OnOk result (code.new.items ≡ code.old.items ++ (if parameter.is_object
+        then store_parameter (inline_lists S.entry_read S.entry_write context.now.map.now) context.now.function.now
+        parameter.kind number else [])) }
+{
+    if parameter.is_object {
+        put_store_parameter::<S>(code, context, number, parameter)
+    } else {
+        Ok(())
     }
 }
 
@@ -87,10 +117,7 @@ fn put_store_parameters<S: ShadowForm>(
 {
     let parameters = context.function.parameters.as_slice();
     for i in 0..parameters.len() {
-        let parameter = parameters[i];
-        if parameter.is_object {
-            put_store_parameter::<S>(code, context, i, parameter.kind)?;
-        }
+        put_if_object::<S>(code, context, i, variable_at(parameters, i))?;
     }
     Ok(())
 }

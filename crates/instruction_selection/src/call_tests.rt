@@ -1,23 +1,26 @@
 //! The tests that stand before a call: of the charge, of the object stack and of the keys.
 
-ghost use Rattle.std.specs.Prelude.{◌≡◌, ℕ, ◌+◌, ◌<◌, ◌≤◌, ◌^◌, ◌++◌, ◌∷◌, [], OnOk};
+ghost use Rattle.std.specs.Prelude.{◌≡◌, ◌+◌, ◌<◌, ◌≤◌, ◌^◌, ◌++◌, ◌∷◌, [], length, OnOk, IfOk};
 ghost use Rattle.sb_base.specs.declared.ending.Ending.TheVariants.{BadCall, Stack};
+ghost use Rattle.addr_map.specs.declared.region.Region.TheVariants.{Stack as StackRegion};
+ghost use Rattle.addr_map.specs.Places.{region_end};
 ghost use Rattle.rv_isa.specs.declared.instruction.BranchOp.TheVariants.{Bltu};
 ghost use Rattle.flat_meaning.specs.declared.instruction.FlatInstruction.TheVariants.{Branch as Choice, End};
 ghost use Rattle.flat_meaning.specs.declared.instruction.FlatInstruction.TheVariants.{Operate as Operation};
-ghost use Rattle.runtime_functions.specs.Library.{held_from};
 ghost use Rattle.lib_wrappers.specs.AllocatingRoutines.Allocating.{keys_code, key_test};
 ghost use Rattle.lib_wrappers.specs.AllocatingRoutines.Entering.{block_bytes, round_code};
 ghost use Rattle.metadata_plan.specs.Blocks.{call_tests};
 ghost use Rattle.metadata_relation.specs.Blocks.{callee_tests, object_tests, room_tests, space_test, units_tests};
 ghost use Rattle.metadata_relation.specs.Blocks.{unknown_object_tests};
+ghost use Rattle.instruction_selection.specs.Calls.{units_end, unless_none};
 
 use crate::blocks::{block_bytes, has_objects, put_read_top};
+use crate::entries::held_from;
 use crate::list::{append, put};
+use addr_map::laws::{regions_stand_in_order, sizes_are_in_range};
 use addr_map::{AddrMap, Region};
 use c_tree::Variable;
 use flat_meaning::{FlatInstruction, RightOperand};
-use flat_routines::Held;
 use lib_wrappers::allocating::{key_test, keys_list};
 use rv_isa::{BranchOp, RegOp};
 use sb_base::{Ending, Line};
@@ -118,6 +121,19 @@ fn put_key_test(
     append(code, &test)
 }
 
+// One past the last address of the object stack: there the heap begins.
+#[tactic(auto, using(crate::proofs::Regions::stack_ends))]
+fn stack_end(map: &AddrMap) -> u64
+    ensures value { result ≡ region_end map.now StackRegion }
+    ensures low { result < 0x60000000 }
+{
+    // Regions end below 0x60000000, by these laws.
+    sizes_are_in_range(map);
+    regions_stand_in_order();
+    let (end, _) = map.region(Region::Heap);
+    end
+}
+
 // Puts the test that objects of so many bytes fit on the object stack behind a list.
 fn put_space_test(
     code: &mut Vec<FlatInstruction>,
@@ -129,14 +145,13 @@ fn put_space_test(
     requires { scratch < 2 ^ 31 }
     ensures { OnOk result (code.new.items ≡ code.old.items ++ space_test map.now bytes line scratch) }
 {
-    let (_, last) = map.region(Region::Stack);
     put_read_top(code, map, scratch)?;
     put_rounded(code, scratch)?;
     put(
         code,
         FlatInstruction::Constant {
             into: scratch + 1,
-            value: (last + 2).saturating_sub(bytes),
+            value: (stack_end(map) + 1).saturating_sub(bytes),
         },
     )?;
     put_below_or_end(code, scratch, RightOperand::Register(scratch + 1), line)
@@ -191,13 +206,14 @@ pub fn put_callee_tests(
     code: &mut Vec<FlatInstruction>,
     kind: u64,
     line: Line,
-    pointer: Held,
+    pointer: u32,
     scratch: u32,
 ) -> Result<(), AllocError>
-    ensures { OnOk result ((r : ℕ) → pointer ≡ held_from r → code.new.items ≡ code.old.items
-        ++ callee_tests kind line r scratch) }
+    requires { pointer ≤ 2 ^ 31 }
+    ensures { OnOk result (code.new.items ≡ code.old.items ++ callee_tests kind line pointer scratch) }
 {
-    let key = pointer.tag.key;
+    let held = held_from(pointer);
+    let key = held.tag.key;
     put_operator(code, RegOp::Srl, scratch, key, RightOperand::Number(63))?;
     let none = RightOperand::Number(0);
     put_branch_or_bad_call(code, BranchOp::Bne, scratch, none, line)?;
@@ -205,8 +221,8 @@ pub fn put_callee_tests(
     put_operator(code, RegOp::And, scratch, key, mask)?;
     let one = RightOperand::Number(kind);
     put_branch_or_bad_call(code, BranchOp::Beq, scratch, one, line)?;
-    let base = RightOperand::Register(pointer.tag.base);
-    put_branch_or_bad_call(code, BranchOp::Beq, pointer.value, base, line)
+    let base = RightOperand::Register(held.tag.base);
+    put_branch_or_bad_call(code, BranchOp::Beq, pointer, base, line)
 }
 
 /// Puts the turn of a call through a pointer and the test of its charge behind a list, with the room of the callee from
@@ -233,33 +249,71 @@ pub fn put_room_tests(
     put_below_or_end(code, scratch, most, line)
 }
 
-// Puts the tests of objects of so many units of 16 bytes, a number in the register behind the first, behind a list.
-fn put_units_tests(
+// Puts where objects of so many units of 16 bytes end on the object stack behind a list.
+fn put_units_end(
     code: &mut Vec<FlatInstruction>,
-    alloc: Global,
     map: &AddrMap,
-    line: Line,
     scratch: u32,
 ) -> Result<(), AllocError>
     requires { scratch < 2 ^ 31 }
-    ensures { OnOk result (code.new.items ≡ code.old.items ++ units_tests map.now line scratch) }
+    ensures { OnOk result (code.new.items ≡ code.old.items ++ units_end map.now scratch) }
 {
-    let (_, last) = map.region(Region::Stack);
     let units = scratch + 1;
     put_operator(code, RegOp::Sll, units, units, RightOperand::Number(4))?;
     put_read_top(code, map, scratch)?;
     put_rounded(code, scratch)?;
     let right = RightOperand::Register(units);
-    put_operator(code, RegOp::Add, scratch, scratch, right)?;
+    put_operator(code, RegOp::Add, scratch, scratch, right)
+}
+
+// The tests of objects of so many units of 16 bytes, a number in the register behind the first.
+fn units_tests(
+    alloc: Global,
+    map: &AddrMap,
+    line: Line,
+    scratch: u32,
+) -> Result<Vec<FlatInstruction>, AllocError>
+    requires { scratch < 2 ^ 31 }
+    ensures { IfOk result (λ list. list.items ≡ units_tests map.now line scratch) }
+{
+    let units = scratch + 1;
+    let mut code = Vec::new(alloc);
+    put_units_end(&mut code, map, scratch)?;
     put(
-        code,
+        &mut code,
         FlatInstruction::Constant {
             into: units,
-            value: last + 2,
+            value: stack_end(map) + 1,
         },
     )?;
-    put_below_or_end(code, scratch, RightOperand::Register(units), line)?;
-    put_key_test(code, alloc, map, line, scratch)
+    put_below_or_end(&mut code, scratch, RightOperand::Register(units), line)?;
+    put_key_test(&mut code, alloc, map, line, scratch)?;
+    Ok(code)
+}
+
+// Puts tests behind a list that are passed over where a number out of a key, which goes to a register, is 0.
+fn put_unless_none(
+    code: &mut Vec<FlatInstruction>,
+    key: u32,
+    register: u32,
+    tests: &[FlatInstruction],
+) -> Result<(), AllocError>
+    requires { length tests.now < 2 ^ 32 }
+    ensures { OnOk result (code.new.items ≡ code.old.items ++ unless_none key register tests.now) }
+{
+    put_operator(code, RegOp::Srl, register, key, RightOperand::Number(12))?;
+    let mask = RightOperand::Number((1 << 19) - 1);
+    put_operator(code, RegOp::And, register, register, mask)?;
+    put(
+        code,
+        FlatInstruction::Branch {
+            op: BranchOp::Beq,
+            left: register,
+            right: RightOperand::Number(0),
+            past: tests.len() as u32,
+        },
+    )?;
+    append(code, tests)
 }
 
 /// Puts the tests of the objects of a callee that a pointer names behind a list, with their units from the key of the
@@ -275,20 +329,7 @@ pub fn put_unknown_object_tests(
     requires { scratch < 2 ^ 31 }
     ensures { OnOk result (code.new.items ≡ code.old.items ++ unknown_object_tests map.now key line scratch) }
 {
-    let units = scratch + 1;
-    let mut tests = Vec::new(alloc);
-    put_units_tests(&mut tests, alloc, map, line, scratch)?;
-    put_operator(code, RegOp::Srl, units, key, RightOperand::Number(12))?;
-    let mask = RightOperand::Number((1 << 19) - 1);
-    put_operator(code, RegOp::And, units, units, mask)?;
-    put(
-        code,
-        FlatInstruction::Branch {
-            op: BranchOp::Beq,
-            left: units,
-            right: RightOperand::Number(0),
-            past: tests.len() as u32,
-        },
-    )?;
-    append(code, &tests)
+    let tests = units_tests(alloc, map, line, scratch)?;
+    put_unless_none(code, key, scratch + 1, tests.as_slice())?;
+    Ok(())
 }

@@ -1,7 +1,7 @@
 //! Calls of functions of the program, by name and through pointers (C99 6.5.2.2).
 
-ghost use Rattle.std.specs.Prelude.{◌≡◌, ◌+◌, ◌<◌, ◌≤◌, ◌^◌, ◌++◌, length, slice_get, OnOk, IfOk};
-ghost use Rattle.lib_wrappers.specs.AllocatingRoutines.Entering.{block_bytes};
+ghost use Rattle.std.specs.Prelude.{◌≡◌, ◌+◌, ◌<◌, ◌≤◌, ◌^◌, ◌++◌, length, None, Some, slice_get};
+ghost use Rattle.std.specs.Prelude.{MatchOption, OnOk, IfOk};
 ghost use Rattle.runtime_functions.specs.Library.{held_from};
 ghost use Rattle.metadata_plan.specs.Blocks.{call_tests};
 ghost use Rattle.tac_ir.specs.Meaning.{function_in};
@@ -12,7 +12,7 @@ ghost use Rattle.metadata_relation.specs.Registers.{result_words, total};
 ghost use Rattle.metadata_relation.specs.Blocks.{call_code, call_of, objects_of_body, result_entry, result_of};
 ghost use Rattle.metadata_relation.specs.Blocks.{callee_tests, object_tests, room_tests, through_code, through_of};
 ghost use Rattle.metadata_relation.specs.Blocks.{unknown_object_tests};
-ghost use Rattle.instruction_selection.specs.Contexts.{IsPrepared};
+ghost use Rattle.instruction_selection.specs.Contexts.{CanBeCalled, IsPrepared};
 
 use crate::call_tests::{
     put_call_tests, put_callee_tests, put_object_tests, put_room_tests, put_unknown_object_tests,
@@ -89,7 +89,7 @@ fn put_tests(
     line: Line,
 ) -> Result<(), AllocError>
     requires prepared { IsPrepared context.now }
-    requires small { block_bytes (objects_of_body callee.now) ≤ 2 ^ 62 }
+    requires callee { CanBeCalled callee.now }
     ensures { OnOk result (code.new.items ≡ code.old.items
         ++ (call_tests context.now.map.now callee.now.room line (first_free context.now.function.now)
         ++ object_tests context.now.map.now (objects_of_body callee.now) line (first_free context.now.function.now))) }
@@ -109,7 +109,7 @@ fn put_call_of(
     call: Call,
 ) -> Result<(), AllocError>
     requires prepared { IsPrepared context.now }
-    requires small { block_bytes (objects_of_body callee.now) ≤ 2 ^ 62 }
+    requires callee { CanBeCalled callee.now }
     requires first { call.first < most_temporaries context.now.function.now.code }
     requires among { call.first + length callee.now.parameters ≤ most_temporaries context.now.function.now.code }
     ensures { OnOk result (code.new.items ≡ code.old.items ++ call_code context.now.map.now context.now.program.now
@@ -137,6 +137,37 @@ fn put_call_of(
     )
 }
 
+// A function of a program, by its number.
+fn function_of(program: &Tac, number: usize) -> Option<&CodeFunction>
+    ensures { MatchOption result (slice_get program.now.functions number ≡ None)
+        (λ function. (slice_get program.now.functions number ≡ Some function.now)
+        × (number < length program.now.functions)) }
+{
+    program.functions.as_slice().get(number)
+}
+
+// Puts a call of a function, by its number, behind a list; one with another number of arguments ends the run.
+fn put_called(
+    code: &mut Vec<FlatInstruction>,
+    context: &FunctionContext,
+    callee: &CodeFunction,
+    number: u32,
+    call: Call,
+) -> Result<(), AllocError>
+    requires prepared { IsPrepared context.now }
+    requires callee { CanBeCalled callee.now }
+    requires first { call.first < most_temporaries context.now.function.now.code }
+    requires among { call.first + call.count ≤ most_temporaries context.now.function.now.code }
+    ensures { OnOk result (code.new.items ≡ code.old.items ++ call_of context.now.map.now context.now.program.now
+        context.now.function.now (Some callee.now) number call.line call.first call.count call.with_entry) }
+{
+    if callee.parameters.as_slice().len() == call.count {
+        put_call_of(code, context, callee, number, call)
+    } else {
+        put(code, FlatInstruction::End(Ending::Abort(call.line)))
+    }
+}
+
 /// Puts a call by name behind a list. Where there is no such function the run ends, and one with another number of
 /// arguments is never reached. It fails only for want of memory.
 pub fn put_call(
@@ -152,12 +183,20 @@ pub fn put_call(
         context.now.function.now (function_in context.now.program.now number) number call.line call.first call.count
         call.with_entry) }
 {
-    match context.program.functions.as_slice().get(number) {
+    match function_of(context.program, number) {
         None => put(code, FlatInstruction::End(Ending::BadCall(call.line))),
-        Some(callee) if callee.parameters.as_slice().len() == call.count => {
-            put_call_of(code, context, callee, number as u32, call)
-        }
-        Some(_) => put(code, FlatInstruction::End(Ending::Abort(call.line))),
+        Some(callee) => put_called(code, context, callee, number as u32, call),
+    }
+}
+
+// How many registers the address of the area of a result takes, which a structure has.
+fn area_words(kind: Kind) -> u32
+    ensures value { result ≡ area_words kind }
+    ensures few { result ≤ 1 }
+{
+    match kind {
+        Kind::Structure(_) => 1,
+        Kind::Void | Kind::Scalar(_) | Kind::Array(_) => 0,
     }
 }
 
@@ -166,11 +205,7 @@ fn taken_words(program: &Tac, function: &CodeFunction) -> u32
     requires { total parameter_words function.now.parameters < 2 ^ 31 }
     ensures { result ≡ parameters_end function.now + area_words (result_of program.now function.now) }
 {
-    let arguments = argument_words(function.parameters.as_slice());
-    match result_of(program, function) {
-        Kind::Structure(_) => arguments + 1,
-        Kind::Void | Kind::Scalar(_) | Kind::Array(_) => arguments,
-    }
+    argument_words(function.parameters.as_slice()) + area_words(result_of(program, function))
 }
 
 // How many registers the result of a function takes.
@@ -202,9 +237,10 @@ fn put_through_tests(
 {
     let free = context.free();
     let held = held_from(pointer);
-    put_callee_tests(code, kind, line, held, free)?;
+    put_callee_tests(code, kind, line, pointer, free)?;
     put_room_tests(code, context.map, held.tag.key, line, free)?;
-    put_unknown_object_tests(code, context.alloc, context.map, held.tag.key, line, free)
+    put_unknown_object_tests(code, context.alloc, context.map, held.tag.key, line, free)?;
+    Ok(())
 }
 
 // Puts a call through a pointer to a function of the type of one behind a list.
@@ -216,7 +252,7 @@ fn put_through_one(
     call: Call,
 ) -> Result<(), AllocError>
     requires prepared { IsPrepared context.now }
-    requires few { total parameter_words one.now.parameters < 2 ^ 31 }
+    requires callee { CanBeCalled one.now }
     requires among { call.first + 1 + length one.now.parameters ≤ most_temporaries context.now.function.now.code }
     ensures { OnOk result (code.new.items ≡ code.old.items ++ through_code context.now.map.now context.now.program.now
         context.now.function.now one.now kind call.line call.first call.with_entry) }
@@ -238,7 +274,30 @@ fn put_through_one(
             results: result_words(given),
         },
     )?;
-    put_result_entry(code, given, call.with_entry, pointer)
+    put_result_entry(code, given, call.with_entry, pointer)?;
+    Ok(())
+}
+
+// Puts a call through a pointer to a function of the type of one behind a list; one with another number of arguments
+// ends the run.
+fn put_called_through(
+    code: &mut Vec<FlatInstruction>,
+    context: &FunctionContext,
+    one: &CodeFunction,
+    kind: u64,
+    call: Call,
+) -> Result<(), AllocError>
+    requires prepared { IsPrepared context.now }
+    requires callee { CanBeCalled one.now }
+    requires among { call.first + 1 + call.count ≤ most_temporaries context.now.function.now.code }
+    ensures { OnOk result (code.new.items ≡ code.old.items ++ through_of context.now.map.now context.now.program.now
+        context.now.function.now (Some one.now) kind call.line call.first call.count call.with_entry) }
+{
+    if one.parameters.as_slice().len() == call.count {
+        put_through_one(code, context, one, kind, call)
+    } else {
+        put(code, FlatInstruction::End(Ending::Abort(call.line)))
+    }
 }
 
 // The number of the first function of a type, and their count where no function has it.
@@ -268,13 +327,9 @@ pub fn put_call_through(
         (slice_get context.now.program.now.functions (first_of_type context.now.program.now.functions type_number))
         (first_of_type context.now.program.now.functions type_number) call.line call.first call.count call.with_entry) }
 {
-    let functions = context.program.functions.as_slice();
-    let kind = first_of_type(functions, type_number);
-    match functions.get(kind) {
+    let kind = first_of_type(context.program.functions.as_slice(), type_number);
+    match function_of(context.program, kind) {
         None => put(code, FlatInstruction::End(Ending::BadCall(call.line))),
-        Some(one) if one.parameters.as_slice().len() == call.count => {
-            put_through_one(code, context, one, kind as u64, call)
-        }
-        Some(_) => put(code, FlatInstruction::End(Ending::Abort(call.line))),
+        Some(one) => put_called_through(code, context, one, kind as u64, call),
     }
 }

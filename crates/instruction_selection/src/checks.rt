@@ -1,7 +1,7 @@
 //! Checks of pointers (C99 6.5.3.2): by their entries, and of named objects by the places of these.
 
-ghost use Rattle.std.specs.Prelude.{◌≡◌, ◌+◌, ◌-◌, ◌<◌, ◌≤◌, ◌^◌, ◌++◌, ◌∷◌, [], Bool, OnOk, Some, slice_get, max, min};
-ghost use Rattle.std.specs.Prelude.{length};
+ghost use Rattle.std.specs.Prelude.{◌≡◌, ℕ, ◌+◌, ◌-◌, ◌<◌, ◌≤◌, ◌^◌, ◌++◌, ◌∷◌, [], Bool, OnOk, Some, None, slice_get, max, min};
+ghost use Rattle.std.specs.Prelude.{length, MatchOption};
 ghost use Rattle.std.specs.List.{list_all};
 ghost use Rattle.shadow_space.specs.Form.{EntryCode};
 ghost use Rattle.metadata_plan.specs.OperatorLists.Operators.{operators};
@@ -30,7 +30,7 @@ use rv_isa::{BranchOp, RegOp};
 use sb_base::{Ending, Line};
 use static_data::pointers::size_of;
 use std::alloc::AllocError;
-use tac_ir::{Base, Key, Member, Test};
+use tac_ir::{Base, CodeFunction, Key, Member, Test};
 
 /// A check of a pointer.
 #[derive(Clone, Copy)]
@@ -131,14 +131,16 @@ pub struct ByteRange {
 
 // The greater of two numbers.
 fn greater(left: u128, right: u128) -> u128
-    ensures { result ≡ max left right }
+    ensures value { result ≡ max left right }
+    ensures among { (n : ℕ) → left < n → right < n → result < n }
 {
     if left < right { right } else { left }
 }
 
 // The less of two numbers.
 fn less(left: u128, right: u128) -> u128
-    ensures { result ≡ min left right }
+    ensures value { result ≡ min left right }
+    ensures low { result ≤ left }
 {
     if left < right { left } else { right }
 }
@@ -151,20 +153,33 @@ fn member_at(path: &[Member], number: usize) -> &Member
     &path[number]
 }
 
+// The bytes of a member whose place is fixed.
+fn member_range(member: &Member) -> ByteRange
+    ensures start { result.start ≡ member.now.constant }
+    ensures end { result.end ≡ member.now.constant + member.now.size }
+    ensures low { result.start < 2 ^ 64 }
+{
+    let start = member.constant as u128;
+    ByteRange {
+        start,
+        end: start + member.size as u128,
+    }
+}
+
 // The bytes of an object of a size that a path narrows a pointer to.
 fn path_range(size: u64, path: &[Member]) -> ByteRange
     ensures start { result.start ≡ (path_range size path.now).start }
     ensures end { result.end ≡ (path_range size path.now).end }
     ensures inside { result.end ≤ size }
+    ensures low { result.start < 2 ^ 64 }
 {
     let mut start = 0;
     let mut end = size as u128;
     let count = path.len();
     for behind in 0..count {
-        let member = member_at(path, count - 1 - behind);
-        let constant = member.constant as u128;
-        start = greater(start, constant);
-        end = less(end, constant + member.size as u128);
+        let member = member_range(member_at(path, count - 1 - behind));
+        start = greater(start, member.start);
+        end = less(end, member.end);
     }
     ByteRange { start, end }
 }
@@ -172,7 +187,8 @@ fn path_range(size: u64, path: &[Member]) -> ByteRange
 // The bytes of the object that a key begins with.
 fn named_size(context: &FunctionContext, base: Base) -> u64
     requires { IsPrepared context.now }
-    ensures { result ≡ named_size context.now.map.now context.now.program.now context.now.function.now base }
+    ensures value { result ≡ named_size context.now.map.now context.now.program.now context.now.function.now base }
+    ensures small { result ≤ 2 ^ 62 }
 {
     match base {
         Base::Plain(_) => 0,
@@ -265,6 +281,41 @@ fn put_range_test(
     put_most(code, check, (range.end - least) as u64)
 }
 
+// Puts a check of a pointer with a key behind a list.
+#[tactic(auto, using(crate::proofs::Lists::nothing_behind))]
+fn put_keyed(
+    code: &mut Vec<FlatInstruction>,
+    context: &FunctionContext,
+    check: Check,
+    key: &Key,
+) -> Result<(), AllocError>
+    requires prepared { IsPrepared context.now }
+    requires pointer { check.pointer + 5 ≤ check.scratch }
+    requires room { check.scratch + 16 ≤ 2 ^ 31 }
+    ensures { OnOk result ((read write : EntryCode) (with_entry : Bool) → code.new.items ≡ code.old.items
+        ++ judge_code (expansion_of read write context.now with_entry) context.now.function.now check.test
+        (Some key.now) check.size check.line check.pointer check.scratch) }
+{
+    if !can_compare(check.test, key) {
+        return put_check(code, context, check);
+    }
+    match check.test {
+        Test::Spatial => put_range_test(code, context, key, check),
+        Test::Temporal => Ok(()),
+    }
+}
+
+// The key of a number in a function.
+fn key_of(function: &CodeFunction, number: Option<usize>) -> Option<&Key>
+    ensures { MatchOption result (key_in function.now number ≡ None)
+        (λ key. key_in function.now number ≡ Some key.now) }
+{
+    match number {
+        Some(number) => function.keys.as_slice().get(number),
+        None => None,
+    }
+}
+
 /// Puts a check of a pointer behind a list: where its key begins with an object's name nothing is tested of its life,
 /// and where no member of the path moves, its address is compared with that of the object. It fails only for want of
 /// memory.
@@ -272,26 +323,17 @@ pub fn put_judge(
     code: &mut Vec<FlatInstruction>,
     context: &FunctionContext,
     check: Check,
-    key: Option<usize>,
+    number: Option<usize>,
 ) -> Result<(), AllocError>
     requires prepared { IsPrepared context.now }
     requires pointer { check.pointer + 5 ≤ check.scratch }
     requires room { check.scratch + 16 ≤ 2 ^ 31 }
     ensures { OnOk result ((read write : EntryCode) (with_entry : Bool) → code.new.items ≡ code.old.items
         ++ judge_code (expansion_of read write context.now with_entry) context.now.function.now check.test
-        (key_in context.now.function.now key) check.size check.line check.pointer check.scratch) }
+        (key_in context.now.function.now number) check.size check.line check.pointer check.scratch) }
 {
-    let Some(number) = key else {
-        return put_check(code, context, check);
-    };
-    let Some(key) = context.function.keys.as_slice().get(number) else {
-        return put_check(code, context, check);
-    };
-    if !can_compare(check.test, key) {
-        return put_check(code, context, check);
-    }
-    match check.test {
-        Test::Spatial => put_range_test(code, context, key, check),
-        Test::Temporal => Ok(()),
+    match key_of(context.function, number) {
+        Some(key) => put_keyed(code, context, check, key),
+        None => put_check(code, context, check),
     }
 }

@@ -1,6 +1,6 @@
 //! What the flat code of the instructions of a function is made from.
 
-ghost use Rattle.std.specs.Prelude.{◌≡◌, ◌+◌, ◌-◌, ◌*◌, ◌<◌, ◌≤◌, ◌^◌, length};
+ghost use Rattle.std.specs.Prelude.{◌≡◌, ◌+◌, ◌-◌, ◌*◌, ◌<◌, ◌≤◌, ◌^◌, true, length, Some, slice_get};
 ghost use Rattle.metadata_plan.specs.Registers.{most_temporaries};
 ghost use Rattle.metadata_relation.specs.Registers.{variable_register, home_register, temporary_register};
 ghost use Rattle.metadata_relation.specs.Registers.{moved_register};
@@ -12,6 +12,7 @@ ghost use Rattle.instruction_selection.specs.Contexts.{HasRegisters, type_at};
 use crate::registers::{Registers, argument_words};
 use crate::statics::StaticPlace;
 use addr_map::AddrMap;
+use c_tree::Variable;
 use std::alloc::Global;
 use tac_ir::{CodeFunction, Tac};
 
@@ -63,10 +64,11 @@ impl<'a> FunctionContext<'a> {
         argument_words(self.function.parameters.as_slice())
     }
 
-    /// The first register of the argument of a parameter.
-    pub fn parameter(&self, number: usize) -> u32
+    /// The first register of the argument of a parameter that is an object: its home stands behind it.
+    pub fn argument(&self, number: usize, parameter: Variable) -> u32
         requires registers { HasRegisters self.now }
-        requires there { number < length self.now.function.now.parameters }
+        requires there { slice_get self.now.function.now.parameters number ≡ Some parameter }
+        requires object { parameter.is_object ≡ true }
         ensures value { result ≡ variable_register self.now.function.now number }
         ensures room { result + 5 ≤ self.now.registers.now.free }
     {
@@ -84,7 +86,7 @@ impl<'a> FunctionContext<'a> {
     /// The register of the end of the object stack from before another block.
     pub fn block_top(&self, block: usize) -> u32
         requires registers { HasRegisters self.now }
-        requires there { block < 2 ^ 31 }
+        requires there { block < length self.now.function.now.blocks }
         ensures { result ≡ block_top_register self.now.function.now block }
     {
         self.registers.first_top + 1 + block as u32

@@ -209,7 +209,8 @@ fn put_pointer_update<S: ShadowForm>(
     put_store_moved::<S>(code, context, place.pointer, place.scratch)?;
     put_given(code, place, new)?;
     let from = held_from(place.scratch).tag;
-    put_entry_if(code, with_entry, held_from(place.into).tag, from)
+    put_entry_if(code, with_entry, held_from(place.into).tag, from)?;
+    Ok(())
 }
 
 /// Puts an update of a scalar through a pointer behind a list. It fails only for want of memory.

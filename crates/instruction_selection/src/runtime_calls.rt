@@ -69,6 +69,7 @@ fn put_status_tests(
 
 /// Puts what ends the run behind a list where a status in a register is not 0, but one of some. It fails only for want
 /// of memory.
+#[tactic(auto, using(crate::proofs::Routines::tests_short))]
 pub fn put_status(
     code: &mut Vec<FlatInstruction>,
     alloc: Global,
@@ -238,6 +239,7 @@ fn put_own_routine(
 }
 
 /// Puts a call of a routine of the library behind a list. It fails only for want of memory.
+#[tactic(auto, using(crate::proofs::Routines::called))]
 pub fn put_library(
     code: &mut Vec<FlatInstruction>,
     context: &FunctionContext,

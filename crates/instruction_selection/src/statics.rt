@@ -52,7 +52,7 @@ fn put_places(
 }
 
 /// Where the static objects of a program stand. It fails only for want of memory.
-#[tactic(auto, using(crate::proofs::StaticPlaces::are_places))]
+#[tactic(auto, using(crate::proofs::StaticPlaces::are_places, crate::proofs::Regions::globals_begin))]
 pub fn static_places(
     alloc: Global,
     map: &AddrMap,

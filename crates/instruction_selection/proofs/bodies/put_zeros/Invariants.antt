@@ -1,0 +1,6 @@
+use Rattle.std.proofs.Common.{◌≡◌, ◌++◌}
+use Rattle.metadata_relation.specs.Blocks.{zeros}
+use Rattle.instruction_selection.proofs.bodies.put_zeros.Given as goal
+
+abbrev pub invariant-loop-i : goal.invariant-loop-i
+invariant-loop-i l = l.code.items ≡ l.initial.code.items ++ zeros l.register l.i

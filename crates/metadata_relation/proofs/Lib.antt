@@ -6,6 +6,7 @@ pub mod Begins
 pub mod Behind
 pub mod BlockEndings
 pub mod BlockHomes
+pub mod BlockLayout
 pub mod BlockVariables
 pub mod CallHolds
 pub mod CallStates
@@ -26,7 +27,9 @@ pub mod FunctionsOfType
 pub mod Giving
 pub mod Handing
 pub mod Holding
+pub mod Homes
 pub mod Inline
+pub mod Laid
 pub mod Leaving
 pub mod LeftObjects
 pub mod Library

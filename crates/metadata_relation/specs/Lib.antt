@@ -1,10 +1,13 @@
+pub mod BlockLayout
 pub mod Blocks
 pub mod Contents
 pub mod Expanded
 pub mod FunctionTypes
 pub mod Holding
+pub mod Homes
 pub mod InlineCode
 pub mod InlineLists
+pub mod Laid
 pub mod Registers
 pub mod Scopes
 pub mod Stages

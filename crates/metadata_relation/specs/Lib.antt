@@ -5,6 +5,7 @@ pub mod FunctionTypes
 pub mod Holding
 pub mod InlineCode
 pub mod InlineLists
+pub mod Printing
 pub mod Registers
 pub mod Scopes
 pub mod Stages

@@ -1,5 +1,5 @@
 -- The parts of a print: a string is scanned, and a byte of the format, a number or a string is put out and counted.
-use Rattle.std.proofs.Common.{◌≡◌, ◌⊎◌, inl, inr, ℕ, suc, ◌+◌, ◌-◌, ◌*◌, ◌%◌, ◌^◌, ◌<◌, ◌≤◌, Bool, true, List, [], ◌∷◌}
+use Rattle.std.proofs.Common.{◌≡◌, inl, inr, ℕ, ◌+◌, ◌-◌, ◌*◌, ◌%◌, ◌^◌, ◌<◌, ◌≤◌, true, List, [], ◌∷◌}
 use Rattle.std.proofs.Common.{◌++◌, length, Some, None, refl, sym, ap, ◌∙◌, subst, arith}
 use Rattle.behaviours.specs.Steps.{run}
 use Rattle.behaviours.proofs.Running.{run_add}
@@ -20,7 +20,7 @@ use Rattle.tac_ir.specs.Stage.{Frame, Temps}
 use Rattle.flat_meaning.specs.declared.instruction.RightOperand.{RightOperand}
 use Rattle.flat_meaning.specs.declared.instruction.RightOperand.TheVariants.{Number, Register}
 use Rattle.flat_meaning.specs.declared.instruction.FlatInstruction.{FlatInstruction}
-use Rattle.flat_meaning.specs.declared.instruction.FlatInstruction.TheVariants.{Call, Move, Operate}
+use Rattle.flat_meaning.specs.declared.instruction.FlatInstruction.TheVariants.{Call, Operate}
 use Rattle.flat_meaning.specs.declared.function.FlatProgram.{FlatProgram}
 use Rattle.flat_meaning.specs.Calls.{function_in}
 use Rattle.flat_meaning.specs.Meaning.{body_of, right_value, step}
@@ -37,17 +37,17 @@ use Rattle.lib_wrappers.specs.PrintingRoutines.Formats.{byte_code}
 use Rattle.lib_wrappers.specs.PrintingRoutines.Numbers.{number_bytes}
 use Rattle.lib_wrappers.proofs.PrintingRoutines.Scans.{number_done}
 use Rattle.runtime_functions.specs.declared.runtime.RuntimeFunction.TheVariants.{PutBytes, PutNumber, Scan}
-use Rattle.runtime_functions.specs.Actions.{HasExited, HasTold, work_of_call}
+use Rattle.runtime_functions.specs.Actions.{work_of_call}
 use Rattle.runtime_functions.specs.Calls.{CallSite}
 use Rattle.runtime_functions.specs.Library.{held_from}
-use Rattle.runtime_functions.specs.Printing.{AreBytesAt, HasGoneBehind, HasFoundEnd, IsScanServed, number_steps, putting_steps}
+use Rattle.runtime_functions.specs.Printing.{AreBytesAt, HasGoneBehind, IsScanServed, number_steps, putting_steps}
 use Rattle.runtime_functions.proofs.PrintCalls.{number_served, put_served, scan_served}
 use Rattle.metadata_plan.specs.Registers.{most_temporaries}
 use Rattle.metadata_plan.proofs.Flat.{Comes, constant_comes, move_comes, operate_comes, put_comes}
 use Rattle.metadata_relation.specs.Blocks.{runtime_number, status_code}
 use Rattle.metadata_relation.specs.Holding.{IsHeldAt}
 use Rattle.metadata_relation.specs.Printing.{directive_place, end_register, put_argument, range_place, scan_place}
-use Rattle.metadata_relation.specs.Printing.{scan_argument, scan_statuses, string_register}
+use Rattle.metadata_relation.specs.Printing.{scan_statuses, string_register}
 use Rattle.metadata_relation.specs.Registers.{first_free, moved_register, temporary_register}
 use Rattle.metadata_relation.specs.Stages.{Compiled, IsAt, map_of, views, world}
 use Rattle.metadata_relation.specs.Steps.{IsCompiled}
@@ -243,8 +243,11 @@ module _ (c : Compiled) (IsGood : Bytes → Type 0) (right : IsCompiled c IsGood
                 (subst (λ e. IsSoFar o e (record z { work = z.work + passed.work }) (most + most_work counted + 2)) place k);
             below = λ r lt. b.behind.others r (inl lt);
             end_is = end_is;
-            found = record { range = served.found.range; there = λ j lt. ap (λ a. a (value.word + j)) (sym f.memory)
-                ∙ served.found.there j lt };
+            found = record {
+              range = served.found.range;
+              there = λ j lt. ap (λ a. a (value.word + j)) (sym f.memory)
+                  ∙ served.found.there j lt;
+            };
           }
       by_outcome (Ended e x') steps stage comes by (inr exited) =
           let t = told_status scan_statuses line e by.0 in

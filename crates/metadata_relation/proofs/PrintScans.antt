@@ -1,9 +1,8 @@
 -- What `printf` calls: the places of its functions, and what a scan of a string does to the state of the source: it counts
 -- the bytes that it looks at, and changes nothing else.
-use Rattle.std.proofs.Common.{◌≡◌, ◌⊎◌, inl, inr, ℕ, zero, suc, ◌+◌, ◌≤◌, ◌==◌, Bool, true, false, List, []}
-use Rattle.std.proofs.Common.{◌∷◌, Option, Some, None, refl, sym, ap, ◌∙◌, subst, arith}
+use Rattle.std.proofs.Common.{◌≡◌, inl, inr, ℕ, zero, suc, ◌+◌, ◌≤◌, ◌==◌, Bool, true, false, List, []}
+use Rattle.std.proofs.Common.{◌∷◌, Some, refl, sym, ap, ◌∙◌, arith}
 use Rattle.std.specs.Prelude.{slice_get}
-use Rattle.sb_base.specs.declared.ending.Ending.{Ending}
 use Rattle.sb_base.specs.declared.ending.Ending.TheVariants as ending
 use Rattle.obj_memory.specs.declared.judgement.Verdict.{Verdict}
 use Rattle.obj_memory.specs.declared.judgement.Verdict.TheVariants.{Outside, Dead, Inside}
@@ -98,10 +97,13 @@ module _ (l : ℕ) where
           → ScansBy l s (on o (λ byte. choose (byte == 0) (done [])
           (scan_within k (stop (ending.Spatial l)) (moved 1 p) l >>= (λ others. done (byte ∷ others)))))
       behind (Gives b s') e rest = chosen b s' e rest (b == 0)
-      behind (Ended e s') h rest = (h.0, record {
-        work = (let count = ap (λ (z : State). z.work) h.1 in omega arith);
-        same = h.1 ∙ ap (λ w. record s { work = w }) (sym (ap (λ (z : State). z.work) h.1));
-      })
+      behind (Ended e s') h rest = (
+        h.0,
+        record {
+          work = (let count = ap (λ (z : State). z.work) h.1 in omega arith);
+          same = h.1 ∙ ap (λ w. record s { work = w }) (sym (ap (λ (z : State). z.work) h.1));
+        },
+      )
       behind (Paused s') h rest = h
 
   pub scan_by : (p : Value) (s : State) → ScansBy l s (scan p l s)

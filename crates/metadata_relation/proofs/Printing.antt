@@ -1,5 +1,5 @@
 -- `printf` with a format known at compile time: all strings are scanned, then all is put out, and the count is the result.
-use Rattle.std.proofs.Common.{◌≡◌, ◌⊎◌, inl, inr, ℕ, zero, suc, ◌+◌, ◌-◌, ◌*◌, ◌%◌, ◌^◌, ◌<◌, ◌≤◌, Bool, true, List, []}
+use Rattle.std.proofs.Common.{◌≡◌, ◌⊎◌, inl, inr, ℕ, zero, suc, ◌+◌, ◌-◌, ◌*◌, ◌%◌, ◌^◌, ◌<◌, ◌≤◌, true, List, []}
 use Rattle.std.proofs.Common.{◌∷◌, ◌++◌, length, length-append, append_assoc, append-nil, Option, Some, None, refl, sym}
 use Rattle.std.proofs.Common.{ap, ◌∙◌, subst, arith, le-leb, lt-ltb, ltb-true}
 use Rattle.std.proofs.lemmas.Bool.{and_from, and_parts, false≢true}
@@ -20,7 +20,7 @@ use Rattle.c_tree.specs.declared.format.Piece.TheVariants as piece
 use Rattle.c_tree.specs.Format.{directives, pieces}
 use Rattle.source_meaning.specs.State.{done, Ended, Gives, on, Outcome, Paused, State, ◌>>◌, ◌>>=◌}
 use Rattle.source_meaning.specs.Actions.{integer, put_bytes}
-use Rattle.source_meaning.specs.Printing.{argument_bytes, formatted, pieces_or_none}
+use Rattle.source_meaning.specs.Printing.{formatted, pieces_or_none}
 use Rattle.source_meaning.specs.Strings.{scan}
 use Rattle.source_meaning.specs.Structures.{give, rvalue, values_of}
 use Rattle.tac_ir.specs.declared.instruction.Instruction.{Instruction}
@@ -49,26 +49,25 @@ use Rattle.lib_wrappers.specs.PrintingRoutines.Formats.{byte_code, counted_code}
 use Rattle.lib_wrappers.specs.PrintingRoutines.Numbers.{number_bytes}
 use Rattle.lib_wrappers.proofs.PrintingRoutines.Scans.{number_done}
 use Rattle.runtime_functions.specs.Printing.{AreBytesAt}
-use Rattle.metadata_plan.specs.Entries.{is_among}
 use Rattle.metadata_plan.specs.Expanded.{Leads}
 use Rattle.metadata_plan.specs.Registers.{most_temporaries}
 use Rattle.metadata_plan.proofs.Flat.{constant_comes, one, weight_small}
 use Rattle.metadata_relation.specs.Blocks.{runtime_number, status_code, top_cell, untagged}
 use Rattle.metadata_relation.specs.Holding.{GoesOn, IsHeldAt}
-use Rattle.metadata_relation.specs.Printing.{directive_place, end_register, print_code, put_argument, put_pieces}
+use Rattle.metadata_relation.specs.Printing.{directive_place, end_register, put_argument, put_pieces}
 use Rattle.metadata_relation.specs.Printing.{scan_argument, scan_pieces, scan_place, scan_statuses, string_register}
-use Rattle.metadata_relation.specs.Registers.{first_free, moved_register, temporary_register}
+use Rattle.metadata_relation.specs.Registers.{first_free, temporary_register}
 use Rattle.metadata_relation.specs.Scopes.{context_at}
 use Rattle.metadata_relation.specs.Stages.{Compiled, expansion_of, IsAt, map_of, names, views, world}
 use Rattle.metadata_relation.specs.Steps.{have_bytes, IsCompiled}
-use Rattle.metadata_relation.proofs.Acting.{acts_called, behind_action, HasActed, Reached, reached_next}
+use Rattle.metadata_relation.proofs.Acting.{acts_called, behind_action, HasActed, reached_next}
 use Rattle.metadata_relation.proofs.Assigning.{assigned}
-use Rattle.metadata_relation.proofs.Finishing.{acted_as, ends_with, integer_cleared, IsPlacedIn, untagged_few}
+use Rattle.metadata_relation.proofs.Finishing.{acted_as, ends_with, integer_cleared, untagged_few}
 use Rattle.metadata_relation.proofs.Holding.{same_world}
 use Rattle.metadata_relation.proofs.Pointers.{operand}
-use Rattle.metadata_relation.proofs.PrintParts.{byte_put, HasPutOut, HasScanned, HasStopped, IsSoFar, number_put, scanned}
+use Rattle.metadata_relation.proofs.PrintParts.{byte_put, HasPutOut, HasStopped, IsSoFar, number_put, scanned}
 use Rattle.metadata_relation.proofs.PrintParts.{ScanLeaves, set, string_put}
-use Rattle.metadata_relation.proofs.PrintScans.{scan_by, ScansBy, worked_then}
+use Rattle.metadata_relation.proofs.PrintScans.{scan_by, ScansBy}
 use Rattle.metadata_relation.proofs.Registers.{temporary_free}
 use Rattle.metadata_relation.proofs.Standing.{ends, good_now, IsNode, leaves_same, node, Result}
 
@@ -300,7 +299,7 @@ module _ (c : Compiled) (IsGood : Bytes → Type 0) (right : IsCompiled c IsGood
         let later = l.1.work in
         let rest = scans ps (i + 1) in
         let place : q + suc (length (tests (string_register h.code i))) + length rest
-            ≡ q + length (scans (piece.Directive directive.String ∷ ps) i) =
+        ≡ q + length (scans (piece.Directive directive.String ∷ ps) i) =
         omega (arith, length-append (tests (string_register h.code i)) rest) in (
           record {
             state = l.0.state;
@@ -483,7 +482,7 @@ module _ (c : Compiled) (IsGood : Bytes → Type 0) (right : IsCompiled c IsGood
         (held_at i from to).word (subst (HasAt body q) list_is has) in
         let r' = subst (λ z. PutOut (o ++ z) (a + length z) (q + 1 + 1) (most + (49 + 30 * length z)) first y) (sym is) r in
         let place : q + 1 + 1
-            ≡ q + length (put_argument (λ k. runtime_number c.layout.expansion.code k) h.code e i (first_free h.code)) =
+        ≡ q + length (put_argument (λ k. runtime_number c.layout.expansion.code k) h.code e i (first_free h.code)) =
         omega (arith, ap length list_is) in
         record {
           state = r'.state;

@@ -47,6 +47,7 @@ use Rattle.metadata_relation.proofs.Members.{narrow_step, member_step}
 use Rattle.metadata_relation.proofs.Updating.{update_plain_step}
 use Rattle.metadata_relation.proofs.LibraryCalls.{routine_step}
 use Rattle.metadata_relation.proofs.Calls.{call_step}
+use Rattle.metadata_relation.proofs.Printing.{print_step}
 use Rattle.metadata_relation.proofs.CallsThrough.{call_through_step}
 use Rattle.metadata_relation.proofs.Returns.{return_step}
 
@@ -185,6 +186,9 @@ module _ (c : Compiled) (IsGood : Bytes → Type 0) (right : IsCompiled c IsGood
       (not-true (c.layout.expansion.contents u n a) (admitted (tac.Member offset size d a m) at)) at
   instruction (tac.Library r line d count m) at e f =
       routine_step c IsGood right u n temps ws s v xs h words r line d count m at f
+  instruction (tac.Print text line d count m) at e f =
+      print_step c IsGood right u n temps ws s v xs h words text line d count m at f
+      (admitted (tac.Print text line d count m) at)
   instruction (tac.Call g line d count m) at e f =
       call_step c IsGood right u n temps ws s v xs h words g line d count m at f (admitted (tac.Call g line d count m) at)
   instruction (tac.CallThrough type line d count m) at e f =

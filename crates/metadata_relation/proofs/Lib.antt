@@ -47,6 +47,9 @@ pub mod Packing
 pub mod Parts
 pub mod PlacedHomes
 pub mod Pointers
+pub mod PrintParts
+pub mod PrintScans
+pub mod Printing
 pub mod Ranges
 pub mod Reading
 pub mod Registers

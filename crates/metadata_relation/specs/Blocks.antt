@@ -23,11 +23,13 @@ use Rattle.c_tree.specs.declared.expression.OffsetForm.TheVariants.{PointerPlusI
 use Rattle.c_tree.specs.declared.expression.Routine.{Routine}
 use Rattle.c_tree.specs.declared.expression.Routine.TheVariants as routine
 use Rattle.c_tree.specs.declared.program.Variable.{Variable}
+use Rattle.c_tree.specs.Format.{pieces}
 use Rattle.c_tree.specs.Kinds.{size_of_kind}
 use Rattle.c_tree.specs.Valid.{at_number}
 use Rattle.source_meaning.specs.Blocks.{has_objects}
 use Rattle.source_meaning.specs.Calls.{body_objects}
 use Rattle.source_meaning.specs.Good.{plain_type}
+use Rattle.source_meaning.specs.Printing.{pieces_or_none}
 use Rattle.tac_ir.specs.declared.instruction.RightOperand.{RightOperand}
 use Rattle.tac_ir.specs.declared.instruction.RightOperand.TheVariants.{Temporary, One}
 use Rattle.tac_ir.specs.declared.instruction.Test.{Test}
@@ -72,6 +74,7 @@ use Rattle.metadata_plan.specs.Operators.{OperatorCode}
 use Rattle.metadata_relation.specs.Contents.{Contents}
 use Rattle.metadata_relation.specs.FunctionTypes.{first_of_type}
 use Rattle.metadata_relation.specs.InlineCode.{InlineCode}
+use Rattle.metadata_relation.specs.Printing.{print_code, scan_statuses}
 use Rattle.metadata_relation.specs.Registers.{passed_as, parameters_end, area_words, result_words, variable_words, total}
 use Rattle.metadata_relation.specs.Registers.{variable_register, home_register, home_entry, body_top_register}
 use Rattle.metadata_relation.specs.Registers.{block_top_register, lock_register, temporary_register, moved_register}
@@ -685,6 +688,10 @@ block e u c (tac.Case a w x y) =
     ++ (Branch Beq (temporary_register c a) (Register (first_free c)) 1 ∷ [])
 block e u c (tac.Turn counted m) = Turn ∷ []
 block e u c (tac.Library r line d n m) = library_code e.inline e.code c r line d (e.entries u m d)
+block e u c (tac.Print x line d n m) =
+    print_code (runtime_number e.code) (λ r. status_code r line scan_statuses) c
+    (pieces_or_none (pieces (text_in e.code x))) d
+    ++ untagged (e.entries u m d) (temporary_register c d)
 block e u c (tac.Call f line d n m) =
     call_of e.map e.code c (function_in e.code f) f line d n (e.entries u m d)
 block e u c (tac.CallThrough type_number line d n m) =

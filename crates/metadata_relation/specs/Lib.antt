@@ -8,6 +8,7 @@ pub mod Homes
 pub mod InlineCode
 pub mod InlineLists
 pub mod Laid
+pub mod Printing
 pub mod Registers
 pub mod Scopes
 pub mod Stages

@@ -1,12 +1,15 @@
 -- What the steps of instructions rest on, and which of them are covered so far.
 use Rattle.std.specs.Prelude.{◌≡◌, ℕ, ◌^◌, ◌<◌, ◌≤◌, Bool, true, false, not, ◌&&◌, ◌||◌, ◌==◌, List, [], ◌∷◌}
-use Rattle.std.specs.Prelude.{length, map, Option, Some, None, slice_get, nat_le}
+use Rattle.std.specs.Prelude.{length, map, Option, Some, None, slice_get, nat_le, nat_lt}
 use Rattle.behaviours.specs.Steps.{run}
 use Rattle.addr_map.specs.Places.{AreMapped, code_begin, function_address}
 use Rattle.obj_memory.specs.declared.value.Scalar.{Scalar}
 use Rattle.c_tree.specs.declared.expression.Kind.{Kind}
 use Rattle.c_tree.specs.declared.expression.Kind.TheVariants.{Void, Scalar as OfScalar, Structure, Array}
 use Rattle.c_tree.specs.declared.program.Variable.{Variable}
+use Rattle.c_tree.specs.declared.format.Piece.{Piece}
+use Rattle.c_tree.specs.declared.format.Piece.TheVariants as piece
+use Rattle.c_tree.specs.Format.{pieces}
 use Rattle.c_tree.specs.Kinds.{size_of_kind}
 use Rattle.c_tree.specs.ValidProgram.{is_valid_program}
 use Rattle.c_tree.specs.declared.expression.Routine.{Routine}
@@ -17,6 +20,7 @@ use Rattle.source_meaning.specs.Blocks.{has_objects}
 use Rattle.source_meaning.specs.Calls.{header_of}
 use Rattle.source_meaning.specs.Good.{plain_type}
 use Rattle.source_meaning.specs.Meaning.{setting_of, initial_objects}
+use Rattle.source_meaning.specs.Printing.{pieces_or_none}
 use Rattle.tac_ir.specs.declared.instruction.Instruction.{Instruction}
 use Rattle.tac_ir.specs.declared.instruction.Instruction.TheVariants as tac
 use Rattle.tac_ir.specs.declared.instruction.Mode.{Mode}
@@ -24,7 +28,7 @@ use Rattle.tac_ir.specs.declared.instruction.Mode.TheVariants.{Named, Unchecked,
 use Rattle.tac_ir.specs.declared.function.CodeFunction.{CodeFunction}
 use Rattle.tac_ir.specs.declared.function.Tac.{Tac}
 use Rattle.tac_ir.specs.Fitting.{is_word}
-use Rattle.tac_ir.specs.Meaning.{function_in, header_of_code, objects_before, objects_in}
+use Rattle.tac_ir.specs.Meaning.{function_in, header_of_code, objects_before, objects_in, text_in}
 use Rattle.tac_ir.specs.Stage.{Stage}
 use Rattle.flat_meaning.specs.Memory.{Bytes}
 use Rattle.flat_meaning.specs.State as flat
@@ -135,6 +139,7 @@ covers c (tac.Difference size d a b m) = nat_le 1 size && is_short size
 covers c (tac.Narrow offset size d a m) = is_part offset size
 covers c (tac.Member offset size d a m) = is_part offset size
 covers c (tac.Library r line d n m) = true
+covers c (tac.Print x line d n m) = true
 covers c (tac.Call f line d n m) = true
 covers c (tac.CallThrough type_number line d n m) = true
 covers c (tac.Return a) = true
@@ -170,12 +175,20 @@ abbrev pub gives_scalar : Tac → Option CodeFunction → Bool
 gives_scalar t None = true
 gives_scalar t (Some k) = is_no_aggregate (result_of t k)
 
+-- what stands in a format is bytes
+abbrev pub have_bytes : List Piece → Bool
+have_bytes [] = true
+have_bytes (piece.Byte b ∷ ps) = nat_lt b 256 && have_bytes ps
+have_bytes (piece.Directive d ∷ ps) = have_bytes ps
+
 -- what is asked of the node besides: contents are read and written by other instructions, and a member of them is another
 abbrev pub admits : Compiled → (function node : ℕ) → Instruction → Bool
 admits c u n (tac.Read kind mode line key d a m) = not (c.layout.expansion.contents u n a)
 admits c u n (tac.Write kind mode line key d a b m) = not (c.layout.expansion.contents u n a)
 admits c u n (tac.Update w k f mode line at key d a right m) = not (c.layout.expansion.contents u n a)
 admits c u n (tac.Member offset size d a m) = not (c.layout.expansion.contents u n a)
+admits c u n (tac.Print x line d count m) =
+    have_bytes (pieces_or_none (pieces (text_in c.layout.expansion.code x)))
 admits c u n (tac.Call f line d count m) =
     is_scalar_call c.layout.expansion.code (function_in c.layout.expansion.code f) (c.layout.expansion.entries u m d)
 admits c u n (tac.CallThrough type_number line d count m) =

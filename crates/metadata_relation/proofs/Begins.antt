@@ -112,7 +112,7 @@ module _ (c : Compiled) (IsGood : Bytes → Type 0) (right : IsCompiled c IsGood
     (local : IsLocal (map_of c) c.entry IsGood) (covered : CoversMain c) (input : List ℕ) (memory : Bytes)
     (k : CodeFunction)
     (found : code_in c.layout.expansion.code c.layout.expansion.code.main ≡ Some k)
-    (plain : IsScalarCall c IsGood right k false) (nothing : length k.parameters ≡ 0) where
+    (plain : IsScalarCall c IsGood right k) (nothing : length k.parameters ≡ 0) where
   abbrev m : MapSizes
   m = map_of c
 
@@ -535,10 +535,10 @@ begins c IsGood right local covered s x h words =
         (started c.layout.program h.memory h.input)
     by None found e = cc
     by (Some k) found e =
-        let parts = and_parts (is_scalar_call c.layout.expansion.code (Some k) false) (length k.parameters == 0) e in
+        let parts = and_parts (is_scalar_call c.layout.expansion.code (Some k)) (length k.parameters == 0) e in
         subst (λ z. Result c IsGood (called_at c.setting z c.layout.expansion.code.main [] (line_in z) []
         (spent 4 (fresh c.setting (objects_before (expansion_of c).code c.setting) h.input)))
         (started c.layout.program h.memory h.input)) (sym found)
         (main_called c IsGood right local covered h.input h.memory k found
-        (scalar_call c IsGood right k false parts.0) (eqb-true (length k.parameters) 0 parts.1) h.stands h.spaces
+        (scalar_call c IsGood right k parts.0) (eqb-true (length k.parameters) 0 parts.1) h.stands h.spaces
         (subst HasWords h.started_is words))

@@ -126,7 +126,7 @@ module _ (c : Compiled) (IsGood : Bytes → Type 0) (right : IsCompiled c IsGood
 
     module _ (k : CodeFunction) (found : code_in c.layout.expansion.code f ≡ Some k)
         (passed : are_passed (taken_by (header_of_code k)) (gathered temps d count) ≡ true)
-        (plain : IsScalarCall c IsGood right k (c.layout.expansion.entries u next d)) where
+        (plain : IsScalarCall c IsGood right k) where
       count_is : count ≡ length k.parameters
       count_is = count_passed (taken_by (header_of_code k)) temps d count passed ∙ length-map k.parameters _
 
@@ -193,13 +193,9 @@ module _ (c : Compiled) (IsGood : Bytes → Type 0) (right : IsCompiled c IsGood
       abbrev vs : List Rvalue
       vs = gathered temps d count
 
-      plain_enough : IsScalarCall c IsGood right k false
-      plain_enough =
-          record { entered = plain.entered; scalars = plain.scalars; result = plain.result; valued = λ e. refl }
-
       -- no bytes are left for it
       exhausts : (map_of c).budgets.calls < s.charged + k.room
-          → Gives (call_stage c IsGood right u pc q v xs f k found plain_enough line packed_at (T d) vs (Waits waits ∷ ws)
+          → Gives (call_stage c IsGood right u pc q v xs f k found plain line packed_at (T d) vs (Waits waits ∷ ws)
           (spent 6 s))
       exhausts more =
           let budget = ap (λ (z : MapSizes). z.budgets.calls) right.sizes in
@@ -274,7 +270,7 @@ module _ (c : Compiled) (IsGood : Bytes → Type 0) (right : IsCompiled c IsGood
             (omega arith) ∙ ap is_moved_with_entry kind))
 
         abbrev Entered : Type 0
-        Entered = Gives (call_stage c IsGood right u pc q v xs f k found plain_enough line packed_at (T d) vs
+        Entered = Gives (call_stage c IsGood right u pc q v xs f k found plain line packed_at (T d) vs
             (Waits waits ∷ ws) (spent 6 s))
 
         enters_it : has_room ≡ true → (has_objects (objects_of_body k) ≡ true → has_key ≡ true) → Entered
@@ -315,15 +311,14 @@ module _ (c : Compiled) (IsGood : Bytes → Type 0) (right : IsCompiled c IsGood
           (cases_lt (map_of c).budgets.calls (s.charged + k.room))
 
     pub call_step : fit_call (code_in c.layout.expansion.code f) (gathered temps d count) ≡ true
-        → is_scalar_call c.layout.expansion.code (code_in c.layout.expansion.code f)
-        (c.layout.expansion.entries u next d) ≡ true
+        → is_scalar_call c.layout.expansion.code (code_in c.layout.expansion.code f) ≡ true
         → Gives (effect c.setting (expansion_of c).code (tac.Call f line d count next) u temps ws (spent 6 s))
     call_step = by (code_in c.layout.expansion.code f) refl
       where
         by : (o : Option CodeFunction) → code_in c.layout.expansion.code f ≡ o
             → fit_call o (gathered temps d count) ≡ true
-            → is_scalar_call c.layout.expansion.code o (c.layout.expansion.entries u next d) ≡ true
+            → is_scalar_call c.layout.expansion.code o ≡ true
             → Gives (called_at c.setting o f (gathered temps d count) line (Waits waits ∷ ws) (spent 6 s))
         by None found passed plain = missing found
         by (Some k) found passed plain =
-            called k found passed (scalar_call c IsGood right k (c.layout.expansion.entries u next d) plain)
+            called k found passed (scalar_call c IsGood right k plain)

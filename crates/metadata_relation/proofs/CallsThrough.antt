@@ -293,8 +293,7 @@ module _ (c : Compiled) (IsGood : Bytes → Type 0) (right : IsCompiled c IsGood
 
     module _ (like : CodeFunction) (first : slice_get c.layout.expansion.code.functions kind ≡ Some like)
         (fit : fit_type c.setting.functions type (gathered temps (d + 1) count) ≡ true)
-        (plains : are_scalar_calls c.layout.expansion.code type c.layout.expansion.code.functions
-        (c.layout.expansion.entries u next d) ≡ true) where
+        (plains : are_scalar_calls c.layout.expansion.code type c.layout.expansion.code.functions ≡ true) where
       typed_like : like.type_number ≡ type
       typed_like = first_typed fs type like first
 
@@ -373,13 +372,8 @@ module _ (c : Compiled) (IsGood : Bytes → Type 0) (right : IsCompiled c IsGood
       module _ (f : ℕ) (k : CodeFunction) (found : code_in c.layout.expansion.code f ≡ Some k)
           (typed : k.type_number ≡ type) (tag_is : (temps d).value.tag ≡ OfFunction f)
           (word_is : (temps d).value.word ≡ function_address f) (passed_all : passes ≡ true) where
-        plain : IsScalarCall c IsGood right k (c.layout.expansion.entries u next d)
-        plain = scalar_call c IsGood right k (c.layout.expansion.entries u next d)
-            (plain_at code type with_entry fs f k plains found typed)
-
-        plain_enough : IsScalarCall c IsGood right k false
-        plain_enough =
-            record { entered = plain.entered; scalars = plain.scalars; result = plain.result; valued = λ e. refl }
+        plain : IsScalarCall c IsGood right k
+        plain = scalar_call c IsGood right k (plain_at code type fs f k plains found typed)
 
         passed : are_passed (taken_by (header_of_code k)) (gathered temps (d + 1) count) ≡ true
         passed = passed_to type vs fs f k fits_code found typed
@@ -635,7 +629,7 @@ module _ (c : Compiled) (IsGood : Bytes → Type 0) (right : IsCompiled c IsGood
           packed = assigned moves D.values
 
           abbrev Entered : Type 0
-          Entered = Gives (call_stage c IsGood right u pc q v xs f k found plain_enough line packed_at (T d) vs
+          Entered = Gives (call_stage c IsGood right u pc q v xs f k found plain line packed_at (T d) vs
               (Waits waits ∷ ws) (spent 8 s))
 
           abbrev go_on : Unit {0} → State → Stage
@@ -723,8 +717,7 @@ module _ (c : Compiled) (IsGood : Bytes → Type 0) (right : IsCompiled c IsGood
           passes_same)
 
     pub call_through_step : fit_type c.setting.functions type (gathered temps (d + 1) count) ≡ true
-        → are_scalar_calls c.layout.expansion.code type c.layout.expansion.code.functions
-        (c.layout.expansion.entries u next d) ≡ true
+        → are_scalar_calls c.layout.expansion.code type c.layout.expansion.code.functions ≡ true
         → Gives (effect c.setting (expansion_of c).code (tac.CallThrough type line d count next) u temps ws (spent 8 s))
     call_through_step fit plains = by (slice_get c.layout.expansion.code.functions kind) refl
       where

@@ -1,4 +1,4 @@
--- Differences of pointers in elements of a short size.
+-- Differences of pointers in elements of a size of 33 bits.
 use Rattle.std.proofs.Common.{◌≡◌, inl, ℕ, ◌-◌, ◌^◌, ◌<◌, ◌≤◌, List, refl, sym, ap, ap₂, subst}
 use Rattle.std.proofs.Common.{arith, Some}
 use Rattle.std.specs.Prelude.{slice_get, ◌==◌, ◌||◌}
@@ -77,12 +77,12 @@ module _ (c : Compiled) (IsGood : Bytes → Type 0) (right : IsCompiled c IsGood
       (computes_integer c IsGood right u n temps ws s v xs h words i k d next value most list refl (inl refl) low k.put.has
       k.put.leads made (omega (arith, few)))
 
-  pub difference_step : (size d a b next : ℕ) → 1 ≤ size → size < 2 ^ 31 - 2 ^ 11
+  pub difference_step : (size d a b next : ℕ) → 1 ≤ size → size < 2 ^ 33
       → slice_get h.code.code n ≡ Some (tac.Difference size d a b next)
       → Result c IsGood (effect c.setting (expansion_of c).code (tac.Difference size d a b next) u temps ws (spent 1 s))
       (flat.Stands u (c.layout.address u n) v xs)
-  difference_step size d a b next some short at =
-      difference_within size d a b next 3 (omega arith) at
-      (λ operands. right.inline.short_difference (context (map_of c) c.layout.program u xs) 1 size
-      (temporary_register h.code d) (temporary_register h.code a) (temporary_register h.code b) (first_free h.code) some
-      short operands)
+  difference_step size d a b next some few at =
+      difference_within size d a b next 5 (omega arith) at
+      (λ operands. right.inline.few_difference (context (map_of c) c.layout.program u xs) 1 size
+      (temporary_register h.code d) (temporary_register h.code a) (temporary_register h.code b) (first_free h.code) some few
+      operands)

@@ -128,7 +128,7 @@ module _ (c : Compiled) (IsGood : Bytes → Type 0) (right : IsCompiled c IsGood
 
 module _ (c : Compiled) (IsGood : Bytes → Type 0) (right : IsCompiled c IsGood) (u pc q : ℕ) (v : flat.State)
     (xs : List flat.Frame) (f : ℕ) (k : CodeFunction)
-    (found : slice_get c.layout.expansion.code.functions f ≡ Some k) (plain : IsScalarCall c IsGood right k false)
+    (found : slice_get c.layout.expansion.code.functions f ≡ Some k) (plain : IsScalarCall c IsGood right k)
     (line first into : ℕ) (vs : List Rvalue) (ws : List Frame) (s : State) where
   abbrev Gives : Stage → Type 0
   Gives = GivesCall c IsGood right u pc q v xs f k found plain line first into vs ws s

@@ -53,7 +53,6 @@ use Rattle.metadata_relation.specs.Registers.{variable_register}
 use Rattle.metadata_relation.specs.Stages.{factor, Compiled, map_of, views, world}
 use Rattle.metadata_relation.specs.Stages.{StandsIn, MatchesBy}
 use Rattle.metadata_relation.specs.Steps.{IsCompiled, is_no_aggregate, are_scalars, is_scalar_call}
-use Rattle.metadata_relation.specs.Waiting.{has_value}
 use Rattle.metadata_relation.proofs.Assigning.{assigned, assigns}
 use Rattle.metadata_relation.proofs.CallHolds.{none_has, callee_holds}
 use Rattle.metadata_relation.proofs.Holding.{same_world, plain_on}
@@ -143,32 +142,22 @@ module _ (c : Compiled) (IsGood : Bytes → Type 0) (right : IsCompiled c IsGood
   }
 
   -- what is tested of a call
-  pub record IsScalarCall (k : CodeFunction) (with_entry : Bool) : Type 0 where
+  pub record IsScalarCall (k : CodeFunction) : Type 0 where
     pub entered : has_objects (objects_of_body k) ≡ true → can_be_entered (objects_of_body k) ≡ true
     pub scalars : are_scalars k.parameters ≡ true
     pub result : is_no_aggregate (result_of c.layout.expansion.code k) ≡ true
-    pub valued : has_value (result_of c.layout.expansion.code k) ≡ false → with_entry ≡ false
 
-  pub scalar_call : (k : CodeFunction) (b : Bool) → is_scalar_call c.layout.expansion.code (Some k) b ≡ true
-      → IsScalarCall k b
-  scalar_call k b e =
+  pub scalar_call : (k : CodeFunction) → is_scalar_call c.layout.expansion.code (Some k) ≡ true → IsScalarCall k
+  scalar_call k e =
       let t = c.layout.expansion.code in
       let vs = objects_of_body k in
-      let all = and_parts (can_enter_body vs && are_scalars k.parameters)
-      (is_no_aggregate (result_of t k) && (has_value (result_of t k) || not b)) e in
+      let all = and_parts (can_enter_body vs && are_scalars k.parameters) (is_no_aggregate (result_of t k)) e in
       let first = and_parts (can_enter_body vs) (are_scalars k.parameters) all.0 in
-      let second = and_parts (is_no_aggregate (result_of t k)) (has_value (result_of t k) || not b) all.1 in
       record {
         entered = λ some. ap (λ z. not z || can_be_entered vs) (sym some) ∙ first.0;
         scalars = first.1;
-        result = second.0;
-        valued = λ no. by (has_value (result_of t k)) b no second.1;
+        result = all.1;
       }
-    where
-      by : (x b : Bool) → x ≡ false → (x || not b) ≡ true → b ≡ false
-      by true b e q = cc
-      by false true e q = cc
-      by false false e q = refl
 
   -- the words of plain variables
   few_words : (vs : List Variable) → total variable_words vs ≤ 5 * plain_count vs
@@ -206,7 +195,7 @@ module _ (c : Compiled) (IsGood : Bytes → Type 0) (right : IsCompiled c IsGood
 
   -- From where the arguments stand packed and the call does, the run comes to where the function's variables are set.
   module _ (u pc q : ℕ) (v : flat.State) (xs : List flat.Frame) (f : ℕ) (k : CodeFunction)
-      (found : slice_get c.layout.expansion.code.functions f ≡ Some k) (plain : IsScalarCall k false) (line first into : ℕ)
+      (found : slice_get c.layout.expansion.code.functions f ≡ Some k) (plain : IsScalarCall k) (line first into : ℕ)
       (vs : List Rvalue) (ws : List Frame) (s : State) where
     abbrev pub GivesCall : Stage → Type 0
     GivesCall a = Result c IsGood a (flat.Stands u pc v xs)

@@ -21,13 +21,13 @@ use Rattle.flat_meaning.specs.Words.{HasWords}
 use Rattle.metadata_plan.specs.Registers.{all_variables}
 use Rattle.metadata_relation.specs.Blocks.{is_short}
 use Rattle.metadata_relation.specs.Stages.{Compiled, map_of, expansion_of, IsAt, MatchesBy, Matches}
-use Rattle.metadata_relation.specs.Steps.{IsCompiled, covers, admits, is_part, is_scalar_type, is_settled}
+use Rattle.metadata_relation.specs.Steps.{IsCompiled, covers, admits, is_few, is_part, is_scalar_type, is_settled}
 use Rattle.metadata_relation.specs.Steps.{is_update_by_word, IsCovered, ComesToMatch}
 use Rattle.metadata_plan.proofs.Flat.{words_kept}
 use Rattle.metadata_relation.proofs.Standing.{Result}
 use Rattle.metadata_relation.proofs.Simple.{constant, unary, binary, skip_step, branch, turn, case}
 use Rattle.metadata_relation.proofs.Moving.{get_plain, zero_of_scalar, zero_of_void, convert_void, convert_integer}
-use Rattle.metadata_relation.proofs.Moving.{convert_pointer}
+use Rattle.metadata_relation.proofs.Moving.{convert_array, convert_pointer, convert_structure, zero_of_array}
 use Rattle.metadata_relation.proofs.Setting.{set_plain_step}
 use Rattle.metadata_relation.proofs.Pointers.{home_pointer, offset}
 use Rattle.metadata_relation.proofs.Checking.{judge}
@@ -52,9 +52,11 @@ use Rattle.metadata_relation.proofs.CallsThrough.{call_through_step}
 use Rattle.metadata_relation.proofs.Returns.{return_step}
 
 part_is : (offset size : ℕ) → is_part offset size ≡ true
-    → (offset < 2 ^ 64) × (size < 2 ^ 64) × ((is_short offset || is_short size) ≡ true)
+    → (offset < 2 ^ 64) × (size < 2 ^ 64)
+    × (((is_short offset || is_short size) || (is_few offset && is_few size)) ≡ true)
 part_is offset size e =
-    let p = and_parts (is_word offset && is_word size) (is_short offset || is_short size) e in
+    let p = and_parts (is_word offset && is_word size)
+    ((is_short offset || is_short size) || (is_few offset && is_few size)) e in
     let w = and_parts (is_word offset) (is_word size) p.0 in
     (ltb-true offset (2 ^ 64) w.0, ltb-true size (2 ^ 64) w.1, p.1)
 
@@ -75,15 +77,15 @@ module _ (c : Compiled) (IsGood : Bytes → Type 0) (right : IsCompiled c IsGood
   zero Void d m at e f = zero_of_void c IsGood right u n temps ws s v xs h words.0 d m at
   zero (OfScalar k) d m at e f = zero_of_scalar c IsGood right u n temps ws s v xs h words.0 k d m at
   zero (Structure size) d m at e f = cc
-  zero (Array size) d m at e f = cc
+  zero (Array size) d m at e f = zero_of_array c IsGood right u n temps ws s v xs h words.0 size d m at
 
   converts : (kind : Kind) (d a m : ℕ) → Does (tac.Convert kind d a m)
   converts Void d a m at e f = convert_void c IsGood right u n temps ws s v xs h words.0 d a m at
   converts (OfScalar (Integer t)) d a m at e f =
       convert_integer c IsGood right u n temps ws s v xs h words.0 t d a m at
   converts (OfScalar Pointer) d a m at e f = convert_pointer c IsGood right u n temps ws s v xs h words.0 d a m at
-  converts (Structure size) d a m at e f = cc
-  converts (Array size) d a m at e f = cc
+  converts (Structure size) d a m at e f = convert_structure c IsGood right u n temps ws s v xs h words.0 size d a m at
+  converts (Array size) d a m at e f = convert_array c IsGood right u n temps ws s v xs h words.0 size d a m at
 
   reads : (d x m : ℕ) (o : Option Scalar) → plain_type (all_variables h.code) x ≡ o → Does (tac.GetPlain d x m)
   reads d x m None typed at e f =
@@ -174,9 +176,9 @@ module _ (c : Compiled) (IsGood : Bytes → Type 0) (right : IsCompiled c IsGood
   instruction (tac.UpdatePlain w k fixity line d x r m) at e f =
       update_plain_step c IsGood right u n temps ws s v xs h words w k fixity line d x r m e at f
   instruction (tac.Difference size d a b m) at e f =
-      let p = and_parts (nat_le 1 size) (is_short size) e in
+      let p = and_parts (nat_le 1 size) (is_few size) e in
       difference_step c IsGood right u n temps ws s v xs h words.0 size d a b m (leb-true 1 size p.0)
-      (ltb-true size (2 ^ 31 - 2 ^ 11) p.1) at
+      (ltb-true size (2 ^ 33) p.1) at
   instruction (tac.Narrow offset size d a m) at e f =
       let p = part_is offset size e in
       narrow_step c IsGood right u n temps ws s v xs h words offset size d a m p.0 p.1 p.2 at

@@ -51,18 +51,18 @@ code_count (x ∷ fs) = ap suc (code_count fs)
 of_type : (a b : ℕ) (c : Bool) → a ≡ b → (not (a == b) || c) ≡ true → c ≡ true
 of_type a b c same e = ap (λ z. not z || c) (sym (eq-eqb a b same)) ∙ e
 
-pub plain_at : (t : Tac) (type : ℕ) (b : Bool) (fs : List CodeFunction) (f : ℕ) (k : CodeFunction)
-    → are_scalar_calls t type fs b ≡ true → slice_get fs f ≡ Some k → k.type_number ≡ type
-    → is_scalar_call t (Some k) b ≡ true
-plain_at t type b [] f k e found same = cc
-plain_at t type b (x ∷ fs) zero k e found same =
+pub plain_at : (t : Tac) (type : ℕ) (fs : List CodeFunction) (f : ℕ) (k : CodeFunction)
+    → are_scalar_calls t type fs ≡ true → slice_get fs f ≡ Some k → k.type_number ≡ type
+    → is_scalar_call t (Some k) ≡ true
+plain_at t type [] f k e found same = cc
+plain_at t type (x ∷ fs) zero k e found same =
     let is = same_Some x k found in
-    subst (λ z. is_scalar_call t (Some z) b ≡ true) is
-    (of_type x.type_number type (is_scalar_call t (Some x) b) (ap (λ (z : CodeFunction). z.type_number) is ∙ same)
-    (and_parts (not (x.type_number == type) || is_scalar_call t (Some x) b) (are_scalar_calls t type fs b) e).0)
-plain_at t type b (x ∷ fs) (suc f) k e found same =
-    plain_at t type b fs f k
-    (and_parts (not (x.type_number == type) || is_scalar_call t (Some x) b) (are_scalar_calls t type fs b) e).1 found same
+    subst (λ z. is_scalar_call t (Some z) ≡ true) is
+    (of_type x.type_number type (is_scalar_call t (Some x)) (ap (λ (z : CodeFunction). z.type_number) is ∙ same)
+    (and_parts (not (x.type_number == type) || is_scalar_call t (Some x)) (are_scalar_calls t type fs) e).0)
+plain_at t type (x ∷ fs) (suc f) k e found same =
+    plain_at t type fs f k
+    (and_parts (not (x.type_number == type) || is_scalar_call t (Some x)) (are_scalar_calls t type fs) e).1 found same
 
 pub passed_to : (type : ℕ) (vs : List Rvalue) (fs : List CodeFunction) (f : ℕ) (k : CodeFunction)
     → fit_type (map header_of_code fs) type vs ≡ true → slice_get fs f ≡ Some k → k.type_number ≡ type

@@ -184,15 +184,11 @@ module _ (c : Compiled) (IsGood : Bytes → Type 0) (right : IsCompiled c IsGood
 
     module _ (f line : ℕ) (k : CodeFunction) (found : code_in c.layout.expansion.code f ≡ Some k)
         (passed : are_passed (taken_by (header_of_code k)) (gathered temps first count) ≡ true)
-        (plain : IsScalarCall c IsGood right k (c.layout.expansion.entries u next d))
+        (plain : IsScalarCall c IsGood right k)
         (reads : (x : ℕ) → x < count → get_or (map (λ (z : Variable). z.kind) k.parameters) x Void ≡ OfScalar Pointer
         → c.layout.expansion.entries u n (first + x) ≡ true) where
       count_is : count ≡ length k.parameters
       count_is = count_passed (taken_by (header_of_code k)) temps first count passed ∙ length-map k.parameters _
-
-      pub plain_enough : IsScalarCall c IsGood right k false
-      plain_enough =
-          record { entered = plain.entered; scalars = plain.scalars; result = plain.result; valued = λ e. refl }
 
       abbrev moves : List FlatInstruction
       moves = pack h.code (ways_of k.parameters) (moved_register h.code (5 * first)) first
@@ -315,7 +311,6 @@ module _ (c : Compiled) (IsGood : Bytes → Type 0) (right : IsCompiled c IsGood
               into = refl;
               behind = (has_back body at_moves moves (call ∷ behind) has).1;
               leads = leads_on;
-              valued = plain.valued;
               below = λ y o is. live_made s.objects o (h.holds.homes.homes y o is).live;
               holds = waiting_holds (views c) h.keys s.objects v.memory (activation c h.code u n s)
                   (c.layout.expansion.entries u next) (c.layout.expansion.contents u next) d temps s.plain s.frame v.values
@@ -342,7 +337,7 @@ module _ (c : Compiled) (IsGood : Bytes → Type 0) (right : IsCompiled c IsGood
             ≡ at_instruction (map_of c) c.layout.program
             (Some (flat_code.Call f packed_at (temporary_register h.code d))) u q
             (record v { turns = v.turns + 1; values = packed; work = w }) xs)
-            → Gives (call_stage c IsGood right u pc q v xs f k found plain_enough line packed_at (T d) vs
+            → Gives (call_stage c IsGood right u pc q v xs f k found plain line packed_at (T d) vs
             (Waits waits ∷ ws) (spent cost s))
         enters_it at =
             let shown = h.stands.for.shown in
@@ -350,7 +345,7 @@ module _ (c : Compiled) (IsGood : Bytes → Type 0) (right : IsCompiled c IsGood
             let ways = length-map k.parameters (λ (v : Variable). passed_as v.kind) in
             let few = few_parameters c IsGood right k.parameters in
             let before = h.work in
-            enters c IsGood right u pc q v xs f k found plain_enough line packed_at (T d) vs (Waits waits ∷ ws)
+            enters c IsGood right u pc q v xs f k found plain line packed_at (T d) vs (Waits waits ∷ ws)
             (spent cost s) packed (most + 2 * length moves) h.keys
             (record {
               words = words;

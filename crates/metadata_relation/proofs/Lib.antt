@@ -68,7 +68,6 @@ pub mod Statuses
 pub mod StoredParameters
 pub mod StoredParts
 pub mod StoredTexts
-pub mod Straight
 pub mod ToldEndings
 pub mod TopCell
 pub mod UpdateSteps

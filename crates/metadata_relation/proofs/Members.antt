@@ -2,8 +2,8 @@
 use Rattle.std.proofs.Common.{◌≡◌, ◌≢◌, ◌⊎◌, inl, inr, ℕ, ◌+◌, ◌*◌, ◌%◌, ◌^◌, ◌<◌, ◌≤◌, Bool, true, false, List, []}
 use Rattle.std.proofs.Common.{◌∷◌, ◌++◌, length, length-append, Some, refl, sym, ap, ap₂, ◌∙◌, subst, arith}
 use Rattle.std.proofs.Common.{mod-eq_of_lt}
-use Rattle.std.specs.Prelude.{slice_get, ◌||◌, if◌then◌else◌}
-use Rattle.std.proofs.lemmas.Bool.{eq-eqb}
+use Rattle.std.specs.Prelude.{slice_get, ◌&&◌, ◌||◌, if◌then◌else◌}
+use Rattle.std.proofs.lemmas.Bool.{and_parts, eq-eqb, ltb-true}
 use Rattle.addr_map.specs.Places.{MapSizes}
 use Rattle.obj_memory.specs.declared.value.Value.{Value}
 use Rattle.obj_memory.specs.Judgement.{narrowed}
@@ -40,13 +40,13 @@ use Rattle.metadata_plan.specs.Registers.{most_temporaries}
 use Rattle.metadata_plan.specs.Entries.{given, entry_source}
 use Rattle.metadata_plan.specs.Expanded.{Leads}
 use Rattle.metadata_plan.specs.Operators.{OperatorCode, AreOperators}
-use Rattle.metadata_plan.proofs.Constants.{any_constant, constant_most, most_constant}
+use Rattle.metadata_plan.proofs.Constants.{any_constant, constant_most, few_constant, most_constant}
 use Rattle.metadata_plan.proofs.Flat.{one, weight_small, Comes, then_comes}
 use Rattle.metadata_relation.specs.Registers.{temporary_register, first_free}
 use Rattle.metadata_relation.specs.Blocks.{is_short, number_code, number_operand, narrow_code, move_value}
 use Rattle.metadata_relation.specs.Holding.{IsHeldAt}
 use Rattle.metadata_relation.specs.Stages.{factor, Compiled, map_of, views, world, expansion_of, IsAt}
-use Rattle.metadata_relation.specs.Steps.{IsCompiled}
+use Rattle.metadata_relation.specs.Steps.{IsCompiled, is_few}
 use Rattle.metadata_relation.proofs.Altering.{alters, then_altered}
 use Rattle.metadata_relation.proofs.Assigning.{assigned, moved, not_into}
 use Rattle.metadata_relation.proofs.Giving.{gives_value}
@@ -66,11 +66,18 @@ pub short_number : (n : ℕ) → is_short n ≡ true → number_most n ≡ 0
 short_number n e = ap (λ b. if b then 0 else constant_most n * 2) e
 
 pub most_number : (n : ℕ) → number_most n ≤ 10
-most_number n = by (is_short n) (most_constant n)
+most_number n = let few = most_constant n in by (is_short n) (omega (arith, few))
   where
-    by : (b : Bool) → constant_most n ≤ 5 → (if b then 0 else constant_most n * 2) ≤ 10
+    by : (b : Bool) → constant_most n * 2 ≤ 10 → (if b then 0 else constant_most n * 2) ≤ 10
     by true most = omega arith
-    by false most = omega arith
+    by false most = most
+
+pub few_number : (n : ℕ) → n < 2 ^ 33 → number_most n ≤ 6
+few_number n low = let few = few_constant n low in by (is_short n) (omega (arith, few))
+  where
+    by : (b : Bool) → constant_most n * 2 ≤ 6 → (if b then 0 else constant_most n * 2) ≤ 6
+    by true most = omega arith
+    by false most = most
 
 module _ (o : OperatorCode) (ops : AreOperators o) (m : MapSizes) (p : FlatProgram) (u pc : ℕ) (v : flat.State)
     (xs : List flat.Frame) (words : HasWords (flat.Stands u pc v xs)) where
@@ -370,20 +377,27 @@ module _ (c : Compiled) (IsGood : Bytes → Type 0) (right : IsCompiled c IsGood
           by false more has on finish = moves_on has on finish
           by true more has on finish = narrows (more refl) has on finish
 
-  -- at most one of the numbers is long
-  pub few_numbers : (offset size : ℕ) → (is_short offset || is_short size) ≡ true
+  -- at most one of the numbers is long, or both have few bits
+  pub few_numbers : (offset size : ℕ)
+      → ((is_short offset || is_short size) || (is_few offset && is_few size)) ≡ true
       → number_most offset + number_most size ≤ 14
-  few_numbers offset size e = by (is_short offset) refl e
+  few_numbers offset size e = by (is_short offset) (is_short size) refl refl e
     where
-      by : (b : Bool) → is_short offset ≡ b → (b || is_short size) ≡ true → number_most offset + number_most size ≤ 14
-      by true short e = omega (arith, short_number offset short, most_number size)
-      by false long e = omega (arith, short_number size e, most_number offset)
+      by : (a b : Bool) → is_short offset ≡ a → is_short size ≡ b → ((a || b) || (is_few offset && is_few size)) ≡ true
+          → number_most offset + number_most size ≤ 14
+      by true b short other e = omega (arith, short_number offset short, most_number size)
+      by false true long short e = omega (arith, short_number size short, most_number offset)
+      by false false long longer e =
+          let p = and_parts (is_few offset) (is_few size) e in
+          let first = few_number offset (ltb-true offset (2 ^ 33) p.0) in
+          let second = few_number size (ltb-true size (2 ^ 33) p.1) in
+          omega (arith, first, second)
 
   pub narrow_step : (offset size d a next : ℕ) → offset < 2 ^ 64 → size < 2 ^ 64
-      → (is_short offset || is_short size) ≡ true
+      → ((is_short offset || is_short size) || (is_few offset && is_few size)) ≡ true
       → slice_get h.code.code n ≡ Some (tac.Narrow offset size d a next)
       → Gives (effect c.setting (expansion_of c).code (tac.Narrow offset size d a next) u temps ws (spent 2 s))
-  narrow_step offset size d a next offset_fits size_fits short at =
+  narrow_step offset size d a next offset_fits size_fits few at =
       let i = tac.Narrow offset size d a next in
       let k = node c IsGood right u n temps ws s v xs h i at in
       let low : d < most_temporaries h.code.code = omega (arith, k.temporaries_low) in
@@ -393,14 +407,15 @@ module _ (c : Compiled) (IsGood : Bytes → Type 0) (right : IsCompiled c IsGood
       gives_narrowed i k offset size d a next refl refl (inl refl) low from
       (held_of (world c h.keys s v) (c.layout.expansion.entries u n a) (temps a) _ _ (T a) v.values
       (record { by = t.by; none = λ e. t.none none }))
-      offset_fits size_fits (few_numbers offset size short) k.put.has k.put.leads
+      offset_fits size_fits (few_numbers offset size few) k.put.has k.put.leads
 
   -- of a value without contents a member is a place in the same object
   pub member_step : (offset size d a next : ℕ) → offset < 2 ^ 64 → size < 2 ^ 64
-      → (is_short offset || is_short size) ≡ true → c.layout.expansion.contents u n a ≡ false
+      → ((is_short offset || is_short size) || (is_few offset && is_few size)) ≡ true
+      → c.layout.expansion.contents u n a ≡ false
       → slice_get h.code.code n ≡ Some (tac.Member offset size d a next)
       → Gives (effect c.setting (expansion_of c).code (tac.Member offset size d a next) u temps ws (spent 2 s))
-  member_step offset size d a next offset_fits size_fits short none at =
+  member_step offset size d a next offset_fits size_fits few none at =
       let i = tac.Member offset size d a next in
       let k = node c IsGood right u n temps ws s v xs h i at in
       let low : d < most_temporaries h.code.code = omega (arith, k.temporaries_low) in
@@ -411,4 +426,4 @@ module _ (c : Compiled) (IsGood : Bytes → Type 0) (right : IsCompiled c IsGood
       (gives_narrowed i k offset size d a next refl refl (inl refl) low from
       (held_of (world c h.keys s v) (c.layout.expansion.entries u n a) (temps a) _ _ (T a) v.values
       (record { by = t.by; none = λ e. t.none none }))
-      offset_fits size_fits (few_numbers offset size short) k.put.has k.put.leads)
+      offset_fits size_fits (few_numbers offset size few) k.put.has k.put.leads)

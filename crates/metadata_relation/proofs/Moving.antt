@@ -10,7 +10,7 @@ use Rattle.obj_memory.specs.declared.value.Scalar.{Scalar}
 use Rattle.obj_memory.specs.declared.value.Scalar.TheVariants.{Integer, Pointer}
 use Rattle.obj_memory.specs.Integers.{fit}
 use Rattle.obj_memory.specs.Objects.{ObjectState}
-use Rattle.c_tree.specs.declared.expression.Kind.TheVariants.{Void, Scalar as OfScalar}
+use Rattle.c_tree.specs.declared.expression.Kind.TheVariants.{Void, Scalar as OfScalar, Structure, Array}
 use Rattle.source_meaning.specs.State.{State, Rvalue}
 use Rattle.source_meaning.specs.Actions.{integer}
 use Rattle.source_meaning.specs.Structures.{rvalue}
@@ -32,10 +32,11 @@ use Rattle.flat_meaning.proofs.Stored.{put_same, put_other}
 use Rattle.flat_routines.specs.Routine.{HasAt}
 use Rattle.flat_routines.proofs.Steps.{has_front}
 use Rattle.metadata_plan.specs.Registers.{all_variables, most_temporaries}
-use Rattle.metadata_plan.specs.Entries.{given}
+use Rattle.metadata_plan.specs.Entries.{given, entry_source}
 use Rattle.metadata_plan.specs.Expanded.{Leads}
 use Rattle.metadata_relation.specs.Registers.{variable_register, temporary_register, first_free}
 use Rattle.metadata_relation.specs.Blocks.{move_value, untagged, get_code}
+use Rattle.metadata_relation.specs.Contents.{takes_word}
 use Rattle.metadata_relation.specs.Holding.{World, IsHeldAt, IsTemporary, IsRvalueAt}
 use Rattle.metadata_relation.specs.Stages.{factor, Compiled, map_of, world, expansion_of, IsAt}
 use Rattle.metadata_relation.specs.Steps.{IsCompiled}
@@ -231,6 +232,14 @@ module _ (c : Compiled) (IsGood : Bytes → Type 0) (right : IsCompiled c IsGood
       zero i nd d next (s.work + 1 + 0 + 3 * (s.work + 1 + 0 - (s.work + 1))) refl (inl refl)
       (omega (arith, nd.temporaries_low)) nd.put.has nd.put.leads (omega arith)
 
+  pub zero_of_array : (size d next : ℕ) → slice_get h.code.code n ≡ Some (tac.ZeroOf (Array size) d next)
+      → Gives (effect c.setting (expansion_of c).code (tac.ZeroOf (Array size) d next) u temps ws (spent 1 s))
+  zero_of_array size d next at =
+      let i = tac.ZeroOf (Array size) d next in
+      let nd = node c IsGood right u n temps ws s v xs h i at in
+      zero i nd d next (s.work + 1 + 0 + 3 * (s.work + 1 + 0 - (s.work + 1))) refl (inl refl)
+      (omega (arith, nd.temporaries_low)) nd.put.has nd.put.leads (omega arith)
+
   pub convert_void : (d a next : ℕ) → slice_get h.code.code n ≡ Some (tac.Convert Void d a next)
       → Gives (effect c.setting (expansion_of c).code (tac.Convert Void d a next) u temps ws (spent 1 s))
   convert_void d a next at =
@@ -260,19 +269,43 @@ module _ (c : Compiled) (IsGood : Bytes → Type 0) (right : IsCompiled c IsGood
       (record { has = has_front body pc list (untagged (E next d) (T d)) k.put.has; words = words }))
       (omega arith))
 
-  -- a conversion to a pointer keeps the value, and its entry where that is kept (C99 6.3.2.3)
+  -- a value without contents is kept, and its entry where that is (C99 6.3.2.3)
+  keeps : (i : Instruction) → IsNode c u n h.code i → (d a next : ℕ) → given i ≡ Some d → LeadsTo i next
+      → entry_source i ≡ Some a → takes_word i a ≡ true → d < most_temporaries h.code.code
+      → a < most_temporaries h.code.code
+      → HasAt body pc (move_value (E next d) (T d) (T a))
+      → Leads body (pc + length (move_value (E next d) (T d) (T a))) (c.layout.address u next)
+      → Gives (Stands u next (with_temp temps d (rvalue (temps a).value)) ws (spent 1 s))
+  keeps i k d a next gives leads source takes low from has on =
+      let t = h.holds.temporaries a from refl in
+      let none = k.kept.words n a i k.at takes in
+      moves_value i k d next (T a) (E n a) (temps a).value (s.work + 1) gives leads low
+      (held_of (world c h.keys s v) (E n a) (temps a) _ _ (T a) v.values
+      (record { by = t.by; none = λ e. t.none none }))
+      (λ e. k.closed.made n next d a i k.at leads gives source e)
+      (temporary_apart d a (T d) (T a) (λ ne. temporaries_apart h.code d a ne) (λ e. ap (λ z. temporary_register h.code z) e))
+      has on (omega arith)
+
   pub convert_pointer : (d a next : ℕ) → slice_get h.code.code n ≡ Some (tac.Convert (OfScalar Pointer) d a next)
       → Gives (effect c.setting (expansion_of c).code (tac.Convert (OfScalar Pointer) d a next) u temps ws (spent 1 s))
   convert_pointer d a next at =
       let i = tac.Convert (OfScalar Pointer) d a next in
       let k = node c IsGood right u n temps ws s v xs h i at in
-      let low : d < most_temporaries h.code.code = omega (arith, k.temporaries_low) in
-      let from : a < most_temporaries h.code.code = omega (arith, k.temporaries_low) in
-      let t = h.holds.temporaries a from refl in
-      let none = k.kept.words n a i k.at (eq-eqb a a refl) in
-      moves_value i k d next (T a) (E n a) (temps a).value (s.work + 1) refl (inl refl) low
-      (held_of (world c h.keys s v) (E n a) (temps a) _ _ (T a) v.values
-      (record { by = t.by; none = λ e. t.none none }))
-      (λ e. k.closed.made n next d a i k.at (inl refl) refl refl e)
-      (temporary_apart d a (T d) (T a) (λ ne. temporaries_apart h.code d a ne) (λ e. ap (λ z. temporary_register h.code z) e))
-      k.put.has k.put.leads (omega arith)
+      keeps i k d a next refl (inl refl) refl (eq-eqb a a refl) (omega (arith, k.temporaries_low))
+      (omega (arith, k.temporaries_low)) k.put.has k.put.leads
+
+  pub convert_structure : (size d a next : ℕ) → slice_get h.code.code n ≡ Some (tac.Convert (Structure size) d a next)
+      → Gives (effect c.setting (expansion_of c).code (tac.Convert (Structure size) d a next) u temps ws (spent 1 s))
+  convert_structure size d a next at =
+      let i = tac.Convert (Structure size) d a next in
+      let k = node c IsGood right u n temps ws s v xs h i at in
+      keeps i k d a next refl (inl refl) refl (eq-eqb a a refl) (omega (arith, k.temporaries_low))
+      (omega (arith, k.temporaries_low)) k.put.has k.put.leads
+
+  pub convert_array : (size d a next : ℕ) → slice_get h.code.code n ≡ Some (tac.Convert (Array size) d a next)
+      → Gives (effect c.setting (expansion_of c).code (tac.Convert (Array size) d a next) u temps ws (spent 1 s))
+  convert_array size d a next at =
+      let i = tac.Convert (Array size) d a next in
+      let k = node c IsGood right u n temps ws s v xs h i at in
+      keeps i k d a next refl (inl refl) refl (eq-eqb a a refl) (omega (arith, k.temporaries_low))
+      (omega (arith, k.temporaries_low)) k.put.has k.put.leads

@@ -1,7 +1,7 @@
 -- The checks of pointers whose keys begin with the names of objects.
 use Rattle.std.proofs.Common.{◌≡◌, inl, ℕ, ◌+◌, ◌-◌, ◌%◌, ◌^◌, ◌<◌, ◌≤◌, true, List, [], ◌∷◌, ◌++◌}
 use Rattle.std.proofs.Common.{length, get_or, Option, Some, None, refl, sym, ap, ap₂, ◌∙◌, subst, arith}
-use Rattle.std.specs.Prelude.{slice_get, ◌==◌, ◌&&◌, nat_le, if◌then◌else◌}
+use Rattle.std.specs.Prelude.{slice_get, ◌==◌, ◌&&◌, if◌then◌else◌}
 use Rattle.std.proofs.lemmas.Bool.{eq-eqb, eqb-true, false≢true, lt-ltb}
 use Rattle.std.proofs.lemmas.Option.{slice_get_within}
 use Rattle.std.proofs.Math.Nat.{min-le_left}
@@ -30,6 +30,7 @@ use Rattle.tac_ir.specs.Costs.{spent}
 use Rattle.tac_ir.specs.Fitting.{is_whole, is_home_of, is_static_of, is_base_there}
 use Rattle.tac_ir.specs.Keys.{base_value, scaled_value, path_tag, key_tag, key_word, same_tag, gives}
 use Rattle.tac_ir.proofs.KeyWork.{base_work}
+use Rattle.tac_ir.proofs.SameTags.{same_bounds}
 use Rattle.tac_ir.specs.Meaning.{check}
 use Rattle.tac_ir.specs.Stage.{Temps, Frame, Stage, Stands, came}
 use Rattle.rv_isa.specs.declared.instruction.RegOp.TheVariants.{Add}
@@ -64,17 +65,6 @@ use Rattle.metadata_relation.proofs.Statics.{static_here}
 use Rattle.metadata_relation.proofs.Standing.{IsNode, node, Result}
 
 -- ---- what is named
-
--- tags that are the same allow the same accesses
-same_bounds : (a b : Tag) → same_tag a b ≡ true → (w size : ℕ) → is_within a w size ≡ is_within b w size
-same_bounds Untagged Untagged e w size = refl
-same_bounds (OfFunction f) (OfFunction h) e w size = refl
-same_bounds (OfObject n b) (OfObject m c) e w size =
-    let two = both (n == m) (b.base == c.base && b.bound == c.bound) e in
-    let bounds = both (b.base == c.base) (b.bound == c.bound) two.1 in
-    ap (λ x. nat_le x w && nat_le (w + size) b.bound) (eqb-true b.base c.base bounds.0)
-    ∙ ap (λ x. nat_le c.base w && nat_le (w + size) x) (eqb-true b.bound c.bound bounds.1)
-same_bounds a b e w size = cc
 
 -- the object of a tag, and whether it is of one
 abbrev pub IsOf : (object : ℕ) → Tag → Type 0

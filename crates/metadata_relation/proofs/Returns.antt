@@ -2,7 +2,7 @@
 use Rattle.std.proofs.Common.{◌≡◌, ◌⊎◌, inl, inr, ℕ, ◌+◌, ◌-◌, ◌*◌, ◌%◌, ◌<◌, ◌≤◌, Bool, true, false, List, []}
 use Rattle.std.proofs.Common.{◌∷◌, ◌++◌, length, Some, None, refl, sym, ap, ◌∙◌, subst, arith, get_or, le-leb}
 use Rattle.std.specs.Prelude.{slice_get, nat_le, nat_lt, ◌==◌, ◌&&◌, if◌then◌else◌}
-use Rattle.std.proofs.lemmas.Bool.{and_parts, and_from, eq-eqb, lt-leb, lt-ltb, le-ltb, ne_eqb, false≢true}
+use Rattle.std.proofs.lemmas.Bool.{and_parts, and_from, eq-eqb, lt-leb, lt-ltb, le-ltb, ne_eqb}
 use Rattle.behaviours.specs.Steps.{run}
 use Rattle.behaviours.proofs.Running.{run_add}
 use Rattle.addr_map.specs.Places.{MapSizes}
@@ -22,7 +22,7 @@ use Rattle.source_meaning.specs.Places.{stack_first}
 use Rattle.source_meaning.specs.Structures.{rvalue}
 use Rattle.tac_ir.specs.declared.instruction.Instruction.TheVariants as tac
 use Rattle.tac_ir.specs.Accesses.{is_place}
-use Rattle.tac_ir.specs.Fitting.{is_of_type, is_passed}
+use Rattle.tac_ir.specs.Fitting.{has_no_tag, is_of_type, is_passed, is_plain_word}
 use Rattle.tac_ir.specs.Stage.{Temps, with_temp, Waiting, Frame, Waits, Entered, Stage, Stands, Over, Stuck}
 use Rattle.tac_ir.specs.Costs.{handed_bytes, spent}
 use Rattle.tac_ir.specs.Meaning.{function_in as code_in, type_of, effect, given_to, objects_before}
@@ -44,13 +44,14 @@ use Rattle.metadata_plan.specs.Entries.{is_moved_with_entry}
 use Rattle.metadata_plan.proofs.Flat.{one, weight_small, leads_comes, exit_step}
 use Rattle.metadata_plan.proofs.Library.{status_is}
 use Rattle.metadata_relation.specs.Blocks.{objects_of_body, result_of, result_entry, leave_code, before_main}
+use Rattle.metadata_relation.specs.Blocks.{untagged}
 use Rattle.metadata_relation.specs.Holding.{GoesOn, World, IsHeldAt, Holds}
 use Rattle.metadata_relation.specs.Registers.{result_words, temporary_register, body_top_register}
 use Rattle.metadata_relation.specs.Scopes.{IsInCall, AreGoodBy, AreGood, context_at}
 use Rattle.metadata_relation.specs.Stages.{Compiled, map_of, views, names, world, level, expansion_of}
 use Rattle.metadata_relation.specs.Stages.{IsAt, MatchesBy, StandsIn}
 use Rattle.metadata_relation.specs.Steps.{IsCompiled, is_no_aggregate, gives_scalar}
-use Rattle.metadata_relation.specs.Waiting.{AreNoObjects, BodyBy, IsBodyAs, IsWaitingAs, has_value}
+use Rattle.metadata_relation.specs.Waiting.{AreNoObjects, BodyBy, IsBodyAs, IsWaitingAs}
 use Rattle.metadata_relation.specs.Waiting.{AllWait}
 use Rattle.metadata_relation.proofs.Acting.{Reached, waits_below}
 use Rattle.metadata_relation.proofs.Assigning.{assigned, are_assignments, assigns, wider}
@@ -61,7 +62,7 @@ use Rattle.metadata_relation.proofs.Holding.{held_on, same_world, gives_temporar
 use Rattle.metadata_relation.proofs.LeftObjects.{HasLeftObjects, leaves_objects, without}
 use Rattle.metadata_relation.proofs.Packing.{held_moved}
 use Rattle.metadata_relation.proofs.Registers.{few_in, temporary_free}
-use Rattle.metadata_relation.proofs.Setting.{no_tag_is}
+use Rattle.metadata_relation.proofs.Setting.{no_tag_is, untagged_is}
 use Rattle.metadata_relation.proofs.Standing.{good_now, good_then, good_counted, IsNode, node, ends, Result}
 use Rattle.metadata_relation.proofs.Updating.{untagged_are, untagged_leaves}
 use Rattle.metadata_relation.proofs.Waiting.{lock_same, waits_at, waits_by, waits_same}
@@ -289,39 +290,25 @@ module _ (c : Compiled) (IsGood : Bytes → Type 0) (right : IsCompiled c IsGood
     one_wide y into (inl below) = inl below
     one_wide y into (inr above) = inr (omega arith)
 
-    -- the value has come to where the caller wants it
-    record IsDelivered (kind : Kind) (with_entry : Bool) (into : ℕ) (before : flat.Values) : Type 0 where
-      assigns_all : are_assignments (result_entry kind with_entry into) ≡ true
-      few : 2 * result_words kind + 2 * length (result_entry kind with_entry into) ≤ 10
+    -- the value has come to where the caller wants it, by so many words and a list behind the call
+    record IsDelivered (words : ℕ) (list : List FlatInstruction) (with_entry : Bool) (into : ℕ) (before : flat.Values)
+        : Type 0 where
+      assigns_all : are_assignments list ≡ true
+      few : 2 * words + 2 * length list ≤ 10
       held_there : IsHeldAt (world c h.keys (without s.frame outer s) out.state) with_entry (temps a).value into
-          (assigned (result_entry kind with_entry into)
-          (with_results into (result_words kind) out.state.values (temporary_register h.code a) before))
+          (assigned list (with_results into words out.state.values (temporary_register h.code a) before))
       others : (y : ℕ) → (y < into) ⊎ (into + 5 ≤ y)
-          → assigned (result_entry kind with_entry into)
-          (with_results into (result_words kind) out.state.values (temporary_register h.code a) before) y ≡ before y
+          → assigned list (with_results into words out.state.values (temporary_register h.code a) before) y ≡ before y
 
-    delivered : (kind : Kind) → result_of c.layout.expansion.code h.code ≡ kind → is_no_aggregate kind ≡ true
-        → is_passed kind (temps a) ≡ true → (b : Bool) → (has_value kind ≡ false → b ≡ false) → (into : ℕ)
-        (before : flat.Values) → IsDelivered kind b into before
-    delivered Void is e f true valued into before = absurd (false≢true (sym (valued refl)))
-    delivered Void is e f false valued into before = record {
-      assigns_all = refl;
-      few = omega arith;
-      held_there = record {
-        word = first_word 1 (omega arith) into before ∙ there_held.word;
-        entry = λ q. cc;
-        sound = there_held.sound;
-      };
-      others = λ y beside. out_results into 1 r y out.state.values before (one_wide y into beside);
-    }
-    delivered (OfScalar (Integer t)) is e f b valued into before =
+    -- a word that is no pointer
+    word_delivered : (temps a).value.tag ≡ Untagged → (b : Bool) (into : ℕ) (before : flat.Values)
+        → IsDelivered 1 (untagged b into) b into before
+    word_delivered no_tag b into before =
         let plain = untagged_are b into in
         let count = plain.1 in
         let values = with_results into 1 out.state.values r before in
         let z = untagged_leaves b into values in
         let word = z.others into (inl (omega arith)) ∙ first_word 1 (omega arith) into before ∙ there_held.word in
-        let typed = (and_parts (is_place (temps a).contents) (is_of_type (Integer t) (temps a).value) f).1 in
-        let no_tag : (temps a).value.tag ≡ Untagged = no_tag_is (Integer t) (temps a).value typed in
         record {
           assigns_all = plain.0;
           few = omega (arith, count);
@@ -332,7 +319,17 @@ module _ (c : Compiled) (IsGood : Bytes → Type 0) (right : IsCompiled c IsGood
           };
           others = λ y beside. z.others y (wider y into beside) ∙ out_results into 1 r y out.state.values before (one_wide y into beside);
         }
-    delivered (OfScalar Pointer) is e f b valued into before = record {
+
+    delivered : (kind : Kind) → result_of c.layout.expansion.code h.code ≡ kind → is_no_aggregate kind ≡ true
+        → is_passed kind (temps a) ≡ true → (b : Bool) (into : ℕ) (before : flat.Values)
+        → IsDelivered (result_words kind) (result_entry kind b into) b into before
+    delivered Void is e f b into before =
+        word_delivered (untagged_is (temps a).value.tag
+        (and_parts (is_plain_word (temps a)) (has_no_tag (temps a).value.tag) f).1) b into before
+    delivered (OfScalar (Integer t)) is e f b into before =
+        word_delivered (no_tag_is (Integer t) (temps a).value
+        (and_parts (is_place (temps a).contents) (is_of_type (Integer t) (temps a).value) f).1) b into before
+    delivered (OfScalar Pointer) is e f b into before = record {
       assigns_all = refl;
       few = omega arith;
       held_there = held_moved (world c h.keys (without s.frame outer s) out.state) (c.layout.expansion.entries u n a) b (temps a).value r into out.state.values
@@ -345,8 +342,8 @@ module _ (c : Compiled) (IsGood : Bytes → Type 0) (right : IsCompiled c IsGood
           ∙ ap out.state.values (omega arith))) there_held;
       others = λ y beside. out_results into 5 r y out.state.values before beside;
     }
-    delivered (Structure size) is e f b valued into before = cc
-    delivered (Array size) is e f b valued into before = cc
+    delivered (Structure size) is e f b into before = cc
+    delivered (Array size) is e f b into before = cc
 
   module _ (w : Waiting) (others : List Frame) (x : flat.Frame) (rest : List flat.Frame) (alike : xs ≡ x ∷ rest)
       (body_is : IsBodyAs (world c h.keys s v) s h.code s.stacked w.caller.stacked (length s.objects) s.frame v.values)
@@ -374,9 +371,11 @@ module _ (c : Compiled) (IsGood : Bytes → Type 0) (right : IsCompiled c IsGood
     abbrev with_entry : Bool
     with_entry = c.layout.expansion.entries w.function w.node w.place
 
-    there_is : IsDelivered w.caller.stacked body_is.mark out (result_of c.layout.expansion.code h.code)
+    there_is : IsDelivered w.caller.stacked body_is.mark out (result_words (result_of c.layout.expansion.code h.code))
+        (result_entry (result_of c.layout.expansion.code h.code)
+        (c.layout.expansion.entries w.function w.node w.place) (temporary_register k.code w.place))
         (c.layout.expansion.entries w.function w.node w.place) (temporary_register k.code w.place) x.values
-    there_is = delivered w.caller.stacked body_is.mark out kind refl scalar passed with_entry k.valued into x.values
+    there_is = delivered w.caller.stacked body_is.mark out kind refl scalar passed with_entry into x.values
 
     abbrev list : List FlatInstruction
     list = result_entry (result_of c.layout.expansion.code h.code)

@@ -52,7 +52,7 @@ use Rattle.metadata_relation.proofs.Standing.{none_less, arrives, leads_on, Resu
 
 -- ---- values of types
 
-untagged_is : (t : Tag) → has_no_tag t ≡ true → t ≡ Untagged
+pub untagged_is : (t : Tag) → has_no_tag t ≡ true → t ≡ Untagged
 untagged_is Untagged e = refl
 untagged_is (OfFunction f) e = cc
 untagged_is (OfObject o b) e = cc

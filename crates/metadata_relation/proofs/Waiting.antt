@@ -139,7 +139,6 @@ module _ (g : Views) (k k' : Keys) (s s' : State) (m m' : Bytes) (l : Layout) (f
     into = h.into;
     behind = h.behind;
     leads = h.leads;
-    valued = h.valued;
     below = h.below;
     holds = holds_on g k k' s.objects s'.objects m m' on (record {
       tac = l.expansion.code;

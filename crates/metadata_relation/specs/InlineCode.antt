@@ -68,12 +68,12 @@ pub record ComputeAlone (code : InlineCode) : Type 0 where
       → IsWithoutInputOutput (code.narrow h offset size scratch)
   pub leave : (lock scratch : ℕ) → lock < scratch → IsWithoutInputOutput (code.leave lock scratch)
 
--- a difference in elements of a short size within three
-abbrev pub LeavesShortly : (code : (size into left right scratch : ℕ) → List FlatInstruction) → Type 0
-LeavesShortly code =
-    (c : Context) (line size into left right scratch : ℕ) → 1 ≤ size → size < 2 ^ 31 - 2 ^ 11
+-- a difference in elements of a size of 33 bits within five
+abbrev pub LeavesSoon : (code : (size into left right scratch : ℕ) → List FlatInstruction) → Type 0
+LeavesSoon code =
+    (c : Context) (line size into left right scratch : ℕ) → 1 ≤ size → size < 2 ^ 33
     → AreOperands into left right scratch
-    → Does c (code size into left right scratch) Anywhere (λ s. 3)
+    → Does c (code size into left right scratch) Anywhere (λ s. 5)
     (λ s. IsResult (Some (elements_between size (s.values left) (s.values right))) line into scratch s)
 
 -- What is asked of them, in functions of the program, and of the instruction that stores a byte. An element has a byte at
@@ -83,7 +83,7 @@ pub record IsInlineCode (map : MapSizes) (entry : View) (IsGood : Bytes → Type
   pub forward : Leaves code.forward address_forward 0
   pub back : Leaves code.back address_back 0
   pub difference : Leaves code.difference elements_between 1
-  pub short_difference : LeavesShortly code.difference
+  pub few_difference : LeavesSoon code.difference
   pub load : (address : ℕ) (into : HeldScalar) (scratch : ℕ) → AreBelow scratch (address ∷ registers_of (holder_in into))
       → IsApartFrom address into
       → IsLoadRoutine (program_basis map entry IsGood) address into scratch (code.load address into scratch)

@@ -40,7 +40,6 @@ use Rattle.metadata_relation.specs.Blocks.{is_short, objects_of_body, result_of}
 use Rattle.metadata_relation.specs.InlineCode.{IsInlineCode}
 use Rattle.metadata_relation.specs.Expanded.{IsExpanded}
 use Rattle.metadata_relation.specs.Stages.{Compiled, map_of, Matches}
-use Rattle.metadata_relation.specs.Waiting.{has_value}
 
 -- The lists that stand inline do what is asked of them, the flat program is the expansion of the code, entries depend on the
 -- bytes of the shadow space alone, the sizes are those of a map, and the functions of the setting are those of the typed
@@ -75,6 +74,12 @@ is_no_aggregate (OfScalar k) = true
 is_no_aggregate (Structure n) = false
 is_no_aggregate (Array n) = false
 
+abbrev pub is_no_structure : Kind → Bool
+is_no_structure Void = true
+is_no_structure (OfScalar k) = true
+is_no_structure (Structure n) = false
+is_no_structure (Array n) = true
+
 -- an update by elements of a size that is a word
 abbrev pub is_update_by_word : Update → Bool
 is_update_by_word (Arithmetic op t) = true
@@ -87,9 +92,14 @@ is_settled Named = true
 is_settled Unchecked = false
 is_settled Judged = true
 
--- of the numbers of a member an instruction holds one at least
+-- a number of 33 bits, as each size of an object, each offset in one and a sum of two of them is
+abbrev pub is_few : (number : ℕ) → Bool
+is_few n = nat_lt n (2 ^ 33)
+
+-- the numbers of a member both have few bits, or an instruction holds one of them
 abbrev pub is_part : (offset size : ℕ) → Bool
-is_part offset size = (is_word offset && is_word size) && (is_short offset || is_short size)
+is_part offset size =
+    (is_word offset && is_word size) && ((is_short offset || is_short size) || (is_few offset && is_few size))
 
 -- a routine whose list stands inline
 abbrev pub is_inline_routine : Routine → Bool
@@ -114,9 +124,9 @@ covers c (tac.Skip m) = true
 covers c (tac.Constant d w m) = true
 covers c (tac.GetPlain d x m) = is_scalar_type (plain_type (all_variables c) x)
 covers c (tac.SetPlain x a m) = true
-covers c (tac.ZeroOf kind d m) = is_no_aggregate kind
+covers c (tac.ZeroOf kind d m) = is_no_structure kind
 covers c (tac.HomePointer d x m) = true
-covers c (tac.Convert kind d a m) = is_no_aggregate kind
+covers c (tac.Convert kind d a m) = true
 covers c (tac.Unary op ty d a m) = true
 covers c (tac.Binary op ty line d a b m) = true
 covers c (tac.Offset form size d a b m) = is_word size
@@ -135,7 +145,7 @@ covers c (tac.Turn counted m) = true
 covers c (tac.FunctionPointer d f m) = true
 covers c (tac.StaticPointer d n m) = true
 covers c (tac.UpdatePlain w k f line d x right m) = is_update_by_word w
-covers c (tac.Difference size d a b m) = nat_le 1 size && is_short size
+covers c (tac.Difference size d a b m) = nat_le 1 size && is_few size
 covers c (tac.Narrow offset size d a m) = is_part offset size
 covers c (tac.Member offset size d a m) = is_part offset size
 covers c (tac.Library r line d n m) = true
@@ -153,23 +163,22 @@ are_scalars (v ∷ vs) = is_no_aggregate v.kind && are_scalars vs
 abbrev pub can_enter_body : List Variable → Bool
 can_enter_body vs = not (has_objects vs) || can_be_entered vs
 
--- A function that takes and gives scalars. Where it gives no value, what stands for it has no entry.
-abbrev pub is_scalar_call : Tac → Option CodeFunction → (with_entry : Bool) → Bool
-is_scalar_call t None b = true
-is_scalar_call t (Some k) b =
-    (can_enter_body (objects_of_body k) && are_scalars k.parameters)
-    && (is_no_aggregate (result_of t k) && (has_value (result_of t k) || not b))
+-- a function that takes scalars and gives one, or no value
+abbrev pub is_scalar_call : Tac → Option CodeFunction → Bool
+is_scalar_call t None = true
+is_scalar_call t (Some k) =
+    (can_enter_body (objects_of_body k) && are_scalars k.parameters) && is_no_aggregate (result_of t k)
 
 -- so is each function of a type
-abbrev pub are_scalar_calls : Tac → (type_number : ℕ) → List CodeFunction → (with_entry : Bool) → Bool
-are_scalar_calls t type_number [] b = true
-are_scalar_calls t type_number (k ∷ ks) b =
-    (not (k.type_number == type_number) || is_scalar_call t (Some k) b) && are_scalar_calls t type_number ks b
+abbrev pub are_scalar_calls : Tac → (type_number : ℕ) → List CodeFunction → Bool
+are_scalar_calls t type_number [] = true
+are_scalar_calls t type_number (k ∷ ks) =
+    (not (k.type_number == type_number) || is_scalar_call t (Some k)) && are_scalar_calls t type_number ks
 
 -- so is `main`, which takes nothing (C99 5.1.2.2.1)
 abbrev pub is_scalar_main : Tac → Option CodeFunction → Bool
 is_scalar_main t None = false
-is_scalar_main t (Some k) = is_scalar_call t (Some k) false && length k.parameters == 0
+is_scalar_main t (Some k) = is_scalar_call t (Some k) && length k.parameters == 0
 
 abbrev pub gives_scalar : Tac → Option CodeFunction → Bool
 gives_scalar t None = true
@@ -190,10 +199,9 @@ admits c u n (tac.Member offset size d a m) = not (c.layout.expansion.contents u
 admits c u n (tac.Print x line d count m) =
     have_bytes (pieces_or_none (pieces (text_in c.layout.expansion.code x)))
 admits c u n (tac.Call f line d count m) =
-    is_scalar_call c.layout.expansion.code (function_in c.layout.expansion.code f) (c.layout.expansion.entries u m d)
+    is_scalar_call c.layout.expansion.code (function_in c.layout.expansion.code f)
 admits c u n (tac.CallThrough type_number line d count m) =
     are_scalar_calls c.layout.expansion.code type_number c.layout.expansion.code.functions
-    (c.layout.expansion.entries u m d)
 admits c u n (tac.Return a) = gives_scalar c.layout.expansion.code (function_in c.layout.expansion.code u)
 admits c u n i = true
 

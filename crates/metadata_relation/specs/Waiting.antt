@@ -2,8 +2,6 @@
 -- with numbers from its mark on and below the mark of what came later.
 use Rattle.std.specs.Prelude.{◌≡◌, ℕ, ◌+◌, ◌<◌, ◌≤◌, ◌==◌, Bool, true, false, List, [], ◌∷◌, length, Some, slice_get}
 use Rattle.std.specs.Prelude.{get_or}
-use Rattle.c_tree.specs.declared.expression.Kind.{Kind}
-use Rattle.c_tree.specs.declared.expression.Kind.TheVariants.{Void}
 use Rattle.c_tree.specs.declared.program.Variable.{Variable}
 use Rattle.source_meaning.specs.State.{State, Home, NoObject, InObject}
 use Rattle.source_meaning.specs.Blocks.{Block, has_objects}
@@ -100,13 +98,8 @@ entry_behind l callee w c =
     result_entry (result_of l.expansion.code callee) (l.expansion.entries w.function w.node w.place)
     (temporary_register c w.place)
 
--- whether a function that gives a value of a kind gives one at all (C99 6.8.6.4)
-abbrev pub has_value : Kind → Bool
-has_value Void = false
-has_value k = true
-
 -- A caller waits as a record does: behind its call its result gets an entry where one is kept and is not handed over, and
--- the code leads to its node. What a function without a result leaves has no entry.
+-- the code leads to its node.
 pub record IsWaitingAs (w : World) (l : Layout) (callee : CodeFunction) (mark : ℕ) (waiting : Waiting)
     (frame : flat.Frame) (xs : List flat.Frame) : Type 0 where
   pub function : frame.function ≡ waiting.function
@@ -118,8 +111,6 @@ pub record IsWaitingAs (w : World) (l : Layout) (callee : CodeFunction) (mark : 
   pub leads : Leads (body_of (function_in l.program waiting.function))
       (frame.next + length (entry_behind l callee waiting code))
       (l.address waiting.function waiting.node)
-  pub valued : has_value (result_of l.expansion.code callee) ≡ false
-      → l.expansion.entries waiting.function waiting.node waiting.place ≡ false
   pub below : AreHomesBelow mark waiting.caller.frame
   pub holds : Holds w (record {
     tac = l.expansion.code;

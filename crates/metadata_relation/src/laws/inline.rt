@@ -6,7 +6,8 @@ ghost use Rattle.metadata_relation.specs.InlineLists.{inline_lists};
 
 use flat_actions::laws::{pointers_are_narrowed_exactly, the_tests_of_an_access_are_exact};
 use flat_operators::laws::{
-    differences_are_in_elements, lists_for_pointers_have_shapes, pointers_move_by_elements,
+    differences_are_in_elements, differences_by_few_bits_are_in_elements,
+    lists_for_pointers_have_shapes, pointers_move_by_elements,
 };
 use lib_wrappers::accesses::laws::{loads_are_exact, stores_are_exact};
 use lib_wrappers::allocating::laws::blocks_are_left_exactly;
@@ -22,6 +23,7 @@ pub fn lists_of_a_form_are_inline_code<S: ShadowForm>()
     operators_compute();
     pointers_move_by_elements();
     differences_are_in_elements();
+    differences_by_few_bits_are_in_elements();
     lists_for_pointers_have_shapes();
     loads_are_exact::<S>();
     stores_are_exact::<S>();

@@ -1,5 +1,3 @@
-use Rattle.std.proofs.Common.{arith}
-use Rattle.metadata_relation.proofs.Straight.{short_difference_does}
 use Rattle.obj_memory.specs.declared.int_type.IntType.TheVariants.{Char}
 use Rattle.lib_wrappers.specs.declared.accesses.held.HeldScalar.TheVariants.{Integer}
 use Rattle.lib_wrappers.specs.AccessRoutines.Accessing.{store_op}
@@ -15,9 +13,8 @@ returns g c = λ map mapped. record {
       c.pointers_move_by_elements.ensures.back x line d a i s size low operands;
   difference = λ x line size d a b s some low operands.
       c.differences_are_in_elements.ensures x line d a b s size low some operands;
-  short_difference = λ x line size d a b s some short operands.
-      short_difference_does x size d a b s _ short
-      (c.differences_are_in_elements.ensures x line d a b s size (omega (arith, short)) some operands);
+  few_difference = λ x line size d a b s some few operands.
+      c.differences_by_few_bits_are_in_elements.ensures x line d a b s size few some operands;
   load = λ a into s below apart. c.loads_are_exact.ensures.does map a into s mapped below apart;
   store = λ a from s below. c.stores_are_exact.ensures.does map a from s mapped below;
   byte = λ a r s below. c.stores_are_exact.ensures.does map a (Integer Char r) s mapped below;

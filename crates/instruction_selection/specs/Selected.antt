@@ -55,6 +55,7 @@ entry_behind e (tac.Read kind mode line key d a m) = e m d
 entry_behind e (tac.Write kind mode line key d a b m) = e m d
 entry_behind e (tac.Update w k f mode line at key d a right m) = e m d
 entry_behind e (tac.Library r line d n m) = e m d
+entry_behind e (tac.Print x line d n m) = e m d
 entry_behind e (tac.Call f line d n m) = e m d
 entry_behind e (tac.CallThrough type_number line d n m) = e m d
 entry_behind e _ = false
@@ -74,6 +75,11 @@ expansion_of read write x with_entry = record {
 abbrev pub selected : (read write : EntryCode) → FunctionContext → (with_entry : Bool) → Instruction
     → List FlatInstruction
 selected read write x with_entry i = block (expansion_of read write x with_entry) 0 x.function.now i
+
+-- all instructions but `printf`
+abbrev pub is_selected : Instruction → Bool
+is_selected (tac.Print x line d n m) = false
+is_selected i = true
 
 -- ---- kinds of instructions
 

@@ -1,10 +1,13 @@
 -- What is built of a program, and when nothing is.
-use Rattle.std.specs.Prelude.{◌≡◌, ℕ, ◌<◌, List, [], length, Result, Ok, Err}
+use Rattle.std.specs.Prelude.{◌≡◌, ℕ, ◌+◌, ◌<◌, ◌^◌, List, [], length, Result, Ok, Err}
 use Rattle.addr_map.specs.Places.{MapSizes}
 use Rattle.c_tree.specs.Programs.{Program}
 use Rattle.tac_ir.specs.declared.function.Tac.{Tac}
 use Rattle.tac_ir.specs.Bodies.{HaveClosedBodies, KeepVariables}
+use Rattle.check_insert.specs.Counting.{checks}
 use Rattle.check_insert.specs.Inserted.{Inserted}
+use Rattle.check_elim.specs.Available.{IsDroppable}
+use Rattle.check_elim.specs.Dropped.{Dropped}
 use Rattle.metadata_expansion.specs.Numbers.{AreAllSmall}
 use Rattle.flat_meaning.specs.declared.function.FlatProgram.{FlatProgram}
 use Rattle.reg_plan.specs.declared.plan.FunctionPlan.{FunctionPlan}
@@ -73,17 +76,21 @@ IsCompiled (Ok file) (Ok same) = same ≡ file
 IsCompiled (Err g) (Err e) = IsErrorOf g e
 IsCompiled _ _ = ⊥
 
--- lowered code with its checks put in, where the bodies of counted loops are closed and assign their variables nowhere
-pub record HasChecks (lowered checked : Tac) : Type 0 where
+-- lowered code with its checks put in and the available ones dropped, where the bodies of counted loops are closed and
+-- assign their variables nowhere
+pub record HasChecks (lowered code : Tac) : Type 0 where
+  pub checked : Tac
   pub inserted : Inserted lowered checked
-  pub closed : HaveClosedBodies checked
-  pub variables : KeepVariables checked
+  pub dropped : Dropped IsDroppable checked code
+  pub closed : HaveClosedBodies code
+  pub variables : KeepVariables code
 
--- what is built of some checked code
-pub record IsBuilt (Is : Tac → Type 0) (map : MapSizes) (built : Built) : Type 0 where
+-- what is built of some checked code: of all the checks of the text those are in it that are not counted as dropped
+pub record IsBuilt (Is : Tac → Type 0) (all : ℕ) (map : MapSizes) (built : Built) : Type 0 where
   pub checked : Tac
   pub is : Is checked
   pub image : IsImageOf map checked built.image.items
+  pub gone : all < 2 ^ 64 → checks checked + built.dropped ≡ all
 
 -- or why nothing is
 pub record IsRefused (Is : Tac → Type 0) (map : MapSizes) (error : CompileError) : Type 0 where

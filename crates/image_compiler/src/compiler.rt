@@ -18,6 +18,7 @@ use crate::image::image_of_checked;
 use addr_map::AddrMap;
 use addr_map::laws::sizes_are_in_range;
 use c_tree::Program;
+use check_elim::drop_available;
 use check_insert::{checks, insert};
 use image_laws::laws::images::{flat_code_is_encodable, images_do_what_is_meant};
 use image_laws::laws::plans::flat_code_is_plannable;
@@ -32,37 +33,50 @@ use tac_ir::Tac;
 pub struct Built {
     /// The file.
     pub image: Vec<u8>,
-    /// The checks of its code, spatial and temporal each, whether a run reaches them or not; of more than 2^64 - 1 so
+    /// The checks of its text, spatial and temporal each, whether a run reaches them or not; of more than 2^64 - 1 so
     /// many.
     pub checks: u64,
+    /// How many of these are not in the image: the available ones, in functions of fewer than 2^32 nodes.
+    pub dropped: u64,
 }
 
-// An image with its number of checks, if there is one.
-fn with_checks(image: Result<Vec<u8>, CompileError>, checks: u64) -> Result<Built, CompileError>
-    ensures ok { IfOk result (λ built. (image ≡ Ok built.image) × (built.checks ≡ checks)) }
+// An image with its numbers of checks, if there is one.
+fn with_checks(
+    image: Result<Vec<u8>, CompileError>,
+    checks: u64,
+    dropped: u64,
+) -> Result<Built, CompileError>
+    ensures ok { IfOk result
+        (λ built. (image ≡ Ok built.image) × (built.checks ≡ checks) × (built.dropped ≡ dropped)) }
     ensures err { (e : CompileError) → result ≡ Err e → image ≡ Err e }
 {
     match image {
-        Ok(image) => Ok(Built { image, checks }),
+        Ok(image) => Ok(Built {
+            image,
+            checks,
+            dropped,
+        }),
         Err(error) => Err(error),
     }
 }
 
-// What is built of lowered code, in which the checks are put in; or why nothing is.
+// What is built of lowered code, in which the checks are put in and the available ones dropped; or why nothing is.
 fn built_of(alloc: Global, map: &AddrMap, lowered: Tac) -> Result<Built, CompileError>
     requires count { length lowered.functions ≤ 4096 }
     requires none_added { HaveNoneAdded lowered }
     requires closed { HaveClosedBodies lowered }
     requires variables { KeepVariables lowered }
     requires expandable { (r : Tac) → HasChecks lowered r → IsExpandable map.now r }
-    ensures built { IfOk result (λ built. IsBuilt (HasChecks lowered) map.now built) }
+    ensures built { IfOk result
+        (λ built. IsBuilt (HasChecks lowered) (checks lowered + checks_to_insert lowered) map.now built) }
     ensures checks { IfOk result
         (λ built. built.checks ≡ min (2 ^ 64 - 1) (checks lowered + checks_to_insert lowered)) }
     ensures refused { IfErr result (λ e. UnlessMemory e (IsRefused (HasChecks lowered) map.now e)) }
 {
     let checked = insert(alloc, lowered)?;
     let count = checks(&checked);
-    with_checks(image_of_checked(alloc, map, &checked), count)
+    let left = drop_available(alloc, checked)?;
+    with_checks(image_of_checked(alloc, map, &left.0), count, left.1)
 }
 
 // The map of a program without static objects.
@@ -78,9 +92,9 @@ fn map_of(budgets: &Budgets) -> AddrMap
 
 /// What is built of a valid program of integers, whose initializers are constant and which has at most 4096 functions
 /// of at most 127 parameters each, with some budgets; or why nothing is. The image does what the program means, with at
-/// most 1008 instructions for each unit of its work; its checks are those of the text, of more than 2^64 - 1 so many.
-/// Want of memory is the one answer that may come without a cause; the code is too large only of a text with more than
-/// 8192 nodes.
+/// most 1008 instructions for each unit of its work; its checks are those of the text, of more than 2^64 - 1 so many,
+/// and of these just the available ones are dropped, as many as are told. Want of memory is the one answer that may
+/// come without a cause; the code is too large only of a text with more than 8192 nodes.
 pub fn compile(alloc: Global, budgets: &Budgets, program: &Program) -> Result<Built, CompileError>
     requires valid { is_valid_program (program_of program.now) ≡ true }
     requires integers { is_integer_program (program_of program.now) ≡ true }
@@ -88,7 +102,7 @@ pub fn compile(alloc: Global, budgets: &Budgets, program: &Program) -> Result<Bu
     requires few { length (program_of program.now).functions ≤ 4096 }
     requires parameters { HaveFewParameters (program_of program.now) }
     ensures built { IfOk result (λ built. IsBuilt (IsChecked (program_of program.now))
-        (sizes_of (program_of program.now) budgets.now) built) }
+        (checks_of (program_of program.now)) (sizes_of (program_of program.now) budgets.now) built) }
     ensures checks { IfOk result (λ built. built.checks ≡ min (2 ^ 64 - 1) (checks_of (program_of program.now))) }
     ensures does { IfOk result (λ built. DoesWhatIsMeant (program_of program.now) budgets.now built.image.items) }
     ensures refused { IfErr result (λ e. UnlessMemory e (IsRefused (IsChecked (program_of program.now))

@@ -1,5 +1,5 @@
-//! From typed programs of integers to images: lowering, insertion of checks, expansion to flat code, propagation of its
-//! values, plans of registers and code generation, one behind the other.
+//! From typed programs of integers to images: lowering, insertion of checks, dropping of the available ones, expansion
+//! to flat code, propagation of its values, plans of registers and code generation, one behind the other.
 //!
 //! `specs/Built` says what is built and why nothing is; that an image does what its program means is a law of
 //! `image_laws`.

@@ -1,3 +1,4 @@
+pub mod Checks
 pub mod Instructions
 pub mod Blocks
 pub mod Programs

@@ -102,7 +102,7 @@ pub told_builds : (name target : List ℕ) (budgets : BudgetSizes) (built : Buil
     → after.reads ≡ next_count before.reads → after.writes ≡ next_count before.writes
     → after.streams.input ≡ before.streams.input
     → after.streams.errors ≡ before.streams.errors
-    → after.streams.output ≡ gained before.streams.output (built_line built.checks 0)
+    → after.streams.output ≡ gained before.streams.output (built_line built.checks built.dropped)
     → Builds name target budgets Built [] before after
 unfolding into
 told_builds name target budgets built before after b w asked once input errors told =
@@ -114,7 +114,7 @@ pub untold_builds : (name target : List ℕ) (budgets : BudgetSizes) (built : Bu
     → after.reads ≡ next_count before.reads → after.writes ≡ next_count before.writes
     → after.streams.input ≡ before.streams.input
     → after.streams.errors ≡ before.streams.errors
-    → GainsPart before.streams.output after.streams.output (built_line built.checks 0)
+    → GainsPart before.streams.output after.streams.output (built_line built.checks built.dropped)
     → Builds name target budgets WriteFault [] before after
 unfolding into
 untold_builds name target budgets built before after b w asked once input errors part =

@@ -126,13 +126,13 @@ pub record IsTooLarge (source : List ℕ) (budgets : BudgetSizes) (refusal : Sou
 abbrev pub Refuses : List ℕ → BudgetSizes → SourceRefusal → Type 0
 Refuses source budgets refusal = Judges source (Err refusal) ⊎ IsTooLarge source budgets refusal
 
--- the source is accepted, and what was built does what it means: the image, which has the checks of its text, of more
--- than 2^64 - 1 so many
+-- the source is accepted, and what was built does what it means: the image, with the number of the checks of its text,
+-- of more than 2^64 - 1 so many, and of those that are not in it, which are the available ones
 pub record IsBuiltFrom (source : List ℕ) (budgets : BudgetSizes) (built : Built) : Type 0 where
   pub program : Program
   pub accepts : Judges source (Ok program)
   pub means : DoesWhatIsMeant program budgets built.image.items
-  pub is_built : IsBuilt (IsChecked program) (sizes_of program budgets) built
+  pub is_built : IsBuilt (IsChecked program) (checks_of program) (sizes_of program budgets) built
   pub checks_are : built.checks ≡ min (2 ^ 64 - 1) (checks_of program)
 
 -- this holds, unless the refusal is want of memory

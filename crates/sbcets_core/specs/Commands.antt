@@ -195,14 +195,14 @@ pub record FileFails (name target : List ℕ) (budgets : BudgetSizes) (image : L
 pub record LineFails (name target : List ℕ) (budgets : BudgetSizes) (image : List ℕ) (before after : Outside) : Type 0
   where
     pub into : BuiltInto name target budgets (Ok tt) image before after
-    pub output : GainsPart before.streams.output after.streams.output (built_line into.built.checks 0)
+    pub output : GainsPart before.streams.output after.streams.output (built_line into.built.checks into.built.dropped)
 
 -- the file holds the image, and the line was printed
 pub record IsBuiltAndTold (name target : List ℕ) (budgets : BudgetSizes) (image : List ℕ) (before after : Outside)
     : Type
     0 where
   pub into : BuiltInto name target budgets (Ok tt) image before after
-  pub output : after.streams.output ≡ gained before.streams.output (built_line into.built.checks 0)
+  pub output : after.streams.output ≡ gained before.streams.output (built_line into.built.checks into.built.dropped)
 
 abbrev pub Builds : (name target : List ℕ) → BudgetSizes → Outcome → List ℕ → Outside → Outside → Type 0
 Builds name target budgets Built image before after = IsBuiltAndTold name target budgets image before after

@@ -101,7 +101,7 @@ pub fn run<F: Files, I: Source, O: Sink, E: Sink>(
 }
 
 /// `build`: reads a source, compiles it with these budgets, writes the image into a file, and prints how many checks it
-/// has; none is dropped yet.
+/// has by its text, and how many of these were dropped.
 #[tactic(auto, using(crate::proofs::Cases::unbuilt_builds, crate::proofs::Cases::unbuilt_counts))]
 pub fn build<F: Files, O: Sink>(
     alloc: Global,
@@ -125,7 +125,7 @@ pub fn build<F: Files, O: Sink>(
     if let Err(Failed) = files.write(target, &built.image) {
         return Outcome::WriteFault;
     }
-    match put_built_line(output, built.checks, 0) {
+    match put_built_line(output, built.checks, built.dropped) {
         Ok(()) => Outcome::Built,
         Err(_) => Outcome::WriteFault,
     }

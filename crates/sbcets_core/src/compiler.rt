@@ -28,8 +28,8 @@ use std::alloc::Global;
 /// The largest source that is read, in bytes.
 pub const MAX_SOURCE: u64 = 1_048_576;
 
-/// The image of a source, which does what the source means with these budgets, and the number of its checks; or why the
-/// source is refused, for the first of the causes in the order of `SourceRefusal`.
+/// The image of a source, which does what the source means with these budgets, and the number of its checks and of
+/// those that were dropped; or why the source is refused, for the first of the causes in the order of `SourceRefusal`.
 pub fn compile(alloc: Global, source: &[u8], budgets: &Budgets) -> Result<Built, SourceRefusal>
     ensures { Compiles source.now budgets.now result }
 {

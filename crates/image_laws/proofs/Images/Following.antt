@@ -22,6 +22,7 @@ use Rattle.metadata_plan.proofs.Laying.{program_expands}
 use Rattle.metadata_plan.specs.OperatorLists.Operators.{operators}
 use Rattle.metadata_expansion.specs.Homes.{homes}
 use Rattle.image_laws.specs.Images.Images.{sizes_of, IsChecked}
+use Rattle.image_laws.proofs.Images.Checks.{same_as_lowered}
 use Rattle.image_laws.proofs.Images.Instructions.{IsFit}
 use Rattle.image_laws.proofs.Images.Memories.{meaning_same, never_stuck, follows_same}
 use Rattle.image_laws.proofs.Images.Starting.{no_views, locked, no_objects_start, locked_bytes, none_placed}
@@ -30,7 +31,7 @@ pub sizes_same : (p : Program) (r : Tac) → IsChecked p r → (budgets : Budget
     → (setting_of_code r budgets).sizes ≡ sizes_of p budgets
 sizes_same p r checked budgets =
     ap {B = MapSizes} (λ n. record { budgets = budgets; global_bytes = n })
-    (checked.inserted.tables.bytes ∙ checked.is_lowered.bytes)
+    ((same_as_lowered p r checked).tables.bytes ∙ checked.is_lowered.bytes)
 
 -- what comes of code of integers that follows a source
 module _ (r : Tac) (budgets : BudgetSizes) (mapped : AreMapped (setting_of_code r budgets).sizes)

@@ -17,7 +17,6 @@ use Rattle.tac_ir.specs.declared.function.Tac.{Tac}
 use Rattle.tac_ir.specs.Edges.{successors}
 use Rattle.tac_ir.specs.Meaning.{header_of_code, function_in, line_in}
 use Rattle.check_insert.specs.SameButChecks.{SameButChecks}
-use Rattle.check_insert.proofs.SameButChecks.{inserted_is_same}
 use Rattle.flat_meaning.specs.declared.instruction.FlatInstruction.{FlatInstruction}
 use Rattle.flat_meaning.specs.declared.instruction.FlatInstruction.TheVariants as flat
 use Rattle.flat_meaning.specs.declared.function.FlatFunction.{FlatFunction}
@@ -37,6 +36,7 @@ use Rattle.metadata_expansion.specs.Numbers.{greatest_word, greatest_line, AreAl
 use Rattle.compiled_programs.specs.Programs.{is_integer_program}
 use Rattle.image_laws.proofs.Lowering.Programs.{valid_function, function_is}
 use Rattle.image_laws.specs.Images.Images.{HaveFewParameters, IsChecked}
+use Rattle.image_laws.proofs.Images.Checks.{same_as_lowered}
 use Rattle.image_laws.proofs.Images.Instructions.{IsFit, AreFit, fit_append, fit_at, fit_if, stack_fit, short}
 use Rattle.image_laws.proofs.Images.Blocks.{block_fit, zero_variables_fit, jump_fit, jumps_fit}
 
@@ -50,7 +50,7 @@ module _ (p : Program) (r : Tac) (valid : is_valid_program p ≡ true) (ints : i
     (few : HaveFewParameters p) (checked : IsChecked p r) (u : ℕ) (c : CodeFunction)
     (at : slice_get r.functions u ≡ Some c) where
   same : SameButChecks checked.lowered r
-  same = inserted_is_same checked.lowered r checked.inserted
+  same = same_as_lowered p r checked
 
   abbrev source : (f : Function) × (function_at p.functions u ≡ Some f) × (header_of_code c ≡ header_of f)
   source = function_is p checked.lowered r valid ints checked.is_lowered same u c at

@@ -17,6 +17,7 @@ use Rattle.metadata_plan.specs.OperatorLists.Operators.{operators}
 use Rattle.metadata_expansion.specs.Homes.{homes}
 use Rattle.machine_laws.specs.Calls.Table.{program_end, source_count}
 use Rattle.image_laws.specs.Images.Images.{flat_code, IsChecked}
+use Rattle.image_laws.proofs.Images.Checks.{same_as_lowered}
 use Rattle.image_laws.proofs.Images.Runtime.{code_count}
 use Rattle.image_laws.proofs.Images.Programs.{last_at}
 use Rattle.image_laws.proofs.Propagation.Programs.{source_same}
@@ -53,5 +54,5 @@ module _ (m : MapSizes) (t : Tac) where
 -- as many functions as the text has
 pub as_many : (p : Program) (r : Tac) → IsChecked p r → length r.functions ≡ length p.functions
 as_many p r h =
-    sym (length-map r.functions header_of_code) ∙ ap length (h.inserted.tables.headers ∙ h.is_lowered.headers)
-    ∙ length-map p.functions header_of
+    let headers = (same_as_lowered p r h).tables.headers ∙ h.is_lowered.headers in
+    sym (length-map r.functions header_of_code) ∙ ap length headers ∙ length-map p.functions header_of

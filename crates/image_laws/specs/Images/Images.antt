@@ -12,6 +12,8 @@ use Rattle.program_lowering.specs.ProgramCode.Bodies.{HaveBodiesOf}
 use Rattle.tac_ir.specs.Bodies.{HaveClosedBodies, KeepVariables}
 use Rattle.program_lowering.specs.ProgramCode.Weights.{IsWeighed}
 use Rattle.check_insert.specs.Inserted.{Inserted}
+use Rattle.check_elim.specs.Available.{IsDroppable}
+use Rattle.check_elim.specs.Dropped.{Dropped}
 use Rattle.metadata_plan.specs.Laid.{program_of}
 use Rattle.metadata_plan.specs.OperatorLists.Operators.{operators}
 use Rattle.metadata_expansion.specs.Homes.{homes}
@@ -34,15 +36,17 @@ pub record HaveFewParameters (program : Program) : Type 0 where
 abbrev pub sizes_of : Program → BudgetSizes → MapSizes
 sizes_of p budgets = (setting_of p budgets).sizes
 
--- The code of a program, lowered to just the instructions that its text has, and with its checks put in. The bodies of
--- its counted loops were just the nodes of their text; with those of checks they are closed, and assign their variables
--- nowhere.
+-- The code of a program, lowered to just the instructions that its text has, with its checks put in and the available
+-- ones dropped. The bodies of its counted loops were just the nodes of their text; with those of checks they are
+-- closed, and assign their variables nowhere.
 pub record IsChecked (program : Program) (code : Tac) : Type 0 where
   pub lowered : Tac
   pub is_lowered : IsLowered program lowered
   pub is_weighed : IsWeighed program lowered
   pub bodies : HaveBodiesOf program lowered
-  pub inserted : Inserted lowered code
+  pub checked : Tac
+  pub inserted : Inserted lowered checked
+  pub dropped : Dropped IsDroppable checked code
   pub closed : HaveClosedBodies code
   pub variables : KeepVariables code
 

@@ -24,6 +24,7 @@ ghost use Rattle.image_laws.specs.Images.Images.{DoesWhatIsMeant};
 use crate::laws::lowering::lowered_integers_are_integer_code;
 use behaviours::following_is_faithful;
 use c_lower::laws::lowered_code_follows_its_program;
+use check_elim::laws::code_without_available_checks_means_the_same;
 use check_insert::laws::checked_code_is_never_stuck;
 use flat_meaning::laws::steps_begin_at_most_one_turn;
 use flat_propagation::laws::propagated_programs_mean_the_same;
@@ -32,7 +33,7 @@ use rv_codegen::images::laws::{data_is_held, images_follow};
 use rv_sim::laws::machine_is_machine;
 use source_meaning::laws::running_has_begun_all_turns;
 
-/// The code of a program with its checks put in has the sizes of the program.
+/// The code of a program with its checks put in, and the available ones dropped, has the sizes of the program.
 pub fn code_has_the_sizes_of_its_program()
     ensures { (p : Program) (r : Tac) → IsChecked p r → (budgets : BudgetSizes)
         → (setting_of_code r budgets).sizes ≡ sizes_of p budgets }
@@ -79,6 +80,7 @@ pub fn images_do_what_is_meant()
     running_has_begun_all_turns();
     lowered_code_follows_its_program();
     checked_code_is_never_stuck();
+    code_without_available_checks_means_the_same();
     lowered_integers_are_integer_code();
     operators_compute();
     steps_begin_at_most_one_turn();

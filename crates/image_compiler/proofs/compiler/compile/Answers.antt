@@ -2,7 +2,6 @@ use Rattle.std.proofs.Common.{arith, subst}
 use Rattle.sb_base.specs.Budgets.{AreInRange}
 use Rattle.addr_map.specs.Places.{MapSizes, AreMapped}
 use Rattle.c_tree.specs.View.{program_of}
-use Rattle.check_insert.proofs.SameButChecks.{inserted_is_same}
 use Rattle.image_laws.specs.Images.Images.{sizes_of}
 use Rattle.image_laws.proofs.Images.Images.{no_bytes}
 use Rattle.image_compiler.proofs.Compiled.{sizes_are, expandable, built_result, refused_result, does_result}
@@ -23,8 +22,8 @@ built_of-requires-clause-expandable c =
     let mapped = subst AreMapped same c.sizes_are_in_range.ensures in
     expandable p budgets t m same c.in_ok-lowered.ensures.code
     c.in_ok-lowered.ensures.weighed c.in_ok-lowered.ensures.bodies
-    (λ r inserted small. c.flat_code_is_plannable.ensures p t r m c.requires.valid c.requires.integers
-    c.in_ok-lowered.ensures.code (inserted_is_same t r inserted) small)
+    (λ r same small. c.flat_code_is_plannable.ensures p t r m c.requires.valid c.requires.integers
+    c.in_ok-lowered.ensures.code same small)
     (c.flat_code_is_encodable.ensures p budgets c.requires.valid c.requires.integers c.requires.parameters mapped)
 
 pub returns-clause-built : goal.returns-clause-built
@@ -32,6 +31,7 @@ returns-clause-built c =
     let p = program_of c.args.program.now in
     built_result p c.in_ok-lowered.lowered c.map_of-map.result (sizes_of p c.args.budgets.now) c.built_of.result
     c.in_ok-lowered.ensures.code c.in_ok-lowered.ensures.weighed c.in_ok-lowered.ensures.bodies
+    c.in_ok-lowered.ensures.checks
     (sizes_are p c.args.budgets.now c.map_of-map.result c.requires.integers c.map_of-map.ensures)
     c.built_of.ensures.built
 
@@ -52,7 +52,7 @@ returns-clause-does c =
     c.requires.few range)
     (built_result p c.in_ok-lowered.lowered c.map_of-map.result (sizes_of p budgets) c.built_of.result
     c.in_ok-lowered.ensures.code c.in_ok-lowered.ensures.weighed
-    c.in_ok-lowered.ensures.bodies same c.built_of.ensures.built)
+    c.in_ok-lowered.ensures.bodies c.in_ok-lowered.ensures.checks same c.built_of.ensures.built)
 
 pub returns-clause-refused : goal.returns-clause-refused
 returns-clause-refused c =
@@ -68,7 +68,7 @@ returns-clause-nodes c =
     let t = c.in_ok-lowered.lowered in
     let m = c.map_of-map.result in
     nodes_result p t m c.built_of.result
-    (λ r plans bytes inserted small ok cause. c.code_of_few_nodes_is_not_too_large.ensures p t r m plans bytes
+    (λ r plans bytes same small ok cause. c.code_of_few_nodes_is_not_too_large.ensures p t r m plans bytes
     c.requires.valid c.requires.integers c.in_ok-lowered.ensures.code c.in_ok-lowered.ensures.weighed
-    (inserted_is_same t r inserted) c.sizes_are_in_range.ensures.budgets.calls.greatest c.requires.few small ok cause)
+    same c.sizes_are_in_range.ensures.budgets.calls.greatest c.requires.few small ok cause)
     c.built_of.ensures.refused

@@ -1,5 +1,5 @@
 -- Differences of pointers in elements of a size of 33 bits.
-use Rattle.std.proofs.Common.{◌≡◌, inl, ℕ, ◌-◌, ◌^◌, ◌<◌, ◌≤◌, List, refl, sym, ap, ap₂, subst}
+use Rattle.std.proofs.Common.{◌≡◌, inl, ℕ, ◌^◌, ◌<◌, ◌≤◌, List, refl, sym, ap, ap₂, subst}
 use Rattle.std.proofs.Common.{arith, Some}
 use Rattle.std.specs.Prelude.{slice_get, ◌==◌, ◌||◌}
 use Rattle.std.proofs.lemmas.Bool.{eq-eqb}
@@ -84,5 +84,5 @@ module _ (c : Compiled) (IsGood : Bytes → Type 0) (right : IsCompiled c IsGood
   difference_step size d a b next some few at =
       difference_within size d a b next 5 (omega arith) at
       (λ operands. right.inline.few_difference (context (map_of c) c.layout.program u xs) 1 size
-      (temporary_register h.code d) (temporary_register h.code a) (temporary_register h.code b) (first_free h.code) some few
-      operands)
+      (temporary_register h.code d) (temporary_register h.code a) (temporary_register h.code b) (first_free h.code) some
+      few operands)

@@ -283,7 +283,8 @@ module _ (c : Compiled) (IsGood : Bytes → Type 0) (right : IsCompiled c IsGood
       (held_of (world c h.keys s v) (E n a) (temps a) _ _ (T a) v.values
       (record { by = t.by; none = λ e. t.none none }))
       (λ e. k.closed.made n next d a i k.at leads gives source e)
-      (temporary_apart d a (T d) (T a) (λ ne. temporaries_apart h.code d a ne) (λ e. ap (λ z. temporary_register h.code z) e))
+      (temporary_apart d a (T d) (T a) (λ ne. temporaries_apart h.code d a ne)
+      (λ e. ap (λ z. temporary_register h.code z) e))
       has on (omega arith)
 
   pub convert_pointer : (d a next : ℕ) → slice_get h.code.code n ≡ Some (tac.Convert (OfScalar Pointer) d a next)

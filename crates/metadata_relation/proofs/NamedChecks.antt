@@ -1,7 +1,7 @@
 -- The checks of pointers whose keys begin with the names of objects.
 use Rattle.std.proofs.Common.{◌≡◌, inl, ℕ, ◌+◌, ◌-◌, ◌%◌, ◌^◌, ◌<◌, ◌≤◌, true, List, [], ◌∷◌, ◌++◌}
 use Rattle.std.proofs.Common.{length, get_or, Option, Some, None, refl, sym, ap, ap₂, ◌∙◌, subst, arith}
-use Rattle.std.specs.Prelude.{slice_get, ◌==◌, ◌&&◌, if◌then◌else◌}
+use Rattle.std.specs.Prelude.{slice_get, ◌==◌, if◌then◌else◌}
 use Rattle.std.proofs.lemmas.Bool.{eq-eqb, eqb-true, false≢true, lt-ltb}
 use Rattle.std.proofs.lemmas.Option.{slice_get_within}
 use Rattle.std.proofs.Math.Nat.{min-le_left}
@@ -30,7 +30,7 @@ use Rattle.tac_ir.specs.Costs.{spent}
 use Rattle.tac_ir.specs.Fitting.{is_whole, is_home_of, is_static_of, is_base_there}
 use Rattle.tac_ir.specs.Keys.{base_value, scaled_value, path_tag, key_tag, key_word, same_tag, gives}
 use Rattle.tac_ir.proofs.KeyWork.{base_work}
-use Rattle.tac_ir.proofs.SameTags.{same_bounds}
+use Rattle.tac_ir.proofs.SameTags.{same_bounds, same_life}
 use Rattle.tac_ir.specs.Meaning.{check}
 use Rattle.tac_ir.specs.Stage.{Temps, Frame, Stage, Stands, came}
 use Rattle.rv_isa.specs.declared.instruction.RegOp.TheVariants.{Add}
@@ -91,13 +91,6 @@ path_of o b e (m ∷ ms) s = by (path_tag b ms s) (path_of o b e ms s)
     by Untagged e = e
     by (OfFunction f) e = e
     by (OfObject q c) e = e
-
-same_object : (o : ℕ) (a b : Tag) → same_tag a b ≡ true → IsOf o b → IsOf o a
-same_object o Untagged Untagged e h = h
-same_object o (OfFunction f) (OfFunction g) e h = h
-same_object o (OfObject n b) (OfObject m c) e h =
-    h ∙ sym (eqb-true n m (both (n == m) (b.base == c.base && b.bound == c.bound) e).0)
-same_object o a b e h = cc
 
 -- a range of a path ends where the object does, or before
 path_ends : (size : ℕ) (ms : List Member) → (path_range size ms).end ≤ size
@@ -278,9 +271,9 @@ module _ (c : Compiled) (IsGood : Bytes → Type 0) (right : IsCompiled c IsGood
         let of_base : IsOf object.object value.tag =
         subst (λ (z : Value). IsOf object.object z.tag) (sym (base_work key.base (s.work + 1) s ∙ object.value))
         (own_tag object.object s.objects) in
-        live_of object.object (temps a).value.tag s.objects
-        (same_object object.object (temps a).value.tag (key_tag key (spent 1 s)) same
-        (path_of object.object value of_base key.path (spent 1 s))) object.live
+        same_life (temps a).value.tag (key_tag key (spent 1 s)) same s.objects
+        ∙ live_of object.object (key_tag key (spent 1 s)) s.objects
+        (path_of object.object value of_base key.path (spent 1 s)) object.live
 
     passes_life : compare_code c.layout.expansion.inline.operators (map_of c) (expansion_of c).code h.code of key size line
         (temporary_register h.code a) (first_free h.code) ≡ []

@@ -1,6 +1,6 @@
 -- The lists of instructions that stand inline in the code of a program, by their registers, and what is asked of them,
 -- whatever form the shadow space has.
-use Rattle.std.specs.Prelude.{ℕ, ◌-◌, ◌^◌, ◌<◌, ◌≤◌, List, [], ◌∷◌, Some}
+use Rattle.std.specs.Prelude.{ℕ, ◌^◌, ◌<◌, ◌≤◌, List, [], ◌∷◌, Some}
 use Rattle.rv_isa.specs.declared.instruction.StoreOp.TheVariants.{Sb}
 use Rattle.addr_map.specs.Places.{MapSizes}
 use Rattle.flat_meaning.specs.declared.instruction.RightOperand.{RightOperand}

@@ -1,5 +1,6 @@
 pub mod Words
 pub mod Calls
+pub mod Formats
 pub mod Registers
 pub mod Statics
 pub mod Blocks

@@ -1,9 +1,12 @@
 -- The numbers of a function's virtual registers, as a struct has them.
 use Rattle.std.specs.Prelude.{◌≡◌, ℕ, ◌+◌, ◌*◌, ◌^◌, ◌≤◌, Bool, true, length, Some, get_or}
+use Rattle.c_tree.specs.Format.{directives, pieces}
+use Rattle.source_meaning.specs.Printing.{pieces_or_none}
 use Rattle.source_meaning.specs.Blocks.{has_objects}
 use Rattle.tac_ir.specs.declared.instruction.Instruction.{Instruction}
 use Rattle.tac_ir.specs.declared.instruction.Instruction.TheVariants as tac
-use Rattle.tac_ir.specs.Meaning.{objects_in}
+use Rattle.tac_ir.specs.declared.function.Tac.{Tac}
+use Rattle.tac_ir.specs.Meaning.{objects_in, text_in}
 use Rattle.tac_ir.specs.declared.function.CodeFunction.{CodeFunction}
 use Rattle.tac_ir.specs.Temporaries.{temporaries}
 use Rattle.metadata_plan.specs.Registers.{most_temporaries}
@@ -30,10 +33,11 @@ pub record AreRegisters (registers : Registers) (function : CodeFunction) : Type
   pub free : registers.free ≡ first_free function
   pub small : HasFewRegisters function
 
--- the arguments of a routine of the library are temporaries of the function
-abbrev pub last_handed : Instruction → ℕ
-last_handed (tac.Library r line d n m) = d + argument_count r
-last_handed i = 0
+-- the arguments of a routine of the library, and of the directives of a format, are temporaries of the function
+abbrev pub last_handed : Tac → Instruction → ℕ
+last_handed t (tac.Library r line d n m) = d + argument_count r
+last_handed t (tac.Print x line d n m) = d + length (directives (pieces_or_none (pieces (text_in t x))))
+last_handed t i = 0
 
 abbrev pub function_named : Instruction → ℕ
 function_named (tac.FunctionPointer d f m) = f
@@ -51,9 +55,9 @@ leaves_objects c (tac.LeaveBlock b m) = has_objects (objects_in (Some c) b)
 leaves_objects c i = true
 
 -- an instruction names temporaries and blocks of its function, and functions that have an address in the jump table
-pub record IsAmong (function : CodeFunction) (instruction : Instruction) : Type 0 where
+pub record IsAmong (program : Tac) (function : CodeFunction) (instruction : Instruction) : Type 0 where
   pub temporaries : temporaries instruction ≤ most_temporaries function.code
-  pub handed : last_handed instruction ≤ most_temporaries function.code
+  pub handed : last_handed program instruction ≤ most_temporaries function.code
   pub functions : function_named instruction ≤ 2 ^ 12
   pub blocks : block_named instruction ≤ length function.blocks
   pub left : leaves_objects function instruction ≡ true

@@ -76,11 +76,6 @@ abbrev pub selected : (read write : EntryCode) → FunctionContext → (with_ent
     → List FlatInstruction
 selected read write x with_entry i = block (expansion_of read write x with_entry) 0 x.function.now i
 
--- all instructions but `printf`
-abbrev pub is_selected : Instruction → Bool
-is_selected (tac.Print x line d n m) = false
-is_selected i = true
-
 -- ---- kinds of instructions
 
 -- plain variables and constants
@@ -142,6 +137,7 @@ is_control _ = false
 -- calls
 abbrev pub is_call : Instruction → Bool
 is_call (tac.Library r line d n m) = true
+is_call (tac.Print x line d n m) = true
 is_call (tac.Call f line d n m) = true
 is_call (tac.CallThrough type_number line d n m) = true
 is_call _ = false

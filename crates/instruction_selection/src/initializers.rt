@@ -114,8 +114,8 @@ fn put_bytes(
     Ok(())
 }
 
-// The bytes of a text, by its number.
-fn text_of(program: &Tac, number: usize) -> &[u8]
+/// The bytes of a text, by its number.
+pub fn text_of(program: &Tac, number: usize) -> &[u8]
     ensures { result.now ≡ text_in program.now number }
 {
     match program.texts.as_slice().get(number) {

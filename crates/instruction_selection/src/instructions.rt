@@ -5,7 +5,7 @@ ghost use Rattle.flat_meaning.specs.declared.instruction.FlatInstruction.TheVari
 ghost use Rattle.sb_base.specs.declared.ending.Ending.TheVariants.{Abort};
 ghost use Rattle.instruction_selection.specs.Contexts.{IsPrepared};
 ghost use Rattle.instruction_selection.specs.Registers.{IsAmong};
-ghost use Rattle.instruction_selection.specs.Selected.{is_selected, selected};
+ghost use Rattle.instruction_selection.specs.Selected.{selected};
 
 use crate::context::FunctionContext;
 use crate::list::put;
@@ -30,8 +30,8 @@ fn put_abort(code: &mut Vec<FlatInstruction>) -> Result<(), AllocError>
     put(code, FlatInstruction::End(Ending::Abort(Line::first())))
 }
 
-/// Puts the flat code of an instruction behind a list, of any but `printf`. `with_entry` says whether the temporary that
-/// it gives has an entry behind it. It fails only for want of memory.
+/// Puts the flat code of an instruction behind a list. `with_entry` says whether the temporary that it gives has an entry
+/// behind it. It fails only for want of memory.
 pub fn put_instruction<S: ShadowForm>(
     code: &mut Vec<FlatInstruction>,
     context: &FunctionContext,
@@ -39,8 +39,8 @@ pub fn put_instruction<S: ShadowForm>(
     with_entry: bool,
 ) -> Result<(), AllocError>
     requires prepared { IsPrepared context.now }
-    requires among { IsAmong context.now.function.now instruction.now }
-    ensures { OnOk result (is_selected instruction.now ≡ true → code.new.items ≡ code.old.items
+    requires among { IsAmong context.now.program.now context.now.function.now instruction.now }
+    ensures { OnOk result (code.new.items ≡ code.old.items
         ++ selected S.entry_read S.entry_write context.now with_entry instruction.now) }
 {
     match instruction {
@@ -75,10 +75,10 @@ pub fn put_instruction<S: ShadowForm>(
         | Instruction::Case { .. }
         | Instruction::Turn { .. }
         | Instruction::Return { .. } => put_control::<S>(code, context, instruction),
-        Instruction::Library { .. } | Instruction::Call { .. } | Instruction::CallThrough { .. } =>
-            put_called(code, context, instruction, with_entry),
-        Instruction::Reserved | Instruction::Take { .. } | Instruction::Print { .. } => {
-            put_abort(code)
-        }
+        Instruction::Library { .. }
+        | Instruction::Print { .. }
+        | Instruction::Call { .. }
+        | Instruction::CallThrough { .. } => put_called(code, context, instruction, with_entry),
+        Instruction::Reserved | Instruction::Take { .. } => put_abort(code),
     }
 }

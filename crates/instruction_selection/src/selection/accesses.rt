@@ -50,7 +50,7 @@ fn put_updated<S: ShadowForm>(
     with_entry: bool,
 ) -> Result<(), AllocError>
     requires prepared { IsPrepared context.now }
-    requires among { IsAmong context.now.function.now instruction.now }
+    requires among { IsAmong context.now.program.now context.now.function.now instruction.now }
     ensures { OnOk result (is_place_update instruction.now ≡ true → code.new.items ≡ code.old.items
         ++ selected S.entry_read S.entry_write context.now with_entry instruction.now) }
 {
@@ -87,7 +87,7 @@ pub fn put_access<S: ShadowForm>(
     with_entry: bool,
 ) -> Result<(), AllocError>
     requires prepared { IsPrepared context.now }
-    requires among { IsAmong context.now.function.now instruction.now }
+    requires among { IsAmong context.now.program.now context.now.function.now instruction.now }
     ensures { OnOk result (is_access instruction.now ≡ true → code.new.items ≡ code.old.items
         ++ selected S.entry_read S.entry_write context.now with_entry instruction.now) }
 {

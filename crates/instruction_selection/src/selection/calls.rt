@@ -8,6 +8,7 @@ ghost use Rattle.instruction_selection.specs.Selected.{is_call, selected};
 
 use crate::calls::{Call, put_call, put_call_through};
 use crate::context::FunctionContext;
+use crate::printing::{PrintCall, put_print};
 use crate::runtime_calls::{LibraryCall, put_library};
 use flat_meaning::FlatInstruction;
 use std::alloc::AllocError;
@@ -21,7 +22,7 @@ pub fn put_called(
     with_entry: bool,
 ) -> Result<(), AllocError>
     requires prepared { IsPrepared context.now }
-    requires among { IsAmong context.now.function.now instruction.now }
+    requires among { IsAmong context.now.program.now context.now.function.now instruction.now }
     ensures { OnOk result ((read write : EntryCode) → is_call instruction.now ≡ true → code.new.items ≡ code.old.items
         ++ selected read write context.now with_entry instruction.now) }
 {
@@ -38,6 +39,19 @@ pub fn put_called(
                 first: *first,
             };
             put_library(code, context, call, with_entry)
+        }
+        Instruction::Print {
+            text,
+            line,
+            first,
+            ..
+        } => {
+            let call = PrintCall {
+                text: *text,
+                line: *line,
+                first: *first,
+            };
+            put_print(code, context, call, with_entry)
         }
         Instruction::Call {
             function,

@@ -48,7 +48,7 @@ pub fn put_computed(
     with_entry: bool,
 ) -> Result<(), AllocError>
     requires prepared { IsPrepared context.now }
-    requires among { IsAmong context.now.function.now instruction.now }
+    requires among { IsAmong context.now.program.now context.now.function.now instruction.now }
     ensures { OnOk result ((read write : EntryCode) → is_computed instruction.now ≡ true → code.new.items ≡ code.old.items
         ++ selected read write context.now with_entry instruction.now) }
 {

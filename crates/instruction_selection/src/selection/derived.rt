@@ -71,7 +71,7 @@ fn put_by_elements(
     with_entry: bool,
 ) -> Result<(), AllocError>
     requires prepared { IsPrepared context.now }
-    requires among { IsAmong context.now.function.now instruction.now }
+    requires among { IsAmong context.now.program.now context.now.function.now instruction.now }
     ensures { OnOk result ((read write : EntryCode) → is_moved instruction.now ≡ true
         → code.new.items ≡ code.old.items ++ selected read write context.now with_entry instruction.now) }
 {
@@ -122,7 +122,7 @@ pub fn put_derived(
     with_entry: bool,
 ) -> Result<(), AllocError>
     requires prepared { IsPrepared context.now }
-    requires among { IsAmong context.now.function.now instruction.now }
+    requires among { IsAmong context.now.program.now context.now.function.now instruction.now }
     ensures { OnOk result ((read write : EntryCode) → is_derived instruction.now ≡ true → code.new.items ≡ code.old.items
         ++ selected read write context.now with_entry instruction.now) }
 {

@@ -21,7 +21,7 @@ pub fn put_name_pointer(
     with_entry: bool,
 ) -> Result<(), AllocError>
     requires prepared { IsPrepared context.now }
-    requires among { IsAmong context.now.function.now instruction.now }
+    requires among { IsAmong context.now.program.now context.now.function.now instruction.now }
     ensures { OnOk result ((read write : EntryCode) → is_name_pointer instruction.now ≡ true → code.new.items ≡ code.old.items
         ++ selected read write context.now with_entry instruction.now) }
 {

@@ -21,7 +21,7 @@ fn put_of_block<S: ShadowForm>(
     instruction: &Instruction,
 ) -> Result<(), AllocError>
     requires prepared { IsPrepared context.now }
-    requires among { IsAmong context.now.function.now instruction.now }
+    requires among { IsAmong context.now.program.now context.now.function.now instruction.now }
     ensures { OnOk result ((with_entry : Bool) → is_of_block instruction.now ≡ true
         → code.new.items ≡ code.old.items
         ++ selected S.entry_read S.entry_write context.now with_entry instruction.now) }
@@ -46,7 +46,7 @@ pub fn put_of_objects<S: ShadowForm>(
     instruction: &Instruction,
 ) -> Result<(), AllocError>
     requires prepared { IsPrepared context.now }
-    requires among { IsAmong context.now.function.now instruction.now }
+    requires among { IsAmong context.now.program.now context.now.function.now instruction.now }
     ensures { OnOk result ((with_entry : Bool) → is_of_objects instruction.now ≡ true → code.new.items ≡ code.old.items
         ++ selected S.entry_read S.entry_write context.now with_entry instruction.now) }
 {

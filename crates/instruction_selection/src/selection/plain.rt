@@ -24,7 +24,7 @@ fn put_updated(
     with_entry: bool,
 ) -> Result<(), AllocError>
     requires prepared { IsPrepared context.now }
-    requires among { IsAmong context.now.function.now instruction.now }
+    requires among { IsAmong context.now.program.now context.now.function.now instruction.now }
     ensures { OnOk result ((read write : EntryCode) → is_updated instruction.now ≡ true
         → code.new.items ≡ code.old.items ++ selected read write context.now with_entry instruction.now) }
 {
@@ -60,7 +60,7 @@ pub fn put_plain(
     with_entry: bool,
 ) -> Result<(), AllocError>
     requires prepared { IsPrepared context.now }
-    requires among { IsAmong context.now.function.now instruction.now }
+    requires among { IsAmong context.now.program.now context.now.function.now instruction.now }
     ensures { OnOk result ((read write : EntryCode) → is_plain instruction.now ≡ true → code.new.items ≡ code.old.items
         ++ selected read write context.now with_entry instruction.now) }
 {

@@ -7,23 +7,24 @@ use Rattle.tac_ir.specs.declared.instruction.Instruction.{Instruction}
 use Rattle.tac_ir.specs.declared.function.CodeFunction.{CodeFunction}
 use Rattle.tac_ir.specs.declared.function.Tac.{Tac}
 use Rattle.metadata_plan.specs.Laid.{size_at, size_from}
-use Rattle.metadata_plan.specs.OperatorLists.Operators.{operators}
+use Rattle.flat_meaning.specs.declared.instruction.FlatInstruction.{FlatInstruction}
 use Rattle.metadata_expansion.specs.Numbers.{AreSmall, AreAllSmall}
 use Rattle.metadata_plan.proofs.Laying.{drop_at}
 
 -- the size so far, with that of the nodes from one on
-pub one_counted : (m : MapSizes) (t : Tac) (c : CodeFunction) (size more all n : ℕ) (i : Instruction)
-    → slice_get c.code n ≡ Some i → more ≡ size_at operators m t c n i
-    → size + size_from operators m t c n (drop n c.code) ≡ all
-    → size + more + size_from operators m t c (n + 1) (drop (n + 1) c.code) ≡ all
-one_counted m t c size more all n i e sized h =
-    let parts : size_from operators m t c n (drop n c.code)
-    ≡ size_at operators m t c n i + size_from operators m t c (suc n) (drop (suc n) c.code) =
-    ap (λ is. size_from operators m t c n is) (drop_at c.code n i e) in
+pub one_counted : (put : Instruction → List FlatInstruction) (begin : List FlatInstruction) (c : CodeFunction)
+    (size more all n : ℕ) (i : Instruction)
+    → slice_get c.code n ≡ Some i → more ≡ size_at put begin c n i
+    → size + size_from put begin c n (drop n c.code) ≡ all
+    → size + more + size_from put begin c (n + 1) (drop (n + 1) c.code) ≡ all
+one_counted put begin c size more all n i e sized h =
+    let parts : size_from put begin c n (drop n c.code)
+    ≡ size_at put begin c n i + size_from put begin c (suc n) (drop (suc n) c.code) =
+    ap (λ is. size_from put begin c n is) (drop_at c.code n i e) in
     let next : suc n ≡ n + 1 = omega arith in
-    let rest : size_from operators m t c (suc n) (drop (suc n) c.code)
-    ≡ size_from operators m t c (n + 1) (drop (n + 1) c.code) =
-    ap (λ k. size_from operators m t c k (drop k c.code)) next in
+    let rest : size_from put begin c (suc n) (drop (suc n) c.code)
+    ≡ size_from put begin c (n + 1) (drop (n + 1) c.code) =
+    ap (λ k. size_from put begin c k (drop k c.code)) next in
     omega (arith, parts, rest, sized, h)
 
 -- ---- all functions

@@ -7,6 +7,7 @@ use Rattle.tac_ir.specs.declared.instruction.Instruction.TheVariants as tac
 use Rattle.tac_ir.specs.declared.function.CodeFunction.{CodeFunction}
 use Rattle.tac_ir.specs.declared.function.Tac.{Tac}
 use Rattle.metadata_plan.specs.Registers.{first_free}
+use Rattle.metadata_plan.specs.Blocks.{block, prologue}
 use Rattle.metadata_plan.specs.Laid.{begin_size, size_from}
 use Rattle.metadata_plan.specs.OperatorLists.Operators.{operators}
 use Rattle.metadata_expansion.specs.Homes.{free_count}
@@ -48,7 +49,8 @@ register_count c = first_free c + free_count c
 
 -- how many instructions its expansion has
 abbrev pub body_size : MapSizes → Tac → CodeFunction → ℕ
-body_size m t c = begin_size operators m t c + size_from operators m t c 0 c.code
+body_size m t c =
+    begin_size (block operators m t c) (prologue c) c + size_from (block operators m t c) (prologue c) c 0 c.code
 
 pub record AreSmall (map : MapSizes) (code : Tac) (function : CodeFunction) : Type 0 where
   pub registers : register_count function < 2 ^ 32

@@ -9,8 +9,7 @@ ghost use Rattle.metadata_plan.specs.Blocks.{prologue, zero_variables, zeros};
 ghost use Rattle.metadata_plan.specs.Laid.{begin_code, body_of, laid_from};
 ghost use Rattle.metadata_expansion.specs.Numbering.{IsAmong};
 ghost use Rattle.metadata_expansion.specs.Numbers.{AreSmall};
-ghost use Rattle.metadata_plan.specs.OperatorLists.Operators.{operators};
-ghost use Rattle.metadata_expansion.specs.Contexts.{HasRegisters, IsLaid, block_in, jumps_in, place_in};
+ghost use Rattle.metadata_expansion.specs.Contexts.{HasRegisters, IsLaid, begin_in, block_in, jumps_in, place_in};
 
 use crate::blocks::put_block;
 use crate::context::FunctionContext;
@@ -137,7 +136,8 @@ fn put_node(
     put_block(code, &layout.context, instruction)?;
     let size = code.len() - before;
     let place = layout.place(node) + size as u32;
-    put_jumps(code, layout, node, ways_of(instruction), place)
+    put_jumps(code, layout, node, ways_of(instruction), place)?;
+    Ok(())
 }
 
 // Puts all nodes, the last first.
@@ -146,8 +146,8 @@ fn put_nodes(code: &mut Vec<FlatInstruction>, layout: &Layout) -> Result<(), All
     requires small { AreSmall layout.now.context.map.now layout.now.context.program.now
         layout.now.context.function.now }
     ensures { OnOk result (code.new.items ≡ code.old.items
-        ++ laid_from operators layout.now.context.map.now layout.now.context.program.now
-        layout.now.context.function.now 0 layout.now.context.function.now.code) }
+        ++ laid_from (block_in layout.now.context) (begin_in layout.now.context) layout.now.context.function.now 0
+        layout.now.context.function.now.code) }
 {
     let function = layout.context.function;
     let count = function.code.as_slice().len();
@@ -170,7 +170,7 @@ fn put_begin(
         + words_in layout.now.context.function.now.variables < 2 ^ 32 }
     requires behind { behind ≡ length (prologue layout.now.context.function.now) }
     ensures { OnOk result (code.new.items ≡ code.old.items
-        ++ begin_code operators layout.now.context.map.now layout.now.context.program.now
+        ++ begin_code (block_in layout.now.context) (begin_in layout.now.context)
         layout.now.context.function.now) }
 {
     let function = layout.context.function;
@@ -189,7 +189,7 @@ pub fn put_body(
     requires registers { HasRegisters context.now }
     requires small { AreSmall context.now.map.now context.now.program.now context.now.function.now }
     ensures { OnOk result (code.new.items ≡ code.old.items
-        ++ body_of operators context.now.map.now context.now.program.now context.now.function.now) }
+        ++ body_of (block_in context.now) (begin_in context.now) context.now.function.now) }
 {
     let function = context.function;
     let joins = Joins::new(alloc, function)?;

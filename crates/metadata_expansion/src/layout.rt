@@ -5,10 +5,9 @@ ghost use Rattle.metadata_plan.specs.Blocks.{block, prologue};
 ghost use Rattle.metadata_plan.specs.Laid.{begin_size, falls, place_of, size_at, size_from};
 ghost use Rattle.metadata_expansion.specs.Numbering.{IsAmong};
 ghost use Rattle.metadata_expansion.specs.Numbers.{AreSmall};
-ghost use Rattle.metadata_plan.specs.OperatorLists.Operators.{operators};
 ghost use Rattle.metadata_expansion.specs.Joins.{AreJoins};
 ghost use Rattle.metadata_expansion.specs.Layout.{ArePlaces};
-ghost use Rattle.metadata_expansion.specs.Contexts.{HasRegisters, IsLaid, block_in, place_in};
+ghost use Rattle.metadata_expansion.specs.Contexts.{HasRegisters, IsLaid, begin_in, block_in, place_in};
 
 use crate::blocks::put_block;
 use crate::context::FunctionContext;
@@ -53,7 +52,7 @@ pub(crate) fn node_size(
     requires joins { AreJoins joins.now context.now.function.now }
     requires inside { node ≤ length context.now.function.now.code }
     requires among { IsAmong context.now.function.now instruction.now }
-    ensures value { IfOk result (λ n. n ≡ size_at operators context.now.map.now context.now.program.now
+    ensures value { IfOk result (λ n. n ≡ size_at (block_in context.now) (begin_in context.now)
         context.now.function.now node instruction.now) }
     ensures few { IfOk result (λ n. n < 2 ^ 65) }
 {
@@ -74,9 +73,8 @@ pub struct Places {
 impl Places {
     /// The place of a node.
     pub fn of(&self, context: &FunctionContext, node: usize) -> u32
-        requires { ArePlaces self.now context.now.map.now context.now.program.now context.now.function.now }
-        ensures { result ≡ place_of operators context.now.map.now context.now.program.now
-            context.now.function.now node }
+        requires { ArePlaces self.now (block_in context.now) (begin_in context.now) context.now.function.now }
+        ensures { result ≡ place_of (block_in context.now) (begin_in context.now) context.now.function.now node }
     {
         let places = self.descending.as_slice();
         if node < places.len() {
@@ -127,9 +125,8 @@ pub fn placed(
     requires registers { HasRegisters context.now }
     requires joins { AreJoins joins.now context.now.function.now }
     requires small { AreSmall context.now.map.now context.now.program.now context.now.function.now }
-    requires begin { begin ≡ begin_size operators context.now.map.now context.now.program.now
-        context.now.function.now }
-    ensures { IfOk result (λ places. ArePlaces places context.now.map.now context.now.program.now
+    requires begin { begin ≡ begin_size (block_in context.now) (begin_in context.now) context.now.function.now }
+    ensures { IfOk result (λ places. ArePlaces places (block_in context.now) (begin_in context.now)
         context.now.function.now) }
 {
     let function = context.function;

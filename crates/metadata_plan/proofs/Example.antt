@@ -42,7 +42,7 @@ use Rattle.flat_meaning.specs.Memory.{put}
 use Rattle.flat_meaning.specs.Calls.{function_in, rooms}
 use Rattle.flat_meaning.specs.Meaning.{flat_meaning}
 use Rattle.metadata_plan.specs.Operators.{OperatorCode}
-use Rattle.metadata_plan.specs.Blocks.{entry_code}
+use Rattle.metadata_plan.specs.Blocks.{block, prologue, entry_code}
 use Rattle.metadata_plan.specs.Expanded.{Falls, Forward, Back, IsPut, IsExpandedFunction, ExpandsAt}
 use Rattle.metadata_plan.specs.Expanded.{IsExpanded}
 use Rattle.metadata_plan.specs.Laid.{falls, place_of, body_of}
@@ -371,11 +371,11 @@ is_expanded = record {
     functions (suc (suc u)) c e = cc
 
 -- the blocks laid one behind the other are these
-main_laid : body_of operators setting.sizes program main ≡ flat_main.body
+main_laid : body_of (block operators setting.sizes program main) (prologue main) main ≡ flat_main.body
 unfolding place_of falls
 main_laid = refl
 
-next_laid : body_of operators setting.sizes program next ≡ flat_next.body
+next_laid : body_of (block operators setting.sizes program next) (prologue next) next ≡ flat_next.body
 unfolding place_of falls
 next_laid = refl
 

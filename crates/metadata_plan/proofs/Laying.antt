@@ -19,7 +19,7 @@ use Rattle.flat_routines.specs.Routine.{HasAt}
 use Rattle.flat_routines.proofs.Steps.{has_front, has_back}
 use Rattle.metadata_plan.specs.Operators.{OperatorCode}
 use Rattle.metadata_plan.specs.Blocks.{block, prologue}
-use Rattle.metadata_plan.specs.Expanded.{Leads, Falls, Forward, Back, LeadOn, IsPut, IsExpandedFunction, ExpandsAt}
+use Rattle.metadata_plan.specs.Expanded.{Leads, Falls, Forward, Back, LeadOn, IsExpandedFunction, ExpandsAt}
 use Rattle.metadata_plan.specs.Expanded.{EntersAt, IsExpanded}
 use Rattle.metadata_plan.specs.Laid.{jump, jump_unless, falls, is_join, jumps, jump_count, size_at, size_from}
 use Rattle.metadata_plan.specs.Laid.{begin_size, place_of, laid_from, begin_code, body_of, function_of, functions_of}
@@ -83,203 +83,225 @@ drop_at (x ∷ is) (suc n) i e = drop_at is n i e
 abbrev one_unless : Bool → ℕ
 one_unless b = if b then 0 else 1
 
-module _ (o : OperatorCode) (m : MapSizes) (t : Tac) (c : CodeFunction) where
+module _ (put : Instruction → List FlatInstruction) (begin : List FlatInstruction) (c : CodeFunction) where
   abbrev place : ℕ → ℕ
-  place = place_of o m t c
+  place = place_of put begin c
 
   abbrev pub part_of : (node : ℕ) → Instruction → List FlatInstruction
   part_of n i =
-      block o m t c i
-      ++ jumps c (place_of o m t c) n (place_of o m t c n + length (block o m t c i)) (successors i)
+      put i
+      ++ jumps c (place_of put begin c) n (place_of put begin c n + length (put i)) (successors i)
 
-  pub part_length : (n : ℕ) (i : Instruction) → length (part_of n i) ≡ size_at o m t c n i
+  pub part_length : (n : ℕ) (i : Instruction) → length (part_of n i) ≡ size_at put begin c n i
   part_length n i =
-      let b = block o m t c i in
-      let js = jumps c (place_of o m t c) n (place_of o m t c n + length b) (successors i) in
+      let b = put i in
+      let js = jumps c (place_of put begin c) n (place_of put begin c n + length b) (successors i) in
       omega (
         arith,
         length-append b js,
-        jumps_length c (place_of o m t c) n (place_of o m t c n + length b)
+        jumps_length c (place_of put begin c) n (place_of put begin c n + length b)
             (successors i),
       )
 
-  pub laid_length : (n : ℕ) (is : List Instruction) → length (laid_from o m t c n is) ≡ size_from o m t c n is
+  pub laid_length : (n : ℕ) (is : List Instruction) → length (laid_from put begin c n is) ≡ size_from put begin c n is
   laid_length n [] = refl
   laid_length n (i ∷ is) =
-      omega (arith, length-append (laid_from o m t c (suc n) is) (part_of n i), laid_length (suc n) is, part_length n i)
+      omega (
+        arith,
+        length-append (laid_from put begin c (suc n) is) (part_of n i),
+        laid_length (suc n) is,
+        part_length n i,
+      )
 
   -- the part of a node stands behind those of the higher ones
   record Splits (first n : ℕ) (is : List Instruction) (i : Instruction) : Type 0 where
     rest : List FlatInstruction
-    split : laid_from o m t c first is
-        ≡ laid_from o m t c (suc (first + n)) (drop (suc n) is) ++ (part_of (first + n) i ++ rest)
+    split : laid_from put begin c first is
+        ≡ laid_from put begin c (suc (first + n)) (drop (suc n) is) ++ (part_of (first + n) i ++ rest)
 
   splits : (first n : ℕ) (is : List Instruction) (i : Instruction) → slice_get is n ≡ Some i → Splits first n is i
   splits first n [] i e = cc
   splits first zero (x ∷ is) i e =
       let same : x ≡ i = cc in
       let at : first ≡ first + 0 = omega arith in
-      let before = laid_from o m t c (suc first) is in
+      let before = laid_from put begin c (suc first) is in
       record {
         rest = [];
         split = ap (λ z. before ++ part_of first z) same
             ∙ ap (λ z. before ++ z) (sym (append-nil (part_of first i)))
-            ∙ ap (λ z. laid_from o m t c (suc z) is ++ (part_of z i ++ [])) at;
+            ∙ ap (λ z. laid_from put begin c (suc z) is ++ (part_of z i ++ [])) at;
       }
   splits first (suc n) (x ∷ is) i e =
       let h = splits (suc first) n is i e in
       let at : suc first + n ≡ first + suc n = omega arith in
-      let before = laid_from o m t c (suc (suc first + n)) (drop (suc n) is) in
+      let before = laid_from put begin c (suc (suc first + n)) (drop (suc n) is) in
       let own = part_of (suc first + n) i in
       record {
         rest = h.rest ++ part_of first x;
         split = ap (λ z. z ++ part_of first x) h.split
             ∙ append_assoc before (own ++ h.rest) (part_of first x)
             ∙ ap (λ z. before ++ z) (append_assoc own h.rest (part_of first x))
-            ∙ ap (λ z. laid_from o m t c (suc z) (drop (suc n) is) ++ (part_of z i ++ (h.rest ++ part_of first x))) at;
+            ∙ ap (λ z. laid_from put begin c (suc z) (drop (suc n) is)
+            ++ (part_of z i ++ (h.rest ++ part_of first x))) at;
       }
 
   pub begin_jump : List FlatInstruction
   begin_jump =
       if c.entry + 1 == length c.code
       then []
-      else jump (length (prologue c)) (place_of o m t c c.entry) ∷ []
+      else jump (length begin) (place_of put begin c c.entry) ∷ []
 
   pub jump_length : length begin_jump ≡ one_unless (c.entry + 1 == length c.code)
   unfolding begin_jump
   jump_length = by (c.entry + 1 == length c.code)
     where
       by : (b : Bool)
-          → length (if b then [] else jump (length (prologue c)) (place_of o m t c c.entry) ∷ []) ≡ one_unless b
+          → length (if b then [] else jump (length begin) (place_of put begin c c.entry) ∷ []) ≡ one_unless b
       by true = refl
       by false = refl
 
-  pub begin_is : begin_code o m t c ≡ prologue c ++ begin_jump
+  pub begin_is : begin_code put begin c ≡ begin ++ begin_jump
   unfolding begin_jump
   begin_is = refl
 
-  pub begin_length : length (begin_code o m t c) ≡ begin_size o m t c
+  pub begin_length : length (begin_code put begin c) ≡ begin_size put begin c
   begin_length =
-      ap length begin_is ∙ length-append (prologue c) begin_jump ∙ ap (λ z. length (prologue c) + z) jump_length
+      ap length begin_is ∙ length-append begin begin_jump ∙ ap (λ z. length begin + z) jump_length
 
-  pub place_is : (n : ℕ) → place_of o m t c n ≡ begin_size o m t c + size_from o m t c (suc n) (drop (suc n) c.code)
+  pub place_is : (n : ℕ)
+      → place_of put begin c n ≡ begin_size put begin c + size_from put begin c (suc n) (drop (suc n) c.code)
   unfolding place_of
   place_is n = refl
 
   pub part_stands : (n : ℕ) (i : Instruction) → slice_get c.code n ≡ Some i
-      → HasAt (body_of o m t c) (place_of o m t c n) (part_of n i)
+      → HasAt (body_of put begin c) (place_of put begin c n) (part_of n i)
   part_stands n i e =
       let h = splits 0 n c.code i e in
-      let begin = begin_code o m t c in
+      let front = begin_code put begin c in
       let at : 0 + n ≡ n = omega arith in
-      let before = laid_from o m t c (suc (0 + n)) (drop (suc n) c.code) in
+      let before = laid_from put begin c (suc (0 + n)) (drop (suc n) c.code) in
       let own = part_of (0 + n) i in
-      let whole : begin ++ laid_from o m t c 0 c.code ≡ (begin ++ before) ++ (own ++ h.rest) =
-      ap (λ z. begin ++ z) h.split ∙ sym (append_assoc begin before (own ++ h.rest)) in
-      let there = has_front ((begin ++ before) ++ (own ++ h.rest)) (length (begin ++ before)) own h.rest
-      (has_all (own ++ h.rest) (begin ++ before)) in
-      let place_at : length (begin ++ before) ≡ place_of o m t c n =
-      length-append begin before ∙ ap (λ z. z + length before) begin_length
-      ∙ ap (λ z. begin_size o m t c + z) (laid_length (suc (0 + n)) (drop (suc n) c.code))
-      ∙ ap (λ z. begin_size o m t c + size_from o m t c (suc z) (drop (suc n) c.code)) at
+      let whole : front ++ laid_from put begin c 0 c.code ≡ (front ++ before) ++ (own ++ h.rest) =
+      ap (λ z. front ++ z) h.split ∙ sym (append_assoc front before (own ++ h.rest)) in
+      let there = has_front ((front ++ before) ++ (own ++ h.rest)) (length (front ++ before)) own h.rest
+      (has_all (own ++ h.rest) (front ++ before)) in
+      let place_at : length (front ++ before) ≡ place_of put begin c n =
+      length-append front before ∙ ap (λ z. z + length before) begin_length
+      ∙ ap (λ z. begin_size put begin c + z) (laid_length (suc (0 + n)) (drop (suc n) c.code))
+      ∙ ap (λ z. begin_size put begin c + size_from put begin c (suc z) (drop (suc n) c.code)) at
       ∙ sym (place_is n) in
-      subst (λ z. HasAt (body_of o m t c) (place_of o m t c n) (part_of z i)) at
-      (subst (λ z. HasAt (body_of o m t c) z own) place_at
-      (subst (λ z. HasAt z (length (begin ++ before)) own) (sym whole) there))
+      subst (λ z. HasAt (body_of put begin c) (place_of put begin c n) (part_of z i)) at
+      (subst (λ z. HasAt (body_of put begin c) z own) place_at
+      (subst (λ z. HasAt z (length (front ++ before)) own) (sym whole) there))
 
   -- the next node stands behind all that a node has
   pub next_place : (n : ℕ) (i : Instruction) → slice_get c.code n ≡ Some i → (next : ℕ) → next + 1 ≡ n
-      → place_of o m t c next ≡ place_of o m t c n + size_at o m t c n i
+      → place_of put begin c next ≡ place_of put begin c n + size_at put begin c n i
   next_place n i e next is_next =
       let at : suc next ≡ n = omega arith in
-      let tail = ap (size_from o m t c n) (drop_at c.code n i e) in
-      let from = ap (λ z. size_from o m t c z (drop z c.code)) at in
+      let tail = ap (size_from put begin c n) (drop_at c.code n i e) in
+      let from = ap (λ z. size_from put begin c z (drop z c.code)) at in
       omega (arith, place_is next, place_is n)
 
   leads : (n : ℕ) (i : Instruction) → slice_get c.code n ≡ Some i → (ns : List ℕ) → successors i ≡ ns
-      → HasAt (body_of o m t c) (place_of o m t c n + length (block o m t c i))
-      (jumps c (place_of o m t c) n (place_of o m t c n + length (block o m t c i)) ns)
-      → LeadOn (body_of o m t c) (place_of o m t c) (place_of o m t c n + length (block o m t c i)) ns
+      → HasAt (body_of put begin c) (place_of put begin c n + length (put i))
+      (jumps c (place_of put begin c) n (place_of put begin c n + length (put i)) ns)
+      → LeadOn (body_of put begin c) (place_of put begin c) (place_of put begin c n + length (put i)) ns
   leads n i e [] is has = tt
   leads n i e (x ∷ []) is has =
-      unless_leads (body_of o m t c) (falls c n x) (place_of o m t c n + length (block o m t c i))
-      (place_of o m t c x) has
+      unless_leads (body_of put begin c) (falls c n x) (place_of put begin c n + length (put i))
+      (place_of put begin c x) has
       (λ fallen. behind fallen (next_place n i e x (falls_to_next c n x fallen)))
     where
-      behind : falls c n x ≡ true → place_of o m t c x ≡ place_of o m t c n + size_at o m t c n i
-          → place_of o m t c n + length (block o m t c i) ≡ place_of o m t c x
+      behind : falls c n x ≡ true → place_of put begin c x ≡ place_of put begin c n + size_at put begin c n i
+          → place_of put begin c n + length (put i) ≡ place_of put begin c x
       behind fallen at =
           let count : jump_count c n (successors i) ≡ one_unless (falls c n x) = ap (jump_count c n) is in
           let none = ap one_unless fallen in
-          let size : size_at o m t c n i ≡ length (block o m t c i) + jump_count c n (successors i) = refl in
+          let size : size_at put begin c n i ≡ length (put i) + jump_count c n (successors i) = refl in
           omega (arith, at, count, none, size)
   leads n i e (x ∷ y ∷ ns) is has = (
-    jump_leads (body_of o m t c) (place_of o m t c n + length (block o m t c i)) (place_of o m t c y) has.0,
-    unless_leads (body_of o m t c) (falls c n x) (place_of o m t c n + length (block o m t c i) + 1)
-        (place_of o m t c x)
+    jump_leads (body_of put begin c) (place_of put begin c n + length (put i)) (place_of put begin c y) has.0,
+    unless_leads (body_of put begin c) (falls c n x) (place_of put begin c n + length (put i) + 1)
+        (place_of put begin c x)
         has.1 (λ fallen. behind fallen (next_place n i e x (falls_to_next c n x fallen))),
   )
     where
-      behind : falls c n x ≡ true → place_of o m t c x ≡ place_of o m t c n + size_at o m t c n i
-          → place_of o m t c n + length (block o m t c i) + 1 ≡ place_of o m t c x
+      behind : falls c n x ≡ true → place_of put begin c x ≡ place_of put begin c n + size_at put begin c n i
+          → place_of put begin c n + length (put i) + 1 ≡ place_of put begin c x
       behind fallen at =
           let count : jump_count c n (successors i) ≡ 1 + one_unless (falls c n x) = ap (jump_count c n) is in
           let none = ap one_unless fallen in
-          let size : size_at o m t c n i ≡ length (block o m t c i) + jump_count c n (successors i) = refl in
+          let size : size_at put begin c n i ≡ length (put i) + jump_count c n (successors i) = refl in
           omega (arith, at, count, none, size)
 
-  is_put : (n : ℕ) (i : Instruction) → slice_get c.code n ≡ Some i
-      → IsPut o m t c (body_of o m t c) (place_of o m t c) (place_of o m t c n) i
-  is_put n i e =
-      let b = block o m t c i in
-      let pc = place_of o m t c n in
-      let js = jumps c (place_of o m t c) n (pc + length b) (successors i) in
-      let stands = part_stands n i e in
-      record {
-        has = has_front (body_of o m t c) pc b js stands;
-        leads = leads n i e (successors i) refl (has_back (body_of o m t c) pc b js stands);
-      }
+  -- the block of a node stands at its place, and behind it the code leads on
+  pub block_stands : (n : ℕ) (i : Instruction) → slice_get c.code n ≡ Some i
+      → HasAt (body_of put begin c) (place_of put begin c n) (put i)
+  block_stands n i e =
+      let pc = place_of put begin c n in
+      let js = jumps c (place_of put begin c) n (pc + length (put i)) (successors i) in
+      has_front (body_of put begin c) pc (put i) js (part_stands n i e)
 
-  zeroed_and_jump : HasAt (body_of o m t c) 0 (prologue c ++ begin_jump)
-  zeroed_and_jump =
-      let all = has_all ((prologue c ++ begin_jump) ++ laid_from o m t c 0 c.code) [] in
-      let front = has_front ((prologue c ++ begin_jump) ++ laid_from o m t c 0 c.code) 0 (prologue c ++ begin_jump)
-      (laid_from o m t c 0 c.code) all in
-      subst (λ z. HasAt (z ++ laid_from o m t c 0 c.code) 0 (prologue c ++ begin_jump)) (sym begin_is) front
+  pub leads_on : (n : ℕ) (i : Instruction) → slice_get c.code n ≡ Some i
+      → LeadOn (body_of put begin c) (place_of put begin c) (place_of put begin c n + length (put i)) (successors i)
+  leads_on n i e =
+      let pc = place_of put begin c n in
+      let js = jumps c (place_of put begin c) n (pc + length (put i)) (successors i) in
+      leads n i e (successors i) refl (has_back (body_of put begin c) pc (put i) js (part_stands n i e))
 
-  begins : Leads (body_of o m t c) (length (prologue c)) (place_of o m t c c.entry)
+  begin_and_jump : HasAt (body_of put begin c) 0 (begin ++ begin_jump)
+  begin_and_jump =
+      let all = has_all ((begin ++ begin_jump) ++ laid_from put begin c 0 c.code) [] in
+      let front = has_front ((begin ++ begin_jump) ++ laid_from put begin c 0 c.code) 0 (begin ++ begin_jump)
+      (laid_from put begin c 0 c.code) all in
+      subst (λ z. HasAt (z ++ laid_from put begin c 0 c.code) 0 (begin ++ begin_jump)) (sym begin_is) front
+
+  pub begin_stands : HasAt (body_of put begin c) 0 begin
+  begin_stands = has_front (body_of put begin c) 0 begin begin_jump begin_and_jump
+
+  pub begins : Leads (body_of put begin c) (length begin) (place_of put begin c c.entry)
   unfolding begin_jump
   begins = by (c.entry + 1 == length c.code) refl
-      (has_back (body_of o m t c) 0 (prologue c) begin_jump zeroed_and_jump)
+      (has_back (body_of put begin c) 0 begin begin_jump begin_and_jump)
     where
-      by : (b : Bool) → (c.entry + 1 == length c.code) ≡ b → HasAt (body_of o m t c) (0 + length (prologue c))
+      by : (b : Bool) → (c.entry + 1 == length c.code) ≡ b → HasAt (body_of put begin c) (0 + length begin)
           (if c.entry + 1 == length c.code
           then []
-          else jump (length (prologue c)) (place_of o m t c c.entry) ∷ [])
-          → Leads (body_of o m t c) (length (prologue c)) (place_of o m t c c.entry)
+          else jump (length begin) (place_of put begin c c.entry) ∷ [])
+          → Leads (body_of put begin c) (length begin) (place_of put begin c c.entry)
       by true e has =
           let size : one_unless (c.entry + 1 == length c.code) ≡ 0 = ap one_unless e in
           let last : suc c.entry ≡ length c.code = let a = eqb-true (c.entry + 1) (length c.code) e in omega arith in
           let none = drop_all (suc c.entry) c.code (omega arith) in
-          let rest = ap (size_from o m t c (suc c.entry)) none in
+          let rest = ap (size_from put begin c (suc c.entry)) none in
           Falls (omega (arith, place_is c.entry, size, rest))
       by false e has =
-          let there = subst (λ z. HasAt (body_of o m t c) (0 + length (prologue c))
-          (if z then [] else jump (length (prologue c)) (place_of o m t c c.entry) ∷ [])) e has in
-          let at : 0 + length (prologue c) ≡ length (prologue c) = omega arith in
-          jump_leads (body_of o m t c) (length (prologue c)) (place_of o m t c c.entry)
-          (ap (slice_get (body_of o m t c)) (sym at) ∙ there.0)
+          let there = subst (λ z. HasAt (body_of put begin c) (0 + length begin)
+          (if z then [] else jump (length begin) (place_of put begin c c.entry) ∷ [])) e has in
+          let at : 0 + length begin ≡ length begin = omega arith in
+          jump_leads (body_of put begin c) (length begin) (place_of put begin c c.entry)
+          (ap (slice_get (body_of put begin c)) (sym at) ∙ there.0)
+
+-- ---- programs of integers
+
+module _ (o : OperatorCode) (m : MapSizes) (t : Tac) (c : CodeFunction) where
+  abbrev put : Instruction → List FlatInstruction
+  put = block o m t c
 
   pub function_expands : (homes : List ℕ)
-      → IsExpandedFunction o m t c (place_of o m t c) (function_of o m t c homes)
+      → IsExpandedFunction o m t c (place_of put (prologue c) c) (function_of o m t c homes)
   function_expands homes = record {
     parameters = refl;
     results = refl;
     room = refl;
     of_program = refl;
-    zeroed = has_front (body_of o m t c) 0 (prologue c) begin_jump zeroed_and_jump;
-    begins = begins;
-    blocks = is_put;
+    zeroed = begin_stands put (prologue c) c;
+    begins = begins put (prologue c) c;
+    blocks = λ n i e. record {
+      has = block_stands put (prologue c) c n i e;
+      leads = leads_on put (prologue c) c n i e;
+    };
   }
 
 module _ (o : OperatorCode) (m : MapSizes) (t : Tac) (homes : CodeFunction → List ℕ) where

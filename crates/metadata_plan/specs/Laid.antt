@@ -53,18 +53,19 @@ jump_count c n [] = 0
 jump_count c n (m ∷ []) = if falls c n m then 0 else 1
 jump_count c n (x ∷ y ∷ ms) = 1 + (if falls c n x then 0 else 1)
 
-module _ (o : OperatorCode) (map : MapSizes) (t : Tac) (c : CodeFunction) where
+-- the blocks of any instructions, and the code with which a function begins
+module _ (put : Instruction → List FlatInstruction) (begin : List FlatInstruction) (c : CodeFunction) where
   -- how many instructions a node has, and the nodes from one on
   abbrev pub size_at : (node : ℕ) → Instruction → ℕ
-  size_at n i = length (block o map t c i) + jump_count c n (successors i)
+  size_at n i = length (put i) + jump_count c n (successors i)
 
   abbrev pub size_from : (node : ℕ) → List Instruction → ℕ
   size_from n [] = 0
   size_from n (i ∷ is) = size_at n i + size_from (suc n) is
 
-  -- behind the prologue a jump to the entry stands, unless the entry is the last node
+  -- behind what the function begins with a jump to the entry stands, unless the entry is the last node
   abbrev pub begin_size : ℕ
-  begin_size = length (prologue c) + (if c.entry + 1 == length c.code then 0 else 1)
+  begin_size = length begin + (if c.entry + 1 == length c.code then 0 else 1)
 
   -- the place of a node: behind all higher ones
   unfoldable pub place_of : (node : ℕ) → ℕ
@@ -74,26 +75,27 @@ module _ (o : OperatorCode) (map : MapSizes) (t : Tac) (c : CodeFunction) where
   laid_from n [] = []
   laid_from n (i ∷ is) =
       laid_from (suc n) is
-      ++ (block o map t c i ++ jumps c place_of n (place_of n + length (block o map t c i)) (successors i))
+      ++ (put i ++ jumps c place_of n (place_of n + length (put i)) (successors i))
 
   abbrev pub begin_code : List FlatInstruction
   begin_code =
-      prologue c
-      ++ (if c.entry + 1 == length c.code then [] else jump (length (prologue c)) (place_of c.entry) ∷ [])
+      begin ++ (if c.entry + 1 == length c.code then [] else jump (length begin) (place_of c.entry) ∷ [])
 
   abbrev pub body_of : List FlatInstruction
   body_of = begin_code ++ laid_from 0 c.code
 
-  -- the function, with homes of its virtual registers
-  abbrev pub function_of : (homes : List ℕ) → FlatFunction
-  function_of homes = record {
-    parameters = words_in c.parameters;
-    results = 1;
-    room = c.room;
-    is_runtime = false;
-    homes = homes;
-    body = body_of;
-  }
+-- ---- programs of integers
+
+-- the function, with homes of its virtual registers
+abbrev pub function_of : OperatorCode → MapSizes → Tac → CodeFunction → (homes : List ℕ) → FlatFunction
+function_of o m t c homes = record {
+  parameters = words_in c.parameters;
+  results = 1;
+  room = c.room;
+  is_runtime = false;
+  homes = homes;
+  body = body_of (block o m t c) (prologue c) c;
+}
 
 abbrev pub functions_of : OperatorCode → MapSizes → Tac → (homes : CodeFunction → List ℕ) → List CodeFunction
     → List FlatFunction
@@ -114,7 +116,7 @@ entry_of m t = record {
 -- the place of each node of each function
 abbrev pub place_in : OperatorCode → MapSizes → Tac → Option CodeFunction → (node : ℕ) → ℕ
 place_in o m t None n = 0
-place_in o m t (Some c) n = place_of o m t c n
+place_in o m t (Some c) n = place_of (block o m t c) (prologue c) c n
 
 abbrev pub address_of : OperatorCode → MapSizes → Tac → (function node : ℕ) → ℕ
 address_of o m t u n = place_in o m t (slice_get t.functions u) n

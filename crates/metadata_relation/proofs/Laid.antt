@@ -11,13 +11,13 @@ use Rattle.flat_routines.specs.Metadata.{View}
 use Rattle.runtime_functions.specs.declared.runtime.RuntimeFunction.{RuntimeFunction}
 use Rattle.runtime_functions.specs.Runtime.{runtime_list, IsOfRuntime, AreOfRuntime}
 use Rattle.metadata_plan.specs.Entries.{AreAllClosed}
+use Rattle.metadata_plan.specs.Laid.{place_of}
+use Rattle.metadata_plan.proofs.Laying.{begin_stands, begins, block_stands, leads_on}
 use Rattle.metadata_relation.specs.Contents.{AreKept}
 use Rattle.metadata_relation.specs.FunctionTypes.{HaveTypeKeys}
-use Rattle.metadata_relation.specs.BlockLayout.{place_of}
 use Rattle.metadata_relation.specs.Blocks.{Expansion, block, prologue}
 use Rattle.metadata_relation.specs.Expanded.{IsExpandedFunction, ExpandsAt, IsRuntimeAt, EntersAt, IsExpanded}
 use Rattle.metadata_relation.specs.Laid.{function_of, functions_from, entry_of, place_in, address_of, layout_of}
-use Rattle.metadata_relation.proofs.BlockLayout.{begin_stands, begins, block_stands, leads_on}
 
 -- ---- lists behind lists
 

@@ -6,7 +6,6 @@ pub mod Begins
 pub mod Behind
 pub mod BlockEndings
 pub mod BlockHomes
-pub mod BlockLayout
 pub mod BlockVariables
 pub mod CallHolds
 pub mod CallStates

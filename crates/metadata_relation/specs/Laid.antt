@@ -6,8 +6,8 @@ use Rattle.tac_ir.specs.declared.function.CodeFunction.{CodeFunction}
 use Rattle.tac_ir.specs.declared.function.Tac.{Tac}
 use Rattle.flat_meaning.specs.declared.function.FlatFunction.{FlatFunction}
 use Rattle.flat_meaning.specs.declared.function.FlatProgram.{FlatProgram}
+use Rattle.metadata_plan.specs.Laid.{place_of, body_of}
 use Rattle.metadata_relation.specs.Registers.{parameters_end, area_words, result_words}
-use Rattle.metadata_relation.specs.BlockLayout.{place_of, body_of}
 use Rattle.metadata_relation.specs.Blocks.{Expansion, block, prologue, entry_code, result_of}
 use Rattle.metadata_relation.specs.Waiting.{Layout}
 

@@ -1,4 +1,3 @@
-pub mod BlockLayout
 pub mod Blocks
 pub mod Contents
 pub mod Expanded

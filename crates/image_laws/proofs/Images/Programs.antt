@@ -27,7 +27,7 @@ use Rattle.machine_laws.specs.Following.Code.{IsEncodable}
 use Rattle.machine_laws.specs.Following.Start.{IsStartable}
 use Rattle.metadata_plan.specs.Registers.{words_in}
 use Rattle.metadata_plan.specs.Blocks.{block, prologue, entry_code, room_in}
-use Rattle.metadata_plan.specs.Laid.{jump, jumps, place_of, laid_from, begin_code, function_of, functions_of}
+use Rattle.metadata_plan.specs.Laid.{jump, jumps, place_of, laid_from, begin_code, body_of, function_of, functions_of}
 use Rattle.metadata_plan.specs.Laid.{entry_of, program_of}
 use Rattle.metadata_plan.proofs.Numbers.{words_most}
 use Rattle.metadata_plan.specs.OperatorLists.Operators.{operators}
@@ -73,6 +73,30 @@ module _ (p : Program) (r : Tac) (valid : is_valid_program p ≡ true) (ints : i
       let words = words_most c.parameters in
       omega (arith, parameters, count, words)
 
+-- ---- blocks that are laid, of which each is fit
+
+module _ (put : Instruction → List FlatInstruction) (begin : List FlatInstruction) (c : CodeFunction) where
+  pub laid_fit : (n : ℕ) (is : List Instruction)
+      → ((k : ℕ) (i : Instruction) → slice_get is k ≡ Some i → AreFit (put i)) → AreFit (laid_from put begin c n is)
+  laid_fit n [] each = tt
+  laid_fit n (i ∷ is) each =
+      let b = put i in
+      let place = place_of put begin c in
+      let js = jumps c place n (place n + length b) (successors i) in
+      fit_append (laid_from put begin c (suc n) is) (b ++ js) (laid_fit (suc n) is (λ k. each (suc k)))
+      (fit_append b js (each 0 i refl) (jumps_fit c place n (place n + length b) (successors i)))
+
+  pub begin_fit : AreFit begin → AreFit (begin_code put begin c)
+  begin_fit fit =
+      let to = jump (length begin) (place_of put begin c c.entry) ∷ [] in
+      fit_append begin (if c.entry + 1 == length c.code then [] else to) fit
+      (fit_if (c.entry + 1 == length c.code) [] to tt (jump_fit (length begin) (place_of put begin c c.entry)))
+
+  pub laid_body_fit : AreFit begin → ((k : ℕ) (i : Instruction) → slice_get c.code k ≡ Some i → AreFit (put i))
+      → AreFit (body_of put begin c)
+  laid_body_fit fit each =
+      fit_append (begin_code put begin c) (laid_from put begin c 0 c.code) (begin_fit fit) (laid_fit 0 c.code each)
+
 -- ---- the functions of an expansion
 
 module _ (m : MapSizes) (t : Tac) where
@@ -96,25 +120,13 @@ module _ (m : MapSizes) (t : Tac) where
   -- ---- its instructions
 
   module _ (few : m.budgets.calls ≤ 16777216) (small : AreAllSmall m t) where
-    laid_fit : (c : CodeFunction) (n : ℕ) (is : List Instruction) → greatest_word is < 2 ^ 64
-        → greatest_line is < 2 ^ 32
-        → AreFit (laid_from operators m t c n is)
-    laid_fit c n [] below lines = tt
-    laid_fit c n (i ∷ is) below lines =
-        let b = block operators m t c i in
-        let place = place_of operators m t c in
-        let js = jumps c place n (place n + length b) (successors i) in
-        fit_append (laid_from operators m t c (suc n) is) (b ++ js) (laid_fit c (suc n) is (omega arith) (omega arith))
-        (fit_append b js (block_fit m t c i few (omega arith) (omega arith))
-        (jumps_fit c place n (place n + length b) (successors i)))
-
-    begin_fit : (c : CodeFunction) → AreFit (begin_code operators m t c)
-    begin_fit c =
-        let to = jump (length (prologue c)) (place_of operators m t c c.entry) ∷ [] in
-        fit_append (prologue c) (if c.entry + 1 == length c.code then [] else to)
-        (zero_variables_fit (words_in c.parameters) c.variables)
-        (fit_if (c.entry + 1 == length c.code) [] to tt
-        (jump_fit (length (prologue c)) (place_of operators m t c c.entry)))
+    blocks_fit : (c : CodeFunction) (is : List Instruction) → greatest_word is < 2 ^ 64 → greatest_line is < 2 ^ 32
+        → (k : ℕ) (i : Instruction) → slice_get is k ≡ Some i → AreFit (block operators m t c i)
+    blocks_fit c [] below lines k i e = absurd (none-some i e)
+    blocks_fit c (x ∷ is) below lines zero i e =
+        subst (λ z. AreFit (block operators m t c z)) (same_Some x i e)
+        (block_fit m t c x few (omega arith) (omega arith))
+    blocks_fit c (x ∷ is) below lines (suc k) i e = blocks_fit c is (omega arith) (omega arith) k i e
 
     main_line : (o : Option CodeFunction) → function_in t t.main ≡ o → line_in o < 2 ^ 32
     main_line None e = omega arith
@@ -142,8 +154,10 @@ module _ (m : MapSizes) (t : Tac) where
     function_fit u g e =
         ⊎_elim
         (λ h. subst (λ (z : FlatFunction). AreFit z.body) h.2
-        (fit_append (begin_code operators m t h.0) (laid_from operators m t h.0 0 h.0.code) (begin_fit h.0)
-        (laid_fit h.0 0 h.0.code (small.functions u h.0 h.1).words (small.functions u h.0 h.1).lines)))
+        (let c = h.0 in
+        let fine = small.functions u c h.1 in
+        laid_body_fit (block operators m t c) (prologue c) c (zero_variables_fit (words_in c.parameters) c.variables)
+        (blocks_fit c c.code fine.words fine.lines)))
         (λ h. subst (λ (z : FlatFunction). AreFit z.body) h entry_fit)
         (which t.functions (entry_of m t) u g e)
 

@@ -5,6 +5,7 @@ use Rattle.std.specs.Prelude.{slice_get}
 use Rattle.std.proofs.lemmas.Bool.{cases_lt, cases_Bool}
 use Rattle.std.proofs.lemmas.Option.{same_Some}
 use Rattle.addr_map.specs.Places.{MapSizes}
+use Rattle.tac_ir.specs.declared.instruction.Instruction.{Instruction}
 use Rattle.tac_ir.specs.declared.function.CodeFunction.{CodeFunction}
 use Rattle.tac_ir.specs.declared.function.Tac.{Tac}
 use Rattle.tac_ir.specs.Meaning.{function_in as code_in}
@@ -15,6 +16,7 @@ use Rattle.flat_meaning.specs.Calls.{function_in}
 use Rattle.flat_meaning.specs.Meaning.{parameters_of, results_of}
 use Rattle.metadata_plan.specs.Registers.{words_in, all_variables}
 use Rattle.metadata_plan.specs.Part.{takes, IsIntegerFunction}
+use Rattle.metadata_plan.specs.Blocks.{block, prologue}
 use Rattle.metadata_plan.specs.Laid.{begin_code, laid_from, body_of, function_of}
 use Rattle.metadata_plan.proofs.Numbers.{integers_words, integers_front}
 use Rattle.metadata_plan.proofs.Laying.{begin_length, laid_length}
@@ -38,8 +40,11 @@ module _ (m : MapSizes) (t : Tac) (c : CodeFunction) (p : FlatProgram) (f : ℕ)
     (callees : (g n : ℕ) → takes (code_in t g) n ≡ true
     → (parameters_of (function_in p g) ≡ n) × (results_of (function_in p g) ≡ 1))
     (part : IsIntegerFunction t c) where
+  abbrev put : Instruction → List FlatInstruction
+  put = block operators m t c
+
   abbrev body : List FlatInstruction
-  body = body_of operators m t c
+  body = body_of put (prologue c) c
 
   -- what is needed is named
   needed_role : (pc y : ℕ) → IsNeeded p f body pc y → Role c y
@@ -150,9 +155,9 @@ module _ (m : MapSizes) (t : Tac) (c : CodeFunction) (p : FlatProgram) (f : ℕ)
 
   body_length : length body ≡ body_size m t c
   body_length =
-      let a = length-append (begin_code operators m t c) (laid_from operators m t c 0 c.code) in
-      let b = begin_length operators m t c in
-      let l = laid_length operators m t c 0 c.code in
+      let a = length-append (begin_code put (prologue c) c) (laid_from put (prologue c) c 0 c.code) in
+      let b = begin_length put (prologue c) c in
+      let l = laid_length put (prologue c) c 0 c.code in
       omega (arith, a, b, l)
 
   pub plannable : AreSmall m t c → ((z : ℕ) → IsLive c.code c.entry z → ⊥) → HasRoom c

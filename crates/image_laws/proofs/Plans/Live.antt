@@ -168,13 +168,13 @@ module _ (m : MapSizes) (t : Tac) (c : CodeFunction) (p : FlatProgram) (f : ℕ)
     → (parameters_of (function_in p g) ≡ n) × (results_of (function_in p g) ≡ 1))
     (integers : are_integers (all_variables c) ≡ true) where
   abbrev body : List FlatInstruction
-  body = body_of operators m t c
+  body = body_of (block operators m t c) (prologue c) c
 
   abbrev Path : (steps place y : ℕ) → Type 0
   Path = ReadWithin p f gives body
 
   abbrev place : ℕ → ℕ
-  place = place_of operators m t c
+  place = place_of (block operators m t c) (prologue c) c
 
   abbrev Part : Instruction → Type 0
   Part i = is_integer_instruction t (length (all_variables c)) i ≡ true

@@ -4,10 +4,8 @@ use Rattle.std.proofs.Common.{arith, Bool, true, false, List, [], ◌∷◌, ◌
 use Rattle.std.specs.Prelude.{slice_get, nat_lt, ◌==◌, not, if◌then◌else◌}
 use Rattle.std.proofs.lemmas.Bool.{ltb-true, ltb-false, lt-ltb, eq-eqb, and_parts, cases_eq, both_ways, false≢true}
 use Rattle.std.proofs.lemmas.Option.{same_Some, none-some, slice_get-get_or}
-use Rattle.addr_map.specs.Places.{MapSizes}
 use Rattle.tac_ir.specs.declared.instruction.Instruction.{Instruction}
 use Rattle.tac_ir.specs.declared.function.CodeFunction.{CodeFunction}
-use Rattle.tac_ir.specs.declared.function.Tac.{Tac}
 use Rattle.tac_ir.specs.Edges.{successors}
 use Rattle.flat_meaning.specs.declared.instruction.FlatInstruction.{FlatInstruction}
 use Rattle.flat_meaning.specs.declared.instruction.FlatInstruction.TheVariants.{JumpForward, JumpBack}
@@ -16,7 +14,6 @@ use Rattle.flat_routines.specs.Routine.{HasAt}
 use Rattle.metadata_plan.specs.Laid.{jump, jump_unless, times_in, edges_to, ways_to, is_join, falls, jumps}
 use Rattle.metadata_plan.specs.Laid.{size_at, size_from, place_of, laid_from, begin_code, body_of}
 use Rattle.metadata_plan.proofs.Laying.{part_of, part_length, laid_length, begin_length, place_is, part_stands}
-use Rattle.metadata_plan.specs.OperatorLists.Operators.{operators}
 use Rattle.reg_plan.specs.Effects.{read_by, is_read, made_by, is_among, Leads}
 use Rattle.image_laws.proofs.Plans.Flow.{none_has, reads_nothing}
 
@@ -177,26 +174,26 @@ way_jumped c n w i at way j at' one fallen =
 
 -- ---- the node of a place
 
-module _ (m : MapSizes) (t : Tac) (c : CodeFunction) where
+module _ (put : Instruction → List FlatInstruction) (begin : List FlatInstruction) (c : CodeFunction) where
   -- an instruction is one of those of a node
   pub record IsOfNode (place : ℕ) (x : FlatInstruction) : Type 0 where
     pub node : ℕ
     pub instruction : Instruction
     pub there : slice_get c.code node ≡ Some instruction
     pub offset : ℕ
-    pub at : slice_get (part_of operators m t c node instruction) offset ≡ Some x
-    pub place_is : place ≡ place_of operators m t c node + offset
+    pub at : slice_get (part_of put begin c node instruction) offset ≡ Some x
+    pub place_is : place ≡ place_of put begin c node + offset
 
   record IsLaid (first : ℕ) (is : List Instruction) (k : ℕ) (x : FlatInstruction) : Type 0 where
     node : ℕ
     instruction : Instruction
     there : slice_get is node ≡ Some instruction
     offset : ℕ
-    at : slice_get (part_of operators m t c (first + node) instruction) offset ≡ Some x
-    place_is : k ≡ size_from operators m t c (suc (first + node)) (drop (suc node) is) + offset
+    at : slice_get (part_of put begin c (first + node) instruction) offset ≡ Some x
+    place_is : k ≡ size_from put begin c (suc (first + node)) (drop (suc node) is) + offset
 
   laid_at : (first : ℕ) (is : List Instruction) (k : ℕ) (x : FlatInstruction)
-      → slice_get (laid_from operators m t c first is) k ≡ Some x → IsLaid first is k x
+      → slice_get (laid_from put begin c first is) k ≡ Some x → IsLaid first is k x
   laid_at first [] k x e = absurd (none-some x e)
   laid_at first (i ∷ is) k x e =
       ⊎_elim
@@ -208,62 +205,108 @@ module _ (m : MapSizes) (t : Tac) (c : CodeFunction) where
         instruction = h.instruction;
         there = h.there;
         offset = h.offset;
-        at = subst (λ z. slice_get (part_of operators m t c z h.instruction) h.offset ≡ Some x) same h.at;
+        at = subst (λ z. slice_get (part_of put begin c z h.instruction) h.offset ≡ Some x) same h.at;
         place_is =
-            subst (λ z. k ≡ size_from operators m t c (suc z) (drop (suc h.node) is) + h.offset) same h.place_is;
+            subst (λ z. k ≡ size_from put begin c (suc z) (drop (suc h.node) is) + h.offset) same h.place_is;
       })
       (λ back.
       let same : first ≡ first + 0 = omega arith in
-      let long = laid_length operators m t c (suc first) is in
-      let place : k ≡ size_from operators m t c (suc first) is + back.0 = omega (arith, back.1, long) in
+      let long = laid_length put begin c (suc first) is in
+      let place : k ≡ size_from put begin c (suc first) is + back.0 = omega (arith, back.1, long) in
       record {
         node = 0;
         instruction = i;
         there = refl;
         offset = back.0;
-        at = subst (λ z. slice_get (part_of operators m t c z i) back.0 ≡ Some x) same back.2;
-        place_is = subst (λ z. k ≡ size_from operators m t c (suc z) is + back.0) same place;
+        at = subst (λ z. slice_get (part_of put begin c z i) back.0 ≡ Some x) same back.2;
+        place_is = subst (λ z. k ≡ size_from put begin c (suc z) is + back.0) same place;
       })
-      (get_append (laid_from operators m t c (suc first) is) (part_of operators m t c first i) k x e)
+      (get_append (laid_from put begin c (suc first) is) (part_of put begin c first i) k x e)
 
-  pub body_at : (pc : ℕ) (x : FlatInstruction) → slice_get (body_of operators m t c) pc ≡ Some x
-      → (slice_get (begin_code operators m t c) pc ≡ Some x) ⊎ IsOfNode pc x
+  pub body_at : (pc : ℕ) (x : FlatInstruction) → slice_get (body_of put begin c) pc ≡ Some x
+      → (slice_get (begin_code put begin c) pc ≡ Some x) ⊎ IsOfNode pc x
   body_at pc x e =
       ⊎_elim inl
       (λ back.
       let h = laid_at 0 c.code back.0 x back.2 in
       let same : 0 + h.node ≡ h.node = omega arith in
-      let begins = begin_length operators m t c in
-      let laid : back.0 ≡ size_from operators m t c (suc h.node) (drop (suc h.node) c.code) + h.offset =
-      subst (λ z. back.0 ≡ size_from operators m t c (suc z) (drop (suc h.node) c.code) + h.offset) same h.place_is in
+      let begins = begin_length put begin c in
+      let laid : back.0 ≡ size_from put begin c (suc h.node) (drop (suc h.node) c.code) + h.offset =
+      subst (λ z. back.0 ≡ size_from put begin c (suc z) (drop (suc h.node) c.code) + h.offset) same h.place_is in
       inr (record {
         node = h.node;
         instruction = h.instruction;
         there = h.there;
         offset = h.offset;
-        at = subst (λ z. slice_get (part_of operators m t c z h.instruction) h.offset ≡ Some x) same h.at;
-        place_is = omega (arith, back.1, begins, laid, place_is operators m t c h.node);
+        at = subst (λ z. slice_get (part_of put begin c z h.instruction) h.offset ≡ Some x) same h.at;
+        place_is = omega (arith, back.1, begins, laid, place_is put begin c h.node);
       }))
-      (get_append (begin_code operators m t c) (laid_from operators m t c 0 c.code) pc x e)
+      (get_append (begin_code put begin c) (laid_from put begin c 0 c.code) pc x e)
 
   -- each place of a node has an instruction
-  pub part_has : (n : ℕ) (i : Instruction) (r : ℕ) → slice_get c.code n ≡ Some i → r < size_at operators m t c n i
-      → (z : FlatInstruction) × (slice_get (part_of operators m t c n i) r ≡ Some z)
-      × (slice_get (body_of operators m t c) (place_of operators m t c n + r) ≡ Some z)
-  part_has n i r e lt = by (part_of operators m t c n i) refl
+  pub part_has : (n : ℕ) (i : Instruction) (r : ℕ) → slice_get c.code n ≡ Some i → r < size_at put begin c n i
+      → (z : FlatInstruction) × (slice_get (part_of put begin c n i) r ≡ Some z)
+      × (slice_get (body_of put begin c) (place_of put begin c n + r) ≡ Some z)
+  part_has n i r e lt = by (part_of put begin c n i) refl
     where
       at_place : (is : List FlatInstruction) → r < length is → (z : FlatInstruction) × (slice_get is r ≡ Some z)
       at_place [] lt = absurd (omega arith)
       at_place (x ∷ is) lt = (_, slice_get-get_or (x ∷ is) r x lt)
 
-      by : (is : List FlatInstruction) → part_of operators m t c n i ≡ is
-          → (z : FlatInstruction) × (slice_get (part_of operators m t c n i) r ≡ Some z)
-          × (slice_get (body_of operators m t c) (place_of operators m t c n + r) ≡ Some z)
+      by : (is : List FlatInstruction) → part_of put begin c n i ≡ is
+          → (z : FlatInstruction) × (slice_get (part_of put begin c n i) r ≡ Some z)
+          × (slice_get (body_of put begin c) (place_of put begin c n + r) ≡ Some z)
       by is same =
-          let long = part_length operators m t c n i in
-          let z = at_place (part_of operators m t c n i) (omega (arith, long, lt)) in (
+          let long = part_length put begin c n i in
+          let z = at_place (part_of put begin c n i) (omega (arith, long, lt)) in (
             z.0,
             z.1,
-            has_get (body_of operators m t c) (part_of operators m t c n i) (place_of operators m t c n) r z.0
-                (part_stands operators m t c n i e) z.1,
+            has_get (body_of put begin c) (part_of put begin c n i) (place_of put begin c n) r z.0
+                (part_stands put begin c n i e) z.1,
           )
+
+  -- ---- an instruction of a node: one of its block, or a jump behind it
+
+  abbrev address : ℕ → ℕ
+  address = place_of put begin c
+
+  pub data Stands (n : ℕ) (i : Instruction) (r pc : ℕ) (x : FlatInstruction) : Type 0 where
+    InBlock : slice_get (put i) r ≡ Some x → Stands n i r pc x
+    Jumps : length (put i) ≤ r → (w : ℕ) → x ≡ jump pc (address w) → IsWay c n (successors i) w → Stands n i r pc x
+
+  pub stands_at : (n : ℕ) (i : Instruction) (r pc : ℕ) (x : FlatInstruction) → pc ≡ address n + r
+      → slice_get (part_of put begin c n i) r ≡ Some x → Stands n i r pc x
+  stands_at n i r pc x place e =
+      ⊎_elim InBlock
+      (λ h.
+      let w = jumps_at c address n (address n + length (put i)) (successors i) h.0 x h.2 in
+      let z : address n + length (put i) + h.0 ≡ pc = omega (arith, h.1, place) in
+      Jumps (omega (arith, h.1)) w.0 (w.1 ∙ ap (λ k. jump k (address w.0)) z) w.2)
+      (get_append (put i) (jumps c address n (address n + length (put i)) (successors i)) r x e)
+
+  -- what the function begins with, and behind it a jump to the entry
+  pub data IsOfBegin (pc : ℕ) (x : FlatInstruction) : Type 0 where
+    InBegin : slice_get begin pc ≡ Some x → IsOfBegin pc x
+    Jumped : x ≡ jump pc (address c.entry) → IsOfBegin pc x
+
+  pub begin_at : (pc : ℕ) (x : FlatInstruction) → slice_get (begin_code put begin c) pc ≡ Some x → IsOfBegin pc x
+  begin_at pc x e =
+      ⊎_elim InBegin (λ h. by (c.entry + 1 == length c.code) h.0 h.1 h.2)
+      (get_append begin
+      (if c.entry + 1 == length c.code then [] else jump (length begin) (address c.entry) ∷ []) pc x e)
+    where
+      by : (b : Bool) (j : ℕ) → pc ≡ length begin + j
+          → slice_get (if b then [] else jump (length begin) (address c.entry) ∷ []) j ≡ Some x → IsOfBegin pc x
+      by true j at e = absurd (none-some x e)
+      by false zero at e =
+          let z : length begin ≡ pc = omega (arith, at) in
+          Jumped (sym (same_Some _ x e) ∙ ap (λ k. jump k (address c.entry)) z)
+      by false (suc j) at e = absurd (none-some x e)
+
+  -- it stands at the front
+  pub begin_front : (pc : ℕ) (x : FlatInstruction) → slice_get begin pc ≡ Some x
+      → slice_get (body_of put begin c) pc ≡ Some x
+  begin_front pc x e =
+      get_left (begin_code put begin c) (laid_from put begin c 0 c.code) pc x
+      (get_left begin
+      (if c.entry + 1 == length c.code then [] else jump (length begin) (address c.entry) ∷ []) pc x e)

@@ -1,7 +1,7 @@
 -- Behind what makes a register of a temporary or one for a block's own use the code comes from there alone.
 use Rattle.std.proofs.Common.{◌≡◌, ⊎_elim, ℕ, zero, suc, ◌+◌, ◌<◌, ◌≤◌, refl, sym, ap, ◌∙◌}
 use Rattle.std.proofs.Common.{subst, arith, Bool, true, false, List, [], ◌∷◌, ◌++◌, length, Some}
-use Rattle.std.specs.Prelude.{slice_get, ◌==◌, if◌then◌else◌}
+use Rattle.std.specs.Prelude.{slice_get, if◌then◌else◌}
 use Rattle.std.proofs.lemmas.Bool.{cases_lt}
 use Rattle.std.proofs.lemmas.Option.{same_Some, none-some, slice_get_within, slice_get-get_or}
 use Rattle.std.proofs.lemmas.List.{drop_all}
@@ -41,8 +41,9 @@ use Rattle.image_laws.proofs.Plans.Roles.{Role, OfVariable, variable_role, tempo
 use Rattle.image_laws.proofs.Plans.Blocks.{Last, Needs, NeedsRight, NeedsArgument, block_flow}
 use Rattle.image_laws.proofs.Plans.Places.{get_append, get_left, get_right, has_get, jump_onward, jump_makes}
 use Rattle.image_laws.proofs.Plans.Places.{jump_reads}
-use Rattle.image_laws.proofs.Plans.Places.{IsWay, jumps_at, IsJumped, entry_jumped, way_jumped, IsOfNode, body_at}
-use Rattle.image_laws.proofs.Plans.Places.{part_has}
+use Rattle.image_laws.proofs.Plans.Places.{IsJumped, entry_jumped, way_jumped, IsOfNode, body_at, part_has}
+use Rattle.image_laws.proofs.Plans.Places.{Stands, InBlock, Jumps, stands_at, IsOfBegin, InBegin, Jumped, begin_at}
+use Rattle.image_laws.proofs.Plans.Places.{begin_front}
 
 -- ---- what an instruction needs
 
@@ -131,78 +132,46 @@ module _ (m : MapSizes) (t : Tac) (c : CodeFunction) (p : FlatProgram) (f : ℕ)
     (callees : (g n : ℕ) → takes (code_in t g) n ≡ true
     → (parameters_of (function_in p g) ≡ n) × (results_of (function_in p g) ≡ 1))
     (integers : are_integers (all_variables c) ≡ true) where
+  abbrev put : Instruction → List FlatInstruction
+  put = block operators m t c
+
   abbrev body : List FlatInstruction
-  body = body_of operators m t c
+  body = body_of put (prologue c) c
 
   abbrev address : ℕ → ℕ
-  address = place_of operators m t c
+  address = place_of put (prologue c) c
 
   -- an instruction before all nodes: one of the prologue, or the jump to the entry
   pub data Begins (pc : ℕ) (x : FlatInstruction) : Type 0 where
     Zeroes : pc < length c.variables → x ≡ flat.Constant (length c.parameters + pc) 0 → Begins pc x
     Enters : x ≡ jump pc (address c.entry) → Begins pc x
 
-  pub begins_at : (pc : ℕ) (x : FlatInstruction) → slice_get (begin_code operators m t c) pc ≡ Some x → Begins pc x
-  begins_at pc x e =
+  zeroes_at : (pc : ℕ) (x : FlatInstruction) → slice_get (prologue c) pc ≡ Some x
+      → (pc < length c.variables) × (x ≡ flat.Constant (length c.parameters + pc) 0)
+  zeroes_at pc x e =
       let own = integers_back c.parameters c.variables integers in
       let words = integers_words c.parameters (integers_front c.parameters c.variables integers) in
-      ⊎_elim
-      (λ h.
-      let z = zeroed_at c.variables (words_in c.parameters) pc x own h in
-      Zeroes z.0 (z.1 ∙ ap (λ n. flat.Constant (n + pc) 0) words))
-      (λ h. by (c.entry + 1 == length c.code) h.0 h.1 h.2)
-      (get_append (prologue c)
-      (if c.entry + 1 == length c.code
-      then []
-      else jump (length (prologue c)) (address c.entry) ∷ []) pc x e)
+      let z = zeroed_at c.variables (words_in c.parameters) pc x own e in
+      (z.0, z.1 ∙ ap (λ n. flat.Constant (n + pc) 0) words)
+
+  pub begins_at : (pc : ℕ) (x : FlatInstruction) → slice_get (begin_code put (prologue c) c) pc ≡ Some x → Begins pc x
+  begins_at pc x e = by (begin_at put (prologue c) c pc x e)
     where
-      by : (b : Bool) (j : ℕ) → pc ≡ length (prologue c) + j
-          → slice_get (if b then [] else jump (length (prologue c)) (address c.entry) ∷ []) j ≡ Some x
-          → Begins pc x
-      by true j at e = absurd (none-some x e)
-      by false zero at e =
-          let z : length (prologue c) ≡ pc = omega (arith, at) in
-          Enters (sym (same_Some _ x e) ∙ ap (λ k. jump k (address c.entry)) z)
-      by false (suc j) at e = absurd (none-some x e)
+      by : IsOfBegin put (prologue c) c pc x → Begins pc x
+      by (InBegin h) = let z = zeroes_at pc x h in Zeroes z.0 z.1
+      by (Jumped h) = Enters h
 
   -- the prologue stands at the front
   pub zero_at : (pc : ℕ) → pc < length c.variables
       → slice_get body pc ≡ Some (flat.Constant (length c.parameters + pc) 0)
   zero_at pc lt =
       let own = integers_back c.parameters c.variables integers in
-      let words = integers_words c.parameters (integers_front c.parameters c.variables integers) in
       let long = zeroed_length c.variables (words_in c.parameters) own in
       let here = slice_get-get_or (prologue c) pc flat.Turn (omega (arith, long, lt)) in
-      let is = (zeroed_at c.variables (words_in c.parameters) pc _ own here).1 in
-      let front = get_left (prologue c)
-      (if c.entry + 1 == length c.code
-      then []
-      else jump (length (prologue c)) (address c.entry) ∷ []) pc _ here in
-      get_left (begin_code operators m t c) (laid_from operators m t c 0 c.code) pc _ front
-      ∙ ap Some (is ∙ ap (λ n. flat.Constant (n + pc) 0) words)
-
-  -- ---- an instruction of a node: one of its block, or a jump behind it
-
-  pub data Stands (n : ℕ) (i : Instruction) (r pc : ℕ) (x : FlatInstruction) : Type 0 where
-    InBlock : slice_get (block operators m t c i) r ≡ Some x → Stands n i r pc x
-    Jumps : length (block operators m t c i) ≤ r → (w : ℕ) → x ≡ jump pc (address w)
-        → IsWay c n (successors i) w → Stands n i r pc x
-
-  pub stands_at : (n : ℕ) (i : Instruction) (r pc : ℕ) (x : FlatInstruction) → pc ≡ address n + r
-      → slice_get (part_of operators m t c n i) r ≡ Some x → Stands n i r pc x
-  stands_at n i r pc x place e =
-      ⊎_elim InBlock
-      (λ h.
-      let w = jumps_at c address n
-      (address n + length (block operators m t c i)) (successors i) h.0 x h.2 in
-      let z : address n + length (block operators m t c i) + h.0 ≡ pc = omega (arith, h.1, place) in
-      Jumps (omega (arith, h.1)) w.0 (w.1 ∙ ap (λ k. jump k (address w.0)) z) w.2)
-      (get_append (block operators m t c i)
-      (jumps c address n (address n + length (block operators m t c i))
-      (successors i)) r x e)
+      begin_front put (prologue c) c pc _ here ∙ ap Some (zeroes_at pc _ here).1
 
   flow : (n : ℕ) (i : Instruction) → slice_get c.code n ≡ Some i
-      → Flow p f gives (Last i) (Role c) (Role c) (block operators m t c i)
+      → Flow p f gives (Last i) (Role c) (Role c) (put i)
   flow n i e =
       let low = most_at c.code n i e in
       let few = arguments_few c.code n i e in
@@ -221,7 +190,7 @@ module _ (m : MapSizes) (t : Tac) (c : CodeFunction) (p : FlatProgram) (f : ℕ)
   }
 
   pub named_at : (pc : ℕ) (x : FlatInstruction) (y : ℕ) → slice_get body pc ≡ Some x → Names x y
-  named_at pc x y e = ⊎_elim (λ h. begins (begins_at pc x h)) (λ h. of_node h) (body_at m t c pc x e)
+  named_at pc x y e = ⊎_elim (λ h. begins (begins_at pc x h)) (λ h. of_node h) (body_at put (prologue c) c pc x e)
     where
       begins : Begins pc x → Names x y
       begins (Enters h) = names_jump pc (address c.entry) y x h
@@ -231,13 +200,13 @@ module _ (m : MapSizes) (t : Tac) (c : CodeFunction) (p : FlatProgram) (f : ℕ)
             OfVariable (omega (arith, is, lt, variable_count c integers));
       }
 
-      of_node : IsOfNode m t c pc x → Names x y
-      of_node h = by (stands_at h.node h.instruction h.offset pc x h.place_is h.at)
+      of_node : IsOfNode put (prologue c) c pc x → Names x y
+      of_node h = by (stands_at put (prologue c) c h.node h.instruction h.offset pc x h.place_is h.at)
         where
-          by : Stands h.node h.instruction h.offset pc x → Names x y
+          by : Stands put (prologue c) c h.node h.instruction h.offset pc x → Names x y
           by (InBlock at) =
               let g = flow_names p f gives (Last h.instruction) (Role c) (Role c)
-              (block operators m t c h.instruction) h.offset x (λ z r. r) (flow h.node h.instruction h.there) at y in
+              (put h.instruction) h.offset x (λ z r. r) (flow h.node h.instruction h.there) at y in
               record { read = g.0; made = g.1 }
           by (Jumps le w is way) = names_jump pc (address w) y x is
 
@@ -256,7 +225,7 @@ module _ (m : MapSizes) (t : Tac) (c : CodeFunction) (p : FlatProgram) (f : ℕ)
 
   pub leads_at : (pc q : ℕ) (x : FlatInstruction) → slice_get body pc ≡ Some x → Leads x pc q
       → LeadsTo pc q
-  leads_at pc q x e l = ⊎_elim (λ h. begins (begins_at pc x h)) (λ h. of_node h) (body_at m t c pc x e)
+  leads_at pc q x e l = ⊎_elim (λ h. begins (begins_at pc x h)) (λ h. of_node h) (body_at put (prologue c) c pc x e)
     where
       begins : Begins pc x → LeadsTo pc q
       begins (Enters h) = leads_jump pc q c.entry x (entry_jumped c) h l
@@ -265,23 +234,23 @@ module _ (m : MapSizes) (t : Tac) (c : CodeFunction) (p : FlatProgram) (f : ℕ)
           Next (maker_onward p f gives x n pc q
           (subst (λ z. is_among (made_by p z) n ≡ true) (sym h) (one_has n)) l)
 
-      of_node : IsOfNode m t c pc x → LeadsTo pc q
-      of_node h = by (stands_at h.node h.instruction h.offset pc x h.place_is h.at)
+      of_node : IsOfNode put (prologue c) c pc x → LeadsTo pc q
+      of_node h = by (stands_at put (prologue c) c h.node h.instruction h.offset pc x h.place_is h.at)
         where
           whole : (z : FlatInstruction)
-              → slice_get (part_of operators m t c h.node h.instruction) (suc h.offset) ≡ Some z
+              → slice_get (part_of put (prologue c) c h.node h.instruction) (suc h.offset) ≡ Some z
               → slice_get body (pc + 1) ≡ Some z
           whole z at =
               let place : address h.node + suc h.offset ≡ pc + 1 = omega (arith, h.place_is) in
               ap (slice_get body) (sym place)
-              ∙ has_get body (part_of operators m t c h.node h.instruction)
+              ∙ has_get body (part_of put (prologue c) c h.node h.instruction)
               (address h.node) (suc h.offset) z
-              (part_stands operators m t c h.node h.instruction h.there) at
+              (part_stands put (prologue c) c h.node h.instruction h.there) at
 
-          by : Stands h.node h.instruction h.offset pc x → LeadsTo pc q
+          by : Stands put (prologue c) c h.node h.instruction h.offset pc x → LeadsTo pc q
           by (Jumps le w is way) = leads_jump pc q w x (way_jumped c h.node w h.instruction h.there way) is l
           by (InBlock at) =
-              let list = block operators m t c h.instruction in
+              let list = put h.instruction in
               let behind = address h.node + length list in
               ⊎_elim Next
               (λ two. ⊎_elim
@@ -325,12 +294,12 @@ module _ (m : MapSizes) (t : Tac) (c : CodeFunction) (p : FlatProgram) (f : ℕ)
     past_all : length c.code ≤ suc w → ⊥
     past_all le =
         let none = drop_all (suc w) c.code le in
-        let size = ap (size_from operators m t c (suc w)) none in
-        let first = place_is operators m t c w in
-        let begin = begin_length operators m t c in
+        let size = ap (size_from put (prologue c) c (suc w)) none in
+        let first = place_is put (prologue c) c w in
+        let begin = begin_length put (prologue c) c in
         ⊎_elim (λ h. by (begins_at pc x h))
         (λ h. absurd (omega (arith, h.1, begin, size, first, behind)))
-        (get_append (begin_code operators m t c) (laid_from operators m t c 0 c.code) pc x at)
+        (get_append (begin_code put (prologue c) c) (laid_from put (prologue c) c 0 c.code) pc x at)
       where
         by : Begins pc x → ⊥
         by (Enters h) =
@@ -342,26 +311,26 @@ module _ (m : MapSizes) (t : Tac) (c : CodeFunction) (p : FlatProgram) (f : ℕ)
 
     module _ (i : Instruction) (there : slice_get c.code (suc w) ≡ Some i) where
       -- the place is the last of the node before
-      last_of_all : (r : ℕ) → size_at operators m t c (suc w) i ≡ suc r → (z : FlatInstruction)
-          × Stands (suc w) i r pc z × (slice_get body pc ≡ Some z)
+      last_of_all : (r : ℕ) → size_at put (prologue c) c (suc w) i ≡ suc r → (z : FlatInstruction)
+          × Stands put (prologue c) c (suc w) i r pc z × (slice_get body pc ≡ Some z)
       last_of_all r size =
-          let next = next_place operators m t c (suc w) i there w (omega arith) in
+          let next = next_place put (prologue c) c (suc w) i there w (omega arith) in
           let place : pc ≡ address (suc w) + r = omega (arith, next, size, behind) in
-          let z = part_has m t c (suc w) i r there (omega (arith, size)) in (
+          let z = part_has put (prologue c) c (suc w) i r there (omega (arith, size)) in (
             z.0,
-            stands_at (suc w) i r pc z.0 place z.1,
+            stands_at put (prologue c) c (suc w) i r pc z.0 place z.1,
             ap (slice_get body) place ∙ z.2,
           )
 
       -- a jump stands there
-      no_jump : (r : ℕ) → size_at operators m t c (suc w) i ≡ suc r → length (block operators m t c i) ≤ r → ⊥
+      no_jump : (r : ℕ) → size_at put (prologue c) c (suc w) i ≡ suc r → length (put i) ≤ r → ⊥
       no_jump r size le =
           let z = last_of_all r size in
           by z.0 z.1 z.2
         where
-          by : (z : FlatInstruction) → Stands (suc w) i r pc z → slice_get body pc ≡ Some z → ⊥
+          by : (z : FlatInstruction) → Stands put (prologue c) c (suc w) i r pc z → slice_get body pc ≡ Some z → ⊥
           by z (InBlock e) there =
-              let lt = slice_get_within (block operators m t c i) r z e in
+              let lt = slice_get_within (put i) r z e in
               absurd (omega (arith, lt, le))
           by z (Jumps le' v is way) there =
               not_silent z there
@@ -369,19 +338,19 @@ module _ (m : MapSizes) (t : Tac) (c : CodeFunction) (p : FlatProgram) (f : ℕ)
 
       -- a block that ends the run or returns stands there
       no_end : successors i ≡ [] → ⊥
-      no_end none = by (length (block operators m t c i)) refl
+      no_end none = by (length (put i)) refl
         where
-          silent : IsSilent p (block operators m t c i)
+          silent : IsSilent p (put i)
           silent = silent_end m t c p i none
 
-          only : (r : ℕ) (z : FlatInstruction) → Stands (suc w) i r pc z
+          only : (r : ℕ) (z : FlatInstruction) → Stands put (prologue c) c (suc w) i r pc z
               → slice_get body pc ≡ Some z → ⊥
           only r z (InBlock e) there = not_silent z there (silent.all r z y e)
           only r z (Jumps le v is way) there =
               let no : 1 ≤ times_in v [] = subst (λ ns. 1 ≤ times_in v ns) none way.is in
               absurd (omega (arith, no))
 
-          by : (n : ℕ) → length (block operators m t c i) ≡ n → ⊥
+          by : (n : ℕ) → length (put i) ≡ n → ⊥
           by zero e = absurd (omega (arith, silent.some, e))
           by (suc r) e =
               let count = ap (jump_count c (suc w)) none in
@@ -406,15 +375,15 @@ module _ (m : MapSizes) (t : Tac) (c : CodeFunction) (p : FlatProgram) (f : ℕ)
                   }
               one_way false h =
                   let jumps = ap (jump_count c (suc w)) e ∙ ap (λ b. if b then 0 else 1) h in
-                  let size : size_at operators m t c (suc w) i ≡ suc (length (block operators m t c i)) =
+                  let size : size_at put (prologue c) c (suc w) i ≡ suc (length (put i)) =
                   omega (arith, jumps) in
-                  absurd (no_jump (length (block operators m t c i)) size (omega arith))
+                  absurd (no_jump (length (put i)) size (omega arith))
           by (v ∷ u ∷ ns) e =
               let jumps = ap (jump_count c (suc w)) e in
               let rest = if falls c (suc w) v then 0 else 1 in
-              let size : size_at operators m t c (suc w) i ≡ suc (length (block operators m t c i) + rest) =
+              let size : size_at put (prologue c) c (suc w) i ≡ suc (length (put i) + rest) =
               omega (arith, jumps) in
-              absurd (no_jump (length (block operators m t c i) + rest) size (omega arith))
+              absurd (no_jump (length (put i) + rest) size (omega arith))
 
     pub before : FallsFromBefore w
     before =

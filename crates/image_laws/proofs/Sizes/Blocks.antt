@@ -35,7 +35,7 @@ use Rattle.flat_meaning.specs.Meaning.{parameters_of, results_of}
 use Rattle.metadata_plan.specs.Registers.{temporary_register, first_free}
 use Rattle.metadata_plan.specs.Part.{takes}
 use Rattle.metadata_plan.specs.Blocks.{conversion, right_code, right_register, kept_by, update_code, library_code}
-use Rattle.metadata_plan.specs.Blocks.{call_tests, argument_moves, room_in, call_code, block}
+use Rattle.metadata_plan.specs.Blocks.{call_tests, argument_moves, room_in, call_code, block, prologue}
 use Rattle.metadata_plan.specs.Registers.{variable_register}
 use Rattle.metadata_plan.specs.Laid.{jump, jump_unless, jumps, place_of, laid_from, falls}
 use Rattle.metadata_plan.specs.OperatorLists.Operators.{operators}
@@ -271,15 +271,16 @@ module _ (p : FlatProgram) (g : FlatFunction) where
 
       pub code_words : (ts : List (List ℕ)) (is : List Instruction) (n : ℕ) → greatest_word is < 2 ^ 64
           → greatest_line is < 2 ^ 32
-          → body_most p g (laid_from operators m t c n is) ≤ code_weight ts is (words 8)
+          → body_most p g (laid_from (block operators m t c) (prologue c) c n is) ≤ code_weight ts is (words 8)
       code_words ts [] n w l = omega arith
       code_words ts (i ∷ is) n w l =
-          let later = laid_from operators m t c (suc n) is in
+          let place = place_of (block operators m t c) (prologue c) c in
+          let later = laid_from (block operators m t c) (prologue c) c (suc n) is in
           let own = block operators m t c i in
-          let behind = jumps c (place_of operators m t c) n (place_of operators m t c n + length own) (successors i) in
+          let behind = jumps c place n (place n + length own) (successors i) in
           let h = block_words ts i (omega (arith, w)) (omega (arith, l)) in
           let r = code_words ts is (suc n) (omega (arith, w)) (omega (arith, l)) in
-          let j = jumps_words c (place_of operators m t c) n (place_of operators m t c n + length own) (successors i) in
+          let j = jumps_words c place n (place n + length own) (successors i) in
           let a = words_append p g later (own ++ behind) in
           let b = words_append p g own behind in
           omega (arith, h, r, j, a, b)

@@ -7,6 +7,7 @@ use Rattle.std.proofs.lemmas.Bool.{and_parts, eqb-true, cases_lt}
 use Rattle.std.proofs.lemmas.Option.{slice_get_within, same_Some}
 use Rattle.addr_map.specs.Places.{MapSizes}
 use Rattle.c_tree.specs.declared.program.Variable.{Variable}
+use Rattle.tac_ir.specs.declared.instruction.Instruction.{Instruction}
 use Rattle.tac_ir.specs.declared.function.CodeFunction.{CodeFunction}
 use Rattle.tac_ir.specs.declared.function.Tac.{Tac}
 use Rattle.tac_ir.specs.Meaning as code
@@ -17,7 +18,7 @@ use Rattle.flat_meaning.specs.Calls.{function_in}
 use Rattle.flat_meaning.specs.Meaning.{parameters_of, results_of}
 use Rattle.metadata_plan.specs.Registers.{words_of, words_in}
 use Rattle.metadata_plan.specs.Part.{takes, is_integer_kind, are_integers, IsIntegerCode}
-use Rattle.metadata_plan.specs.Blocks.{zeros, zero_variables, prologue}
+use Rattle.metadata_plan.specs.Blocks.{block, zeros, zero_variables, prologue}
 use Rattle.metadata_plan.specs.Laid.{jump, place_of, begin_code, laid_from, body_of, function_of, functions_of}
 use Rattle.metadata_plan.specs.Laid.{entry_of, program_of}
 use Rattle.metadata_plan.proofs.Numbers.{one_word, words_most, most_words_of}
@@ -77,10 +78,10 @@ module _ (p : FlatProgram) (g : FlatFunction) where
       by true = omega arith
       by false = let z = zeros_words r (words_of v.kind) in omega (arith, z, most_words_of v.kind)
 
-  begin_words : (m : MapSizes) (t : Tac) (c : CodeFunction)
-      → body_most p g (begin_code operators m t c) ≤ 2 + 25 * length c.variables
-  begin_words m t c =
-      let to = jump (length (prologue c)) (place_of operators m t c c.entry) in
+  begin_words : (put : Instruction → List FlatInstruction) (c : CodeFunction)
+      → body_most p g (begin_code put (prologue c) c) ≤ 2 + 25 * length c.variables
+  begin_words put c =
+      let to = jump (length (prologue c)) (place_of put (prologue c) c c.entry) in
       let last = if c.entry + 1 == length c.code then [] else to ∷ [] in
       let a = words_append p g (prologue c) last in
       let h = zero_words (words_in c.parameters) c.variables in
@@ -89,7 +90,7 @@ module _ (p : FlatProgram) (g : FlatFunction) where
         a,
         h,
         by (c.entry + 1 == length c.code) to
-            (jump_words p g (length (prologue c)) (place_of operators m t c c.entry)),
+            (jump_words p g (length (prologue c)) (place_of put (prologue c) c c.entry)),
       )
     where
       by : (b : Bool) (j : FlatInstruction) → instruction_most p g j ≤ 2
@@ -149,11 +150,12 @@ module _ (m : MapSizes) (t : Tac) (few : m.budgets.calls ≤ 16777216) (count : 
       → most_words p (propagated_function (function_of operators m t c (homes c)))
       ≤ frame_words c.parameters c.variables + codes_weight ts (c ∷ []) (words 8)
   function_words ts c s =
-      let body = body_of operators m t c in
+      let put = block operators m t c in
+      let body = body_of put (prologue c) c in
       let g = propagated_function (function_of operators m t c (homes c)) in
-      let begin = begin_words p g m t c in
+      let begin = begin_words p g put c in
       let rest = code_words p g c m t calls refl ts c.code 0 s.words s.lines in
-      let a = words_append p g (begin_code operators m t c) (laid_from operators m t c 0 c.code) in
+      let a = words_append p g (begin_code put (prologue c) c) (laid_from put (prologue c) c 0 c.code) in
       let b = rewritten_words p g body body 0 in
       omega (arith, begin, rest, a, b, words_most c.parameters, passed_most g 0 (words_in c.parameters))
 

@@ -1,4 +1,5 @@
 use Rattle.std.proofs.Common.{◌≡◌, ◌-◌, length, suc, ap, arith}
+use Rattle.metadata_expansion.specs.Contexts.{begin_in, block_in}
 use Rattle.metadata_expansion.proofs.Laid.{is_among, node_fits, one_put}
 use Rattle.metadata_expansion.proofs.body.put_nodes.Goals as goal
 
@@ -10,9 +11,9 @@ put_node-requires-clause-among c =
 pub put_node-requires-clause-small : goal.put_node-requires-clause-small
 put_node-requires-clause-small c =
     let x = c.args.layout.now.context in
-    let fit = node_fits x.map.now x.program.now x.function.now
+    let fit = node_fits (block_in x) (begin_in x) x.function.now
     (length c.as_slice-count.result.now - 1 - c.loop-behind.behind)
-    c.instruction_at-instruction.result.now c.requires.small c.instruction_at-instruction.ensures in
+    c.instruction_at-instruction.result.now c.requires.small.instructions c.instruction_at-instruction.ensures in
     omega (arith, fit)
 
 pub loop-behind-preserved : goal.loop-behind-preserved
@@ -23,7 +24,7 @@ loop-behind-preserved c =
     let below = c.loop-behind-test.true in
     let at : length x.function.now.code - c.loop-behind.behind
     ≡ suc (length c.as_slice-count.result.now - 1 - c.loop-behind.behind) = omega (arith, same, below) in
-    one_put x.map.now x.program.now x.function.now c.args.code.now.items c.loop-behind.code.items
+    one_put (block_in x) (begin_in x) x.function.now c.args.code.now.items c.loop-behind.code.items
     c.put_node.new.code.items c.loop-behind.behind
     (length c.as_slice-count.result.now - 1 - c.loop-behind.behind) c.instruction_at-instruction.result.now at
     c.instruction_at-instruction.ensures c.loop-behind.invariant c.in_ok-put_node.ensures

@@ -1,4 +1,5 @@
 use Rattle.std.proofs.Common.{◌≡◌, ◌-◌, ◌≤◌, length, suc, ap, arith}
+use Rattle.metadata_expansion.specs.Contexts.{begin_in, block_in}
 use Rattle.metadata_expansion.proofs.Laid.{is_among, node_fits, next_fits, one_placed_as, all_placed}
 use Rattle.metadata_expansion.proofs.layout.placed.Goals as goal
 
@@ -11,9 +12,9 @@ node_size-requires-clause-among c =
 pub overflow_cast-place : goal.overflow_cast-place
 overflow_cast-place c =
     let x = c.args.context.now in
-    let fit = node_fits x.map.now x.program.now x.function.now
+    let fit = node_fits (block_in x) (begin_in x) x.function.now
     (length c.as_slice-count.result.now - 1 - c.loop-behind.behind)
-    c.instruction_at-instruction.result.now c.requires.small c.instruction_at-instruction.ensures in
+    c.instruction_at-instruction.result.now c.requires.small.instructions c.instruction_at-instruction.ensures in
     let sized = c.in_ok-size.ensures.value in
     omega (arith, fit, sized)
 
@@ -25,10 +26,10 @@ overflow_add-place c =
     let below = c.loop-behind-test.true in
     let at : length x.function.now.code - c.loop-behind.behind
     ≡ suc (length c.as_slice-count.result.now - 1 - c.loop-behind.behind) = omega (arith, same, below) in
-    let fit = next_fits x.map.now x.program.now x.function.now c.loop-behind.descending.items
+    let fit = next_fits (block_in x) (begin_in x) x.function.now c.loop-behind.descending.items
     c.loop-behind.place c.loop-behind.behind
     (length c.as_slice-count.result.now - 1 - c.loop-behind.behind)
-    c.instruction_at-instruction.result.now at c.instruction_at-instruction.ensures c.requires.small
+    c.instruction_at-instruction.result.now at c.instruction_at-instruction.ensures c.requires.small.instructions
     c.loop-behind.invariant in
     let sized = c.in_ok-size.ensures.value in
     omega (arith, fit, sized)
@@ -41,7 +42,7 @@ loop-behind-preserved c =
     let below = c.loop-behind-test.true in
     let at : length x.function.now.code - c.loop-behind.behind
     ≡ suc (length c.as_slice-count.result.now - 1 - c.loop-behind.behind) = omega (arith, same, below) in
-    one_placed_as x.map.now x.program.now x.function.now c.loop-behind.descending.items
+    one_placed_as (block_in x) (begin_in x) x.function.now c.loop-behind.descending.items
     c.push.new.self.items c.loop-behind.place c.loop-behind.behind
     (length c.as_slice-count.result.now - 1 - c.loop-behind.behind) c.in_ok-size.size
     c.instruction_at-instruction.result.now at c.instruction_at-instruction.ensures c.loop-behind.invariant
@@ -54,5 +55,5 @@ returns c =
     ap (λ is. length is) c.as_slice-count.ensures in
     let past = c.loop-behind-test.false in
     let all : length x.function.now.code ≤ c.loop-behind.behind = omega (arith, same, past) in
-    all_placed x.map.now x.program.now x.function.now c.loop-behind.descending.items
+    all_placed (block_in x) (begin_in x) x.function.now c.loop-behind.descending.items
     c.loop-behind.place c.loop-behind.behind _ all c.loop-behind.invariant c.from_vec.ensures c.requires.begin

@@ -1,4 +1,6 @@
 use Rattle.std.proofs.Common.{arith}
+use Rattle.metadata_plan.specs.Blocks.{block, prologue}
+use Rattle.metadata_plan.specs.OperatorLists.Operators.{operators}
 use Rattle.metadata_expansion.specs.Numbers.{body_size}
 use Rattle.metadata_expansion.proofs.Lists.{registers_few}
 use Rattle.metadata_expansion.proofs.Laid.{is_among}
@@ -17,7 +19,9 @@ node_size-requires-clause-among c =
 
 pub loop-node-preserved : goal.loop-node-preserved
 loop-node-preserved c =
-    one_counted c.args.map.now c.args.program.now c.args.function.now c.loop-node.size c.in_ok-size-2.field-0
+    let f = c.args.function.now in
+    one_counted (block operators c.args.map.now c.args.program.now f) (prologue f) f c.loop-node.size
+    c.in_ok-size-2.field-0
     (body_size c.args.map.now c.args.program.now c.args.function.now) c.loop-node.node
     c.instruction_at-instruction.result.now c.instruction_at-instruction.ensures c.in_ok-size-2.ensures.value
     c.loop-node.invariant

@@ -9,3 +9,5 @@ pub mod Ranges
 pub mod Regions
 pub mod Routines
 pub mod StaticPlaces
+pub mod TypeKeys
+pub mod StartBytes

@@ -73,7 +73,8 @@ pub record IsFollowing (p : Program) (budgets : BudgetSizes) (m : MapSizes) (cod
 module _ (p : Program) (budgets : BudgetSizes) (valid : is_valid_program p ≡ true)
     (mapped_program : AreMapped (sizes_of p budgets)) (count : length p.functions ≤ 4096) (read write : EntryCode)
     (entry : View) (Good : MapSizes → Bytes → Type 0) (l : Laid)
-    (h : IsLaidExpansion read write entry (Good (sizes_of p budgets)) p budgets l) where
+    (is_checked : IsChecked p l.expansion.code) (code : Tac)
+    (h : IsLaidExpansion read write entry (Good (sizes_of p budgets)) (sizes_of p budgets) code l) where
   abbrev r : Tac
   r = l.expansion.code
 
@@ -90,13 +91,13 @@ module _ (p : Program) (budgets : BudgetSizes) (valid : is_valid_program p ≡ t
   mapped = subst AreMapped (sym map_is) mapped_program
 
   headers : map header_of_code r.functions ≡ map header_of p.functions
-  headers = (same_as_lowered p r h.checked).tables.headers ∙ h.checked.is_lowered.headers
+  headers = (same_as_lowered p r is_checked).tables.headers ∙ is_checked.is_lowered.headers
 
   results : r.results ≡ map (λ (f : FunctionType). f.result) p.function_types
-  results = (same_as_lowered p r h.checked).tables.results ∙ h.checked.is_lowered.results
+  results = (same_as_lowered p r is_checked).tables.results ∙ is_checked.is_lowered.results
 
   bytes : r.global_bytes ≡ (sizes_of p budgets).global_bytes
-  bytes = (same_as_lowered p r h.checked).tables.bytes ∙ h.checked.is_lowered.bytes
+  bytes = (same_as_lowered p r is_checked).tables.bytes ∙ is_checked.is_lowered.bytes
 
   sizes : (setting_of_code r m.budgets).sizes ≡ m
   sizes =
@@ -117,8 +118,8 @@ module _ (p : Program) (budgets : BudgetSizes) (valid : is_valid_program p ≡ t
   pub before : objects_before r (setting_of p m.budgets) ≡ initial_objects p (setting_of p m.budgets)
   unfolding region_start
   before =
-      ap (λ ds. placed_data objects_begin ds 0) (same_as_lowered p r h.checked).tables.statics
-      ∙ h.checked.is_lowered.statics m.budgets
+      ap (λ ds. placed_data objects_begin ds 0) (same_as_lowered p r is_checked).tables.statics
+      ∙ is_checked.is_lowered.statics m.budgets
 
   few : function_address (length (map header_of_code r.functions)) ≤ code_begin
   unfolding function_address
@@ -177,8 +178,8 @@ module _ (p : Program) (budgets : BudgetSizes) (valid : is_valid_program p ≡ t
       starts : AreStartSpaces m entry (Good m) l spaces
       starts = subst (λ z. AreStartSpaces z entry (Good z) l spaces) (sym map_is) starts_program
 
-      abbrev code : FlatProgram
-      code = program_of l.expansion l.homes l.runtime
+      abbrev flat_code : FlatProgram
+      flat_code = program_of l.expansion l.homes l.runtime
 
       abbrev memory : Bytes
       memory =
@@ -216,21 +217,21 @@ module _ (p : Program) (budgets : BudgetSizes) (valid : is_valid_program p ≡ t
       objects_bytes = statics_bytes (length p.functions) (placed_data objects_begin r.statics 0) r.statics 0 sound.at
 
       code_follows : AreBytes memory → (input : List ℕ)
-          → Follows 168 (meaning p m.budgets input) (flat_meaning m code memory input)
+          → Follows 168 (meaning p m.budgets input) (flat_meaning m flat_code memory input)
       code_follows are input =
           follows_trans 8 21 (meaning p m.budgets input) (tac_meaning r m.budgets input)
-          (flat_meaning m code memory input) (lowered input)
+          (flat_meaning m flat_code memory input) (lowered input)
           (followed memory are stand.0 stand.1 input (never input))
 
       code_runs : AreBytes memory → (input : List ℕ) (k : ℕ)
-          → run (flat_step m code) k (started code memory input) ≡ flat.Stuck → ⊥
+          → run (flat_step m flat_code) k (started flat_code memory input) ≡ flat.Stuck → ⊥
       code_runs are input k e =
-          never_stuck (flat_step m code) flat.seen (λ (x : flat.Stage). x ≡ flat.Stuck) (steps m code) 168
-          (meaning p m.budgets input) (started code memory input) refl (source input) (code_follows are input) k e
+          never_stuck (flat_step m flat_code) flat.seen (λ (x : flat.Stage). x ≡ flat.Stuck) (steps m flat_code) 168
+          (meaning p m.budgets input) (started flat_code memory input) refl (source input) (code_follows are input) k e
 
-      pub following : IsFollowing p budgets (sizes_of p budgets) code (bytes_of_statics r.statics 0) spaces
+      pub following : IsFollowing p budgets (sizes_of p budgets) flat_code (bytes_of_statics r.statics 0) spaces
       following =
-          subst (λ (z : MapSizes). IsFollowing p z.budgets z code (bytes_of_statics r.statics 0) spaces) map_is
+          subst (λ (z : MapSizes). IsFollowing p z.budgets z flat_code (bytes_of_statics r.statics 0) spaces) map_is
           (record {
             few = objects_few;
             objects_fit = objects_fit;

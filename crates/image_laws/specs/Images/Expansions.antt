@@ -2,11 +2,11 @@
 -- the runtime, and what the data of the file is.
 use Rattle.std.specs.Prelude.{◌≡◌, ℕ, ◌<◌, ◌≤◌, ◌^◌, List, length, Some, slice_get}
 use Rattle.std.specs.List.{All}
-use Rattle.sb_base.specs.Budgets.{BudgetSizes}
 use Rattle.addr_map.specs.declared.region.Region.TheVariants.{Shadow}
 use Rattle.addr_map.specs.Places.{MapSizes, objects_begin, region_size}
 use Rattle.c_tree.specs.Programs.{Program}
 use Rattle.tac_ir.specs.declared.function.CodeFunction.{CodeFunction}
+use Rattle.tac_ir.specs.declared.function.Tac.{Tac}
 use Rattle.tac_ir.specs.Meaning.{setting_of_code}
 use Rattle.flat_meaning.specs.declared.function.FlatFunction.{FlatFunction}
 use Rattle.flat_meaning.specs.declared.function.FlatProgram.{FlatProgram}
@@ -32,7 +32,6 @@ use Rattle.reg_plan.specs.Tests.{AreAccepted}
 use Rattle.machine_laws.specs.Following.Code.{IsEncodable}
 use Rattle.machine_laws.specs.Following.Start.{IsStartable}
 use Rattle.rv_codegen.specs.MachineImages.Image.{IsImage}
-use Rattle.image_laws.specs.Images.Images.{sizes_of, IsChecked}
 
 -- An expansion under a form of the shadow space that reads and writes entries by these lists: its keys of functions tell
 -- their types, and what has an entry or may have contents is closed.
@@ -77,25 +76,24 @@ pub record AreStartSpaces (map : MapSizes) (entry : View) (IsGood : Bytes → Ty
   pub short : length spaces ≤ 2 ^ 25
   pub bytes : All (λ b. b < 256) spaces
 
--- a laid expansion of the checked code of a program, all of whose instructions are covered
-pub record IsLaidExpansion (read write : EntryCode) (entry : View) (IsGood : Bytes → Type 0) (program : Program)
-    (budgets : BudgetSizes) (l : Laid) : Type 0 where
-  pub checked : IsChecked program l.expansion.code
-  pub is_expansion : IsExpansion read write (sizes_of program budgets) l.expansion
-  pub of_runtime : AreOfRuntime (sizes_of program budgets) entry IsGood runtime_list l.runtime
-  pub covered : AreAllCovered (compiled_of program entry l)
+-- a laid expansion of code, all of whose instructions are covered, whatever typed program they are of
+pub record IsLaidExpansion (read write : EntryCode) (entry : View) (IsGood : Bytes → Type 0) (map : MapSizes)
+    (code : Tac) (l : Laid) : Type 0 where
+  pub code_is : l.expansion.code ≡ code
+  pub is_expansion : IsExpansion read write map l.expansion
+  pub of_runtime : AreOfRuntime map entry IsGood runtime_list l.runtime
+  pub covered : (typed : Program) → AreAllCovered (compiled_of typed entry l)
 
--- The image of a laid expansion whose flat code the machine has instructions for, under accepted plans: its data are the
--- static objects with the entries of their pointers.
-pub record IsExpandedImage (read write : EntryCode) (entry : View) (IsGood : Bytes → Type 0) (program : Program)
-    (budgets : BudgetSizes) (file : List ℕ) : Type 0 where
+-- The image of a laid expansion of code whose flat code the machine has instructions for, under accepted plans: its data
+-- are the static objects with the entries of their pointers.
+pub record IsExpandedImage (read write : EntryCode) (entry : View) (IsGood : Bytes → Type 0) (map : MapSizes)
+    (code : Tac) (file : List ℕ) : Type 0 where
   pub laid : Laid
-  pub is_laid : IsLaidExpansion read write entry IsGood program budgets laid
+  pub is_laid : IsLaidExpansion read write entry IsGood map code laid
   pub encodable : IsEncodable (code_of laid)
-  pub startable : IsStartable (sizes_of program budgets) (code_of laid)
+  pub startable : IsStartable map (code_of laid)
   pub plans : List FunctionPlan
   pub accepted : AreAccepted (code_of laid) plans
   pub spaces : List ℕ
-  pub starts : AreStartSpaces (sizes_of program budgets) entry IsGood laid spaces
-  pub image : IsImage (sizes_of program budgets) (code_of laid) plans
-      (bytes_of_statics laid.expansion.code.statics 0) spaces file
+  pub starts : AreStartSpaces map entry IsGood laid spaces
+  pub image : IsImage map (code_of laid) plans (bytes_of_statics laid.expansion.code.statics 0) spaces file

@@ -5,7 +5,8 @@ ghost use Rattle.sb_base.specs.Budgets.{BudgetSizes};
 ghost use Rattle.addr_map.specs.Places.{AreMapped};
 ghost use Rattle.c_tree.specs.Programs.{Program};
 ghost use Rattle.c_tree.specs.ValidProgram.{is_valid_program};
-ghost use Rattle.image_laws.specs.Images.Images.{DoesWhatIsMeant, sizes_of};
+ghost use Rattle.tac_ir.specs.declared.function.Tac.{Tac};
+ghost use Rattle.image_laws.specs.Images.Images.{DoesWhatIsMeant, IsChecked, sizes_of};
 ghost use Rattle.image_laws.specs.Images.Expansions.{IsExpandedImage};
 
 use behaviours::following_is_faithful;
@@ -30,8 +31,8 @@ use source_meaning::laws::running_has_begun_all_turns;
 /// with at most 1008 instructions for each unit of the program's work.
 pub fn images_of_expansions_do_what_is_meant<S: ShadowForm>()
     ensures { (p : Program) (budgets : BudgetSizes) → is_valid_program p ≡ true → length p.functions ≤ 4096
-        → AreMapped (sizes_of p budgets) → (file : List ℕ)
-        → IsExpandedImage S.entry_read S.entry_write S.entry (S.IsGood (sizes_of p budgets)) p budgets file
+        → AreMapped (sizes_of p budgets) → (r : Tac) → IsChecked p r → (file : List ℕ)
+        → IsExpandedImage S.entry_read S.entry_write S.entry (S.IsGood (sizes_of p budgets)) (sizes_of p budgets) r file
         → DoesWhatIsMeant p budgets file }
 {
     running_has_begun_all_turns();

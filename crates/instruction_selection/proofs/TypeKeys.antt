@@ -9,7 +9,6 @@ use Rattle.lib_wrappers.specs.AllocatingRoutines.Entering.{block_bytes}
 use Rattle.source_meaning.specs.Blocks.{has_objects}
 use Rattle.tac_ir.specs.declared.function.CodeFunction.{CodeFunction}
 use Rattle.metadata_relation.specs.Blocks.{objects_of_body}
-use Rattle.instruction_selection.specs.StartData.{type_in}
 use Rattle.metadata_relation.specs.FunctionTypes.{first_of_type, object_units, room_told, type_key, HaveTypeKeys}
 
 -- the number of a function's type is at most the count of all functions
@@ -50,18 +49,16 @@ all_low key bound some low (c ∷ cs) zero = low c
 all_low key bound some low (c ∷ cs) (suc f) = all_low key bound some low cs f
 
 pub keys_told : (cs : List CodeFunction) (keys : List ℕ) → length cs ≤ 2 ^ 12 → keys ≡ map (type_key cs) cs
-    → HaveTypeKeys cs (type_in keys)
-unfolding type_in
+    → HaveTypeKeys cs (λ f. get_or keys f 0)
 keys_told cs keys few same = record {
   few = few;
-  each = λ f c at. subst (λ ks. type_in ks f ≡ type_key cs c) (sym same) (at_number (type_key cs) cs f c at);
+  each = λ f c at. subst (λ ks. get_or ks f 0 ≡ type_key cs c) (sym same) (at_number (type_key cs) cs f c at);
 }
 
 pub keys_low : (cs : List CodeFunction) (keys : List ℕ) → length cs ≤ 2 ^ 12 → keys ≡ map (type_key cs) cs
-    → (f : ℕ) → type_in keys f < 2 ^ 63
-unfolding type_in
+    → (f : ℕ) → get_or keys f 0 < 2 ^ 63
 keys_low cs keys few same f =
-    subst (λ ks. type_in ks f < 2 ^ 63) (sym same)
+    subst (λ ks. get_or ks f 0 < 2 ^ 63) (sym same)
     (all_low (type_key cs) (2 ^ 63) (omega arith) (λ c. key_low cs c few) cs f)
 
 past_all : (cs : List CodeFunction) (i : ℕ) → length cs ≤ i → drop i cs ≡ []

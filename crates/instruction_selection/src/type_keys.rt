@@ -1,11 +1,10 @@
 //! What the keys of pointers to functions tell of their types (C99 6.5.2.2).
 
-ghost use Rattle.std.specs.Prelude.{◌≡◌, ℕ, ◌+◌, ◌<◌, ◌≤◌, ◌^◌, IfOk, length, Some, slice_get};
+ghost use Rattle.std.specs.Prelude.{◌≡◌, ℕ, ◌+◌, ◌<◌, ◌≤◌, ◌^◌, IfOk, get_or, length, Some, slice_get};
 ghost use Rattle.tac_ir.specs.declared.function.CodeFunction.{CodeFunction};
 ghost use Rattle.lib_wrappers.specs.AllocatingRoutines.Entering.{block_bytes};
 ghost use Rattle.metadata_relation.specs.Blocks.{objects_of_body};
 ghost use Rattle.metadata_relation.specs.FunctionTypes.{HaveTypeKeys, object_units, type_key};
-ghost use Rattle.instruction_selection.specs.StartData.{type_in};
 
 use crate::blocks::{block_bytes, has_objects};
 use crate::calls::{body_objects, first_of_type};
@@ -50,8 +49,8 @@ pub fn type_keys(alloc: Global, functions: &[CodeFunction]) -> Result<Vec<u64>, 
     requires few { length functions.now ≤ 2 ^ 12 }
     requires bytes { (f : ℕ) (c : CodeFunction) → slice_get functions.now f ≡ Some c
         → block_bytes (objects_of_body c) ≤ 2 ^ 62 }
-    ensures keys { IfOk result (λ list. HaveTypeKeys functions.now (type_in list.items)) }
-    ensures room { IfOk result (λ list. (f : ℕ) → type_in list.items f < 2 ^ 63) }
+    ensures keys { IfOk result (λ list. HaveTypeKeys functions.now (λ f. get_or list.items f 0)) }
+    ensures room { IfOk result (λ list. (f : ℕ) → get_or list.items f 0 < 2 ^ 63) }
 {
     let mut keys = Vec::new(alloc);
     for function in functions {

@@ -5,7 +5,6 @@ use Rattle.std.specs.Prelude.{replicate, nat_lt, if◌then◌else◌}
 use Rattle.std.specs.List.{All}
 use Rattle.std.proofs.Common.{length-append}
 use Rattle.std.proofs.lemmas.Bool.{lt-ltb, le-ltb}
-use Rattle.std.proofs.lemmas.List.{length-replicate}
 use Rattle.addr_map.specs.declared.region.Region.TheVariants.{Globals, Heap, Shadow, Locks, RuntimeCalls}
 use Rattle.addr_map.specs.Places.{MapSizes, AreMapped, objects_begin, spaces_begin, region_start, region_size, region_end}
 use Rattle.addr_map.specs.Places.{whole_pages}
@@ -24,17 +23,23 @@ use Rattle.metadata_relation.specs.StartData.{bytes_of_statics, statics_end, Hol
 
 -- ---- zeros behind a list change nothing that is read
 
-zero_at : (k i : ℕ) → get_or (replicate k 0) i 0 ≡ 0
+abbrev zeros : ℕ → List ℕ
+zeros n = replicate n 0
+
+abbrev at : List ℕ → ℕ → ℕ
+at xs i = get_or xs i 0
+
+zero_at : (k i : ℕ) → at (zeros k) i ≡ zero
 zero_at zero i = refl
 zero_at (suc k) zero = refl
 zero_at (suc k) (suc i) = zero_at k i
 
-padded_at : (xs : List ℕ) (k i : ℕ) → get_or (xs ++ replicate k 0) i 0 ≡ get_or xs i 0
+padded_at : (xs : List ℕ) (k i : ℕ) → at (xs ++ zeros k) i ≡ at xs i
 padded_at [] k i = zero_at k i
 padded_at (x ∷ xs) k zero = refl
 padded_at (x ∷ xs) k (suc i) = padded_at xs k i
 
-past_end : (xs : List ℕ) (i : ℕ) → length xs ≤ i → get_or xs i 0 ≡ 0
+past_end : (xs : List ℕ) (i : ℕ) → length xs ≤ i → at xs i ≡ zero
 past_end [] i past = refl
 past_end (x ∷ xs) zero past = absurd (omega (arith, past))
 past_end (x ∷ xs) (suc i) past = past_end xs i (omega (arith, past))
@@ -43,7 +48,7 @@ module _ (m : MapSizes) (objects spaces : List ℕ) where
   abbrev memory : Bytes
   memory = data_memory (filled (object_bytes m) objects) (filled (space_bytes m) spaces)
 
-  object_at_is : (i : ℕ) → objects_begin + i < spaces_begin → memory (objects_begin + i) ≡ get_or objects i 0
+  object_at_is : (i : ℕ) → objects_begin + i < spaces_begin → memory (objects_begin + i) ≡ at objects i
   object_at_is i low =
       let same : objects_begin + i - objects_begin ≡ i = omega arith in
       ap (λ b. if b then get_or (filled (object_bytes m) objects) (objects_begin + i - objects_begin) 0
@@ -52,7 +57,7 @@ module _ (m : MapSizes) (objects spaces : List ℕ) where
       ∙ ap (λ j. get_or (filled (object_bytes m) objects) j 0) same
       ∙ padded_at objects (object_bytes m - length objects) i
 
-  space_at_is : (i : ℕ) → memory (spaces_begin + i) ≡ get_or spaces i 0
+  space_at_is : (i : ℕ) → memory (spaces_begin + i) ≡ at spaces i
   space_at_is i =
       let same : spaces_begin + i - spaces_begin ≡ i = omega arith in
       ap (λ b. if b then get_or (filled (object_bytes m) objects) (spaces_begin + i - objects_begin) 0
@@ -84,8 +89,12 @@ module _ (m : MapSizes) (objects spaces : List ℕ) where
 
 -- ---- the bytes of static objects
 
+zero_count : (n : ℕ) → length (zeros n) ≡ n
+zero_count zero = refl
+zero_count (suc n) = let rest = zero_count n in omega (arith, rest)
+
 all_append : (xs ys : List ℕ) → All (λ b. b < 256) xs → All (λ b. b < 256) ys → All (λ b. b < 256) (xs ++ ys)
-all_append [] ys first second = second
+all_append [] ys first second k d low = second k d low
 all_append (x ∷ xs) ys first second zero d low = first zero d (omega arith)
 all_append (x ∷ xs) ys first second (suc k) d low =
     all_append xs ys (λ j e lt. first (suc j) e (omega (arith, lt))) second k d (omega (arith, low))
@@ -106,12 +115,12 @@ module _ (functions : ℕ) (all : Objects) where
 
   pub statics_bytes : (ds : List StaticData) (offset : ℕ) → AreSoundFrom ds offset
       → All (λ b. b < 256) (bytes_of_statics ds offset)
-  statics_bytes [] offset sound k d low = absurd (omega (arith, low))
-  statics_bytes (d ∷ ds) offset sound =
+  statics_bytes [] offset sound k z low = absurd (omega (arith, low))
+  statics_bytes (d ∷ ds) offset sound k z low =
       all_append (replicate (rounded_up 16 offset - offset) 0) (d.bytes ++ bytes_of_statics ds (rounded_up 16 offset + d.size))
       (all_zeros (rounded_up 16 offset - offset))
       (all_append d.bytes (bytes_of_statics ds (rounded_up 16 offset + d.size)) (inside_any d.bytes (sound 0).values)
-      (statics_bytes ds (rounded_up 16 offset + d.size) (λ n. sound (suc n))))
+      (statics_bytes ds (rounded_up 16 offset + d.size) (λ n. sound (suc n)))) k z low
 
   -- as many as they take
   pub statics_length : (ds : List StaticData) (offset : ℕ) → AreSoundFrom ds offset
@@ -121,7 +130,7 @@ module _ (functions : ℕ) (all : Objects) where
       let next = rounded_up 16 offset + d.size in
       let rest = statics_length ds next (λ n. sound (suc n)) in
       let own = (sound 0).bytes in
-      let pad = length-replicate (rounded_up 16 offset - offset) 0 in
-      let first = length-append (replicate (rounded_up 16 offset - offset) 0) (d.bytes ++ bytes_of_statics ds next) in
+      let pad = zero_count (rounded_up 16 offset - offset) in
+      let first = length-append (zeros (rounded_up 16 offset - offset)) (d.bytes ++ bytes_of_statics ds next) in
       let second = length-append d.bytes (bytes_of_statics ds next) in
       omega (arith, rest, own, pad, first, second)

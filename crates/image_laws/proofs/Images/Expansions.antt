@@ -35,6 +35,10 @@ use Rattle.shadow_space.specs.Form.{EntryCode}
 use Rattle.runtime_functions.specs.Runtime.{runtime_list, AreOfRuntime}
 use Rattle.machine_laws.specs.Following.Matching.{object_bytes, space_bytes}
 use Rattle.rv_codegen.specs.MachineImages.Image.{filled, data_memory}
+use Rattle.metadata_plan.specs.Entries.{AreAllClosed}
+use Rattle.metadata_relation.specs.Blocks.{Expansion}
+use Rattle.metadata_relation.specs.Contents.{AreKept}
+use Rattle.metadata_relation.specs.FunctionTypes.{HaveTypeKeys}
 use Rattle.metadata_relation.specs.InlineCode.{IsInlineCode}
 use Rattle.metadata_relation.specs.InlineLists.{inline_lists}
 use Rattle.metadata_relation.specs.Laid.{program_of, layout_of}
@@ -115,11 +119,16 @@ module _ (p : Program) (budgets : BudgetSizes) (valid : is_valid_program p ≡ t
   own_sizes : sizes_of p m.budgets ≡ m
   own_sizes = ap (λ (g : Setting). g.sizes) (sym setting_is) ∙ sizes
 
-  pub before : objects_before r (setting_of p m.budgets) ≡ initial_objects p (setting_of p m.budgets)
+  -- the static objects as they are placed
+  pub placed : placed_data objects_begin r.statics 0 ≡ initial_objects p (setting_of p m.budgets)
   unfolding region_start
-  before =
+  placed =
       ap (λ ds. placed_data objects_begin ds 0) (same_as_lowered p r is_checked).tables.statics
       ∙ is_checked.is_lowered.statics m.budgets
+
+  before : objects_before r (setting_of p m.budgets) ≡ initial_objects p (setting_of p m.budgets)
+  unfolding region_start
+  before = placed
 
   few : function_address (length (map header_of_code r.functions)) ≤ code_begin
   unfolding function_address

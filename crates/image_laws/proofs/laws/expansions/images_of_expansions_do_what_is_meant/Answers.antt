@@ -33,27 +33,28 @@ returns g c = λ p budgets valid count mapped r of_program file image.
     let source = c.running_has_begun_all_turns.ensures p m.budgets in
     let lowered : (input : List ℕ) → Follows 8 (meaning p m.budgets input) (tac_meaning t m.budgets input) =
     c.lowered_code_follows_its_program.ensures p t of_code.is_lowered valid count m.budgets mapped_own in
-    let stuck_not = λ input. c.checked_code_is_never_stuck.ensures.never t checked inserted m.budgets input 8
+    let stuck_not : (input : List ℕ) (k : ℕ) → run (step (setting_of_code checked m.budgets) checked) k
+    (first_stage checked m.budgets input) ≡ Stuck → ⊥ = λ input. c.checked_code_is_never_stuck.ensures.never t checked inserted m.budgets input 8
     (meaning p m.budgets input) (source input) (lowered input) in
     let dropped : (input : List ℕ) → Follows 8 (meaning p m.budgets input) (tac_meaning e.code m.budgets input) =
     λ input. c.code_without_available_checks_means_the_same.ensures.follows checked e.code of_code.dropped m.budgets
     input (stuck_not input) 8 (meaning p m.budgets input)
     (c.checked_code_is_never_stuck.ensures.follows t checked inserted m.budgets input 8 (meaning p m.budgets input)
     (source input) (lowered input)) in
-    let never = λ input. c.code_without_available_checks_means_the_same.ensures.never checked e.code of_code.dropped
+    let never : (input : List ℕ) (k : ℕ) → run (step (setting_of_code e.code m.budgets) e.code) k
+    (first_stage e.code m.budgets input) ≡ Stuck → ⊥ = λ input. c.code_without_available_checks_means_the_same.ensures.never checked e.code of_code.dropped
     m.budgets input (stuck_not input) in
     let inline = c.lists_of_a_form_are_inline_code.ensures in
     let expanded = c.laid_programs_are_expanded.ensures in
-    let local = λ z a b are keeps good. c.entries_are_local.ensures z a b are keeps good in
-    let before = expansion.before p budgets valid mapped count form.entry_read form.entry_write form.entry form.IsGood l of_code r h
+    let placed = expansion.placed p budgets valid mapped count form.entry_read form.entry_write form.entry form.IsGood l of_code r h
     in
     let right = expansion.right p budgets valid mapped count form.entry_read form.entry_write form.entry form.IsGood l of_code r h
-    inline expanded local in
+    inline expanded c.entries_are_local.ensures in
     let objects = bytes_of_statics e.code.statics 0 in
     let f = expansion.following p budgets valid mapped count form.entry_read form.entry_write form.entry form.IsGood l of_code r h
-    inline expanded local source dropped never
-    (c.static_objects_are_sound_and_in_their_region.ensures.sound p m.budgets mapped_own valid e.code.statics before)
-    (c.static_objects_are_sound_and_in_their_region.ensures.region p m.budgets mapped_own valid e.code.statics before)
+    inline expanded c.entries_are_local.ensures source dropped never
+    (c.static_objects_are_sound_and_in_their_region.ensures.sound p m.budgets mapped_own valid e.code.statics placed)
+    (c.static_objects_are_sound_and_in_their_region.ensures.region p m.budgets mapped_own valid e.code.statics placed)
     c.steps_begin_at_most_one_turn.ensures
     (c.a_file_with_static_objects_stands_for_the_source.ensures (compiled_of p form.entry l) right refl)
     (c.covered_programs_are_followed.ensures (compiled_of p form.entry l) right refl (h.covered p) refl) image.spaces

@@ -1,16 +1,10 @@
 -- The test says yes exactly where a program can be encoded.
-use Rattle.std.proofs.Common.{◌≡◌, ℕ, zero, suc, ◌+◌, ◌-◌, ◌^◌, ◌<◌, ◌≤◌, ◌⊎◌, inl, inr, ⊎_elim, Bool, true, false, ◌&&◌, ◌||◌}
-use Rattle.std.proofs.Common.{List, [], ◌∷◌, Option, Some, None, refl, sym, ap, ◌∙◌, subst, arith, true≢false, rules}
+use Rattle.std.proofs.Common.{◌≡◌, ℕ, zero, suc, ◌-◌, ◌^◌, inl, inr, ⊎_elim, Bool, true, false, ◌&&◌}
+use Rattle.std.proofs.Common.{List, [], ◌∷◌, Option, Some, None, refl, sym, ap, ◌∙◌, subst, true≢false}
 use Rattle.std.specs.Prelude.{slice_get, nat_lt, nat_le}
 use Rattle.std.specs.List.{list_all}
-use Rattle.std.proofs.lemmas.Bool.{and_parts, and_from, or_cases, or_left, or_right, ltb-true, leb-true, lt-ltb, le-leb, cases_Bool}
-use Rattle.sb_base.specs.declared.ending.Ending.{Ending}
+use Rattle.std.proofs.lemmas.Bool.{and_parts, and_from, or_cases, or_left, or_right, ltb-true, leb-true, lt-ltb, le-leb}
 use Rattle.sb_base.specs.Endings.{code_of}
-use Rattle.rv_isa.specs.declared.instruction.LoadOp.{LoadOp}
-use Rattle.rv_isa.specs.declared.instruction.StoreOp.{StoreOp}
-use Rattle.rv_isa.specs.declared.instruction.RegOp.{RegOp}
-use Rattle.rv_isa.specs.declared.instruction.RegOp32.{RegOp32}
-use Rattle.rv_isa.specs.declared.instruction.BranchOp.{BranchOp}
 use Rattle.flat_meaning.specs.declared.instruction.RightOperand.{RightOperand}
 use Rattle.flat_meaning.specs.declared.instruction.RightOperand.TheVariants.{Register, Number}
 use Rattle.flat_meaning.specs.declared.instruction.FlatInstruction.{FlatInstruction}
@@ -22,7 +16,7 @@ use Rattle.flat_meaning.specs.Meaning.{body_of, instruction_at}
 use Rattle.machine_laws.specs.Blocks.Blocks.{IsShort, RightIsShort}
 use Rattle.machine_laws.specs.Blocks.Tails.{line_of}
 use Rattle.machine_laws.specs.Following.Code.{IsEncodable}
-use Rattle.target_limits.specs.Encoding.{is_short, is_short_operand, is_small_ending, fits, function_fits}
+use Rattle.target_limits.specs.Encoding.{is_short, is_short_operand, fits, function_fits}
 
 -- ---- tests of all of a list
 

@@ -1,10 +1,9 @@
 -- The test says yes exactly where a program can be begun.
-use Rattle.std.proofs.Common.{◌≡◌, ℕ, zero, suc, ◌+◌, ◌<◌, ◌≤◌, ◌⊎◌, inl, inr, ⊎_elim, Bool, true, false, ◌&&◌, List, [], ◌∷◌}
+use Rattle.std.proofs.Common.{◌≡◌, ℕ, zero, suc, ◌<◌, ◌≤◌, Bool, true, false, ◌&&◌}
 use Rattle.std.proofs.Common.{Option, Some, None, refl, sym, ap, ◌∙◌, subst, arith, true≢false, eqb, leb}
 use Rattle.std.specs.Prelude.{slice_get, if◌then◌else◌}
-use Rattle.std.proofs.lemmas.Bool.{and_parts, and_from, leb-true, eqb-true, le-leb, eq-eqb, cases_Bool}
+use Rattle.std.proofs.lemmas.Bool.{and_parts, and_from, leb-true, eqb-true, le-leb, eq-eqb}
 use Rattle.addr_map.specs.Places.{MapSizes, region_size}
-use Rattle.addr_map.specs.declared.region.Region.TheVariants.{RuntimeCalls}
 use Rattle.flat_meaning.specs.declared.instruction.FlatInstruction.{FlatInstruction}
 use Rattle.flat_meaning.specs.declared.instruction.FlatInstruction.TheVariants as flat
 use Rattle.flat_meaning.specs.declared.function.FlatFunction.{FlatFunction}
@@ -12,7 +11,7 @@ use Rattle.flat_meaning.specs.declared.function.FlatProgram.{FlatProgram}
 use Rattle.flat_meaning.specs.Calls.{function_in, room_if}
 use Rattle.flat_meaning.specs.Meaning.{body_of, instruction_at}
 use Rattle.machine_laws.specs.Following.Start.{IsStartable}
-use Rattle.target_limits.specs.Starting.{is_turn, is_turn_at, begins, has_entry}
+use Rattle.target_limits.specs.Starting.{is_turn_at, begins, has_entry}
 
 turn_at : (o : Option FlatInstruction) → is_turn_at o ≡ true → o ≡ Some flat.Turn
 turn_at None h = absurd (true≢false (sym h))

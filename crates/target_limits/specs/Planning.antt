@@ -1,5 +1,5 @@
 -- Whether a program can be planned, as it is tested.
-use Rattle.std.specs.Prelude.{◌≡◌, ℕ, ◌+◌, ◌*◌, ◌^◌, ◌<◌, Bool, true, ◌&&◌, nat_le, List, [], ◌∷◌, length}
+use Rattle.std.specs.Prelude.{◌≡◌, ℕ, ◌+◌, ◌*◌, ◌^◌, ◌<◌, ◌≤◌, true, List, length, Some, slice_get}
 use Rattle.flat_meaning.specs.declared.instruction.FlatInstruction.{FlatInstruction}
 use Rattle.flat_meaning.specs.declared.function.FlatFunction.{FlatFunction}
 use Rattle.flat_meaning.specs.declared.function.FlatProgram.{FlatProgram}
@@ -12,13 +12,13 @@ pub record HasNames (program : FlatProgram) (function : ℕ) (instruction : Flat
   pub read : (y : ℕ) → is_read (read_by program function instruction) y ≡ true → y < count
   pub made : (y : ℕ) → is_among (made_by program instruction) y ≡ true → y < count
 
--- each home is behind the one before, none is before the least, and all lie within so many bytes
-abbrev pub homes_stand : (bytes least : ℕ) → List ℕ → Bool
-homes_stand b k [] = true
-homes_stand b k (w ∷ ws) = (nat_le k w && nat_le (8 * w + 16) b) && homes_stand b (w + 1) ws
+-- homes differ, and all lie within so many bytes, behind the return address
+pub record HomesStand (bytes : ℕ) (homes : List ℕ) : Type 0 where
+  pub inside : (y w : ℕ) → slice_get homes y ≡ Some w → 8 * w + 16 ≤ bytes
+  pub apart : (x y w : ℕ) → slice_get homes x ≡ Some w → slice_get homes y ≡ Some w → x ≡ y
 
 -- what is tested before live ranges are computed
 pub record IsReadable (program : FlatProgram) (number : ℕ) (function : FlatFunction) : Type 0 where
   pub count : length function.body < 2 ^ 32
-  pub homes : homes_stand (record_bytes function) 0 function.homes ≡ true
+  pub homes : HomesStand (record_bytes function) function.homes
   pub named : IsNamed program number function.body (length function.homes)

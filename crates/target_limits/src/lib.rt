@@ -1,5 +1,5 @@
 //! What code generation needs of a flat program and its meaning does not ask, tested: whether it can be encoded, begun
-//! and planned. The tests are exact; that of plans says yes only where each home is behind the one before.
+//! and planned. The first two are exact; the third says yes only where all homes of a function differ.
 #![tactic(auto)]
 
 pub mod encodable;

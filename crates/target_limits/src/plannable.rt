@@ -1,12 +1,12 @@
 //! Whether a program can be planned.
 
-ghost use Rattle.std.specs.Prelude.{◌≡◌, ◌<◌, ◌≤◌, ◌+◌, ◌*◌, ◌^◌, ℕ, ◌&&◌, nat_le, IfOk, length, true};
-ghost use Rattle.flat_meaning.specs.Calls.{record_bytes};
+ghost use Rattle.std.specs.Prelude.{◌≡◌, ◌<◌, ◌≤◌, ◌^◌, ℕ, IfOk, length, true, false, EachIndex, slice_index};
+ghost use Rattle.std.specs.Prelude.{slice_index_or, slice_set};
 ghost use Rattle.reg_plan.specs.Effects.{is_among};
 ghost use Rattle.reg_plan.specs.Flow.{IsNamed};
 ghost use Rattle.reg_plan.specs.Accepted.{IsLive};
 ghost use Rattle.reg_plan.specs.Planned.{IsPlannable, ArePlannable};
-ghost use Rattle.target_limits.specs.Planning.{HasNames, homes_stand, IsReadable};
+ghost use Rattle.target_limits.specs.Planning.{HasNames, HomesStand, IsReadable};
 
 use flat_meaning::{FlatFunction, FlatInstruction, FlatProgram};
 use reg_plan::closed::is_live;
@@ -51,38 +51,64 @@ fn is_named(program: &FlatProgram, number: u32, body: &[FlatInstruction], count:
     true
 }
 
-// Whether a home is one of those from the least on, and lies within so many bytes.
-fn stands(least: u64, word: u32, bytes: u128) -> bool
-    ensures { result ≡ (nat_le least word && nat_le (8 * word + 16) bytes) }
+// One more than the greatest of these numbers; 0 where there is none.
+fn word_count(homes: &[u32]) -> usize
+    ensures each { EachIndex homes.now (λ k. slice_index homes.now k < result) }
+    ensures small { result ≤ 2 ^ 32 }
 {
-    let word = u64::from(word);
-    least <= word && u128::from(8 * word + 16) <= bytes
+    match homes.iter().copied().max() {
+        Some(greatest) => greatest as usize + 1,
+        None => 0,
+    }
 }
 
-// Whether each home is behind the one before, and all lie within so many bytes.
-fn homes_stand(homes: &[u32], bytes: u128) -> bool
-    ensures { result ≡ homes_stand bytes 0 homes.now }
+// Marks a word, unless it is marked, or none of these.
+fn mark(seen: &mut Vec<bool>, word: usize) -> bool
+    ensures there { result ≡ true → word < length seen.old.items }
+    ensures unmarked { result ≡ true → slice_index_or seen.old.items word false ≡ false }
+    ensures marked { result ≡ true → seen.new.items ≡ slice_set seen.old.items word true }
 {
-    let mut least = 0u64;
-    for word in homes {
-        if !stands(least, *word, bytes) {
-            return false;
-        }
-        least = u64::from(*word) + 1;
+    if word >= seen.len() {
+        return false;
     }
+    if seen[word] {
+        return false;
+    }
+    seen[word] = true;
     true
 }
 
-// Whether a function has few instructions, all that it reads and makes has a home, and the homes stand one behind the
-// other.
-fn is_readable(program: &FlatProgram, number: u32, function: &FlatFunction) -> bool
-    ensures { result ≡ true → IsReadable program.now number function.now }
+// Whether homes differ, and all lie within so many bytes.
+fn homes_stand(alloc: Global, homes: &[u32], bytes: u128) -> Result<bool, AllocError>
+    ensures { IfOk result (λ yes. yes ≡ true → HomesStand bytes homes.now) }
+{
+    let words = word_count(homes);
+    if words != 0 && 8 * words as u128 + 8 > bytes {
+        return Ok(false);
+    }
+    let mut seen = vec![in alloc; false; words]?;
+    for i in 0..homes.len() {
+        if !mark(&mut seen, homes[i] as usize) {
+            return Ok(false);
+        }
+    }
+    Ok(true)
+}
+
+// Whether a function has few instructions, all that it reads and makes has a home, and homes differ and lie within its
+// record.
+fn is_readable(
+    alloc: Global,
+    program: &FlatProgram,
+    number: u32,
+    function: &FlatFunction,
+) -> Result<bool, AllocError>
+    ensures { IfOk result (λ yes. yes ≡ true → IsReadable program.now number function.now) }
 {
     let homes = function.homes.as_slice();
     let body = function.body.as_slice();
-    body.len() <= 0xffff_ffff
-        && homes_stand(homes, record_bytes(function))
-        && is_named(program, number, body, homes.len())
+    let stand = homes_stand(alloc, homes, record_bytes(function))?;
+    Ok(stand && body.len() <= 0xffff_ffff && is_named(program, number, body, homes.len()))
 }
 
 // Whether none but the parameters are live at the entry.
@@ -107,7 +133,7 @@ fn can_plan(
 ) -> Result<bool, AllocError>
     ensures { IfOk result (λ yes. yes ≡ true → IsPlannable program.now number function.now) }
 {
-    if !is_readable(program, number, function) {
+    if !is_readable(alloc, program, number, function)? {
         return Ok(false);
     }
     let count = function.homes.as_slice().len();
@@ -120,8 +146,8 @@ fn can_plan(
 }
 
 /// Whether a program can be planned: it has fewer than 2^32 functions of fewer than 2^32 instructions each; all that
-/// a function reads and makes has a home; of these each is behind the one before, and within the record; and none but
-/// the parameters are needed at an entry. It takes as long as a plan.
+/// a function reads and makes has a home; homes of a function differ and lie within its record; and none but the
+/// parameters are needed at an entry. It fails only for want of memory, and takes as long as a plan.
 pub fn is_plannable(alloc: Global, program: &FlatProgram) -> Result<bool, AllocError>
     ensures plannable { IfOk result (λ yes. yes ≡ true → ArePlannable program.now) }
     ensures few { IfOk result (λ yes. yes ≡ true → length program.now.functions < 2 ^ 32) }

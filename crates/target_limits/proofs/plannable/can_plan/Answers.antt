@@ -1,4 +1,4 @@
-use Rattle.std.proofs.Common.{List, refl, ap, sym, subst, arith, length}
+use Rattle.std.proofs.Common.{List, ap, sym, subst, arith, length}
 use Rattle.flat_meaning.specs.declared.instruction.FlatInstruction.{FlatInstruction}
 use Rattle.reg_plan.specs.Needs.{IsNeeded}
 use Rattle.target_limits.proofs.Planning.{plannable}
@@ -10,7 +10,7 @@ returns c entered =
     let f = c.args.function.now in
     let count = ap length c.as_slice-count.ensures in
     plannable p c.args.number f (record { places = c.new.result; live = c.in_ok-live.live })
-    (c.if-not-is_readable.ensures refl)
+    (c.in_ok-is_readable.ensures c.if-not-branch.false)
     (λ pc y lt needed. c.in_ok-live.ensures.needed pc y (omega (arith, lt, count))
     (subst (λ (b : List FlatInstruction). IsNeeded p c.args.number b pc y) (sym c.as_slice.ensures) needed))
     (c.is_entered.ensures entered)

@@ -1,4 +1,4 @@
-use Rattle.std.proofs.Common.{ℕ, ◌<◌, ◌≤◌}
+use Rattle.std.proofs.Common.{ℕ, ◌<◌}
 use Rattle.reg_plan.specs.Accepted.{IsLive}
 use Rattle.target_limits.proofs.plannable.is_entered.Given as goal
 

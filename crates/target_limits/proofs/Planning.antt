@@ -1,4 +1,4 @@
--- A function whose homes differ and lie within its record, and whose entry needs none but the parameters, can be planned.
+-- A function whose homes differ and lie within its record can be planned, where its entry needs none but the parameters.
 use Rattle.std.proofs.Common.{◌≡◌, ℕ, ◌<◌, Bool, true, false, List, length, get_or}
 use Rattle.std.proofs.Common.{Some}
 use Rattle.std.specs.Prelude.{slice_get}

@@ -5,4 +5,5 @@ pub mod Registers
 pub mod Statics
 pub mod Blocks
 pub mod Contexts
+pub mod Covered
 pub mod Selected

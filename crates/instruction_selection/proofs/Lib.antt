@@ -1,4 +1,5 @@
 pub mod BlockObjects
+pub mod Coverages
 pub mod FormatSteps
 pub mod Joined
 pub mod Lists

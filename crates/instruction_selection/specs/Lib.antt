@@ -6,4 +6,5 @@ pub mod StartData
 pub mod Statics
 pub mod Blocks
 pub mod Contexts
+pub mod Covered
 pub mod Selected

@@ -40,7 +40,7 @@ pub fn body_objects(alloc: Global, function: &CodeFunction) -> Result<Vec<Variab
 }
 
 // The kind of the result of a function.
-fn result_of(program: &Tac, function: &CodeFunction) -> Kind
+pub(crate) fn result_of(program: &Tac, function: &CodeFunction) -> Kind
     ensures { result ≡ result_of program.now function.now }
 {
     match program.results.as_slice().get(function.type_number) {

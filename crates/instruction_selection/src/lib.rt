@@ -9,6 +9,7 @@ pub mod call_tests;
 pub mod calls;
 pub mod checks;
 pub mod context;
+pub mod covered;
 pub mod entries;
 pub mod formats;
 pub mod handing;

@@ -9,7 +9,7 @@ use flat_operators::constant::put_constant;
 use std::alloc::AllocError;
 
 // Whether an instruction has room for a number.
-fn is_short(number: u64) -> bool
+pub(crate) fn is_short(number: u64) -> bool
     ensures { result ≡ is_short number }
 {
     number < (1 << 31) - (1 << 11)

@@ -1,6 +1,6 @@
 -- A function of laid blocks that assign what they read can be planned.
 use Rattle.std.proofs.Common.{◌≡◌, ◌⊎◌, inl, inr, ⊎_elim, ℕ, zero, suc, ◌+◌, ◌<◌, ◌≤◌, ◌^◌, refl, sym, ap, ◌∙◌, subst}
-use Rattle.std.proofs.Common.{arith, Bool, true, false, List, [], ◌∷◌, ◌++◌, length, drop, Some, None}
+use Rattle.std.proofs.Common.{arith, Bool, true, false, List, [], ◌∷◌, length, Some, None}
 use Rattle.std.specs.Prelude.{slice_get, ◌==◌, if◌then◌else◌}
 use Rattle.std.proofs.lemmas.Bool.{cases_eq, cases_lt, eqb-true}
 use Rattle.std.proofs.lemmas.List.{drop_all}
@@ -16,14 +16,14 @@ use Rattle.metadata_plan.specs.Laid.{place_of, begin_code, body_of}
 use Rattle.metadata_plan.proofs.Laying.{part_of, part_length, begin_length, place_is, next_place}
 use Rattle.metadata_plan.proofs.Laying.{falls_to_next}
 use Rattle.reg_plan.specs.Effects.{read_by, is_read, made_by, makes_only, is_among, Leads}
-use Rattle.reg_plan.specs.Needs.{ReadsAt, MakesAt, AlwaysMakesAt, LeadsAt, IsNeeded, Read, Made, Before}
+use Rattle.reg_plan.specs.Needs.{ReadsAt, MakesAt, AlwaysMakesAt, IsNeeded, Read, Made, Before}
 use Rattle.reg_plan.specs.Planned.{IsPlannable}
 use Rattle.check_elim.specs.Paths.{Path, Start, On}
-use Rattle.image_laws.specs.Plans.Assignment.{Registers, IsOneOf, Way, Begins, Goes, IsMadeOn, IsAssigned}
+use Rattle.image_laws.specs.Plans.Assignment.{Registers, IsOneOf, Begins, Goes, IsAssigned}
 use Rattle.image_laws.specs.Plans.Assignment.{IsMadeBefore, IsAssignedAt, IsBegun, passed_over, Assigns, AssignsAll}
-use Rattle.image_laws.specs.Plans.Assignment.{Names, NamesBelow, HasOwnHomes}
+use Rattle.image_laws.specs.Plans.Assignment.{NamesBelow, HasOwnHomes}
 use Rattle.image_laws.proofs.Plans.Places.{get_append, jump_onward, jump_makes, jump_reads, IsOfNode, body_at, Stands, InBlock}
-use Rattle.image_laws.proofs.Plans.Places.{Jumps, stands_at, IsOfBegin, InBegin, Jumped, begin_at, IsWay}
+use Rattle.image_laws.proofs.Plans.Places.{Jumps, stands_at}
 use Rattle.image_laws.proofs.Assignment.Leading.{LeadsFrom, leads_from}
 use Rattle.image_laws.proofs.Assignment.Nodes.{there, one_node, behind_begin, falls_only, falls_within}
 

@@ -1,6 +1,6 @@
 -- Where instructions lead that stand in code behind other code.
-use Rattle.std.proofs.Common.{◌≡◌, ◌⊎◌, inl, inr, ⊎_elim, ℕ, zero, suc, ◌+◌, ◌-◌, ◌<◌, ◌≤◌, refl, sym, ap, arith}
-use Rattle.std.proofs.Common.{List, [], ◌∷◌, length, Option, Some, None, subst}
+use Rattle.std.proofs.Common.{◌≡◌, inl, inr, ℕ, suc, ◌+◌, ◌-◌, ◌≤◌, refl, arith}
+use Rattle.std.proofs.Common.{Some}
 use Rattle.std.proofs.lemmas.Option.{same_Some, none-some}
 use Rattle.flat_meaning.specs.declared.instruction.FlatInstruction.{FlatInstruction}
 use Rattle.flat_meaning.specs.declared.instruction.FlatInstruction.TheVariants.{Constant, Move, Operate, Operate32}

@@ -1,16 +1,16 @@
 -- The places of nodes: no two have a place in common, and where code falls into a node nothing else leads.
-use Rattle.std.proofs.Common.{◌≡◌, ◌⊎◌, inl, inr, ⊎_elim, ℕ, zero, suc, ◌+◌, ◌-◌, ◌<◌, ◌≤◌, refl, sym, ap, ◌∙◌, subst}
-use Rattle.std.proofs.Common.{arith, Bool, true, false, List, [], ◌∷◌, length, Some}
+use Rattle.std.proofs.Common.{◌≡◌, inl, inr, ⊎_elim, ℕ, zero, suc, ◌+◌, ◌-◌, ◌<◌, ◌≤◌, refl, sym, ap, subst}
+use Rattle.std.proofs.Common.{arith, Bool, true, List, [], ◌∷◌, length, Some}
 use Rattle.std.specs.Prelude.{slice_get, ◌==◌, if◌then◌else◌}
 use Rattle.std.proofs.lemmas.Bool.{eq-eqb, cases_eq, cases_lt}
-use Rattle.std.proofs.lemmas.Option.{same_Some, none-some, slice_get-get_or, slice_get_within}
+use Rattle.std.proofs.lemmas.Option.{slice_get-get_or, slice_get_within}
 use Rattle.tac_ir.specs.declared.instruction.Instruction.{Instruction}
 use Rattle.tac_ir.specs.declared.instruction.Instruction.TheVariants as tac
 use Rattle.tac_ir.specs.declared.function.CodeFunction.{CodeFunction}
 use Rattle.tac_ir.specs.Edges.{successors, LeadsTo, IsAmong}
 use Rattle.flat_meaning.specs.declared.instruction.FlatInstruction.{FlatInstruction}
-use Rattle.metadata_plan.specs.Laid.{times_in, falls, size_at, begin_size, place_of, body_of}
-use Rattle.metadata_plan.proofs.Laying.{place_is, next_place, falls_to_next}
+use Rattle.metadata_plan.specs.Laid.{times_in, falls, size_at, begin_size, place_of}
+use Rattle.metadata_plan.proofs.Laying.{place_is, next_place}
 use Rattle.image_laws.proofs.Plans.Places.{edges_one, edges_two, falls_alone}
 
 -- ---- ways to a node

@@ -1,4 +1,5 @@
 pub mod Images
 pub mod Propagation
+pub mod Plans
 pub mod Sizes
 pub mod CodeSizes

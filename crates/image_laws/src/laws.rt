@@ -1,5 +1,6 @@
 //! Laws, a module a subject.
 
+pub mod assignment;
 pub mod code_sizes;
 pub mod expansions;
 pub mod images;

@@ -13,7 +13,7 @@ use Rattle.words.specs.TwosComplement.{low_bits}
 use Rattle.rv_isa.specs.declared.instruction.ShiftOp.TheVariants.{Srli}
 use Rattle.rv_isa.specs.declared.instruction.Instr.TheVariants.{Op, OpImm, ShiftImm, Ecall, Jalr}
 use Rattle.rv_isa.specs.declared.instruction.ImmOp.TheVariants.{Addi}
-use Rattle.rv_isa.specs.declared.instruction.RegOp.TheVariants.{Add, Sub}
+use Rattle.rv_isa.specs.declared.instruction.RegOp.TheVariants.{Sub}
 use Rattle.rv_isa.specs.declared.instruction.BranchOp.{BranchOp}
 use Rattle.rv_isa.specs.declared.instruction.BranchOp.TheVariants.{Bltu}
 use Rattle.rv_isa.specs.Table.{word_of}

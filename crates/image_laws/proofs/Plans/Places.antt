@@ -115,7 +115,7 @@ jumps_at c address n pc (v ∷ w ∷ ms) (suc j) x e =
 
 -- ---- the ways to a node
 
-edges_one : (is : List Instruction) (n w : ℕ) (i : Instruction) → slice_get is n ≡ Some i
+pub edges_one : (is : List Instruction) (n w : ℕ) (i : Instruction) → slice_get is n ≡ Some i
     → 1 ≤ times_in w (successors i) → 1 ≤ edges_to is w
 edges_one [] n w i e h = absurd (none-some i e)
 edges_one (x ∷ is) zero w i e h =
@@ -123,7 +123,7 @@ edges_one (x ∷ is) zero w i e h =
     omega (arith, same, h)
 edges_one (x ∷ is) (suc n) w i e h = omega (arith, edges_one is n w i e h)
 
-edges_two : (is : List Instruction) (n k w : ℕ) (i j : Instruction) → (n ≡ k → ⊥) → slice_get is n ≡ Some i
+pub edges_two : (is : List Instruction) (n k w : ℕ) (i j : Instruction) → (n ≡ k → ⊥) → slice_get is n ≡ Some i
     → slice_get is k ≡ Some j → 1 ≤ times_in w (successors i) → 1 ≤ times_in w (successors j) → 2 ≤ edges_to is w
 edges_two [] n k w i j ne e e' h h' = absurd (none-some i e)
 edges_two (x ∷ is) zero zero w i j ne e e' h h' = absurd (ne refl)
@@ -137,7 +137,7 @@ edges_two (x ∷ is) (suc n) (suc k) w i j ne e e' h h' =
     let rest = edges_two is n k w i j (λ s. ne (ap suc s)) e e' h h' in
     omega (arith, rest)
 
-falls_alone : (c : CodeFunction) (n w : ℕ) → 2 ≤ ways_to c w → falls c n w ≡ true → ⊥
+pub falls_alone : (c : CodeFunction) (n w : ℕ) → 2 ≤ ways_to c w → falls c n w ≡ true → ⊥
 unfolding falls
 falls_alone c n w two e =
     let h = and_parts (w + 1 == n) (not (is_join c w)) e in

@@ -1,0 +1,12 @@
+pub mod Leading
+pub mod Nodes
+pub mod Laid
+pub mod Flows
+pub mod Straight
+pub mod Choices
+pub mod Operators
+pub mod Pointers
+pub mod Values
+pub mod Temporaries
+pub mod Blocks
+pub mod Instructions

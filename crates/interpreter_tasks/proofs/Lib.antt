@@ -1,0 +1,5 @@
+pub mod Flow
+mod Arguments
+mod Expressions
+mod Calls
+mod Initializers

@@ -1,0 +1,4 @@
+//! Laws of the definitions, each as the contract of a function that does nothing.
+
+/// .
+pub fn nothing() {}

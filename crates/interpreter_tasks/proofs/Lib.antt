@@ -3,3 +3,6 @@ mod Arguments
 mod Expressions
 mod Calls
 mod Initializers
+mod Blocks
+mod Statements
+mod Loops

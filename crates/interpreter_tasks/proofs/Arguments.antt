@@ -10,7 +10,7 @@ use Rattle.source_meaning.specs.Structures.{take_value}
 use Rattle.source_meaning.specs.Expressions.{argument, evaluate, values}
 use Rattle.interpreter_tasks.specs.Registers.{Course, Registers, env_at, pushed}
 use Rattle.interpreter_tasks.specs.Actions.{Take, act, arguments}
-use Rattle.interpreter_tasks.specs.Tasks.{Task, Do, Evaluate, Arguments, all_pushed, perform, rest}
+use Rattle.interpreter_tasks.specs.Tasks.{Task, Do, Arguments, all_pushed, perform, rest}
 use Rattle.interpreter_tasks.specs.Parts.{argument_tasks, count_of}
 use Rattle.interpreter_tasks.proofs.Flow.{on_on, same_on, on_same, evaluated, last_one}
 
@@ -53,6 +53,7 @@ each_on env (expressions e es) s f g h =
   where
     first : Outcome Rvalue
     first = argument (kind_of e) (line_of e) (evaluate env e) s
+
     each : Rvalue → Run (List Rvalue)
     each v s = on (each_value (values env es) s) (λ vs. done (v ∷ vs))
 

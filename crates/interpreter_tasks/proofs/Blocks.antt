@@ -1,22 +1,22 @@
 -- Statements mean their parts: blocks, conditions, and what follows them.
-use Rattle.std.proofs.Common.{◌≡◌, ℕ, Bool, true, false, not, List, [], ◌∷◌, ◌++◌, refl, sym, ap, ◌∙◌, Option}
+use Rattle.std.proofs.Common.{◌≡◌, ℕ, Bool, true, false, not, List, [], ◌∷◌, ◌++◌, sym, ap, ◌∙◌, Option}
 use Rattle.std.proofs.Common.{Some, None}
 use Rattle.c_tree.specs.declared.program.Variable.{Variable}
 use Rattle.c_tree.specs.Tree.{Expression}
 use Rattle.c_tree.specs.Statements.{First, nothing, first_expression, first_declaration}
 use Rattle.c_tree.specs.Blocks.{all_of, block_objects}
-use Rattle.source_meaning.specs.State.{State, Rvalue, Run, on, ◌>>=◌, ◌>>◌, done, choose, change, skip, Env}
+use Rattle.source_meaning.specs.State.{State, Rvalue, Run, on, ◌>>=◌, done, choose, skip}
 use Rattle.source_meaning.specs.Actions.{integer, is_zero}
 use Rattle.source_meaning.specs.Structures.{rvalue}
 use Rattle.source_meaning.specs.Expressions.{evaluate}
 use Rattle.source_meaning.specs.Initializers.{initialize_all}
 use Rattle.source_meaning.specs.Blocks.{Block, enter_block, has_objects, leave_block}
 use Rattle.source_meaning.specs.Statements.{Completion, holds, perform as find, perform_first}
-use Rattle.interpreter_tasks.specs.Registers.{Course, Registers, env_at, pushed, completed, completing}
-use Rattle.interpreter_tasks.specs.Actions.{Drop, Enter, Leave, act}
-use Rattle.interpreter_tasks.specs.Tasks.{Task, Do, Evaluate, Initialize, perform, rest}
+use Rattle.interpreter_tasks.specs.Registers.{Course, Registers, env_at, pushed}
+use Rattle.interpreter_tasks.specs.Actions.{Drop, Leave, act}
+use Rattle.interpreter_tasks.specs.Tasks.{Task, Do, Evaluate, perform, rest}
 use Rattle.interpreter_tasks.specs.Parts.{condition_task, expression_tasks, first_tasks, in_block_if, in_block_tasks}
-use Rattle.interpreter_tasks.proofs.Flow.{on_on, same_on, on_same, rest_append, last_one, evaluated}
+use Rattle.interpreter_tasks.proofs.Flow.{on_on, same_on, rest_append, last_one, evaluated}
 
 -- A run in a block. Its completion is put into the registers q, and tasks on the registers r come to the same.
 module _ (c : Course) (r q : Registers) (numbers : List ℕ) (line : ℕ) (ts : List Task) (run : Run Completion)

@@ -8,9 +8,9 @@ use Rattle.source_meaning.specs.Actions.{begin_turn}
 use Rattle.source_meaning.specs.Statements.{Completion, Normal, each_of, in_order}
 use Rattle.source_meaning.specs.Calls.{Caller, back_to, caller, calls, enter_found, env_of, function_at, header_of}
 use Rattle.source_meaning.specs.Calls.{result_of, returned_by, set_up}
-use Rattle.interpreter_tasks.specs.Registers.{Course, Activation, Registers, completed}
+use Rattle.interpreter_tasks.specs.Registers.{Course, Registers, completed}
 use Rattle.interpreter_tasks.specs.Actions.{LeaveCall, act}
-use Rattle.interpreter_tasks.specs.Tasks.{Task, Do, InOrder, perform, rest}
+use Rattle.interpreter_tasks.specs.Tasks.{Do, InOrder, perform, rest}
 use Rattle.interpreter_tasks.specs.Parts.{after_one}
 use Rattle.interpreter_tasks.specs.Steps.{go_on, call_step}
 use Rattle.interpreter_tasks.proofs.Flow.{on_on, same_on, on_done, worked}

@@ -1,5 +1,5 @@
 -- Each expression and each lvalue means its parts.
-use Rattle.std.proofs.Common.{◌≡◌, ℕ, ◌+◌, Bool, true, false, List, [], ◌∷◌, refl, sym, ap, ◌∙◌, arith, drop, length}
+use Rattle.std.proofs.Common.{◌≡◌, ℕ, List, [], ◌∷◌, refl, sym, ap, ◌∙◌, arith, drop, length}
 use Rattle.c_tree.specs.declared.expression.Kind.{Kind}
 use Rattle.c_tree.specs.Tree.{Expression, expression, Expressions, Lvalue, lvalue, Node}
 use Rattle.c_tree.specs.Tree.{constant, function, plain, read, decay, address, parenthesized, deref_function}
@@ -21,7 +21,7 @@ use Rattle.interpreter_tasks.specs.Tasks.{Task, Do, Evaluate, Locate, Arguments,
 use Rattle.interpreter_tasks.specs.Tasks.{all_pushed, truth_of, perform, rest}
 use Rattle.interpreter_tasks.specs.Parts.{Parts, after_one, after_two, count_of, node_parts, expression_parts}
 use Rattle.interpreter_tasks.specs.Parts.{lvalue_node_parts, lvalue_parts}
-use Rattle.interpreter_tasks.proofs.Flow.{on_on, same_on, on_done, on_same, worked, no_work, last_one, evaluated, located}
+use Rattle.interpreter_tasks.proofs.Flow.{on_on, worked, no_work, last_one, evaluated, located}
 use Rattle.interpreter_tasks.proofs.Arguments.{argued, arguments_found, below_found}
 
 module _ (c : Course) (r : Registers) where
@@ -66,7 +66,7 @@ module _ (c : Course) (r : Registers) where
         on_on (place (env_at c r) p s) _ push ∙ located c r (after_one (Evaluate b) t) s p _ both_acted
 
   -- the right operand of `&&` and `||`
-  truth_comes : (b : Expression) (s : State)
+  pub truth_comes : (b : Expression) (s : State)
       → on (truth_of (env_at c r) b s) push ≡ rest c (after_one (Evaluate b) Truth) r s
   unfolding act
   truth_comes b s = one_value s Truth _ (λ v s. refl) b
@@ -78,7 +78,6 @@ module _ (c : Course) (r : Registers) where
   then_task a t k s h =
       on_on (evaluate (env_at c r) a s) k push
       ∙ evaluated c r (t ∷ []) s a _ (λ v s. h v s ∙ last_one c t (pushed v r) s)
-
 
   -- a value is let go, and a number is found
   let_go : (v : Rvalue) (ts : List Task) (s : State) → rest c ts r s ≡ rest c (Do Drop ∷ ts) (pushed v r) s
@@ -160,7 +159,7 @@ module _ (c : Course) (r : Registers) (kind : Kind) (line : ℕ) (s : State) whe
   node_comes (compound u p a) = place_and_value c r (worked 1 s) _ _ (λ x y s. refl) a p
   node_comes (change_plain u x a) = one_value c r (worked (nodes_of x) s) _ _ (λ v s. refl) a
   node_comes (step u fixity p) = place_and_number c r p 1 _ _ (worked 1 s) (λ v s. refl)
-  node_comes (step_plain u fixity x) = 
+  node_comes (step_plain u fixity x) =
       last_one c (Do (ChangePlain u (scalar_of kind) x.variable line fixity)) (pushed (rvalue (integer 1)) r)
       (worked (nodes_of x) s)
       ∙ given c r 1 _ (worked (nodes_of x) s)

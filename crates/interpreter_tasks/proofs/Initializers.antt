@@ -2,20 +2,20 @@
 use Rattle.std.proofs.Common.{◌≡◌, ℕ, ◌+◌, false, List, [], ◌∷◌, ◌++◌, length, refl, sym, ◌∙◌, Option, Some, None}
 use Rattle.obj_memory.specs.Judgement.{narrowed}
 use Rattle.c_tree.specs.Kinds.{size_of_kind}
-use Rattle.c_tree.specs.Tree.{Expression, kind_of, line_of}
+use Rattle.c_tree.specs.Tree.{kind_of, line_of}
 use Rattle.c_tree.specs.Statements.{Part, Content, value_content, literal_content, Initializer, of_plain, of_object}
 use Rattle.c_tree.specs.Statements.{DeclaredVariable}
-use Rattle.source_meaning.specs.State.{State, Rvalue, Run, on, ◌>>=◌, done, skip, read_state, Env}
+use Rattle.source_meaning.specs.State.{State, Rvalue, Run, on, done, skip, Env}
 use Rattle.source_meaning.specs.Actions.{home_pointer, set_plain}
-use Rattle.source_meaning.specs.Structures.{rvalue, write_rvalue}
+use Rattle.source_meaning.specs.Structures.{write_rvalue}
 use Rattle.source_meaning.specs.Expressions.{evaluate}
 use Rattle.source_meaning.specs.Initializers.{initialize, initialize_all, store_bytes, store_content, store_parts}
 use Rattle.source_meaning.specs.Initializers.{zero_variable}
-use Rattle.interpreter_tasks.specs.Registers.{Course, Registers, env_at, top, popped, pushed}
-use Rattle.interpreter_tasks.specs.Actions.{Drop, SetPlain, GiveHome, StorePart, Zero, act}
-use Rattle.interpreter_tasks.specs.Tasks.{Task, Do, Evaluate, Initialize, StoreParts, perform, rest}
+use Rattle.interpreter_tasks.specs.Registers.{Course, Registers, env_at, top, popped}
+use Rattle.interpreter_tasks.specs.Actions.{Drop, SetPlain, GiveHome, StorePart, act}
+use Rattle.interpreter_tasks.specs.Tasks.{Do, Initialize, StoreParts, perform, rest}
 use Rattle.interpreter_tasks.specs.Parts.{content_tasks, declaration_tasks, initializer_tasks, store_tasks}
-use Rattle.interpreter_tasks.proofs.Flow.{on_on, same_on, on_same, worked, last_one, evaluated}
+use Rattle.interpreter_tasks.proofs.Flow.{on_on, same_on, worked, last_one, evaluated}
 
 module _ (c : Course) (r : Registers) where
   abbrev env : Env
@@ -82,6 +82,7 @@ module _ (c : Course) (r : Registers) where
         writing : Rvalue → Run Rvalue
         writing v = write_rvalue (kind_of e) false (narrowed offset (size_of_kind (kind_of e)) (top r).value)
             (line_of e) v
+
         written : Rvalue → Run (Unit {0})
         written v s = on (writing v s) (λ _. skip)
     content_comes offset (literal_content bytes) s =

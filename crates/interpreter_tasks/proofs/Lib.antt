@@ -6,3 +6,4 @@ mod Initializers
 mod Blocks
 mod Statements
 mod Loops
+mod Steps

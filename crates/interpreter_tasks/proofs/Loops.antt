@@ -1,15 +1,15 @@
 -- What is left of statements, loops and switches means its next step.
-use Rattle.std.proofs.Common.{◌≡◌, ℕ, zero, suc, ◌+◌, Bool, true, false, not, List, [], ◌∷◌, ◌++◌, length, map, refl}
+use Rattle.std.proofs.Common.{◌≡◌, ℕ, zero, suc, Bool, true, false, List, [], ◌∷◌, ◌++◌, length, map, refl}
 use Rattle.std.proofs.Common.{sym, ap, ◌∙◌, Option, Some, None}
 use Rattle.std.specs.Prelude.{option_map}
 use Rattle.c_tree.specs.declared.statement.CaseLabel.{CaseLabel}
 use Rattle.c_tree.specs.Tree.{Expression}
 use Rattle.c_tree.specs.Statements.{Statement, Statements, no_statements, statements, SwitchItems, no_items, items}
-use Rattle.source_meaning.specs.State.{State, Rvalue, Run, on, choose, done, Env}
+use Rattle.source_meaning.specs.State.{State, Run, on, choose, done, Env}
 use Rattle.source_meaning.specs.Actions.{begin_turn}
 use Rattle.source_meaning.specs.Statements.{Completion, Normal, Broken, Continued, Returned, after_body, after_switch}
 use Rattle.source_meaning.specs.Statements.{compared, each_of, execute, in_order, is_case_of, is_default, items_at}
-use Rattle.source_meaning.specs.Statements.{items_from, items_of, LabeledRun, labels_from, labels_of, next_after}
+use Rattle.source_meaning.specs.Statements.{items_from, items_of, labels_from, labels_of, next_after}
 use Rattle.source_meaning.specs.Statements.{or_default, run_items, run_labeled}
 use Rattle.interpreter_tasks.specs.Registers.{Course, Registers, env_at, top, popped, completed}
 use Rattle.interpreter_tasks.specs.Actions.{CompleteSwitch, act}

@@ -1,7 +1,7 @@
 -- Each statement means its parts.
-use Rattle.std.proofs.Common.{◌≡◌, suc, List, [], ◌∷◌, refl, sym, ap, ◌∙◌, Some, None}
-use Rattle.c_tree.specs.Tree.{Expression, kind_of, line_of}
-use Rattle.c_tree.specs.Statements.{First, Statement, expression_statement, empty, declaration, block, if_then, if_else}
+use Rattle.std.proofs.Common.{◌≡◌, suc, [], ◌∷◌, refl, sym, ap, ◌∙◌, Some, None}
+use Rattle.c_tree.specs.Tree.{kind_of, line_of}
+use Rattle.c_tree.specs.Statements.{Statement, expression_statement, empty, declaration, block, if_then, if_else}
 use Rattle.c_tree.specs.Statements.{while_do, do_while, for, switch, break, continue, return}
 use Rattle.c_tree.specs.Blocks.{block_variables, first_variables, switch_variables}
 use Rattle.source_meaning.specs.State.{State, Rvalue, Run, on, done}
@@ -11,7 +11,7 @@ use Rattle.source_meaning.specs.Initializers.{initialize_all}
 use Rattle.source_meaning.specs.Statements.{Completion, Normal, Returned, each_of, in_order, items_of, run_switch}
 use Rattle.interpreter_tasks.specs.Registers.{Course, Registers, env_at, pushed, completed}
 use Rattle.interpreter_tasks.specs.Actions.{Count, Drop, Return, Take, act}
-use Rattle.interpreter_tasks.specs.Tasks.{Task, Do, Evaluate, Initialize, Execute, InOrder, Branch, Turn, TurnBefore}
+use Rattle.interpreter_tasks.specs.Tasks.{Do, Initialize, Execute, InOrder, Branch, Turn, TurnBefore}
 use Rattle.interpreter_tasks.specs.Tasks.{Select, Loop, looping, perform, rest}
 use Rattle.interpreter_tasks.specs.Parts.{in_block_tasks, statement_parts}
 use Rattle.interpreter_tasks.proofs.Flow.{on_on, worked, no_work, last_one, evaluated}

@@ -27,7 +27,7 @@ use Rattle.source_meaning.specs.Blocks.{Block, enter_block, leave_block}
 use Rattle.source_meaning.specs.Statements.{Completion, Returned, after_switch}
 use Rattle.source_meaning.specs.Calls.{back_to, result_of, returned_by}
 use Rattle.interpreter_tasks.specs.Registers.{Course, Waiting, Registers, top, second, below_top, below_second, popped}
-use Rattle.interpreter_tasks.specs.Registers.{pushed, completed, pushing}
+use Rattle.interpreter_tasks.specs.Registers.{completed, pushing}
 
 pub data Action : Type 0 where
   -- some work

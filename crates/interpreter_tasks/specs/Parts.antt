@@ -1,9 +1,8 @@
 -- The work that a part of the source is itself, and the tasks that it gives way to.
-use Rattle.std.specs.Prelude.{ℕ, suc, ◌+◌, Bool, true, false, if◌then◌else◌, List, [], ◌∷◌, ◌++◌, Option, Some, None}
+use Rattle.std.specs.Prelude.{ℕ, suc, Bool, true, false, List, [], ◌∷◌, ◌++◌, Option, Some, None}
 use Rattle.c_tree.specs.declared.expression.Fixity.TheVariants.{Prefix}
 use Rattle.c_tree.specs.declared.expression.Kind.{Kind}
 use Rattle.c_tree.specs.declared.statement.CaseLabel.{CaseLabel}
-use Rattle.c_tree.specs.declared.program.Variable.{Variable}
 use Rattle.c_tree.specs.Tree.{Expression, expression, Expressions, no_expressions, expressions, Lvalue, lvalue, Node}
 use Rattle.c_tree.specs.Tree.{constant, function, plain, read, decay, address, parenthesized, deref_function}
 use Rattle.c_tree.specs.Tree.{address_function, cast, convert, unary, binary, offset_by, difference, logical_and}
@@ -14,8 +13,8 @@ use Rattle.c_tree.specs.Tree.{lvalue_kind, lvalue_line}
 use Rattle.c_tree.specs.Statements.{Part, Content, value_content, literal_content, Initializer, of_plain, of_object}
 use Rattle.c_tree.specs.Statements.{DeclaredVariable, First, nothing, first_expression, first_declaration, Statement}
 use Rattle.c_tree.specs.Statements.{expression_statement, empty, declaration, block, if_then, if_else, while_do}
-use Rattle.c_tree.specs.Statements.{do_while, for, switch, break, continue, return, Statements, no_statements}
-use Rattle.c_tree.specs.Statements.{statements, SwitchItems, no_items, items}
+use Rattle.c_tree.specs.Statements.{do_while, for, switch, break, continue, return}
+use Rattle.c_tree.specs.Statements.{SwitchItems, no_items, items}
 use Rattle.c_tree.specs.Blocks.{all_of, block_objects, block_variables, switch_variables, first_variables}
 use Rattle.source_meaning.specs.Actions.{integer, integer_type, scalar_of}
 use Rattle.source_meaning.specs.Expressions.{function_pointer, is_judged, nodes_of}
@@ -23,7 +22,7 @@ use Rattle.source_meaning.specs.Blocks.{has_objects}
 use Rattle.source_meaning.specs.Statements.{Broken, Continued, is_case_of, is_default, labels_from}
 use Rattle.interpreter_tasks.specs.Registers.{Activation}
 use Rattle.interpreter_tasks.specs.Actions.{Action, Count, Give, GivePlain, GiveHome, GiveStatic, Read, AsPointer}
-use Rattle.interpreter_tasks.specs.Actions.{Convert, Apply, Truth, Narrow, Member, Operate, Offset, Difference, Drop}
+use Rattle.interpreter_tasks.specs.Actions.{Convert, Apply, Narrow, Member, Operate, Offset, Difference, Drop}
 use Rattle.interpreter_tasks.specs.Actions.{Write, SetPlain, Change, ChangePlain, Take, CallRoutine, Print, Complete}
 use Rattle.interpreter_tasks.specs.Actions.{Return, CompleteSwitch, Enter, Leave, Zero, StorePart, StoreLiteral}
 use Rattle.interpreter_tasks.specs.Tasks.{Task, Do, Evaluate, Locate, Arguments, Choose, And, Or, Call, CallThrough}

@@ -1,5 +1,5 @@
 -- One step: what is done of a task, and the tasks that it gives way to.
-use Rattle.std.specs.Prelude.{ℕ, zero, suc, Bool, true, false, List, [], ◌∷◌, ◌++◌, drop, length, Option, Some, None}
+use Rattle.std.specs.Prelude.{ℕ, zero, suc, Bool, List, [], ◌∷◌, ◌++◌, drop, length, Option, Some, None}
 use Rattle.sb_base.specs.declared.ending.Ending.TheVariants.{BadCall}
 use Rattle.c_tree.specs.Programs.{Function}
 use Rattle.c_tree.specs.Tree.{Expression}
@@ -9,8 +9,8 @@ use Rattle.source_meaning.specs.Actions.{begin_turn, integer, is_zero}
 use Rattle.source_meaning.specs.Expressions.{callee}
 use Rattle.source_meaning.specs.Statements.{Completion, Normal, Broken, Continued, Returned, compared}
 use Rattle.source_meaning.specs.Calls.{caller, first_of, rest_of, function_at, header_of, set_up}
-use Rattle.interpreter_tasks.specs.Registers.{Course, Registers, top, below_top, popped, completed}
-use Rattle.interpreter_tasks.specs.Actions.{Give, Truth, CompleteSwitch, LeaveCall, act, arguments}
+use Rattle.interpreter_tasks.specs.Registers.{Course, Registers, top, popped, completed}
+use Rattle.interpreter_tasks.specs.Actions.{Give, Truth, LeaveCall, act, arguments}
 use Rattle.interpreter_tasks.specs.Tasks.{Task, Do, Evaluate, Locate, Arguments, Choose, And, Or, Call, CallThrough}
 use Rattle.interpreter_tasks.specs.Tasks.{Initialize, StoreParts, Execute, InOrder, Branch, Turn, Test, After}
 use Rattle.interpreter_tasks.specs.Tasks.{TurnBefore, AfterBefore, TestBefore, Select, Items, Loop, is_true, rest}

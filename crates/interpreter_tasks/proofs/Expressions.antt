@@ -15,8 +15,8 @@ use Rattle.source_meaning.specs.Printing.{print_formatted}
 use Rattle.source_meaning.specs.Calls.{first_of, rest_of}
 use Rattle.source_meaning.specs.Expressions.{callee, evaluate, function_pointer, nodes_of, place, values}
 use Rattle.interpreter_tasks.specs.Registers.{Course, Registers, env_at, pushed, pushing}
-use Rattle.interpreter_tasks.specs.Actions.{Action, AsPointer, CallRoutine, ChangePlain, Drop, Give, GiveHome, GivePlain}
-use Rattle.interpreter_tasks.specs.Actions.{GiveStatic, Member, Narrow, Offset, Print, Truth, act, arguments}
+use Rattle.interpreter_tasks.specs.Actions.{Action, AsPointer, CallRoutine, ChangePlain, Drop, Give, GiveHome}
+use Rattle.interpreter_tasks.specs.Actions.{GivePlain, GiveStatic, Member, Narrow, Offset, Print, Truth, act, arguments}
 use Rattle.interpreter_tasks.specs.Tasks.{Task, Do, Evaluate, Locate, Arguments, Choose, And, Or, Call, CallThrough}
 use Rattle.interpreter_tasks.specs.Tasks.{all_pushed, truth_of, perform, rest}
 use Rattle.interpreter_tasks.specs.Parts.{Parts, after_one, after_two, count_of, node_parts, expression_parts}

@@ -57,7 +57,8 @@ module _ (c : Course) (r : Registers) (ts : List Task) (s : State) where
       → ((v : Rvalue) (s : State) → f v s ≡ rest c ts (pushed v r) s)
       → on (evaluate (env_at c r) e s) f ≡ rest c (Evaluate e ∷ ts) r s
   unfolding rest perform
-  evaluated e f h = sym (on_same (evaluate (env_at c r) e s) (λ v. done (pushed v r)) (rest c ts) f (λ v s. sym (h v s)))
+  evaluated e f h =
+      sym (on_same (evaluate (env_at c r) e s) (λ v. done (pushed v r)) (rest c ts) f (λ v s. sym (h v s)))
 
   pub located : (p : Lvalue) (f : Rvalue → Run Registers)
       → ((v : Rvalue) (s : State) → f v s ≡ rest c ts (pushed v r) s)

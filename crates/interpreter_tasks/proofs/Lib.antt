@@ -7,3 +7,4 @@ mod Blocks
 mod Statements
 mod Loops
 mod Steps
+mod Later

@@ -13,10 +13,11 @@ use Rattle.source_meaning.specs.Statements.{items_from, items_of, labels_from, l
 use Rattle.source_meaning.specs.Statements.{or_default, run_items, run_labeled}
 use Rattle.interpreter_tasks.specs.Registers.{Course, Registers, env_at, top, popped, completed}
 use Rattle.interpreter_tasks.specs.Actions.{CompleteSwitch, act}
-use Rattle.interpreter_tasks.specs.Tasks.{Task, Do, Execute, InOrder, Branch, Turn, Test, After, TurnBefore, AfterBefore}
-use Rattle.interpreter_tasks.specs.Tasks.{TestBefore, Select, Items, Loop, is_true, looping, looping_if, looping_on}
-use Rattle.interpreter_tasks.specs.Tasks.{execute_any, looping_before_if, looping_before_on, perform, rest}
-use Rattle.interpreter_tasks.specs.Parts.{found_at, found_from, found_or_default, execute_tasks, labels_in, selected, selected_tasks}
+use Rattle.interpreter_tasks.specs.Tasks.{Task, Do, Execute, InOrder, Branch, Turn, Test, After, TurnBefore}
+use Rattle.interpreter_tasks.specs.Tasks.{AfterBefore, TestBefore, Select, Items, Loop, is_true, looping, looping_if}
+use Rattle.interpreter_tasks.specs.Tasks.{looping_on, execute_any, looping_before_if, looping_before_on, perform, rest}
+use Rattle.interpreter_tasks.specs.Parts.{found_at, found_from, found_or_default, execute_tasks, labels_in}
+use Rattle.interpreter_tasks.specs.Parts.{selected, selected_tasks}
 use Rattle.interpreter_tasks.specs.Steps.{go_on, statements_step, items_step, turn_step, test_step, after_step}
 use Rattle.interpreter_tasks.specs.Steps.{turn_before_step, after_before_step, step, to_tasks}
 use Rattle.interpreter_tasks.proofs.Flow.{on_on, same_on, worked, last_one, executed}
@@ -83,7 +84,8 @@ module _ (c : Course) (r : Registers) where
   unfolding rest perform
   items_come Normal no_items s = refl
   items_come Normal (items ls t is) s =
-      on_on (execute env t (worked (length ls) s)) (λ x. next_after x (in_order (map run_labeled (items_of env is)))) into
+      on_on (execute env t (worked (length ls) s)) (λ x. next_after x (in_order (map run_labeled (items_of env is))))
+      into
       ∙ executed c (completed Normal r) (Items is ∷ []) (worked (length ls) s) t _
       (λ x s. last_one c (Items is) (completed x r) s)
   items_come Broken is s = refl
@@ -112,7 +114,8 @@ module _ (c : Course) (r : Registers) where
   body_then : (q : Registers) (body : Statement) (k : Completion → Run Completion) (t : Task) (s : State)
       → ((x : Completion) (s : State) → on (k x s) (λ x. done (completed x q)) ≡ perform c t (completed x q) s)
       → on (on (begin_turn c.limit s) (λ _ s. on (execute (env_at c q) body s) k)) (λ x. done (completed x q))
-      ≡ on (on (begin_turn c.limit s) (λ _ s. done (record { tasks = Execute body ∷ t ∷ []; registers = q }) s)) (go_on c)
+      ≡ on (on (begin_turn c.limit s) (λ _ s. done (record { tasks = Execute body ∷ t ∷ []; registers = q }) s))
+      (go_on c)
   body_then q body k t s h =
       on_on (begin_turn c.limit s) _ (λ x. done (completed x q))
       ∙ same_on (begin_turn c.limit s) _ _ (λ _ s.
@@ -166,7 +169,8 @@ module _ (c : Course) (r : Registers) where
   unfolding perform
   turn_before_comes zero e body s = refl
   turn_before_comes (suc n) e body s =
-      body_then r body (λ x. after_body x (looping_before_on env c.limit n e body)) (AfterBefore n e body) s (λ x s. refl)
+      body_then r body (λ x. after_body x (looping_before_on env c.limit n e body)) (AfterBefore n e body) s
+      (λ x s. refl)
 
   -- one of two statements
 

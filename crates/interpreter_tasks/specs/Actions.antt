@@ -71,8 +71,8 @@ pub data Action : Type 0 where
   -- the block that declares some variables is entered, and the innermost one is left
   Enter : (numbers : List ℕ) → (line : ℕ) → Action
   Leave : Action
-  -- the object of a variable becomes zero; the value on top is stored in the object below it, and the bytes of a literal
-  -- in the object on top
+  -- the object of a variable becomes zero; the value on top is stored in the object below it, and the bytes of a
+  -- literal in the object on top
   Zero : (variable : ℕ) → Action
   StorePart : Kind → (offset line : ℕ) → Action
   StoreLiteral : (offset : ℕ) → List ℕ → Action

@@ -3,6 +3,7 @@
 ghost use Rattle.std.specs.Prelude.{◌≡◌, ℕ, ◌+◌, List, [], ◌∷◌, ◌++◌};
 ghost use Rattle.sb_base.specs.Budgets.{BudgetSizes};
 ghost use Rattle.c_tree.specs.Programs.{Function, Program};
+ghost use Rattle.source_meaning.specs.Acting.{Later, state_of};
 ghost use Rattle.source_meaning.specs.State.{State, on, done};
 ghost use Rattle.source_meaning.specs.Calls.{first_of, function_at};
 ghost use Rattle.source_meaning.specs.Meaning.{line_of, outcome, setting_of, start};
@@ -23,4 +24,10 @@ pub fn runs_begin_with_main()
         → outcome p budgets input turns
         ≡ on (rest (course_of p budgets turns) (Call p.main 0 (line_of (function_at p.functions p.main)) ∷ [])
         (at_start f (turns + 1)) (start p (setting_of p budgets) input)) (λ r. done (first_of r.values)) }
+{}
+
+/// What is left to do leads to later states: what a run has shown stays, and no work, turn, key or byte of the input is
+/// taken back.
+pub fn tasks_lead_to_later_states()
+    ensures { (c : Course) (ts : List Task) (r : Registers) (s : State) → Later s (state_of (rest c ts r s)) }
 {}

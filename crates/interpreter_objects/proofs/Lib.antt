@@ -1,0 +1,3 @@
+mod Insides
+mod LittleBytes
+mod Placed

@@ -1,0 +1,8 @@
+//! The objects of a run as an interpreter keeps them. No code runs over them yet.
+#![tactic(auto)]
+
+pub mod object;
+pub mod store;
+
+pub use crate::object::Object;
+pub use crate::store::Store;

@@ -1,5 +1,5 @@
 -- What a test of bytes tells.
-use Rattle.std.proofs.Common.{◌≡◌, ℕ, ◌+◌, ◌≤◌, Bool, true, false, ◌&&◌, length, nat_le, leb-true, arith}
+use Rattle.std.proofs.Common.{◌≡◌, ℕ, ◌+◌, ◌/◌, ◌≤◌, Bool, true, false, ◌&&◌, length, leb-true, refl, arith}
 use Rattle.obj_memory.specs.Objects.{ObjectState}
 use Rattle.obj_memory.specs.declared.int_type.IntType.{IntType}
 use Rattle.obj_memory.specs.declared.int_type.IntType.TheVariants.{Char}
@@ -7,7 +7,7 @@ use Rattle.obj_memory.specs.declared.value.Scalar.{Scalar}
 use Rattle.obj_memory.specs.declared.value.Scalar.TheVariants.{Integer, Pointer}
 use Rattle.obj_memory.specs.Access.{scalar_size}
 use Rattle.obj_memory.specs.Integers.{size_of}
-use Rattle.interpreter_objects.specs.Kept.{has_bytes}
+use Rattle.interpreter_objects.specs.Kept.{has_bytes, has_range}
 
 by_test : (b c : Bool) → (b && c) ≡ true → c ≡ true
 by_test true c h = h
@@ -16,6 +16,20 @@ by_test false c h = absurd (let e : false ≡ true = h in cc)
 pub bytes_inside : (offset size : ℕ) (o : ObjectState) → has_bytes offset size o ≡ true → offset + size ≤ length o.bytes
 unfolding has_bytes
 bytes_inside offset size o h = leb-true (offset + size) (length o.bytes) (by_test o.is_live _ h)
+
+both : (b c : Bool) → (b && c) ≡ true → b ≡ true
+both true c h = refl
+both false c h = h
+
+pub range_inside : (offset size : ℕ) (o : ObjectState) → has_range offset size o ≡ true
+    → offset + size ≤ length o.bytes
+unfolding has_range
+range_inside offset size o h = bytes_inside offset size o (both (has_bytes offset size o) _ h)
+
+pub range_tags : (offset size : ℕ) (o : ObjectState) → has_range offset size o ≡ true
+    → (offset + size) / 8 ≤ length o.tags
+unfolding has_range
+range_tags offset size o h = leb-true ((offset + size) / 8) (length o.tags) (by_test (has_bytes offset size o) _ h)
 
 -- a scalar has a byte at least
 of_type : (t : IntType) → 1 ≤ size_of t

@@ -1,3 +1,4 @@
 mod Insides
 mod LittleBytes
 mod Placed
+mod Tags

@@ -1,6 +1,6 @@
 -- What is done to one object, among all of them.
-use Rattle.std.proofs.Common.{◌≡◌, ℕ, zero, suc, ◌+◌, ◌/◌, ◌<◌, ◌≤◌, Bool, true, false, if◌then◌else◌, List, [], ◌∷◌}
-use Rattle.std.proofs.Common.{length, set, refl, sym, ap, ◌∙◌, Option, Some, None, ⊎_elim, arith}
+use Rattle.std.proofs.Common.{◌≡◌, ℕ, zero, suc, ◌/◌, ◌≤◌, Bool, true, false, if◌then◌else◌, List, [], ◌∷◌}
+use Rattle.std.proofs.Common.{length, set, refl, sym, ap, ◌∙◌, Some, None, ⊎_elim}
 use Rattle.std.proofs.lemmas.Bool.{cases_lt}
 use Rattle.std.proofs.lemmas.List.{get_or_past, set-get_or, set_past}
 use Rattle.byteorder.specs.Endian.{little_bytes}
@@ -12,7 +12,7 @@ use Rattle.obj_memory.specs.declared.value.Value.{Value}
 use Rattle.obj_memory.specs.Access.{is_aligned, read_value, scalar_size, write_bytes, write_tag, write_value}
 use Rattle.obj_memory.specs.Objects.{ObjectState, Objects, no_object, object_at}
 use Rattle.obj_memory.proofs.Reading.{object_set}
-use Rattle.interpreter_objects.specs.Kept.{found, found_in, has_bytes, is_there, read_in, with_bytes, with_tag}
+use Rattle.interpreter_objects.specs.Kept.{found, found_in, has_bytes, is_there, read_in, with_bytes}
 use Rattle.interpreter_objects.specs.Kept.{with_written, written_in}
 
 set_again : {A : Type 0} (xs : List A) (n : ℕ) (x y : A) → set (set xs n x) n y ≡ set xs n y

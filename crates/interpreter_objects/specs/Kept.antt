@@ -1,6 +1,6 @@
 -- What an interpreter keeps of objects: those that are live, and of a dead one neither bytes nor tags.
-use Rattle.std.specs.Prelude.{ℕ, ◌+◌, ◌/◌, Bool, false, ◌&&◌, nat_le, if◌then◌else◌, List, [], ◌∷◌, map, set, length, Option}
-use Rattle.std.specs.Prelude.{Some, None}
+use Rattle.std.specs.Prelude.{ℕ, ◌+◌, ◌-◌, ◌/◌, ◌%◌, Bool, false, ◌&&◌, nat_le, if◌then◌else◌, List, [], ◌∷◌, map, set, length, take, drop}
+use Rattle.std.specs.Prelude.{Option, Some, None}
 use Rattle.byteorder.specs.Endian.{little_bytes}
 use Rattle.obj_memory.specs.declared.value.Place.{Place}
 use Rattle.obj_memory.specs.declared.value.Scalar.{Scalar}
@@ -29,7 +29,11 @@ with_buried n objects = set objects n (buried (object_at objects n))
 unfoldable pub has_bytes : (offset size : ℕ) → ObjectState → Bool
 has_bytes offset size o = o.is_live && nat_le (offset + size) (length o.bytes)
 
--- the same of a place
+-- the same with the tags of the whole words among them
+unfoldable pub has_range : (offset size : ℕ) → ObjectState → Bool
+has_range offset size o = has_bytes offset size o && nat_le ((offset + size) / 8) (length o.tags)
+
+-- the same bytes of a place
 unfoldable pub is_there : (size : ℕ) → Place → Objects → Bool
 is_there size p objects = has_bytes p.offset size (object_at objects p.object)
 
@@ -49,6 +53,13 @@ with_tag offset t o = if is_aligned offset then record o { tags = set o.tags (of
 unfoldable pub written_in : Scalar → Value → (offset : ℕ) → ObjectState → ObjectState
 written_in (Integer t) v offset o = with_bytes offset (little_bytes (size_of t) v.word) o
 written_in Pointer v offset o = with_tag offset v.tag (with_bytes offset (little_bytes 8 v.word) o)
+
+-- the words of an object from that of an offset on, up to the end of a range of bytes
+unfoldable pub part_of : (offset size : ℕ) → ObjectState → ObjectState
+part_of offset size o = record o {
+  bytes = take (offset % 8 + size) (drop (offset - offset % 8) o.bytes);
+  tags = take ((offset % 8 + size) / 8) (drop (offset / 8) o.tags);
+}
 
 -- what is read and written among all objects where its bytes are there
 unfoldable pub found : Scalar → Place → Objects → Option Value

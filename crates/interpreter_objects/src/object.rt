@@ -1,10 +1,12 @@
 //! One object.
 
-ghost use Rattle.std.specs.Prelude.{◌≡◌, ℕ, ◌+◌, ◌/◌, ◌≤◌, if◌then◌else◌, length, take, drop, get_or, IfOk};
+ghost use Rattle.std.specs.Prelude.{◌≡◌, ℕ, ◌+◌, ◌/◌, ◌%◌, ◌^◌, ◌<◌, ◌≤◌, ◌&&◌, if◌then◌else◌, length, take, drop, get_or, IfOk};
 ghost use Rattle.byteorder.specs.Endian.{little_bytes, little_number};
-ghost use Rattle.obj_memory.specs.Access.{is_aligned, overwrite, scalar_size};
+ghost use Rattle.obj_memory.specs.Access.{is_aligned, moved_tags, overwrite, scalar_size};
 ghost use Rattle.obj_memory.specs.declared.value.Tag.TheVariants.{Untagged};
-ghost use Rattle.interpreter_objects.specs.Kept.{buried, found_in, has_bytes, read_in, with_tag, written_in};
+ghost use Rattle.source_meaning.specs.Structures.{moved_into};
+ghost use Rattle.interpreter_objects.specs.Kept.{buried, found_in, has_bytes, has_range, part_of, read_in};
+ghost use Rattle.interpreter_objects.specs.Kept.{with_tag, written_in};
 
 use byteorder::{ByteOrder, LittleEndian};
 use obj_memory::{Scalar, Storage, Tag, Value};
@@ -37,13 +39,13 @@ impl Model for Object {
     } };
 }
 
-// Bytes written from an offset on.
-fn put_bytes(bytes: &mut Vec<u8>, offset: u64, new: &[u8])
-    requires { offset + length new.now ≤ length bytes.old.items }
-    ensures { bytes.new.items ≡ overwrite offset new.now bytes.old.items }
+// Other items from a place on.
+fn put_at<T: Copy>(items: &mut Vec<T>, place: u64, new: &[T])
+    requires { place + length new.now ≤ length items.old.items }
+    ensures { items.new.items ≡ overwrite place new.now items.old.items }
 {
-    let start = offset as usize;
-    bytes[start..start + new.len()].copy_from_slice(new);
+    let start = place as usize;
+    items[start..start + new.len()].copy_from_slice(new);
 }
 
 // The lowest bytes of a word, written from an offset on.
@@ -53,7 +55,7 @@ fn put_word(bytes: &mut Vec<u8>, offset: u64, size: u64, word: u64)
     requires inside { offset + size ≤ length bytes.old.items }
     ensures { bytes.new.items ≡ overwrite offset (little_bytes size word) bytes.old.items }
 {
-    put_bytes(bytes, offset, &word.to_le_bytes()[..size as usize]);
+    put_at(bytes, offset, &word.to_le_bytes()[..size as usize]);
 }
 
 // The number that so many bytes from an offset on are.
@@ -66,6 +68,36 @@ fn number(bytes: &[u8], offset: u64, size: u64) -> u64
     let start = offset as usize;
     let count = size as usize;
     LittleEndian::read_uint(&bytes[start..start + count], count)
+}
+
+// The number of whole words that begin before an offset, or at it.
+fn words_to(offset: u64) -> u64
+    ensures { result ≡ (offset + 7) / 8 }
+{
+    if offset % 8 == 0 {
+        offset / 8
+    } else {
+        offset / 8 + 1
+    }
+}
+
+// The tags of the whole words of a range become those of other words, as far behind a multiple of 8.
+#[tactic(auto, using(crate::proofs::Tags::words_stay))]
+fn move_tags(tags: &mut Vec<Tag>, size: u64, start: u64, source: u64, from: &[Tag])
+    requires phase { start % 8 ≡ source % 8 }
+    requires inside { (start + size) / 8 ≤ length tags.old.items }
+    requires there { (source + size) / 8 ≤ length from.now }
+    requires fits { start + size < 2 ^ 63 }
+    requires other_fits { source + size < 2 ^ 63 }
+    ensures { tags.new.items ≡ moved_tags size start source from.now 0 tags.old.items }
+{
+    let first = words_to(start);
+    let last = (start + size) / 8;
+    if first < last {
+        let other = words_to(source) as usize;
+        let count = (last - first) as usize;
+        put_at(tags, first, &from[other..other + count]);
+    }
 }
 
 impl Object {
@@ -161,11 +193,7 @@ impl Object {
     }
 
     // The scalar at an offset.
-    #[tactic(
-        auto,
-        using(crate::proofs::Insides::some_bytes),
-        unfolding(crate::specs::Kept::read_in, obj_memory::specs::Access::read_value)
-    )]
+    #[tactic(auto, using(crate::proofs::Insides::some_bytes), unfolding(crate::specs::Kept::read_in, obj_memory::specs::Access::read_value))]
     fn scalar_at(&self, scalar: Scalar, offset: u64) -> Value
         requires { offset + scalar_size scalar ≤ length self.now.bytes }
         ensures { result ≡ read_in scalar offset self.now }
@@ -228,5 +256,70 @@ impl Object {
         }
         self.put_scalar(scalar, offset, value);
         true
+    }
+
+    // Whether it is live and has so many bytes from an offset on, with the tags of the whole words among them.
+    #[tactic(auto, using(crate::proofs::Insides::bytes_inside), unfolding(crate::specs::Kept::has_range))]
+    fn has_range(&self, offset: u64, size: u64) -> bool
+        ensures { result ≡ has_range offset size self.now }
+    {
+        self.has_bytes(offset, size) && (offset + size) / 8 <= self.tags.len() as u64
+    }
+
+    // Some bytes of another object, with the tags of their whole words, become those from an offset on.
+    #[tactic(auto, using(crate::proofs::Insides::bytes_inside), unfolding(source_meaning::specs::Structures::moved_into))]
+    fn put_range(&mut self, size: u64, start: u64, source: u64, from: &Object)
+        requires inside { start + size ≤ length self.old.bytes }
+        requires tags { (start + size) / 8 ≤ length self.old.tags }
+        requires there { source + size ≤ length from.now.bytes }
+        requires other_tags { (source + size) / 8 ≤ length from.now.tags }
+        ensures { self.new ≡ moved_into size start source from.now self.old }
+    {
+        let begin = source as usize;
+        put_at(
+            &mut self.bytes,
+            start,
+            &from.bytes[begin..][..size as usize],
+        );
+        if start % 8 == source % 8 {
+            move_tags(&mut self.tags, size, start, source, &from.tags);
+        }
+    }
+
+    /// Some bytes of another object, from an offset `source` there, become those from an offset on, with the tags of
+    /// their whole words where both offsets are equal modulo 8; nothing does where one of them has no such bytes.
+    #[tactic(auto, using(crate::proofs::Insides::range_inside, crate::proofs::Insides::range_tags))]
+    pub fn move_in(&mut self, size: u64, start: u64, source: u64, from: &Object) -> bool
+        ensures there { result ≡ (has_range start size self.old && has_range source size from.now) }
+        ensures value { self.new ≡ (if result then moved_into size start source from.now self.old else self.old) }
+    {
+        if !self.has_range(start, size) || !from.has_range(source, size) {
+            return false;
+        }
+        self.put_range(size, start, source, from);
+        true
+    }
+
+    /// The words from that of an offset on, up to the end of a range of bytes.
+    #[tactic(auto, unfolding(crate::specs::Kept::part_of))]
+    pub fn part(&self, alloc: Global, offset: u64, size: u64) -> Result<Object, AllocError>
+        requires inside { offset + size ≤ length self.now.bytes }
+        requires tags { (offset + size) / 8 ≤ length self.now.tags }
+        ensures { IfOk result (λ o. o ≡ part_of offset size self.now) }
+    {
+        let first = (offset - offset % 8) as usize;
+        let bytes = &self.bytes[first..];
+        let count = (offset % 8 + size) as usize;
+        let bytes = Vec::from_slice(alloc, &bytes[..count])?;
+        let tags = &self.tags[(offset / 8) as usize..];
+        let tags = Vec::from_slice(alloc, &tags[..count / 8])?;
+        Ok(Object {
+            storage: self.storage,
+            address: self.address,
+            size: self.size,
+            is_live: self.is_live,
+            bytes,
+            tags,
+        })
     }
 }

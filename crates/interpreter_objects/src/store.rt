@@ -46,12 +46,7 @@ impl Store {
 
     /// A new object of so many bytes, and its number.
     #[tactic(auto, unfolding(obj_memory::specs::Objects::with_new))]
-    pub fn add(
-        &mut self,
-        storage: Storage,
-        address: u64,
-        size: u64,
-    ) -> Result<usize, AllocError>
+    pub fn add(&mut self, storage: Storage, address: u64, size: u64) -> Result<usize, AllocError>
         ensures number { IfOk result (λ n. n ≡ length self.old) }
         ensures added { OnOk result (self.new ≡ with_new storage address size self.old) }
         ensures same { OnErr result (self.new ≡ self.old) }
@@ -82,11 +77,7 @@ impl Store {
     }
 
     /// Whether an object that is live has so many bytes from a place on.
-    #[tactic(
-        auto,
-        using(crate::proofs::Placed::absent),
-        unfolding(crate::specs::Kept::is_there)
-    )]
+    #[tactic(auto, using(crate::proofs::Placed::absent), unfolding(crate::specs::Kept::is_there))]
     pub fn is_there(&self, size: u64, place: Place) -> bool
         ensures { result ≡ is_there size place self.now }
     {
@@ -108,11 +99,7 @@ impl Store {
     }
 
     /// A scalar is written at a place, where it is there.
-    #[tactic(
-        auto,
-        using(crate::proofs::Placed::written_by, crate::proofs::Placed::not_there, crate::proofs::Placed::not_written),
-        unfolding(crate::specs::Kept::is_there)
-    )]
+    #[tactic(auto, using(crate::proofs::Placed::written_by, crate::proofs::Placed::not_there, crate::proofs::Placed::not_written), unfolding(crate::specs::Kept::is_there))]
     pub fn write(&mut self, scalar: Scalar, place: Place, value: Value) -> bool
         ensures there { result ≡ is_there (scalar_size scalar) place self.old }
         ensures value { self.new ≡ with_written scalar value place self.old }

@@ -9,7 +9,7 @@ use Rattle.obj_memory.specs.Access.{scalar_size}
 use Rattle.obj_memory.specs.Integers.{size_of}
 use Rattle.interpreter_objects.specs.Kept.{has_bytes, has_range}
 
-by_test : (b c : Bool) → (b && c) ≡ true → c ≡ true
+pub by_test : (b c : Bool) → (b && c) ≡ true → c ≡ true
 by_test true c h = h
 by_test false c h = absurd (let e : false ≡ true = h in cc)
 
@@ -17,14 +17,23 @@ pub bytes_inside : (offset size : ℕ) (o : ObjectState) → has_bytes offset si
 unfolding has_bytes
 bytes_inside offset size o h = leb-true (offset + size) (length o.bytes) (by_test o.is_live _ h)
 
-both : (b c : Bool) → (b && c) ≡ true → b ≡ true
+pub both : (b c : Bool) → (b && c) ≡ true → b ≡ true
 both true c h = refl
 both false c h = h
+
+pub range_bytes : (offset size : ℕ) (o : ObjectState) → has_range offset size o ≡ true → has_bytes offset size o ≡ true
+unfolding has_range
+range_bytes offset size o h = both (has_bytes offset size o) _ h
+
+-- what has bytes is live
+pub there_life : (offset size : ℕ) (o : ObjectState) → has_bytes offset size o ≡ true → o.is_live ≡ true
+unfolding has_bytes
+there_life offset size o h = both o.is_live _ h
 
 pub range_inside : (offset size : ℕ) (o : ObjectState) → has_range offset size o ≡ true
     → offset + size ≤ length o.bytes
 unfolding has_range
-range_inside offset size o h = bytes_inside offset size o (both (has_bytes offset size o) _ h)
+range_inside offset size o h = bytes_inside offset size o (range_bytes offset size o h)
 
 pub range_tags : (offset size : ℕ) (o : ObjectState) → has_range offset size o ≡ true
     → (offset + size) / 8 ≤ length o.tags

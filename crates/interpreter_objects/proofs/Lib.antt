@@ -2,3 +2,6 @@ mod Insides
 mod LittleBytes
 mod Placed
 mod Tags
+mod Keeping
+mod Contents
+mod Ranges

@@ -1,6 +1,7 @@
 //! The objects of a run as an interpreter keeps them. No code runs over them yet.
 #![tactic(auto)]
 
+pub mod laws;
 pub mod object;
 pub mod store;
 

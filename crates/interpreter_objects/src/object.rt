@@ -1,12 +1,13 @@
 //! One object.
 
-ghost use Rattle.std.specs.Prelude.{◌≡◌, ℕ, ◌+◌, ◌/◌, ◌%◌, ◌^◌, ◌<◌, ◌≤◌, ◌&&◌, if◌then◌else◌, length, take, drop, get_or, IfOk};
+ghost use Rattle.std.specs.Prelude.{◌≡◌, ℕ, ◌+◌, ◌/◌, ◌%◌, ◌^◌, ◌<◌, ◌≤◌, ◌&&◌, if◌then◌else◌, length, take, drop, get_or, Some, None, IfOk};
+ghost use Rattle.std.specs.Prelude.{OnOk, OnErr};
 ghost use Rattle.byteorder.specs.Endian.{little_bytes, little_number};
 ghost use Rattle.obj_memory.specs.Access.{is_aligned, moved_tags, overwrite, scalar_size};
 ghost use Rattle.obj_memory.specs.declared.value.Tag.TheVariants.{Untagged};
-ghost use Rattle.source_meaning.specs.Structures.{moved_into};
+ghost use Rattle.source_meaning.specs.Structures.{contents_of, moved_into};
 ghost use Rattle.interpreter_objects.specs.Kept.{buried, found_in, has_bytes, has_range, part_of, read_in};
-ghost use Rattle.interpreter_objects.specs.Kept.{with_tag, written_in};
+ghost use Rattle.interpreter_objects.specs.Kept.{with_tag, written_in, zeroed};
 
 use byteorder::{ByteOrder, LittleEndian};
 use obj_memory::{Scalar, Storage, Tag, Value};
@@ -258,9 +259,9 @@ impl Object {
         true
     }
 
-    // Whether it is live and has so many bytes from an offset on, with the tags of the whole words among them.
+    /// Whether it is live and has so many bytes from an offset on, with the tags of the whole words among them.
     #[tactic(auto, using(crate::proofs::Insides::bytes_inside), unfolding(crate::specs::Kept::has_range))]
-    fn has_range(&self, offset: u64, size: u64) -> bool
+    pub fn has_range(&self, offset: u64, size: u64) -> bool
         ensures { result ≡ has_range offset size self.now }
     {
         self.has_bytes(offset, size) && (offset + size) / 8 <= self.tags.len() as u64
@@ -321,5 +322,37 @@ impl Object {
             bytes,
             tags,
         })
+    }
+
+    /// So many bytes from an offset on, as contents of their own, where it is live and has them.
+    #[tactic(auto, using(crate::proofs::Contents::contents_by))]
+    pub fn contents(
+        &self,
+        alloc: Global,
+        size: u64,
+        source: u64,
+    ) -> Result<Option<Object>, AllocError>
+        ensures { IfOk result (λ found. found ≡ (if has_range source size self.now
+            then Some (contents_of size source self.now) else None)) }
+    {
+        if !self.has_range(source, size) {
+            return Ok(None);
+        }
+        let mut contents = Object::new(alloc, Storage::Automatic, 0, size)?;
+        contents.move_in(size, 0, source, self);
+        Ok(Some(contents))
+    }
+
+    /// Its bytes become zero, and its words lose their tags.
+    #[tactic(auto, unfolding(crate::specs::Kept::zeroed))]
+    pub fn clear(&mut self, alloc: Global) -> Result<(), AllocError>
+        ensures zero { OnOk result (self.new ≡ zeroed self.old) }
+        ensures same { OnErr result (self.new ≡ self.old) }
+    {
+        let bytes = vec![in alloc; 0; self.size as usize]?;
+        let tags = vec![in alloc; Tag::Untagged; (self.size / 8) as usize]?;
+        self.bytes = bytes;
+        self.tags = tags;
+        Ok(())
     }
 }

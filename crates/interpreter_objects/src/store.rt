@@ -1,10 +1,12 @@
 //! All objects of a run, by their numbers.
 
-ghost use Rattle.std.specs.Prelude.{◌≡◌, length, [], IfSome, IfNone, IfOk, OnOk, OnErr};
+ghost use Rattle.std.specs.Prelude.{◌≡◌, ◌/◌, if◌then◌else◌, length, [], Some, None, IfSome, IfNone, IfOk, OnOk, OnErr};
 ghost use Rattle.obj_memory.specs.Access.{scalar_size};
 ghost use Rattle.obj_memory.specs.Judgement.{are_within, judge, named};
-ghost use Rattle.obj_memory.specs.Objects.{no_object, object_at, with_new};
-ghost use Rattle.interpreter_objects.specs.Kept.{found, is_there, with_buried, with_written};
+ghost use Rattle.obj_memory.specs.Objects.{no_object, object_at, pointer_to, with_new};
+ghost use Rattle.source_meaning.specs.Structures.{contents_of};
+ghost use Rattle.interpreter_objects.specs.Kept.{found, has_range, is_movable, is_puttable, is_there, part_of};
+ghost use Rattle.interpreter_objects.specs.Kept.{with_buried, with_cleared, with_moved, with_put, with_written};
 
 use crate::object::Object;
 use obj_memory::{Bounds, Place, Scalar, Storage, Tag, Value, Verdict};
@@ -87,6 +89,32 @@ impl Store {
         }
     }
 
+    /// The number of objects, which is that of the next one.
+    pub fn count(&self) -> usize
+        ensures { result ≡ length self.now }
+    {
+        self.objects.len()
+    }
+
+    /// The pointer to a whole object, where its bound fits.
+    #[tactic(auto, unfolding(obj_memory::specs::Objects::pointer_to))]
+    pub fn pointer_to(&self, number: usize) -> Option<Value>
+        ensures { IfSome result (λ v. v ≡ pointer_to number self.now) }
+    {
+        let address = self.address(number);
+        let bound = address.checked_add(self.size(number))?;
+        Some(Value {
+            word: address,
+            tag: Tag::OfObject(
+                number,
+                Bounds {
+                    base: address,
+                    bound,
+                },
+            ),
+        })
+    }
+
     /// The scalar at a place, where it is there.
     #[tactic(auto, using(crate::proofs::Placed::found_is, crate::proofs::Placed::not_found))]
     pub fn read(&self, scalar: Scalar, place: Place) -> Option<Value>
@@ -117,6 +145,15 @@ impl Store {
     {
         match self.object(number) {
             Some(object) => object.address(),
+            None => 0,
+        }
+    }
+
+    fn size(&self, number: usize) -> u64
+        ensures { result ≡ (object_at self.now number).size }
+    {
+        match self.object(number) {
+            Some(object) => object.size(),
             None => 0,
         }
     }
@@ -164,5 +201,78 @@ impl Store {
             }),
             Tag::Untagged | Tag::OfFunction(_) => Verdict::Outside,
         }
+    }
+
+    /// Some bytes move from one place to another, also where they overlap, with the tags of their whole words.
+    #[tactic(auto, using(crate::proofs::Ranges::moved_by, crate::proofs::Ranges::moved_there, crate::proofs::Ranges::not_moved, crate::proofs::Ranges::not_taken, crate::proofs::Ranges::not_reached))]
+    pub fn move_range(&mut self, size: u64, to: Place, from: Place) -> Result<bool, AllocError>
+        ensures there { IfOk result (λ moved. moved ≡ is_movable size to from self.old) }
+        ensures value { OnOk result (self.new ≡ with_moved size to from self.old) }
+        ensures same { OnErr result (self.new ≡ self.old) }
+    {
+        let Some(part) = self.part(size, from)? else {
+            return Ok(false);
+        };
+        let number = to.object;
+        if number >= self.objects.len() {
+            return Ok(false);
+        }
+        Ok(self.objects[number].move_in(size, to.offset, from.offset % 8, &part))
+    }
+
+    // The words with a range of bytes, where a live object has it.
+    #[tactic(auto, using(crate::proofs::Ranges::none_at, crate::proofs::Insides::range_inside, crate::proofs::Insides::range_tags))]
+    fn part(&self, size: u64, from: Place) -> Result<Option<Object>, AllocError>
+        ensures { IfOk result (λ found. found ≡ (if has_range from.offset size (object_at self.now from.object)
+            then Some (part_of from.offset size (object_at self.now from.object)) else None)) }
+    {
+        let Some(object) = self.object(from.object) else {
+            return Ok(None);
+        };
+        if !object.has_range(from.offset, size) {
+            return Ok(None);
+        }
+        let part = object.part(self.alloc, from.offset, size)?;
+        Ok(Some(part))
+    }
+
+    /// So many bytes from a place on, as contents of their own, where a live object has them.
+    #[tactic(auto, using(crate::proofs::Ranges::none_at))]
+    pub fn take(&self, size: u64, from: Place) -> Result<Option<Object>, AllocError>
+        ensures { IfOk result (λ found. found ≡ (if has_range from.offset size (object_at self.now from.object)
+            then Some (contents_of size from.offset (object_at self.now from.object)) else None)) }
+    {
+        match self.object(from.object) {
+            Some(object) => object.contents(self.alloc, size, from.offset),
+            None => Ok(None),
+        }
+    }
+
+    /// Some bytes of contents are put at a place, with the tags of their whole words.
+    #[tactic(auto, using(crate::proofs::Ranges::put_by, crate::proofs::Ranges::put_there, crate::proofs::Ranges::not_put, crate::proofs::Ranges::put_past, crate::proofs::Ranges::without_contents))]
+    pub fn put(&mut self, size: u64, to: Place, source: u64, contents: &Object) -> bool
+        ensures there { result ≡ is_puttable size to source contents.now self.old }
+        ensures value { self.new ≡ with_put size to source contents.now self.old }
+    {
+        let number = to.object;
+        if number >= self.objects.len() || !contents.has_range(source, size) {
+            return false;
+        }
+        self.objects[number].move_in(size, to.offset, source, contents)
+    }
+
+    /// All bytes of an object that is live become zero, and its words lose their tags.
+    #[tactic(auto, using(crate::proofs::Ranges::cleared_by, crate::proofs::Ranges::not_cleared, crate::proofs::Ranges::not_live))]
+    pub fn clear(&mut self, number: usize) -> Result<bool, AllocError>
+        ensures there { IfOk result (λ cleared. cleared ≡ (object_at self.old number).is_live) }
+        ensures value { OnOk result (self.new ≡ with_cleared number self.old) }
+        ensures same { OnErr result (self.new ≡ self.old) }
+    {
+        if number >= self.objects.len() || !self.is_live(number) {
+            return Ok(false);
+        }
+        let alloc = self.alloc;
+        self.objects[number].clear(alloc)?;
+        Ok(true)
     }
 }

@@ -52,7 +52,8 @@ module _ (source size : ℕ) (o : ObjectState) (inside : source + size ≤ lengt
   -- its bytes
   same_bytes : take size (drop (source % 8) part.bytes) ≡ take size (drop source o.bytes)
   unfolding part_of
-  same_bytes = ext_get_or 0 (take size (drop (source % 8) (take (source % 8 + size) (drop (source - source % 8) o.bytes))))
+  same_bytes = ext_get_or 0
+      (take size (drop (source % 8) (take (source % 8 + size) (drop (source - source % 8) o.bytes))))
       (take size (drop source o.bytes)) sizes at
     where
       inner : List ℕ

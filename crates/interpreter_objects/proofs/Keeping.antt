@@ -1,5 +1,6 @@
 -- Objects that are kept stand for all objects: what is judged, read and written among them is the same.
-use Rattle.std.proofs.Common.{◌≡◌, ℕ, zero, suc, ◌+◌, ◌-◌, ◌/◌, Bool, true, false, not, ◌&&◌, ◌||◌, nat_le, if◌then◌else◌, [], ◌∷◌}
+use Rattle.std.proofs.Common.{◌≡◌, ℕ, zero, suc, ◌+◌, ◌-◌, ◌/◌, Bool, true, false, not, ◌&&◌, ◌||◌}
+use Rattle.std.proofs.Common.{nat_le, if◌then◌else◌, [], ◌∷◌}
 use Rattle.std.proofs.Common.{set, length, refl, sym, ap, ◌∙◌, Some, None}
 use Rattle.byteorder.specs.Endian.{little_bytes}
 use Rattle.obj_memory.specs.declared.judgement.Verdict.TheVariants.{Outside, Dead, Inside}
@@ -17,7 +18,8 @@ use Rattle.obj_memory.specs.Judgement.{are_within, judge, judged, named, named_i
 use Rattle.obj_memory.specs.Objects.{ObjectState, Objects, new_object, object_at, pointer_to, with_dead}
 use Rattle.obj_memory.specs.Objects.{with_new, with_zeroed}
 use Rattle.source_meaning.specs.Structures.{contents_of, moved_into, put_range}
-use Rattle.interpreter_objects.specs.Kept.{has_range, is_movable, is_puttable, with_cleared, with_moved, with_put, zeroed}
+use Rattle.interpreter_objects.specs.Kept.{has_range, is_movable, is_puttable, with_cleared, with_moved, with_put}
+use Rattle.interpreter_objects.specs.Kept.{zeroed}
 use Rattle.interpreter_objects.specs.Kept.{buried, found, has_bytes, is_there, kept, kept_object, read_in, with_buried}
 use Rattle.interpreter_objects.specs.Kept.{with_bytes, with_written, written_in}
 use Rattle.interpreter_objects.proofs.Insides.{both, by_test, range_bytes, there_life}
@@ -259,7 +261,8 @@ same_range : (offset size : ℕ) (o : ObjectState) → has_range offset size (ke
 unfolding has_range has_bytes buried
 same_range offset size o = kept_by (λ x. (x.is_live && nat_le (offset + size) (length x.bytes)
     && nat_le ((offset + size) / 8) (length x.tags)) ≡ has_range offset size o) o (λ e. refl)
-    (λ e. sym (ap (λ b. b && nat_le (offset + size) (length o.bytes) && nat_le ((offset + size) / 8) (length o.tags)) e))
+    (λ e. sym (ap (λ b. b && nat_le (offset + size) (length o.bytes)
+    && nat_le ((offset + size) / 8) (length o.tags)) e))
 
 same_range_at : (offset size n : ℕ) (objects : Objects)
     → has_range offset size (object_at (kept objects) n) ≡ has_range offset size (object_at objects n)
@@ -289,7 +292,8 @@ module _ (size : ℕ) (d s : Place) (objects : Objects) where
   same_movable =
       ap (λ b. b && has_range d.offset size (object_at (kept objects) d.object))
       (same_range_at s.offset size s.object objects)
-      ∙ ap (λ b. has_range s.offset size (object_at objects s.object) && b) (same_range_at d.offset size d.object objects)
+      ∙ ap (λ b. has_range s.offset size (object_at objects s.object) && b)
+      (same_range_at d.offset size d.object objects)
 
   moved_if : (b : Bool) → is_movable size d s objects ≡ b
       → (if b then move_range size d s (kept objects) else kept objects)

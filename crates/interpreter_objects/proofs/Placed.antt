@@ -107,3 +107,5 @@ pub not_written : (k : Scalar) (v : Value) (p : Place) (objects : Objects) → l
 unfolding with_written is_there
 not_written k v p objects h =
     ap (λ c. if c then write_value k v p objects else objects) (not_there (scalar_size k) p objects h)
+
+pub ruleset writing = (written_by, not_there, not_written)

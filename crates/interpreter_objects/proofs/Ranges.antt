@@ -8,6 +8,7 @@ use Rattle.obj_memory.specs.Objects.{ObjectState, Objects, no_object, object_at,
 use Rattle.source_meaning.specs.Structures.{moved_into, put_range}
 use Rattle.interpreter_objects.specs.Kept.{has_bytes, has_range, is_movable, is_puttable, part_of, with_cleared}
 use Rattle.interpreter_objects.specs.Kept.{with_moved, with_put, zeroed}
+use Rattle.interpreter_objects.proofs.Insides.{range_inside, range_tags}
 use Rattle.interpreter_objects.proofs.Contents.{moved_part, part_range}
 
 no_range : (offset size : ℕ) → has_range offset size no_object ≡ false
@@ -177,3 +178,11 @@ cleared_by n objects o new live same e =
 -- where there is no object, none is live
 pub not_live : (n : ℕ) (objects : Objects) → length objects ≤ n → (object_at objects n).is_live ≡ false
 not_live n objects h = ap (λ o. o.is_live) (get_or_past objects n no_object h)
+
+pub ruleset moving = (moved_by, moved_there, not_moved, not_taken, not_reached)
+
+pub ruleset taking = (none_at, range_inside, range_tags)
+
+pub ruleset putting = (put_by, put_there, not_put, put_past, without_contents)
+
+pub ruleset clearing = (cleared_by, not_cleared, not_live)

@@ -1,5 +1,6 @@
 -- What an interpreter keeps of objects: those that are live, and of a dead one neither bytes nor tags.
-use Rattle.std.specs.Prelude.{ℕ, ◌+◌, ◌-◌, ◌/◌, ◌%◌, Bool, false, ◌&&◌, nat_le, if◌then◌else◌, List, [], ◌∷◌, map, set, length, take, drop}
+use Rattle.std.specs.Prelude.{ℕ, ◌+◌, ◌-◌, ◌/◌, ◌%◌, Bool, false, ◌&&◌, nat_le, if◌then◌else◌, List, [], ◌∷◌, map}
+use Rattle.std.specs.Prelude.{set, length, take, drop}
 use Rattle.std.specs.Prelude.{replicate, Option, Some, None}
 use Rattle.byteorder.specs.Endian.{little_bytes}
 use Rattle.obj_memory.specs.declared.value.Place.{Place}

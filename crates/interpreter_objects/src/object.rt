@@ -1,6 +1,7 @@
 //! One object.
 
-ghost use Rattle.std.specs.Prelude.{◌≡◌, ℕ, ◌+◌, ◌/◌, ◌%◌, ◌^◌, ◌<◌, ◌≤◌, ◌&&◌, if◌then◌else◌, length, take, drop, get_or, Some, None, IfOk};
+ghost use Rattle.std.specs.Prelude.{◌≡◌, ℕ, ◌+◌, ◌/◌, ◌%◌, ◌^◌, ◌<◌, ◌≤◌, ◌&&◌, if◌then◌else◌};
+ghost use Rattle.std.specs.Prelude.{length, take, drop, get_or, Some, None, IfOk};
 ghost use Rattle.std.specs.Prelude.{OnOk, OnErr};
 ghost use Rattle.byteorder.specs.Endian.{little_bytes, little_number};
 ghost use Rattle.obj_memory.specs.Access.{is_aligned, moved_tags, overwrite, scalar_size};
@@ -194,7 +195,7 @@ impl Object {
     }
 
     // The scalar at an offset.
-    #[tactic(auto, using(crate::proofs::Insides::some_bytes), unfolding(crate::specs::Kept::read_in, obj_memory::specs::Access::read_value))]
+    #[tactic(auto, unfolding(crate::specs::Kept::read_in, obj_memory::specs::Access::read_value))]
     fn scalar_at(&self, scalar: Scalar, offset: u64) -> Value
         requires { offset + scalar_size scalar ≤ length self.now.bytes }
         ensures { result ≡ read_in scalar offset self.now }
@@ -268,7 +269,7 @@ impl Object {
     }
 
     // Some bytes of another object, with the tags of their whole words, become those from an offset on.
-    #[tactic(auto, using(crate::proofs::Insides::bytes_inside), unfolding(source_meaning::specs::Structures::moved_into))]
+    #[tactic(auto, unfolding(source_meaning::specs::Structures::moved_into))]
     fn put_range(&mut self, size: u64, start: u64, source: u64, from: &Object)
         requires inside { start + size ≤ length self.old.bytes }
         requires tags { (start + size) / 8 ≤ length self.old.tags }

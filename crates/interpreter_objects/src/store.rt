@@ -127,7 +127,7 @@ impl Store {
     }
 
     /// A scalar is written at a place, where it is there.
-    #[tactic(auto, using(crate::proofs::Placed::written_by, crate::proofs::Placed::not_there, crate::proofs::Placed::not_written), unfolding(crate::specs::Kept::is_there))]
+    #[tactic(auto, using(crate::proofs::Placed::writing), unfolding(crate::specs::Kept::is_there))]
     pub fn write(&mut self, scalar: Scalar, place: Place, value: Value) -> bool
         ensures there { result ≡ is_there (scalar_size scalar) place self.old }
         ensures value { self.new ≡ with_written scalar value place self.old }
@@ -204,7 +204,7 @@ impl Store {
     }
 
     /// Some bytes move from one place to another, also where they overlap, with the tags of their whole words.
-    #[tactic(auto, using(crate::proofs::Ranges::moved_by, crate::proofs::Ranges::moved_there, crate::proofs::Ranges::not_moved, crate::proofs::Ranges::not_taken, crate::proofs::Ranges::not_reached))]
+    #[tactic(auto, using(crate::proofs::Ranges::moving))]
     pub fn move_range(&mut self, size: u64, to: Place, from: Place) -> Result<bool, AllocError>
         ensures there { IfOk result (λ moved. moved ≡ is_movable size to from self.old) }
         ensures value { OnOk result (self.new ≡ with_moved size to from self.old) }
@@ -221,7 +221,7 @@ impl Store {
     }
 
     // The words with a range of bytes, where a live object has it.
-    #[tactic(auto, using(crate::proofs::Ranges::none_at, crate::proofs::Insides::range_inside, crate::proofs::Insides::range_tags))]
+    #[tactic(auto, using(crate::proofs::Ranges::taking))]
     fn part(&self, size: u64, from: Place) -> Result<Option<Object>, AllocError>
         ensures { IfOk result (λ found. found ≡ (if has_range from.offset size (object_at self.now from.object)
             then Some (part_of from.offset size (object_at self.now from.object)) else None)) }
@@ -249,7 +249,7 @@ impl Store {
     }
 
     /// Some bytes of contents are put at a place, with the tags of their whole words.
-    #[tactic(auto, using(crate::proofs::Ranges::put_by, crate::proofs::Ranges::put_there, crate::proofs::Ranges::not_put, crate::proofs::Ranges::put_past, crate::proofs::Ranges::without_contents))]
+    #[tactic(auto, using(crate::proofs::Ranges::putting))]
     pub fn put(&mut self, size: u64, to: Place, source: u64, contents: &Object) -> bool
         ensures there { result ≡ is_puttable size to source contents.now self.old }
         ensures value { self.new ≡ with_put size to source contents.now self.old }
@@ -262,7 +262,7 @@ impl Store {
     }
 
     /// All bytes of an object that is live become zero, and its words lose their tags.
-    #[tactic(auto, using(crate::proofs::Ranges::cleared_by, crate::proofs::Ranges::not_cleared, crate::proofs::Ranges::not_live))]
+    #[tactic(auto, using(crate::proofs::Ranges::clearing))]
     pub fn clear(&mut self, number: usize) -> Result<bool, AllocError>
         ensures there { IfOk result (λ cleared. cleared ≡ (object_at self.old number).is_live) }
         ensures value { OnOk result (self.new ≡ with_cleared number self.old) }

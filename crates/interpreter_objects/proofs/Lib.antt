@@ -1,0 +1,7 @@
+mod Insides
+mod LittleBytes
+mod Placed
+mod Tags
+mod Keeping
+mod Contents
+mod Ranges

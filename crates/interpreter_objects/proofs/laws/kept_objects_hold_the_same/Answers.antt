@@ -1,0 +1,11 @@
+use Rattle.interpreter_objects.proofs.Keeping.{same_contents, same_found, same_there}
+use Rattle.interpreter_objects.proofs.laws.kept_objects_hold_the_same.Goals as goal
+
+pub returns-clause-there : goal.returns-clause-there
+returns-clause-there c = same_there
+
+pub returns-clause-scalars : goal.returns-clause-scalars
+returns-clause-scalars c = same_found
+
+pub returns-clause-contents : goal.returns-clause-contents
+returns-clause-contents c = same_contents

@@ -51,8 +51,8 @@ fn plain_words(kind: Kind) -> u32
 }
 
 impl Words {
-    // How many of them a variable has.
-    fn count(self, variable: &Variable) -> u32
+    /// How many of them a variable has.
+    pub fn count(self, variable: &Variable) -> u32
         ensures value { result ≡ words_by self variable.now }
         ensures few { result ≤ 5 }
     {

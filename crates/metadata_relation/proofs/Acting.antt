@@ -41,7 +41,7 @@ use Rattle.metadata_plan.specs.Expanded.{Leads}
 use Rattle.metadata_plan.specs.Operators.{Computes}
 use Rattle.metadata_plan.proofs.Flat.{Comes, leads_comes, weight_small, words_kept}
 use Rattle.metadata_plan.proofs.Numbers.{scaled}
-use Rattle.metadata_relation.specs.Registers.{variables_end, tops_end, temporary_register, moved_register, first_free}
+use Rattle.metadata_relation.specs.Registers.{variables_end, homes_end, temporary_register, moved_register, first_free}
 use Rattle.metadata_relation.specs.Blocks.{top_cell}
 use Rattle.metadata_relation.specs.Holding.{World, GoesOn, IsHeldAt, Holds}
 use Rattle.metadata_relation.specs.Scopes.{context_at}
@@ -265,7 +265,7 @@ module _ (c : Compiled) (IsGood : Bytes → Type 0) (right : IsCompiled c IsGood
   pub acts : (next : ℕ) (temps' : Temps) (s' : State) (keys : Keys) (v' : flat.State) (most : ℕ)
       → ReachesNode next v' most → HasActed s' keys v' → s'.stacked ≡ s.stacked → s'.charged ≡ s.charged
       → Holds (world c keys s' v') (activation c h.code u next s') temps' s'.plain s'.frame v'.values
-      → ((r : ℕ) → variables_end h.code ≤ r → r < tops_end h.code → v'.values r ≡ v.values r)
+      → ((r : ℕ) → variables_end h.code ≤ r → r < homes_end h.code → v'.values r ≡ v.values r)
       → most + factor * s.work ≤ factor * s'.work → Gives (Stands u next temps' ws s')
   acts next temps' s' keys v' most k a same_top same_charge holds homes cost =
       let l = a.leaves in

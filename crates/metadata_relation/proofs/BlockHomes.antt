@@ -188,7 +188,7 @@ module _ (m : MapSizes) (p : FlatProgram) (u : ℕ) (xs : List flat.Frame) (o : 
 
     -- in that of another object
     pub outside_home : (x j : ℕ) → is_object_in (all_variables c) x ≡ true
-        → ((q : ℕ) → is_object_in vs q ≡ true → x ≢ q) → j < 4
+        → ((q : ℕ) → is_object_in vs q ≡ true → x ≢ q) → j < 5
         → IsOutside m p u xs o c first key lock s (home_register c x + j) 0 vs
     outside_home x j object other few =
         outside_by (home_register c x + j) vs 0 (λ q t. by q t (cases_lt x q) (cases_lt q x))
@@ -202,6 +202,23 @@ module _ (m : MapSizes) (p : FlatProgram) (u : ℕ) (xs : List flat.Frame) (o : 
             let more = before_grows (all_variables c) (0 + q) x (own q t) (omega arith) in
             inr (omega arith)
         by q t (inr le) (inr ge) = absurd (other q t (omega arith))
+
+    -- behind the entry in any home
+    pub outside_top : (x : ℕ) → is_object_in (all_variables c) x ≡ true
+        → IsOutside m p u xs o c first key lock s (home_register c x + 4) 0 vs
+    outside_top x object = outside_by (home_register c x + 4) vs 0 (λ q t. by q t (cases_lt x q) (cases_lt q x))
+      where
+        by : (q : ℕ) → is_object_in vs q ≡ true → (x < q) ⊎ (q ≤ x) → (q < x) ⊎ (x ≤ q)
+            → (home_register c x + 4 < home_register c (0 + q)) ⊎ (home_register c (0 + q) + 4 ≤ home_register c x + 4)
+        by q t (inl lt) second =
+            let more = before_grows (all_variables c) x (0 + q) object (omega arith) in
+            inl (omega arith)
+        by q t (inr le) (inl lt) =
+            let more = before_grows (all_variables c) (0 + q) x (own q t) (omega arith) in
+            inr (omega arith)
+        by q t (inr le) (inr ge) =
+            let same : home_register c (0 + q) ≡ home_register c x = ap (home_register c) (omega arith) in
+            inr (omega arith)
 
   -- the object of a variable lives, is automatic, and has the bytes of its kind; registers have the entry of a pointer to it
   pub record IsHomed (x : ℕ) (v : Variable) (k l : ℕ) (object : ObjectState) (values : flat.Values) : Type 0 where

@@ -1,9 +1,8 @@
 -- Which variables a block of a function enters: objects of the function, which have no homes before.
-use Rattle.std.proofs.Common.{◌≡◌, ℕ, zero, suc, ◌+◌, ◌<◌, Bool, true, false, ◌||◌, if◌then◌else◌, List, [], ◌∷◌, ◌++◌}
-use Rattle.std.proofs.Common.{get_or, length, map, refl, sym, ap, ◌∙◌, Option, Some, None, arith}
+use Rattle.std.proofs.Common.{◌≡◌, ℕ, zero, suc, ◌+◌, Bool, true, false, ◌||◌, if◌then◌else◌, List, [], ◌∷◌, ◌++◌}
+use Rattle.std.proofs.Common.{get_or, map, refl, sym, ap, ◌∙◌, Some, arith}
 use Rattle.std.specs.Prelude.{◌==◌, slice_get}
 use Rattle.std.proofs.lemmas.Bool.{and_parts, eqb-true}
-use Rattle.std.proofs.lemmas.Option.{slice_get_within}
 use Rattle.c_tree.specs.declared.program.Variable.{Variable}
 use Rattle.c_tree.specs.Valid.{at_number}
 use Rattle.c_tree.specs.Blocks.{closed, is_among, no_variable, opened}
@@ -93,21 +92,6 @@ module _ (c : CodeFunction) (k : ℕ) where
   pub declared_as : (y : ℕ) → is_object_in (objects_in (Some c) k) y ≡ true
       → at_number (objects_in (Some c) k) y ≡ at_number (all_variables c) y
   declared_as y e = opened_number (if_there (slice_get (blocks_in (Some c)) k)) 0 (all_variables c) y e
-
-  -- a block that has objects is one of the function's
-  pub block_inside : has_objects (objects_in (Some c) k) ≡ true → k < length c.blocks
-  block_inside e = by (slice_get c.blocks k) refl
-    where
-      by : (o : Option (List ℕ)) → slice_get c.blocks k ≡ o → k < length c.blocks
-      by (Some numbers) is = slice_get_within c.blocks k numbers is
-      by None is =
-          let y = first_object (objects_in (Some c) k) in
-          let t = opened_object (if_there (slice_get c.blocks k)) 0 (all_variables c) y
-          (first_is_object (objects_in (Some c) k) e) in
-          let none : is_among (if_there (slice_get c.blocks k)) (0 + y) ≡ false =
-          ap (λ o. is_among (if_there o) (0 + y)) is in
-          let both : false ≡ true = sym none ∙ t.1 in
-          absurd cc
 
   -- the objects of a block that is entered have no homes before
   pub fresh : (frame : List Home) → have_no_homes frame (if_there (slice_get (blocks_in (Some c)) k)) ≡ true

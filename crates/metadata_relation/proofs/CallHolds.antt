@@ -31,7 +31,7 @@ use Rattle.metadata_plan.proofs.Calling.{first_is, rest_at, others_at, values_le
 use Rattle.metadata_plan.proofs.SetUp.{homes_of}
 use Rattle.metadata_relation.specs.Holding.{World, world_of, IsHeldAt, IsPlain, HasNoTag, is_pointer_type, Activation}
 use Rattle.metadata_relation.specs.Holding.{HasHomes, Holds}
-use Rattle.metadata_relation.specs.Registers.{first_free, moved_register, parameters_end, temporary_register, tops_end}
+use Rattle.metadata_relation.specs.Registers.{first_free, moved_register, parameters_end, temporary_register, homes_end}
 use Rattle.metadata_relation.specs.Registers.{variable_register, variables_end}
 use Rattle.metadata_relation.specs.Waiting.{AreBetween, AreNoObjects}
 use Rattle.metadata_relation.proofs.Holding.{same_world, at_node, AreFewer, variables_on, temporaries_on, homes_on}
@@ -130,7 +130,7 @@ pub callee_holds : (w : World) (tac : Tac) (k : CodeFunction) (charge : ℕ) (en
     → ((x : ℕ) (t : Scalar) → plain_type (all_variables k) x ≡ Some t → x < length k.parameters
     → IsPlain w t (get_or vs x (rvalue (integer 0))).value (variable_register k x) values)
     → ((y : ℕ) → parameters_end k ≤ y → y < variables_end k → values y ≡ 0)
-    → ((y : ℕ) → tops_end k ≤ y → y < first_free k → values y ≡ 0) → HasHomes w k frame values
+    → ((y : ℕ) → homes_end k ≤ y → y < first_free k → values y ≡ 0) → HasHomes w k frame values
     → Holds w (record {
       tac = tac;
       code = k;

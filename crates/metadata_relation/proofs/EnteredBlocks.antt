@@ -41,8 +41,8 @@ use Rattle.runtime_functions.specs.Actions.{HasExited, HasTold, work_of_call}
 use Rattle.runtime_functions.specs.Calls.{CallSite}
 use Rattle.metadata_relation.specs.Blocks.{enter_statuses}
 use Rattle.metadata_relation.specs.Holding.{HasHomes, Holds, World}
-use Rattle.metadata_relation.specs.Registers.{block_top_register, first_free, home_register, tops_end}
-use Rattle.metadata_relation.specs.Registers.{body_top_register, first_object, lock_register, temporary_register}
+use Rattle.metadata_relation.specs.Registers.{first_free, first_object, home_register}
+use Rattle.metadata_relation.specs.Registers.{lock_register, temporary_register}
 use Rattle.metadata_relation.specs.Scopes.{base_of, context_at, numbers_in, variables_at}
 use Rattle.metadata_relation.specs.Stages.{activation, Compiled, expansion_of, IsAt, IsSteady, level}
 use Rattle.metadata_relation.specs.Stages.{map_of, MatchesBy, names, StandsIn, views, world}
@@ -54,7 +54,7 @@ use Rattle.metadata_relation.proofs.BlockEndings.{EndsEntering, no_key_ends, no_
 use Rattle.metadata_relation.proofs.BlockHomes.{bytes_placed, count_work, has_home_in}
 use Rattle.metadata_relation.proofs.BlockHomes.{homes_both}
 use Rattle.metadata_relation.proofs.BlockHomes.{sized_by, some_counted}
-use Rattle.metadata_relation.proofs.BlockVariables.{block_inside, declared_as, declares, first_is_object, fresh}
+use Rattle.metadata_relation.proofs.BlockVariables.{declared_as, declares, first_is_object, fresh}
 use Rattle.metadata_relation.proofs.Holding.{home_on, temporaries_on, variables_on}
 use Rattle.metadata_relation.proofs.OuterBlocks.{are_over, waits_around}
 use Rattle.metadata_relation.proofs.Registers.{home_low, temporary_free}
@@ -83,9 +83,6 @@ module _ (c : Compiled) (IsGood : Bytes → Type 0) (right : IsCompiled c IsGood
   abbrev free : ℕ
   free = first_free h.code
 
-  abbrev top : ℕ
-  top = block_top_register h.code k
-
   abbrev body : List FlatInstruction
   body = body_of (function_in c.layout.program u)
 
@@ -101,11 +98,7 @@ module _ (c : Compiled) (IsGood : Bytes → Type 0) (right : IsCompiled c IsGood
   pub nd : IsNode c u n h.code (tac.EnterBlock k line next)
   nd = node c IsGood right u n temps ws s v xs h (tac.EnterBlock k line next) at
 
-  pub inside : block_top_register h.code k < tops_end h.code
-  inside = let low = block_inside h.code k some in omega arith
-
   pub to_make : IsToMake c IsGood u h.code (c.layout.address u n) v xs h.keys (spent 7 s) (objects_in (Some h.code) k) line
-      (block_top_register h.code k)
   to_make =
       let stands = stands_as c IsGood h.keys s v v.values v.work h.stands in
       record {
@@ -124,28 +117,26 @@ module _ (c : Compiled) (IsGood : Bytes → Type 0) (right : IsCompiled c IsGood
         sized = sized;
         word = word;
         has = nd.put.has;
-        first = omega arith;
-        last = inside;
         declared = declares h.code k;
         kinds = declared_as h.code k;
       }
 
   abbrev IsReady : flat.State → Type 0
-  IsReady = IsAtEnter c IsGood right u h.code pc v xs h.keys paid vs line top to_make
+  IsReady = IsAtEnter c IsGood right u h.code pc v xs h.keys paid vs line to_make
 
   abbrev Served : flat.State → Completed Block → Type 0
-  Served = Serves c IsGood right u h.code pc v xs h.keys paid vs line top to_make
+  Served = Serves c IsGood right u h.code pc v xs h.keys paid vs line to_make
 
   -- ---- the run ends
 
   abbrev place : ℕ
-  place = at_call c IsGood right u h.code pc v xs h.keys paid vs line top to_make
+  place = at_call c IsGood right u h.code pc v xs h.keys paid vs line to_make
 
   abbrev here : flat.State → CallSite
-  here y = call_site c IsGood right u h.code pc v xs h.keys paid vs line top to_make y
+  here y = call_site c IsGood right u h.code pc v xs h.keys paid vs line to_make y
 
   abbrev bound : Ending → ℕ
-  bound e = bound_of c IsGood right u h.code pc v xs h.keys paid vs line top to_make (Ended e paid)
+  bound e = bound_of c IsGood right u h.code pc v xs h.keys paid vs line to_make (Ended e paid)
 
   ended_by : (e : Ending) → EndsEntering line e → enter_block c.setting vs line paid ≡ Ended e paid
       → (y : flat.State) → IsReady y → Served y (enter_block c.setting vs line paid)
@@ -165,10 +156,10 @@ module _ (c : Compiled) (IsGood : Bytes → Type 0) (right : IsCompiled c IsGood
           let r = reached_then m p u xs pc place (place + 1) v y z 16 (bound e) ready.reached
           (record { steps = d.steps; comes = d.comes ∙ t.behind.at; few = t.behind.work }) in
           let f = status_ends m p u xs (free + 2) line enter_statuses t.kind (place + 1) z e
-          (has_front body (place + 1) (statuses c IsGood right u h.code pc v xs h.keys paid vs line top to_make)
-          (home_list c IsGood right u h.code pc v xs h.keys paid vs line top to_make
-          ++ writes c IsGood right u h.code pc v xs h.keys paid vs line top to_make)
-          (calls_has c IsGood right u h.code pc v xs h.keys paid vs line top to_make).1) (refl, (refl, tt)) t.status
+          (has_front body (place + 1) (statuses c IsGood right u h.code pc v xs h.keys paid vs line to_make)
+          (home_list c IsGood right u h.code pc v xs h.keys paid vs line to_make
+          ++ writes c IsGood right u h.code pc v xs h.keys paid vs line to_make)
+          (calls_has c IsGood right u h.code pc v xs h.keys paid vs line to_make).1) (refl, (refl, tt)) t.status
           (tells.among t.kind t.ending_is) t.ending_is in
           let few = r.few in
           let fewer = f.few in
@@ -192,9 +183,9 @@ module _ (c : Compiled) (IsGood : Bytes → Type 0) (right : IsCompiled c IsGood
   pub ended : (e : Ending) → EndsEntering line e → enter_block c.setting vs line paid ≡ Ended e paid
       → Follows (Over e (spent (3 * (paid.work - paid.work)) paid))
   ended e tells is =
-      let ready = to_call c IsGood right u h.code pc v xs h.keys paid vs line top to_make in
+      let ready = to_call c IsGood right u h.code pc v xs h.keys paid vs line to_make in
       ended_by e tells is ready.0 ready.1
-      (served c IsGood right u h.code pc v xs h.keys paid vs line top to_make ready.0 ready.1)
+      (served c IsGood right u h.code pc v xs h.keys paid vs line to_make ready.0 ready.1)
 
   -- ---- the block is entered
 
@@ -249,18 +240,18 @@ module _ (c : Compiled) (IsGood : Bytes → Type 0) (right : IsCompiled c IsGood
         }
 
     abbrev list : List FlatInstruction
-    list = enter_code c.layout.expansion.inline.operators (map_of c) c.layout.expansion.code h.code vs line top
+    list = enter_code c.layout.expansion.inline.operators (map_of c) c.layout.expansion.code h.code vs line
 
     all_made : (y : flat.State) × HaveMade c IsGood u h.code (c.layout.address u n) v xs h.keys (spent 7 s)
-        (objects_in (Some h.code) k) (block_top_register h.code k)
+        (objects_in (Some h.code) k)
         (c.layout.address u n + length (enter_code c.layout.expansion.inline.operators (map_of c) c.layout.expansion.code
-        h.code (objects_in (Some h.code) k) line (block_top_register h.code k))) y
-    all_made = objects_made c IsGood right u h.code pc v xs h.keys paid vs line top to_make space spare
+        h.code (objects_in (Some h.code) k) line)) y
+    all_made = objects_made c IsGood right u h.code pc v xs h.keys paid vs line to_make space spare
 
     module _ (y : flat.State) (d : HaveMade c IsGood u h.code (c.layout.address u n) v xs h.keys (spent 7 s)
-        (objects_in (Some h.code) k) (block_top_register h.code k)
+        (objects_in (Some h.code) k)
         (c.layout.address u n + length (enter_code c.layout.expansion.inline.operators (map_of c) c.layout.expansion.code
-        h.code (objects_in (Some h.code) k) line (block_top_register h.code k))) y) where
+        h.code (objects_in (Some h.code) k) line)) y) where
       abbrev after : (work : ℕ) → flat.State
       after w = record y { work = w }
 
@@ -272,7 +263,7 @@ module _ (c : Compiled) (IsGood : Bytes → Type 0) (right : IsCompiled c IsGood
           let i = stands_as c IsGood d.keys_after made y y.values w d.stands in
           record { for = for_worked (views c) d.keys_after IsGood made z.work (after w) i.for; top = i.top; turns = i.turns }
 
-      stay : (x o : ℕ) → get_or s.frame x NoObject ≡ InObject o → (j : ℕ) → j < 4
+      stay : (x o : ℕ) → get_or s.frame x NoObject ≡ InObject o → (j : ℕ) → j < 5
           → y.values (home_register h.code x + j) ≡ v.values (home_register h.code x + j)
       stay x o is j few =
           d.outer x j (h.holds.homes.declared x o is)
@@ -290,7 +281,7 @@ module _ (c : Compiled) (IsGood : Bytes → Type 0) (right : IsCompiled c IsGood
             homes = λ x o is.
                 (let home = b.homes x o is in
                 home_on (views c) h.keys d.keys_after s.objects made.objects v.memory y.memory on o
-                (home_register h.code x) v.values y.values (stay x o is)
+                (home_register h.code x) v.values y.values (λ j few. stay x o is j (omega arith))
                 (entered.lives.live o (live_made s.objects o home.live) home.held home.live) home);
             automatic = λ x o is. on.continues.storage o (live_made s.objects o (b.homes x o is).live) ∙ b.automatic x o is;
             sizes = λ x o is. on.continues.size o (live_made s.objects o (b.homes x o is).live) ∙ b.sizes x o is;
@@ -301,7 +292,6 @@ module _ (c : Compiled) (IsGood : Bytes → Type 0) (right : IsCompiled c IsGood
       holds w = record {
         temporaries = λ i lt known_.
             (let low = temporary_free h.code i lt in
-            let inside_tops = inside in
             temporaries_on (views c) h.keys d.keys_after s.objects made.objects v.memory y.memory d.goes
             (activation c h.code u n s) (suc i) (c.layout.expansion.entries u next) (c.layout.expansion.contents u next)
             (λ q. false)
@@ -310,7 +300,7 @@ module _ (c : Compiled) (IsGood : Bytes → Type 0) (right : IsCompiled c IsGood
               plain = λ j ne t. none_less c IsGood right u n temps ws s v xs h (tac.EnterBlock k line next) nd next refl (inl refl) j t;
               known = λ j ne t. refl;
             }) temps v.values y.values i (λ q. omega arith) lt
-            (λ j few. d.high (temporary_register h.code i + j) (omega arith) (omega arith) (λ q. omega arith))
+            (λ j few. d.high (temporary_register h.code i + j) (omega arith) (omega arith))
             h.holds.temporaries known_);
         variables = variables_on (views c) h.keys d.keys_after s.objects made.objects v.memory y.memory d.goes
             (activation c h.code u n s) s.plain v.values y.values d.low h.holds.variables;
@@ -328,12 +318,8 @@ module _ (c : Compiled) (IsGood : Bytes → Type 0) (right : IsCompiled c IsGood
         bound = length s.objects;
       }) ws xs
       outer =
-          let low = inside in
-          waits_around after_world z c.layout (stack_first c.setting) h.code k v.values y.values
-          (d.high (body_top_register h.code) (omega arith) (omega arith) (λ q. omega arith))
-          (λ q ne lt. d.high (block_top_register h.code q) (omega arith) (omega arith) (λ i. ne (omega arith)))
-          s.stacked (length s.objects) s.frame ws xs stay
-          (fresh h.code k s.frame none (first_object vs) (first_is_object vs some))
+          waits_around after_world z c.layout (stack_first c.setting) h.code v.values y.values s.stacked
+          (length s.objects) s.frame ws xs stay
           (waits_by (views c) h.keys d.keys_after s z v.memory y.memory c.layout (stack_first c.setting)
           (length s.objects) d.goes (λ o lt live held. entered.lives.live o lt held live)
           (λ homes lock below of. lock_same d.keys_after made z refl homes lock (d.locks homes lock
@@ -354,7 +340,7 @@ module _ (c : Compiled) (IsGood : Bytes → Type 0) (right : IsCompiled c IsGood
                     cc);
                 lock_is = record { first = omega arith; last = omega arith };
                 top_is = d.top_is;
-                top_is_one = record { first = omega arith; last = inside };
+                top_is_one = record { first = omega arith; last = omega arith };
               };
               mark = length s.objects;
               own = λ o q.

@@ -47,8 +47,8 @@ use Rattle.metadata_plan.proofs.Flat.{leads_comes, words_kept}
 use Rattle.metadata_relation.specs.Blocks.{enter_body, enter_code, objects_of_body, prologue, store_parameters}
 use Rattle.metadata_relation.specs.Blocks.{zero_variables}
 use Rattle.metadata_relation.specs.Holding.{Holds, is_object_in, is_pointer_type, IsHeldAt}
-use Rattle.metadata_relation.specs.Registers.{body_top_register, first_free, first_object}
-use Rattle.metadata_relation.specs.Registers.{parameters_end, tops_end, variable_register, variables_end}
+use Rattle.metadata_relation.specs.Registers.{first_free, first_object, homes_end}
+use Rattle.metadata_relation.specs.Registers.{parameters_end, variable_register, variables_end}
 use Rattle.metadata_relation.specs.Scopes.{context_at}
 use Rattle.metadata_relation.specs.Stages.{activation, Compiled, expansion_of, level, map_of, MatchesBy, names}
 use Rattle.metadata_relation.specs.Stages.{views, world}
@@ -174,7 +174,6 @@ module _ (c : Compiled) (IsGood : Bytes → Type 0) (right : IsCompiled c IsGood
 
     abbrev make_list : List FlatInstruction
     make_list = enter_code c.layout.expansion.inline.operators (map_of c) c.layout.expansion.code k (objects_of_body k) k.line
-        (body_top_register k)
 
     abbrev store_list : List FlatInstruction
     store_list = store_parameters c.layout.expansion.inline k 0 k.parameters
@@ -195,7 +194,7 @@ module _ (c : Compiled) (IsGood : Bytes → Type 0) (right : IsCompiled c IsGood
     sized = sized_by objects
         (and_parts (are_sized objects) _ (and_parts (has_objects objects) _ (plain.entered some)).1).0
 
-    to_make : IsToMake c IsGood f k at_objects v1 (frame ∷ xs) keys mid objects k.line (body_top_register k)
+    to_make : IsToMake c IsGood f k at_objects v1 (frame ∷ xs) keys mid objects k.line
     to_make =
         let th = there c IsGood right f k found in
         let behind = room_behind false p frame xs in
@@ -233,18 +232,16 @@ module _ (c : Compiled) (IsGood : Bytes → Type 0) (right : IsCompiled c IsGood
           word = ltb-true (block_bytes objects) (2 ^ 64)
               (and_parts (are_sized objects) _ (and_parts (has_objects objects) _ (plain.entered some)).1).1;
           has = has_front body at_objects make_list store_list has_body;
-          first = omega arith;
-          last = omega arith;
           declared = λ y e. (declared y e).0;
           kinds = λ y e. (declared y e).1;
         }
 
-    all_made : (y : flat.State) × HaveMade c IsGood f k at_objects v1 (frame ∷ xs) keys mid objects (body_top_register k)
+    all_made : (y : flat.State) × HaveMade c IsGood f k at_objects v1 (frame ∷ xs) keys mid objects
         (at_objects + length make_list) y
-    all_made = objects_made c IsGood right f k at_objects v1 (frame ∷ xs) keys mid objects k.line (body_top_register k)
+    all_made = objects_made c IsGood right f k at_objects v1 (frame ∷ xs) keys mid objects k.line
         to_make h.space (h.spare some)
 
-    module _ (y : flat.State) (d : HaveMade c IsGood f k at_objects v1 (frame ∷ xs) keys mid objects (body_top_register k)
+    module _ (y : flat.State) (d : HaveMade c IsGood f k at_objects v1 (frame ∷ xs) keys mid objects
         (at_objects + length make_list) y) where
       abbrev made : State
       made = entered_in (objects_of_body k) (before_objects (header_of_code k) vs (begun s))
@@ -255,9 +252,9 @@ module _ (c : Compiled) (IsGood : Bytes → Type 0) (right : IsCompiled c IsGood
       low_same : (r : ℕ) → r < variables_end k → y.values r ≡ regs r
       low_same r lt = d.low r lt ∙ b.same r
 
-      high_none : (r : ℕ) → tops_end k ≤ r → r < first_free k → y.values r ≡ 0
+      high_none : (r : ℕ) → homes_end k ≤ r → r < first_free k → y.values r ≡ 0
       high_none r le lt =
-          d.high r (omega arith) lt (λ e. omega arith) ∙ b.same r
+          d.high r le lt ∙ b.same r
           ∙ argument_out first (parameters_end k) r values (omega arith)
 
       holds : Holds (world c d.keys_after made y) (activation c k f k.entry made) no_temps made.plain made.frame y.values

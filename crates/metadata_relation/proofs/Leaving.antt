@@ -24,7 +24,7 @@ use Rattle.flat_meaning.specs.Words.{HasWords}
 use Rattle.lib_wrappers.proofs.AllocatingRoutines.BlockDeaths.{count_without}
 use Rattle.metadata_relation.specs.Blocks.{leave_code}
 use Rattle.metadata_relation.specs.Holding.{Holds}
-use Rattle.metadata_relation.specs.Registers.{block_top_register, first_free}
+use Rattle.metadata_relation.specs.Registers.{first_free}
 use Rattle.metadata_relation.specs.Scopes.{AreGood, base_of, context_at, numbers_in, variables_at}
 use Rattle.metadata_relation.specs.Stages.{activation, Compiled, expansion_of, IsAt, IsSteady, level, map_of, MatchesBy}
 use Rattle.metadata_relation.specs.Stages.{names, StandsIn, views, world}
@@ -65,16 +65,13 @@ module _ (c : Compiled) (IsGood : Bytes → Type 0) (right : IsCompiled c IsGood
   abbrev vs : List Variable
   vs = objects_in (Some h.code) k
 
-  abbrev top : ℕ
-  top = block_top_register h.code k
-
   -- its objects are dead
   out : (y : flat.State) × HasLeftObjects c IsGood u n temps (Entered k b ∷ ws) s v xs h b.homes b.stacked entered.mark
       (c.layout.address u n
-      + length (leave_code c.layout.expansion.inline (map_of c) h.code (objects_in (Some h.code) k) (block_top_register h.code k)))
+      + length (leave_code c.layout.expansion.inline (map_of c) h.code (objects_in (Some h.code) k)))
       y
   out =
-      leaves_objects c IsGood right u n temps (Entered k b ∷ ws) s v xs h words vs top b.stacked b.homes entered.block
+      leaves_objects c IsGood right u n temps (Entered k b ∷ ws) s v xs h words vs b.stacked b.homes entered.block
       entered.mark entered.own nd.put.has
 
   -- ---- the state is good
@@ -166,7 +163,7 @@ module _ (c : Compiled) (IsGood : Bytes → Type 0) (right : IsCompiled c IsGood
   leaves =
       let m = map_of c in
       let p = c.layout.program in
-      let e = reached_on m p u xs pc (pc + length (leave_code c.layout.expansion.inline m h.code vs top))
+      let e = reached_on m p u xs pc (pc + length (leave_code c.layout.expansion.inline m h.code vs))
       (c.layout.address u next) v out.0 26 out.1.reached nd.put.leads in
       let few = e.1.few in
       let so_far = h.work in

@@ -31,7 +31,7 @@ use Rattle.lib_wrappers.proofs.AllocatingRoutines.BlockDeaths.{count_without, wi
 use Rattle.lib_wrappers.proofs.AllocatingRoutines.OuterBlocks.{still_of_lock}
 use Rattle.metadata_relation.specs.Blocks.{leave_code, top_cell, write_top}
 use Rattle.metadata_relation.specs.Holding.{GoesOn}
-use Rattle.metadata_relation.specs.Registers.{first_free, lock_register}
+use Rattle.metadata_relation.specs.Registers.{first_free, lock_register, top_register}
 use Rattle.metadata_relation.specs.Stages.{Compiled, expansion_of, IsAt, map_of, StandsIn, views, world}
 use Rattle.metadata_relation.specs.Steps.{IsCompiled}
 use Rattle.metadata_relation.specs.Waiting.{AreBetween, IsBlockAt}
@@ -75,11 +75,11 @@ module _ (c : Compiled) (IsGood : Bytes → Type 0) (u n : ℕ) (temps : Temps) 
 module _ (c : Compiled) (IsGood : Bytes → Type 0) (right : IsCompiled c IsGood) (u n : ℕ) (temps : Temps)
     (ws : List Frame) (s : State) (v : flat.State) (xs : List flat.Frame)
     (h : IsAt c IsGood u n temps ws s u (c.layout.address u n) v xs)
-    (words : HasWords (flat.Stands u (c.layout.address u n) v xs)) (entered : List Variable) (top outer : ℕ)
-    (homes : List Home) (block : IsBlockAt (world c h.keys s v) s h.code entered top outer homes v.values) (mark : ℕ)
+    (words : HasWords (flat.Stands u (c.layout.address u n) v xs)) (entered : List Variable) (outer : ℕ)
+    (homes : List Home) (block : IsBlockAt (world c h.keys s v) s h.code entered outer homes v.values) (mark : ℕ)
     (own : AreBetween mark (length s.objects) homes)
     (has : HasAt (body_of (function_in c.layout.program u)) (c.layout.address u n)
-    (leave_code c.layout.expansion.inline (map_of c) h.code entered top)) where
+    (leave_code c.layout.expansion.inline (map_of c) h.code entered)) where
   abbrev pc : ℕ
   pc = c.layout.address u n
 
@@ -89,23 +89,26 @@ module _ (c : Compiled) (IsGood : Bytes → Type 0) (right : IsCompiled c IsGood
   abbrev lock : ℕ
   lock = lock_register h.code entered
 
+  abbrev top : ℕ
+  top = top_register h.code entered
+
   abbrev left : State
   left = without homes outer s
 
   abbrev place : ℕ
-  place = c.layout.address u n + length (leave_code c.layout.expansion.inline (map_of c) h.code entered top)
+  place = c.layout.address u n + length (leave_code c.layout.expansion.inline (map_of c) h.code entered)
 
   lock_low : lock_register h.code entered < first_free h.code
   lock_low = let last = block.lock_is.last in omega arith
 
-  top_low : top < first_free h.code
+  top_low : top_register h.code entered < first_free h.code
   top_low = let last = block.top_is_one.last in omega arith
 
   abbrev releases : List FlatInstruction
   releases = c.layout.expansion.inline.leave (lock_register h.code entered) (first_free h.code)
 
   abbrev writes : List FlatInstruction
-  writes = write_top (map_of c) top (first_free h.code)
+  writes = write_top (map_of c) (top_register h.code entered) (first_free h.code)
 
   abbrev at_writes : ℕ
   at_writes = c.layout.address u n + length releases
@@ -137,7 +140,7 @@ module _ (c : Compiled) (IsGood : Bytes → Type 0) (right : IsCompiled c IsGood
   abbrev after : (work : ℕ) → flat.State
   after w = record released.after {
     values = put released.after.values free (top_cell (map_of c));
-    memory = store 8 released.after.memory (top_cell (map_of c)) (released.after.values top);
+    memory = store 8 released.after.memory (top_cell (map_of c)) (released.after.values (top_register h.code entered));
     work = w;
   }
 
@@ -184,7 +187,7 @@ module _ (c : Compiled) (IsGood : Bytes → Type 0) (right : IsCompiled c IsGood
   lives o lt = without_other homes o s.objects (λ q. (let z = own o q in let above = z.0 in absurd (omega arith)))
 
   pub leaves_objects : (y : flat.State) × HasLeftObjects c IsGood u n temps ws s v xs h homes outer mark
-      (c.layout.address u n + length (leave_code c.layout.expansion.inline (map_of c) h.code entered top)) y
+      (c.layout.address u n + length (leave_code c.layout.expansion.inline (map_of c) h.code entered)) y
   leaves_objects =
       let m = map_of c in
       let p = c.layout.program in

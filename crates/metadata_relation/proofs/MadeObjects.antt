@@ -1,10 +1,10 @@
 -- The objects of a block, or of the body of a function, are made: a function of the runtime places them, registers get
 -- their homes, and the object stack ends behind them.
-use Rattle.std.proofs.Common.{◌≡◌, ◌≢◌, inl, inr, ℕ, ◌+◌, ◌-◌, ◌*◌, ◌%◌, ◌^◌, ◌<◌, ◌≤◌, true}
+use Rattle.std.proofs.Common.{◌≡◌, ◌≢◌, ◌⊎◌, inl, inr, ℕ, ◌+◌, ◌-◌, ◌*◌, ◌%◌, ◌^◌, ◌<◌, ◌≤◌, true}
 use Rattle.std.proofs.Common.{List, ◌∷◌, ◌++◌, length, length-append, get_or, Some, refl, sym, ap, ◌∙◌}
 use Rattle.std.proofs.Common.{subst, arith}
 use Rattle.std.specs.Prelude.{slice_get, nat_le, nat_lt}
-use Rattle.std.proofs.lemmas.Bool.{leb-true}
+use Rattle.std.proofs.lemmas.Bool.{cases_lt, leb-true}
 use Rattle.addr_map.specs.declared.region.Region.TheVariants.{RuntimeCalls}
 use Rattle.addr_map.specs.Places.{region_size}
 use Rattle.obj_memory.specs.Heap.{is_allocated, rounded_up}
@@ -51,7 +51,7 @@ use Rattle.metadata_relation.specs.Blocks.{enter_code, enter_place, enter_status
 use Rattle.metadata_relation.specs.Blocks.{status_code, top_cell, write_top}
 use Rattle.metadata_relation.specs.Holding.{GoesOn, HasHomes, IsHome, is_object_in}
 use Rattle.metadata_relation.specs.Registers.{first_free, first_object, home_register, homes_end, lock_register}
-use Rattle.metadata_relation.specs.Registers.{tops_end, variables_end}
+use Rattle.metadata_relation.specs.Registers.{top_register, variables_end}
 use Rattle.metadata_relation.specs.Stages.{Compiled, map_of, StandsIn, views, world}
 use Rattle.metadata_relation.specs.Steps.{IsCompiled}
 use Rattle.metadata_relation.proofs.Acting.{Reached, reached_by, reached_computed, reached_next, reached_then}
@@ -59,10 +59,10 @@ use Rattle.metadata_relation.proofs.Acting.{reached_words, stands_as}
 use Rattle.metadata_relation.proofs.Behind.{for_behind}
 use Rattle.metadata_relation.proofs.BlockHomes.{has_home_in, home_at_least, homed, IsHomed}
 use Rattle.metadata_relation.proofs.BlockHomes.{home_spelled, new_storage, not_static, object_by_home}
-use Rattle.metadata_relation.proofs.BlockHomes.{outside_high, outside_home, outside_low}
+use Rattle.metadata_relation.proofs.BlockHomes.{outside_high, outside_home, outside_low, outside_top}
 use Rattle.metadata_relation.proofs.BlockVariables.{first_is_object}
 use Rattle.metadata_relation.proofs.RuntimeCalls.{runtime_call_in, site_in}
-use Rattle.metadata_relation.proofs.PlacedHomes.{are_apart, IsOutside, Places, places}
+use Rattle.metadata_relation.proofs.PlacedHomes.{are_apart, before_grows, IsOutside, Places, places}
 use Rattle.metadata_relation.proofs.Registers.{home_low}
 use Rattle.metadata_relation.proofs.Statuses.{status_passed}
 use Rattle.metadata_relation.proofs.TopCell.{cell_place, stack_low, top_read, top_written}
@@ -86,7 +86,7 @@ placed_lives vs stacked objects =
 -- What is known where the code of making them stands: the run is in a function of the program, whose variables they are,
 -- and there is room for the record of one more function of the runtime.
 pub record IsToMake (c : Compiled) (IsGood : Bytes → Type 0) (u : ℕ) (code : CodeFunction) (pc : ℕ) (v : flat.State)
-    (xs : List flat.Frame) (keys : Keys) (s : State) (vs : List Variable) (line top : ℕ) : Type 0 where
+    (xs : List flat.Frame) (keys : Keys) (s : State) (vs : List Variable) (line : ℕ) : Type 0 where
   pub there : slice_get c.layout.expansion.code.functions u ≡ Some code
   pub words : HasWords (flat.Stands u pc v xs)
   pub stands : StandsIn c IsGood keys s v
@@ -98,16 +98,14 @@ pub record IsToMake (c : Compiled) (IsGood : Bytes → Type 0) (u : ℕ) (code :
   pub sized : AreSized vs
   pub word : block_bytes vs < 2 ^ 64
   pub has : HasAt (body_of (function_in c.layout.program u)) pc
-      (enter_code c.layout.expansion.inline.operators (map_of c) c.layout.expansion.code code vs line top)
-  pub first : homes_end code ≤ top
-  pub last : top < tops_end code
+      (enter_code c.layout.expansion.inline.operators (map_of c) c.layout.expansion.code code vs line)
   pub declared : (q : ℕ) → is_object_in vs q ≡ true → is_object_in (all_variables code) q ≡ true
   pub kinds : (q : ℕ) → is_object_in vs q ≡ true → at_number vs q ≡ at_number (all_variables code) q
 
 -- They are made: each has its home, and registers that are none of these homes are as they were, but for what a block has
 -- for itself and the one with the end of the object stack from before.
 pub record HaveMade (c : Compiled) (IsGood : Bytes → Type 0) (u : ℕ) (code : CodeFunction) (pc : ℕ) (v : flat.State)
-    (xs : List flat.Frame) (keys : Keys) (s : State) (vs : List Variable) (top place : ℕ) (after : flat.State) : Type 0
+    (xs : List flat.Frame) (keys : Keys) (s : State) (vs : List Variable) (place : ℕ) (after : flat.State) : Type 0
   where
     pub keys_after : Keys
     pub reached : Reached (map_of c) c.layout.program u pc v xs place after
@@ -115,11 +113,11 @@ pub record HaveMade (c : Compiled) (IsGood : Bytes → Type 0) (u : ℕ) (code :
     pub stands : StandsIn c IsGood keys_after (entered_in vs s) after
     pub goes : GoesOn (views c) keys keys_after s.objects (entered_in vs s).objects v.memory after.memory
     pub low : (r : ℕ) → r < variables_end code → after.values r ≡ v.values r
-    pub high : (r : ℕ) → homes_end code ≤ r → r < first_free code → r ≢ top → after.values r ≡ v.values r
+    pub high : (r : ℕ) → homes_end code ≤ r → r < first_free code → after.values r ≡ v.values r
     pub outer : (x j : ℕ) → is_object_in (all_variables code) x ≡ true
-        → ((q : ℕ) → is_object_in vs q ≡ true → x ≢ q) → j < 4
+        → ((q : ℕ) → is_object_in vs q ≡ true → x ≢ q) → j < 5
         → after.values (home_register code x + j) ≡ v.values (home_register code x + j)
-    pub top_is : after.values top ≡ s.stacked
+    pub top_is : after.values (top_register code vs) ≡ s.stacked
     pub homes : HasHomes (world c keys_after (entered_in vs s) after) code (homes_from vs (length s.objects)) after.values
     pub locks : (homes : List Home) (lock : ℕ) → AreOfLock keys s homes lock
         → AreOfLock keys_after (entered_in vs s) homes lock
@@ -127,10 +125,20 @@ pub record HaveMade (c : Compiled) (IsGood : Bytes → Type 0) (u : ℕ) (code :
         (after.values (lock_register code vs))
 
 module _ (c : Compiled) (IsGood : Bytes → Type 0) (right : IsCompiled c IsGood) (u : ℕ) (code : CodeFunction) (pc : ℕ)
-    (v : flat.State) (xs : List flat.Frame) (keys : Keys) (s : State) (vs : List Variable) (line top : ℕ)
-    (t : IsToMake c IsGood u code pc v xs keys s vs line top) where
+    (v : flat.State) (xs : List flat.Frame) (keys : Keys) (s : State) (vs : List Variable) (line : ℕ)
+    (t : IsToMake c IsGood u code pc v xs keys s vs line) where
   abbrev free : ℕ
   free = first_free code
+
+  abbrev top : ℕ
+  top = top_register code vs
+
+  -- the register with the end of the object stack is in the home of an object
+  first_declared : is_object_in (all_variables code) (first_object vs) ≡ true
+  first_declared = t.declared (first_object vs) (first_is_object vs t.some)
+
+  top_low : top_register code vs < homes_end code
+  top_low = (let low = home_low code (first_object vs) first_declared in omega arith)
 
   abbrev body : List FlatInstruction
   body = body_of (function_in c.layout.program u)
@@ -158,8 +166,7 @@ module _ (c : Compiled) (IsGood : Bytes → Type 0) (right : IsCompiled c IsGood
   at_call = pc + 1 + 1 + 1 + length constants
 
   abbrev pub behind_list : ℕ
-  behind_list = pc + length (enter_code c.layout.expansion.inline.operators (map_of c) c.layout.expansion.code code vs line
-      top)
+  behind_list = pc + length (enter_code c.layout.expansion.inline.operators (map_of c) c.layout.expansion.code code vs line)
 
   -- ---- to the call
 
@@ -170,8 +177,8 @@ module _ (c : Compiled) (IsGood : Bytes → Type 0) (right : IsCompiled c IsGood
     pub stands : IsFor (views c) keys IsGood s y
     pub top_is : y.values (first_free code) ≡ s.stacked
     pub bytes : y.values (first_free code + 1) ≡ block_bytes vs
-    pub kept : y.values top ≡ s.stacked
-    pub others : (r : ℕ) → r < first_free code → r ≢ top → y.values r ≡ v.values r
+    pub kept : y.values (top_register code vs) ≡ s.stacked
+    pub others : (r : ℕ) → r < first_free code → r ≢ top_register code vs → y.values r ≡ v.values r
     pub memory : y.memory ≡ v.memory
     pub turns : y.turns ≡ v.turns
 
@@ -180,7 +187,7 @@ module _ (c : Compiled) (IsGood : Bytes → Type 0) (right : IsCompiled c IsGood
       let m = map_of c in
       let p = c.layout.program in
       let has = t.has in
-      let low = t.last in
+      let low = top_low in
       let cell = top_cell m in
       let one = at_place m p u pc v xs (pc + 2) (pc + 1 + 1)
       (record v { values = put (put v.values top cell) top (load 8 v.memory cell) }) 4
@@ -381,20 +388,36 @@ module _ (c : Compiled) (IsGood : Bytes → Type 0) (right : IsCompiled c IsGood
           (free + 5) (free + 6) (free + 7) vs object_here
 
       home_outside : (x j : ℕ) → is_object_in (all_variables code) x ≡ true
-          → ((q : ℕ) → is_object_in vs q ≡ true → x ≢ q) → j < 4 → IsOutsideHomes (home_register code x + j)
+          → ((q : ℕ) → is_object_in vs q ≡ true → x ≢ q) → j < 5 → IsOutsideHomes (home_register code x + j)
       home_outside = outside_home (map_of c) c.layout.program u xs c.layout.expansion.inline.operators code (free + 3)
           (free + 5) (free + 6) (free + 7) vs object_here
 
-      same : (r : ℕ) → r < first_free code → r ≢ top → IsOutsideHomes r → (after 0).values r ≡ v.values r
+      top_outside : IsOutsideHomes (top_register code vs)
+      top_outside = outside_top (map_of c) c.layout.program u xs c.layout.expansion.inline.operators code (free + 3)
+          (free + 5) (free + 6) (free + 7) vs object_here (first_object vs) first_declared
+
+      same : (r : ℕ) → r < first_free code → r ≢ top_register code vs → IsOutsideHomes r → (after 0).values r ≡ v.values r
       same r lt ne out =
           put_other placed.after (free + 7) cell r (λ q. omega arith) ∙ placed.others r out
           ∙ e.behind.others r (inl (omega arith)) ∙ ready.others r lt ne
 
-      top_kept : (after 0).values top ≡ s.stacked
+      -- no register of another home is the one with the end of the object stack
+      not_top : (x j : ℕ) → is_object_in (all_variables code) x ≡ true
+          → ((q : ℕ) → is_object_in vs q ≡ true → x ≢ q) → j < 5 → home_register code x + j ≢ top_register code vs
+      not_top x j object other few = by (cases_lt x (first_object vs)) (cases_lt (first_object vs) x)
+        where
+          by : (x < first_object vs) ⊎ (first_object vs ≤ x) → (first_object vs < x) ⊎ (x ≤ first_object vs)
+              → home_register code x + j ≢ top_register code vs
+          by (inl lt) second e =
+              (let more = before_grows (all_variables code) x (first_object vs) object (omega arith) in omega arith)
+          by (inr le) (inl lt) e =
+              (let more = before_grows (all_variables code) (first_object vs) x first_declared (omega arith) in omega arith)
+          by (inr le) (inr ge) e = other (first_object vs) (first_is_object vs t.some) (omega arith)
+
+      top_kept : (after 0).values (top_register code vs) ≡ s.stacked
       top_kept =
-          let low = t.last in
-          let high = t.first in
-          put_other placed.after (free + 7) cell top (λ q. omega arith) ∙ placed.others top (high_outside top high)
+          let low = top_low in
+          put_other placed.after (free + 7) cell top (λ q. omega arith) ∙ placed.others top top_outside
           ∙ e.behind.others top (inl (omega arith)) ∙ ready.kept
 
       -- ---- memory
@@ -518,7 +541,7 @@ module _ (c : Compiled) (IsGood : Bytes → Type 0) (right : IsCompiled c IsGood
 
       -- ---- all of it
 
-      makes : (z : flat.State) × HaveMade c IsGood u code pc v xs keys s vs top behind_list z
+      makes : (z : flat.State) × HaveMade c IsGood u code pc v xs keys s vs behind_list z
       makes =
           let m = map_of c in
           let p = c.layout.program in
@@ -542,14 +565,12 @@ module _ (c : Compiled) (IsGood : Bytes → Type 0) (right : IsCompiled c IsGood
                   (subst (λ q. Reached m p u pc v xs q (after work) (most_so_far + 4)) len all);
               stands = stands_in work;
               goes = on;
-              low = λ r lt.
-                  (let first = t.first in
-                  same r (omega arith) (λ q. omega arith) (low_outside r lt));
-              high = λ r le lt ne. same r lt ne (high_outside r le);
+              low = λ r lt. same r (omega arith) (λ q. omega arith) (low_outside r lt);
+              high = λ r le lt. (let low = top_low in same r lt (λ q. omega arith) (high_outside r le));
               outer = λ x j object other few.
                   (let low = home_low code x object in
-                  let first = t.first in
-                  same (home_register code x + j) (omega arith) (λ q. omega arith) (home_outside x j object other few));
+                  same (home_register code x + j) (omega arith) (not_top x j object other few)
+                  (home_outside x j object other few));
               top_is = top_kept;
               homes = record {
                 declared = λ x o is. t.declared x (own x o is).object;
@@ -562,7 +583,7 @@ module _ (c : Compiled) (IsGood : Bytes → Type 0) (right : IsCompiled c IsGood
             },
           )
 
-    pub objects_made : (z : flat.State) × HaveMade c IsGood u code pc v xs keys s vs top behind_list z
+    pub objects_made : (z : flat.State) × HaveMade c IsGood u code pc v xs keys s vs behind_list z
     objects_made =
         makes to_call.0 to_call.1
         (subst (Serves to_call.0) (enters_block c.setting vs line s space t.some spare) (served to_call.0 to_call.1))

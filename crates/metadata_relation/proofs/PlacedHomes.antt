@@ -35,12 +35,12 @@ use Rattle.metadata_relation.proofs.StoredParts.{sum_is}
 
 -- homes of objects are one behind the other
 pub before_grows : (vs : List Variable) (x y : ℕ) → is_object_in vs x ≡ true → x < y
-    → before home_words x vs + 4 ≤ before home_words y vs
+    → before home_words x vs + 5 ≤ before home_words y vs
 before_grows [] x y e lt = absurd cc
 before_grows (v ∷ vs) zero zero e lt = absurd (omega (arith, lt))
 before_grows (v ∷ vs) zero (suc y) e lt =
-    let four : home_words v ≡ 4 = ap (λ b. if b then 4 else 0) e in
-    omega (arith, four)
+    let five : home_words v ≡ 5 = ap (λ b. if b then 5 else 0) e in
+    omega (arith, five)
 before_grows (v ∷ vs) (suc x) zero e lt = absurd (omega (arith, lt))
 before_grows (v ∷ vs) (suc x) (suc y) e lt =
     let more = before_grows vs x y e (omega (arith, lt)) in

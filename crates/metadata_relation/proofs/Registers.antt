@@ -112,13 +112,13 @@ variables_apart c x y k l e f ne = ⊎_elim
 -- ---- homes and temporaries
 
 home_before : (vs : List Variable) (x : ℕ) → is_object_in vs x ≡ true
-    → before home_words x vs + 4 ≤ total home_words vs
+    → before home_words x vs + 5 ≤ total home_words vs
 home_before [] x e = cc
-home_before (v ∷ vs) zero e = let w : home_words v ≡ 4 = ap (λ b. if b then 4 else 0) e in omega (arith, w)
+home_before (v ∷ vs) zero e = let w : home_words v ≡ 5 = ap (λ b. if b then 5 else 0) e in omega (arith, w)
 home_before (v ∷ vs) (suc x) e = omega (arith, home_before vs x e)
 
 pub home_low : (c : CodeFunction) (x : ℕ) → is_object_in (all_variables c) x ≡ true
-    → home_register c x + 4 ≤ homes_end c
+    → home_register c x + 5 ≤ homes_end c
 home_low c x e = omega (arith, home_before (all_variables c) x e)
 
 pub temporary_free : (c : CodeFunction) (i : ℕ) → i < most_temporaries c.code

@@ -46,7 +46,7 @@ use Rattle.metadata_plan.proofs.Library.{status_is}
 use Rattle.metadata_relation.specs.Blocks.{objects_of_body, result_of, result_entry, leave_code, before_main}
 use Rattle.metadata_relation.specs.Blocks.{untagged}
 use Rattle.metadata_relation.specs.Holding.{GoesOn, World, IsHeldAt, Holds}
-use Rattle.metadata_relation.specs.Registers.{result_words, temporary_register, body_top_register}
+use Rattle.metadata_relation.specs.Registers.{result_words, temporary_register}
 use Rattle.metadata_relation.specs.Scopes.{IsInCall, AreGoodBy, AreGood, context_at}
 use Rattle.metadata_relation.specs.Stages.{Compiled, map_of, views, names, world, level, expansion_of}
 use Rattle.metadata_relation.specs.Stages.{IsAt, MatchesBy, StandsIn}
@@ -166,7 +166,7 @@ module _ (c : Compiled) (IsGood : Bytes → Type 0) (right : IsCompiled c IsGood
     here : instruction_at c.layout.program u at_return ≡ Some (flat_code.Return (temporary_register h.code a))
 
   abbrev leave : List FlatInstruction
-  leave = leave_code c.layout.expansion.inline (map_of c) h.code (objects_of_body h.code) (body_top_register h.code)
+  leave = leave_code c.layout.expansion.inline (map_of c) h.code (objects_of_body h.code)
 
   abbrev hands_over : List FlatInstruction
   hands_over = flat_code.Return (temporary_register h.code a) ∷ []
@@ -200,7 +200,7 @@ module _ (c : Compiled) (IsGood : Bytes → Type 0) (right : IsCompiled c IsGood
   some_left outer b some =
       let has = subst (λ i. HasAt body pc ((if i then leave else []) ++ hands_over)) some label.put.has in
       let t = leaves_objects c IsGood right u n temps ws s v xs h as_words (objects_of_body h.code)
-      (body_top_register h.code) outer s.frame
+      outer s.frame
       (subst (BodyBy (world c h.keys s v) s h.code s.stacked outer s.frame v.values) some b.by) b.mark b.own
       (has_front body pc leave hands_over has) in
       record {

@@ -31,7 +31,7 @@ use Rattle.metadata_plan.specs.Entries.{IsOther, given, AreClosed}
 use Rattle.metadata_plan.specs.Expanded.{Leads}
 use Rattle.metadata_relation.specs.Contents.{AreKept}
 use Rattle.metadata_relation.specs.Steps.{IsCompiled}
-use Rattle.metadata_relation.specs.Registers.{parameters_end, result_words, area_words, variables_end, tops_end}
+use Rattle.metadata_relation.specs.Registers.{parameters_end, result_words, area_words, variables_end, homes_end}
 use Rattle.metadata_relation.specs.Blocks.{Expansion, prologue, result_of}
 use Rattle.metadata_relation.specs.Holding.{Holds}
 use Rattle.metadata_relation.specs.Scopes.{Names, context_at, AreGoodBy, AreGood}
@@ -257,7 +257,7 @@ module _ (c : Compiled) (IsGood : Bytes → Type 0) (right : IsCompiled c IsGood
       → (input' ≡ input) × (output' ≡ output) × (taken' ≡ taken) × (turns ≤ turns')
       → AreGood (names c) u ws (record (counted_as s input output taken turns work) { plain = plain })
       → Holds (world c h.keys s v) (activation c h.code u next s) temps' plain s.frame values
-      → ((r : ℕ) → variables_end h.code ≤ r → r < tops_end h.code → values r ≡ v.values r)
+      → ((r : ℕ) → variables_end h.code ≤ r → r < homes_end h.code → values r ≡ v.values r)
       → most + factor * s.work ≤ factor * work
       → Gives (Stands u next temps' ws (record (counted_as s input output taken turns work) { plain = plain }))
   arrives next temps' plain input output taken turns work values input' output' taken' turns' most k shown good holds

@@ -22,8 +22,7 @@ use Rattle.lib_wrappers.proofs.AllocatingRoutines.OuterBlocks.{still_of_lock}
 use Rattle.lib_wrappers.proofs.AllocatingRoutines.BlockDeaths.{without_other, count_without}
 use Rattle.c_tree.specs.declared.program.Variable.{Variable}
 use Rattle.tac_ir.specs.Meaning.{objects_in}
-use Rattle.metadata_relation.specs.Registers.{variables_end, tops_end, lock_register, body_top_register}
-use Rattle.metadata_relation.specs.Registers.{block_top_register}
+use Rattle.metadata_relation.specs.Registers.{variables_end, homes_end, lock_register, top_register}
 use Rattle.metadata_relation.specs.Holding.{World}
 use Rattle.metadata_relation.specs.Blocks.{objects_of_body}
 use Rattle.metadata_relation.specs.Waiting.{AreBetween, IsEnteredAs, BodyBy, IsBodyAs, Layout}
@@ -297,15 +296,15 @@ module _ (g : Views) (k : Keys) (s : State) (b : Block) (l : Layout) (first boun
 -- ---- registers change that are none of homes
 
 module _ (w : World) (s : State) (l : Layout) (first : ℕ) (c : CodeFunction) (values after : flat.Values)
-    (same : (r : ℕ) → variables_end c ≤ r → r < tops_end c → after r ≡ values r) where
-  block_at : (entered : List Variable) (top outer : ℕ) (homes : List Home)
-      → IsBlockAt w s c entered top outer homes values → IsBlockAt w s c entered top outer homes after
-  block_at entered top outer homes h = record {
+    (same : (r : ℕ) → variables_end c ≤ r → r < homes_end c → after r ≡ values r) where
+  block_at : (entered : List Variable) (outer : ℕ) (homes : List Home)
+      → IsBlockAt w s c entered outer homes values → IsBlockAt w s c entered outer homes after
+  block_at entered outer homes h = record {
     of_lock = subst (AreOfLock w.keys s homes)
         (sym (same (lock_register c entered) h.lock_is.first h.lock_is.last)) h.of_lock;
     placed = h.placed;
     lock_is = h.lock_is;
-    top_is = same top h.top_is_one.first h.top_is_one.last ∙ h.top_is;
+    top_is = same (top_register c entered) h.top_is_one.first h.top_is_one.last ∙ h.top_is;
     top_is_one = h.top_is_one;
   }
 
@@ -319,14 +318,14 @@ module _ (w : World) (s : State) (l : Layout) (first : ℕ) (c : CodeFunction) (
   }
     where
       by : (b : Bool) → BodyBy w s c stacked outer homes values b → BodyBy w s c stacked outer homes after b
-      by true e = block_at (objects_of_body c) (body_top_register c) outer homes e
+      by true e = block_at (objects_of_body c) outer homes e
       by false e = e
 
   entered_at : (bound n : ℕ) (b : Block) (frame : List Home) → IsEnteredAs w s c bound n b frame values
       → IsEnteredAs w s c bound n b frame after
   entered_at bound n b frame h = record {
     some = h.some;
-    block = block_at (objects_in (Some c) n) (block_top_register c n) b.stacked b.homes h.block;
+    block = block_at (objects_in (Some c) n) b.stacked b.homes h.block;
     mark = h.mark;
     own = h.own;
     below = h.below;

@@ -76,9 +76,8 @@ use Rattle.metadata_relation.specs.FunctionTypes.{first_of_type}
 use Rattle.metadata_relation.specs.InlineCode.{InlineCode}
 use Rattle.metadata_relation.specs.Printing.{print_code, scan_statuses}
 use Rattle.metadata_relation.specs.Registers.{passed_as, parameters_end, area_words, result_words, variable_words, total}
-use Rattle.metadata_relation.specs.Registers.{variable_register, home_register, home_entry, body_top_register}
-use Rattle.metadata_relation.specs.Registers.{block_top_register, lock_register, temporary_register, moved_register}
-use Rattle.metadata_relation.specs.Registers.{first_free}
+use Rattle.metadata_relation.specs.Registers.{variable_register, home_register, home_entry, lock_register, top_register}
+use Rattle.metadata_relation.specs.Registers.{temporary_register, moved_register, first_free}
 
 -- What the code of a program depends on: the lists that stand inline, the map of the memory, the program, the number
 -- that the key of each function's entry has, and which temporaries have entries and may have contents.
@@ -499,21 +498,21 @@ place_homes o c x (v ∷ vs) offset first key lock s =
 
 -- The objects of a block are made: the end of the object stack from before is kept, a function of the runtime gets it with
 -- the bytes of the objects and gives where the first begins, where the last ends, their key and their lock word.
-abbrev pub enter_code : OperatorCode → MapSizes → Tac → CodeFunction → List Variable → (line top : ℕ)
+abbrev pub enter_code : OperatorCode → MapSizes → Tac → CodeFunction → List Variable → (line : ℕ)
     → List FlatInstruction
-enter_code o m t c vs line top =
+enter_code o m t c vs line =
     let s = first_free c in
-    read_top m top
-    ++ (Move s top
+    read_top m (top_register c vs)
+    ++ (Move s (top_register c vs)
     ∷ (o.constant (s + 1) (block_bytes vs) (s + 2)
     ++ (Call (runtime_number t enter_place) s (s + 2)
     ∷ (status_code (s + 2) line enter_statuses
     ++ (place_homes o c 0 vs 0 (s + 3) (s + 5) (s + 6) (s + 7) ++ write_top m (s + 4) (s + 7))))))
 
 -- they die, and the object stack ends where it did
-abbrev pub leave_code : InlineCode → MapSizes → CodeFunction → List Variable → (top : ℕ) → List FlatInstruction
-leave_code i m c vs top =
-    i.leave (lock_register c vs) (first_free c) ++ write_top m top (first_free c)
+abbrev pub leave_code : InlineCode → MapSizes → CodeFunction → List Variable → List FlatInstruction
+leave_code i m c vs =
+    i.leave (lock_register c vs) (first_free c) ++ write_top m (top_register c vs) (first_free c)
 
 -- ---- calls
 
@@ -698,10 +697,10 @@ block e u c (tac.CallThrough type_number line d n m) =
     let kind = first_of_type e.code.functions type_number in
     through_of e.map e.code c (slice_get e.code.functions kind) kind line d n (e.entries u m d)
 block e u c (tac.EnterBlock b line m) =
-    enter_code e.inline.operators e.map e.code c (objects_in (Some c) b) line (block_top_register c b)
-block e u c (tac.LeaveBlock b m) = leave_code e.inline e.map c (objects_in (Some c) b) (block_top_register c b)
+    enter_code e.inline.operators e.map e.code c (objects_in (Some c) b) line
+block e u c (tac.LeaveBlock b m) = leave_code e.inline e.map c (objects_in (Some c) b)
 block e u c (tac.Return a) =
-    (if has_objects (objects_of_body c) then leave_code e.inline e.map c (objects_of_body c) (body_top_register c) else [])
+    (if has_objects (objects_of_body c) then leave_code e.inline e.map c (objects_of_body c) else [])
     ++ (Return (temporary_register c a) ∷ [])
 block e u c i = End (AbortAt 1) ∷ []
 
@@ -729,7 +728,7 @@ store_parameters i c x (v ∷ vs) =
 
 abbrev pub enter_body : Expansion → CodeFunction → List FlatInstruction
 enter_body e c =
-    enter_code e.inline.operators e.map e.code c (objects_of_body c) c.line (body_top_register c)
+    enter_code e.inline.operators e.map e.code c (objects_of_body c) c.line
     ++ store_parameters e.inline c 0 c.parameters
 
 -- Every plain variable but a parameter is 0, so that no value but an argument is needed where a function is entered; then

@@ -1,7 +1,7 @@
 -- The virtual registers of a function of any program, in this order: its parameters, the first of which get its
--- arguments; its other plain variables; the homes of its variables that are objects; the tops of the object stack from
--- before its blocks; its temporaries; arguments of calls; and from the first free one on what a block needs for itself.
-use Rattle.std.specs.Prelude.{ℕ, zero, suc, ◌+◌, ◌*◌, if◌then◌else◌, List, [], ◌∷◌, length}
+-- arguments; its other plain variables; the homes of its variables that are objects; its temporaries; arguments of calls;
+-- and from the first free one on what a block needs for itself.
+use Rattle.std.specs.Prelude.{ℕ, zero, suc, ◌+◌, ◌*◌, if◌then◌else◌, List, [], ◌∷◌}
 use Rattle.obj_memory.specs.declared.value.Scalar.TheVariants.{Integer, Pointer}
 use Rattle.c_tree.specs.declared.expression.Kind.{Kind}
 use Rattle.c_tree.specs.declared.expression.Kind.TheVariants.{Void, Scalar as OfScalar, Structure, Array}
@@ -44,9 +44,10 @@ parameter_words v = register_count (passed_as v.kind)
 abbrev pub variable_words : Variable → ℕ
 variable_words v = if v.is_object then 0 else words_of v.kind
 
--- an object has the entry of a pointer to it: its base is its address
+-- An object has the entry of a pointer to it: its base is its address. Behind it is a register for the end of the object
+-- stack from before the block whose first object it is.
 abbrev pub home_words : Variable → ℕ
-home_words v = if v.is_object then 4 else 0
+home_words v = if v.is_object then 5 else 0
 
 -- the words of some variables, and of those before one
 abbrev pub total : (words : Variable → ℕ) → List Variable → ℕ
@@ -87,13 +88,6 @@ home_entry c x = entry_from (home_register c x)
 abbrev pub homes_end : CodeFunction → ℕ
 homes_end c = variables_end c + total home_words (all_variables c)
 
--- the end of the object stack from before the block of the body, and from before each other block
-abbrev pub body_top_register : CodeFunction → ℕ
-body_top_register c = homes_end c
-
-abbrev pub block_top_register : CodeFunction → (block : ℕ) → ℕ
-block_top_register c b = homes_end c + 1 + b
-
 -- the first of some variables, all of a function in the order of their numbers, that is an object
 abbrev pub first_object : List Variable → ℕ
 first_object [] = 0
@@ -103,18 +97,19 @@ first_object (v ∷ vs) = if v.is_object then 0 else suc (first_object vs)
 abbrev pub lock_register : CodeFunction → (entered : List Variable) → ℕ
 lock_register c vs = (home_entry c (first_object vs)).lock
 
--- ---- temporaries, and what is free
+-- So does the end of the object stack from before the block.
+abbrev pub top_register : CodeFunction → (entered : List Variable) → ℕ
+top_register c vs = home_register c (first_object vs) + 4
 
-abbrev pub tops_end : CodeFunction → ℕ
-tops_end c = homes_end c + 1 + length c.blocks
+-- ---- temporaries, and what is free
 
 -- a temporary has five registers, whatever it holds: an integer stands in the first
 abbrev pub temporary_register : CodeFunction → (temporary : ℕ) → ℕ
-temporary_register c i = tops_end c + 5 * i
+temporary_register c i = homes_end c + 5 * i
 
 -- arguments of calls, which are handed over packed: each word at or before where it stands among the temporaries'
 abbrev pub moved_register : CodeFunction → (word : ℕ) → ℕ
-moved_register c w = tops_end c + 5 * most_temporaries c.code + w
+moved_register c w = homes_end c + 5 * most_temporaries c.code + w
 
 abbrev pub first_free : CodeFunction → ℕ
 first_free c = moved_register c (5 * most_temporaries c.code)

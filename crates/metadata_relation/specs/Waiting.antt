@@ -17,7 +17,8 @@ use Rattle.flat_routines.specs.Routine.{HasAt}
 use Rattle.lib_wrappers.specs.AllocatingRoutines.Entering.{IsHomeOf, AreOfLock}
 use Rattle.metadata_plan.specs.Registers.{most_temporaries}
 use Rattle.metadata_plan.specs.Expanded.{Leads}
-use Rattle.metadata_relation.specs.Registers.{variables_end, tops_end, first_object, lock_register, body_top_register, block_top_register, temporary_register}
+use Rattle.metadata_relation.specs.Registers.{variables_end, homes_end, first_object, lock_register, top_register}
+use Rattle.metadata_relation.specs.Registers.{temporary_register}
 use Rattle.metadata_relation.specs.Blocks.{Expansion, objects_of_body, result_of, result_entry, before_main}
 use Rattle.metadata_relation.specs.Holding.{World, HasHomes, Holds}
 
@@ -43,26 +44,26 @@ AreOver frame outer inner = (x : ℕ) → get_or frame x NoObject ≡ NoObject
 
 -- ---- blocks
 
--- a register of a home, or of an end of the object stack
+-- a register of a home
 pub record IsHomeRegister (c : CodeFunction) (register : ℕ) : Type 0 where
   pub first : variables_end c ≤ register
-  pub last : register < tops_end c
+  pub last : register < homes_end c
 
 -- the objects of a block, all variables of the function of which these alone are objects, live under the lock word in
 -- their register, and a register has the end of the object stack from before it
-pub record IsBlockAt (w : World) (state : State) (c : CodeFunction) (entered : List Variable) (top outer : ℕ)
+pub record IsBlockAt (w : World) (state : State) (c : CodeFunction) (entered : List Variable) (outer : ℕ)
     (homes : List Home) (values : flat.Values) : Type 0 where
   pub of_lock : AreOfLock w.keys state homes (values (lock_register c entered))
   pub placed : get_or homes (first_object entered) NoObject ≡ NoObject → ⊥
   pub lock_is : IsHomeRegister c (lock_register c entered)
-  pub top_is : values top ≡ outer
-  pub top_is_one : IsHomeRegister c top
+  pub top_is : values (top_register c entered) ≡ outer
+  pub top_is_one : IsHomeRegister c (top_register c entered)
 
 -- a block that was entered, and the homes around it
 pub record IsEnteredAs (w : World) (state : State) (c : CodeFunction) (bound number : ℕ) (b : Block)
     (frame : List Home) (values : flat.Values) : Type 0 where
   pub some : has_objects (objects_in (Some c) number) ≡ true
-  pub block : IsBlockAt w state c (objects_in (Some c) number) (block_top_register c number) b.stacked b.homes values
+  pub block : IsBlockAt w state c (objects_in (Some c) number) b.stacked b.homes values
   pub mark : ℕ
   pub own : AreBetween mark bound b.homes
   pub below : AreHomesBelow mark b.frame
@@ -73,8 +74,7 @@ pub record IsEnteredAs (w : World) (state : State) (c : CodeFunction) (bound num
 -- else the object stack ends where it did before the call.
 abbrev pub BodyBy : World → State → CodeFunction → (stacked outer : ℕ) → List Home → flat.Values
     → (with_objects : Bool) → Type 0
-BodyBy w s c stacked outer homes values true =
-    IsBlockAt w s c (objects_of_body c) (body_top_register c) outer homes values
+BodyBy w s c stacked outer homes values true = IsBlockAt w s c (objects_of_body c) outer homes values
 BodyBy w s c stacked outer homes values false = (stacked ≡ outer) × AreNoObjects homes
 
 pub record IsBodyAs (w : World) (state : State) (c : CodeFunction) (stacked outer bound : ℕ) (homes : List Home)

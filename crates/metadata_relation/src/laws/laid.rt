@@ -1,6 +1,6 @@
 //! Laws of laid programs, each as the contract of a function that does nothing.
 
-ghost use Rattle.std.specs.Prelude.{◌≡◌, ℕ, ◌+◌, ◌*◌, ◌<◌, ◌≤◌, List, Some, slice_get};
+ghost use Rattle.std.specs.Prelude.{◌≡◌, ℕ, ◌+◌, ◌*◌, ◌<◌, ◌≤◌, List, Some, length, slice_get};
 ghost use Rattle.tac_ir.specs.declared.function.CodeFunction.{CodeFunction};
 ghost use Rattle.flat_meaning.specs.declared.function.FlatFunction.{FlatFunction};
 ghost use Rattle.runtime_functions.specs.Runtime.{runtime_list, AreOfRuntime};
@@ -24,9 +24,12 @@ pub fn laid_programs_are_expanded<S: ShadowForm>()
         → IsExpanded (layout_of e homes runtime) S.entry (S.IsGood e.map) }
 {}
 
-/// Where a call is charged the bytes for variables, values and tags, each virtual register has a home of its own within
-/// the activation record, which has twice as many bytes.
+/// Each virtual register has a home, different ones have different homes, and where a call is charged the bytes for
+/// variables, values and tags each is within the activation record, which has twice as many bytes.
 pub fn homes_fit_into_activation_records()
-    ensures { (c : CodeFunction) (height : ℕ) → HasRoom height c → (r : ℕ) → r < register_count c
-        → (slice_get (homes c) r ≡ Some r) × (8 * r + 16 ≤ 2 * c.room) }
+    ensures count { (c : CodeFunction) → length (homes c) ≡ register_count c }
+    ensures inside { (c : CodeFunction) (height : ℕ) → HasRoom height c → (r : ℕ) → r < register_count c
+        → (h : ℕ) × ((slice_get (homes c) r ≡ Some h) × (8 * h + 16 ≤ 2 * c.room)) }
+    ensures apart { (c : CodeFunction) (r q h : ℕ) → slice_get (homes c) r ≡ Some h → slice_get (homes c) q ≡ Some h
+        → r ≡ q }
 {}

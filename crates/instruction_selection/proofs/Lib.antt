@@ -1,5 +1,6 @@
 pub mod BlockObjects
 pub mod FormatSteps
+pub mod FormatScans
 pub mod Joined
 pub mod Lists
 pub mod Operands

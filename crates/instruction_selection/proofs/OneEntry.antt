@@ -15,7 +15,7 @@ use Rattle.metadata_relation.specs.Registers.{temporary_register, first_free}
 use Rattle.metadata_relation.specs.Blocks.{Expansion, block, function_code}
 use Rattle.instruction_selection.specs.declared.context.FunctionContext.{FunctionContext}
 use Rattle.instruction_selection.specs.Contexts.{type_at}
-use Rattle.instruction_selection.specs.Selected.{entry_behind, expansion_of, selected}
+use Rattle.instruction_selection.specs.Selected.{entry_behind, selected}
 
 module _ (i : InlineCode) (m : MapSizes) (t : Tac) (types ours : ℕ → ℕ) (entries : (function : ℕ) → Entries)
     (contents : (function : ℕ) → Contents) (same : (f : ℕ) → types f ≡ ours f) (u : ℕ) (c : CodeFunction) where

@@ -5,6 +5,9 @@ pub mod Programs
 pub mod Memories
 pub mod Starting
 pub mod Following
+pub mod Meant
 pub mod Images
+pub mod Data
+pub mod Expansions
 pub mod Runtime
 pub mod Starts

@@ -1,6 +1,7 @@
 //! Laws, a module a subject.
 
 pub mod code_sizes;
+pub mod expansions;
 pub mod images;
 pub mod lowering;
 pub mod plans;

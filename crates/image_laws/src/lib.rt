@@ -1,7 +1,7 @@
 //! What stands between a typed program and its image: laws alone, a module a subject.
 //!
 //! `lowering`: what code a compiled program has. `propagation`: what propagated programs keep. `plans`: its flat code
-//! can be planned. `images`: its image does what the program means. `code_sizes` and `sizes`: how large its code is.
+//! can be planned. `images` and `expansions`: its image does what the program means. `code_sizes` and `sizes`: how large its code is.
 #![tactic(auto)]
 
 pub mod laws;

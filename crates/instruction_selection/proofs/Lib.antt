@@ -10,3 +10,5 @@ pub mod Ranges
 pub mod Regions
 pub mod Routines
 pub mod StaticPlaces
+pub mod TypeKeys
+pub mod StartBytes

@@ -2,6 +2,7 @@ pub mod Words
 pub mod Calls
 pub mod Formats
 pub mod Registers
+pub mod StartData
 pub mod Statics
 pub mod Blocks
 pub mod Contexts

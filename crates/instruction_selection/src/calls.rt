@@ -301,7 +301,7 @@ fn put_called_through(
 }
 
 // The number of the first function of a type, and their count where no function has it.
-fn first_of_type(functions: &[CodeFunction], type_number: usize) -> usize
+pub(crate) fn first_of_type(functions: &[CodeFunction], type_number: usize) -> usize
     ensures { result ≡ first_of_type functions.now type_number }
 {
     for i in 0..functions.len() {

@@ -62,6 +62,7 @@ pub mod Simulating
 pub mod Standing
 pub mod StartData
 pub mod StartFile
+pub mod StartHolds
 pub mod Statics
 pub mod Statuses
 pub mod StoredParameters

@@ -93,7 +93,7 @@ module _ (functions : ℕ) (all : Objects) (memory : Bytes) where
 
   -- ---- where they stand
 
-  static_at : (ds : List StaticData) (offset n : ℕ)
+  pub static_at : (ds : List StaticData) (offset n : ℕ)
       → (object_at (placed_data objects_begin ds offset) n).storage ≡ Static
   static_at [] offset n = refl
   static_at (d ∷ ds) offset zero = refl

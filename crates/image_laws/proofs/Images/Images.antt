@@ -42,7 +42,7 @@ use Rattle.image_laws.specs.Images.Images.{HaveFewParameters, sizes_of, IsChecke
 use Rattle.image_laws.proofs.Images.Instructions.{IsFit}
 use Rattle.image_laws.proofs.Images.Programs.{instruction_fit, encodable, startable}
 use Rattle.image_laws.proofs.Images.Following.{sizes_same, from_any, runs_from_any}
-use Rattle.image_laws.proofs.Images.Memories.{follows_same}
+use Rattle.image_laws.proofs.Images.Meant.{file_small, does_what_is_meant as means}
 use Rattle.image_laws.proofs.Propagation.Encodable.{propagated_encodable, propagated_startable}
 
 -- ---- a program of integers has a map
@@ -67,29 +67,6 @@ integers_mapped p budgets ints range =
 
 pub no_data : All (λ b. b < 256) []
 no_data k d below = absurd (omega arith)
-
--- ---- the file
-
-file_small : (m : MapSizes) (code : FlatProgram) (plans : List FunctionPlan) (file : List ℕ)
-    → IsImage m code plans [] [] file → length file ≤ 67108864
-unfolding written
-file_small m code plans file image =
-    let size = ap length image.file_is ∙ length-image_bytes (written m code plans [] []) in
-    let table = bytes_length (table_words m code plans) in
-    let compiled = bytes_length (code_words m code plans) in
-    let table_fits = image.fits.table in
-    let code_fits = image.fits.code in
-    omega (arith, size, table, compiled, table_fits, code_fits)
-
--- ---- costs
-
--- what is within the cost is within the one that is promised
-within_promised : (x y : Behaviour) → Follows 1008 x y → Follows 1024 x y
-within_promised x y f = record {
-  at = λ n.
-      let h = f.at n in
-      (h.0, record { shown = h.1.shown; turns = h.1.turns; work = let few = h.1.work in omega (arith, few) });
-}
 
 -- ---- the image
 
@@ -136,17 +113,6 @@ module _ (p : Program) (budgets : BudgetSizes) (mapped : AreMapped (sizes_of p b
       (runs_from_any r budgets mapped_code ops part (meaning p budgets input) (source input) 8 input (lowered input)
       steps fit b)
 
-  -- and so do both where values are carried to where they are used
-  flat_follows : (b : Bytes) → AreBytes b → (input : List ℕ)
-      → Follows 168 (meaning p budgets input) (flat_meaning m (flat_code m r) b input)
-  flat_follows b bytes input =
-      follows_same 168 (meaning p budgets input) (flat_meaning m code b input) (flat_meaning m (flat_code m r) b input)
-      (code_follows b input) (same_meaning m code b input bytes)
-
-  flat_runs : (b : Bytes) → AreBytes b → (input : List ℕ) (k : ℕ)
-      → run (step m (flat_code m r)) k (started (flat_code m r) b input) ≡ Stuck → ⊥
-  flat_runs b bytes input k e = code_runs b input k (sym (same_run m code b input bytes k) ∙ e)
-
   module _ (plans : List FunctionPlan) (file : List ℕ) (accepted : AreAccepted (flat_code m r) plans)
       (image : IsImage m (flat_code m r) plans [] [] file) (follows : ImageFollows m (flat_code m r) plans [] [] file)
       (held : Hold (object_bytes m) (space_bytes m)
@@ -156,24 +122,12 @@ module _ (p : Program) (budgets : BudgetSizes) (mapped : AreMapped (sizes_of p b
     abbrev memory : Bytes
     memory = data_memory (filled (object_bytes m) []) (filled (space_bytes m) [])
 
-    pub image_follows : (input : List ℕ)
-        → Follows 1008 (meaning p budgets input) (behaviour (start_of (content_of file)) input)
-    image_follows input =
-        follows_trans 168 6 (meaning p budgets input) (flat_meaning m (flat_code m r) memory input)
-        (behaviour (start_of (content_of file)) input) (flat_follows memory bytes input)
-        (follows.follows memory input accepted
-        (propagated_encodable m code (encodable p m r mapped valid ints few checked small))
-        (propagated_startable m code (startable m r)) held bytes (flat_runs memory bytes input))
-
     pub does_what_is_meant : ((s : MachineState) (input : List ℕ) → IsMachine (behaviour s input))
         → ((c : ℕ) (x y : Behaviour) → Follows c x y → IsSource x → IsMachine y → Faithful c x y)
         → DoesWhatIsMeant p budgets file
-    does_what_is_meant machine faithful = record {
-      size = file_small m (flat_code m r) plans file image;
-      readable = image.passes;
-      follows = image_follows;
-      faithful = λ input.
-          faithful 1024 (meaning p budgets input) (behaviour (start_of (content_of file)) input)
-          (within_promised (meaning p budgets input) (behaviour (start_of (content_of file)) input)
-          (image_follows input)) (source input) (machine (start_of (content_of file)) input);
-    }
+    does_what_is_meant =
+        means p budgets source m code [] [] same_run same_meaning bytes (code_follows memory) (code_runs memory) plans
+        file accepted image follows held
+        (propagated_encodable m code (encodable p m r mapped valid ints few checked small))
+        (propagated_startable m code (startable m r))
+        (file_small m (flat_code m r) plans [] [] file (omega arith) (omega arith) image)

@@ -1,6 +1,6 @@
 //! Laws of what a file has of the static objects, each as the contract of a function that does nothing.
 
-ghost use Rattle.std.specs.Prelude.{◌≡◌, ℕ, ◌+◌, ◌^◌, ◌<◌, ◌≤◌, List};
+ghost use Rattle.std.specs.Prelude.{◌≡◌, ℕ, ◌+◌, ◌^◌, ◌<◌, ◌≤◌, List, length, true};
 ghost use Rattle.addr_map.specs.declared.region.Region.TheVariants.{Globals};
 ghost use Rattle.addr_map.specs.Places.{AreMapped, MapSizes, objects_begin, region_end};
 ghost use Rattle.obj_memory.specs.Objects.{Objects};
@@ -17,7 +17,16 @@ ghost use Rattle.shadow_space.specs.declared.start.StartEntry.{StartEntry};
 ghost use Rattle.shadow_space.specs.Start.{AreStartEntries};
 ghost use Rattle.flat_actions.specs.Actions.{IsFor, IsShown, views_of};
 ghost use Rattle.flat_actions.specs.Start.{AreEntriesOf, AreStatics};
+ghost use Rattle.sb_base.specs.Budgets.{BudgetSizes};
+ghost use Rattle.c_tree.specs.Programs.{Program};
+ghost use Rattle.c_tree.specs.ValidProgram.{is_valid_program};
+ghost use Rattle.source_meaning.specs.Meaning.{initial_objects, setting_of};
+ghost use Rattle.tac_ir.specs.Meaning.{objects_before};
+ghost use Rattle.flat_routines.specs.Objects.StandsFor.{StandsFor};
+ghost use Rattle.flat_actions.specs.Actions.{AreSpacesGood};
+ghost use Rattle.metadata_relation.specs.Stages.{Compiled, expansion_of, map_of, views};
 ghost use Rattle.metadata_relation.specs.StartData.{AreSpacesInFile, HoldsStatics, entries_of_statics, statics_end};
+ghost use Rattle.metadata_relation.specs.Steps.{IsCompiled};
 
 use shadow_space::ShadowForm;
 
@@ -54,6 +63,32 @@ pub fn a_file_stands_for_the_source<S: ShadowForm>()
         → x.keys ≡ 0 → f.memory ≡ store 8 m (global_lock map) 1 → IsShown x f
         → IsFor (views_of map functions types S.entry) (start_keys (views_of map functions types S.entry))
         (S.IsGood map) x f }
+{
+    S::entries_are_local();
+}
+
+/// The static objects of the code of a valid program, as its initializers make them, are sound, and lie in their region.
+pub fn static_objects_are_sound_and_in_their_region()
+    ensures sound { (p : Program) (budgets : BudgetSizes) → AreMapped (setting_of p budgets).sizes
+        → is_valid_program p ≡ true → (ds : List StaticData)
+        → placed_data objects_begin ds 0 ≡ initial_objects p (setting_of p budgets)
+        → IsSound (length p.functions) (placed_data objects_begin ds 0) }
+    ensures region { (p : Program) (budgets : BudgetSizes) → AreMapped (setting_of p budgets).sizes
+        → is_valid_program p ≡ true → (ds : List StaticData)
+        → placed_data objects_begin ds 0 ≡ initial_objects p (setting_of p budgets)
+        → objects_begin + statics_end ds 0 ≤ region_end (setting_of p budgets).sizes Globals }
+{}
+
+/// A memory that begins with the static objects and with their entries stands for the source before the run, once 1 is
+/// stored at the global lock word.
+pub fn a_file_with_static_objects_stands_for_the_source<S: ShadowForm>()
+    ensures { (c : Compiled) → IsCompiled c (S.IsGood (map_of c)) → c.entry ≡ S.entry → (m : Bytes)
+        → HoldsStatics (expansion_of c).code.statics m
+        → AreSpacesInFile (map_of c) S.entry (S.IsGood (map_of c)) (entries_of_statics (expansion_of c).types
+        (global_lock (map_of c)) objects_begin (expansion_of c).code.statics 0) m
+        → (StandsFor (views c) (start_keys (views c)) (objects_before (expansion_of c).code c.setting)
+        (store 8 m (global_lock (map_of c)) 1))
+        × AreSpacesGood (map_of c) (S.IsGood (map_of c)) (store 8 m (global_lock (map_of c)) 1) }
 {
     S::entries_are_local();
 }

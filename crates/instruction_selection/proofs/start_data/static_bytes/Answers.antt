@@ -1,0 +1,14 @@
+use Rattle.std.proofs.Common.{arith, drop}
+use Rattle.instruction_selection.proofs.StaticPlaces.{end_above, place_ends}
+use Rattle.instruction_selection.proofs.start_data.static_bytes.Goals as goal
+
+pub rounded-start-requires : goal.rounded-start-requires
+rounded-start-requires c =
+    let above = end_above (drop c.loop-i.i c.args.statics.now) c.loop-i.offset in
+    omega (arith, above, c.loop-i.invariant.end, c.requires)
+
+pub overflow_add-offset : goal.overflow_add-offset
+overflow_add-offset c =
+    let ends = place_ends c.args.statics.now c.loop-i.i c.index-statics-i-in-loop-i.result c.loop-i.offset
+    c.loop-i-test.true in
+    omega (arith, ends, c.rounded-start.ensures, c.loop-i.invariant.end, c.requires)

@@ -1,15 +1,15 @@
 -- Objects of blocks among the variables of a function.
 use Rattle.std.proofs.Common.{◌≡◌, ℕ, zero, suc, ◌+◌, ◌<◌, ◌≤◌, ◌||◌, Bool, true, false, if◌then◌else◌}
-use Rattle.std.proofs.Common.{List, [], ◌∷◌, ◌++◌, map, length, Option, Some, None, refl, sym, ap, ◌∙◌, subst, arith}
+use Rattle.std.proofs.Common.{List, [], ◌∷◌, ◌++◌, map, length, Some, refl, sym, ap, ◌∙◌, subst, arith}
 use Rattle.std.specs.Prelude.{slice_get, slice_index_or}
-use Rattle.std.proofs.Common.{drop, ◌*◌, ◌/◌}
+use Rattle.std.proofs.Common.{drop}
 use Rattle.std.proofs.lemmas.List.{drop_more}
 use Rattle.obj_memory.specs.Heap.{rounded_up}
 use Rattle.c_tree.specs.Kinds.{size_of_kind}
 use Rattle.source_meaning.specs.Blocks.{objects_end}
 use Rattle.std.proofs.lemmas.Bool.{false≢true}
 use Rattle.c_tree.specs.declared.program.Variable.{Variable}
-use Rattle.c_tree.specs.Blocks.{closed, is_among, no_variable, opened, block_objects}
+use Rattle.c_tree.specs.Blocks.{closed, is_among, no_variable, opened}
 use Rattle.source_meaning.specs.Blocks.{has_objects}
 use Rattle.tac_ir.specs.declared.function.CodeFunction.{CodeFunction}
 use Rattle.tac_ir.specs.Meaning.{if_there, objects_in}
@@ -17,12 +17,12 @@ use Rattle.flat_routines.specs.declared.registers.Entry.{Entry}
 use Rattle.flat_routines.specs.Registers.{AreBelow}
 use Rattle.metadata_plan.specs.Registers.{all_variables}
 use Rattle.metadata_relation.specs.Registers.{before, entry_from, first_free, first_object, home_register, home_words}
-use Rattle.metadata_relation.specs.Registers.{total, tops_end, homes_end}
+use Rattle.metadata_relation.specs.Registers.{total}
 use Rattle.instruction_selection.specs.Blocks.{AreObjectsAmong}
 
 -- the first object of a block has a home
 home_in : (all vs : List Variable) → AreObjectsAmong all vs → has_objects vs ≡ true
-    → before home_words (first_object vs) all + 4 ≤ total home_words all
+    → before home_words (first_object vs) all + 5 ≤ total home_words all
 home_in all [] among some = absurd (false≢true some)
 home_in [] (v ∷ vs) among some =
     absurd (false≢true (sym (none vs among.1) ∙ (ap (λ b. b || has_objects vs) (sym among.0) ∙ some)))
@@ -33,16 +33,16 @@ home_in [] (v ∷ vs) among some =
 home_in (a ∷ all) (v ∷ vs) among some = by v.is_object refl (home_in all vs among.1)
   where
     by : (b : Bool) → v.is_object ≡ b
-        → (has_objects vs ≡ true → before home_words (first_object vs) all + 4 ≤ total home_words all)
-        → before home_words (if v.is_object then 0 else suc (first_object vs)) (a ∷ all) + 4
+        → (has_objects vs ≡ true → before home_words (first_object vs) all + 5 ≤ total home_words all)
+        → before home_words (if v.is_object then 0 else suc (first_object vs)) (a ∷ all) + 5
         ≤ home_words a + total home_words all
     by true is behind =
-        let there : home_words a ≡ 4 = ap (λ z. if z then 4 else 0) (among.0 is) in
-        subst (λ z. before home_words (if z then 0 else suc (first_object vs)) (a ∷ all) + 4 ≤ home_words a + total home_words all)
+        let there : home_words a ≡ 5 = ap (λ z. if z then 5 else 0) (among.0 is) in
+        subst (λ z. before home_words (if z then 0 else suc (first_object vs)) (a ∷ all) + 5 ≤ home_words a + total home_words all)
         (sym is) (omega (arith, there))
     by false is behind =
         let rest = behind (ap (λ z. z || has_objects vs) (sym is) ∙ some) in
-        subst (λ z. before home_words (if z then 0 else suc (first_object vs)) (a ∷ all) + 4 ≤ home_words a + total home_words all)
+        subst (λ z. before home_words (if z then 0 else suc (first_object vs)) (a ∷ all) + 5 ≤ home_words a + total home_words all)
         (sym is) (omega (arith, rest))
 
 -- so its lock word stands below what is free

@@ -1,6 +1,6 @@
 -- What a byte of a format is, by what comes behind it.
-use Rattle.std.proofs.Common.{◌≡◌, ℕ, Bool, true, false, List, [], ◌∷◌, ◌++◌, Option, Some, None, if◌then◌else◌}
-use Rattle.std.proofs.Common.{refl, sym, ap, ◌∙◌, subst, append_assoc}
+use Rattle.std.proofs.Common.{◌≡◌, ℕ, Bool, true, false, List, [], ◌∷◌, Option, Some, None, if◌then◌else◌}
+use Rattle.std.proofs.Common.{refl, sym, ap, ◌∙◌}
 use Rattle.std.specs.Prelude.{◌==◌}
 use Rattle.std.proofs.lemmas.Bool.{eqb-true}
 use Rattle.c_tree.specs.declared.format.Directive.{Directive}
@@ -15,7 +15,7 @@ use Rattle.c_tree.specs.Format.{behind_percent, behind_l, long_piece_of, piece_b
 use Rattle.c_tree.specs.Scanning.{behind_piece, next_in, pieces_from}
 use Rattle.instruction_selection.specs.declared.formats.FormatByte.{FormatByte}
 use Rattle.instruction_selection.specs.declared.formats.FormatByte.TheVariants.{Stop, Fail, Go, Give}
-use Rattle.instruction_selection.specs.Formats.{behind_byte, read_before}
+use Rattle.instruction_selection.specs.Formats.{behind_byte}
 
 -- a byte, by what comes behind it
 abbrev pub step_of : Next → ℕ → FormatByte

@@ -1,6 +1,7 @@
 pub mod BlockObjects
 pub mod Coverages
 pub mod FormatSteps
+pub mod FormatScans
 pub mod Joined
 pub mod Lists
 pub mod Operands

@@ -1,6 +1,6 @@
 -- Lists of registers.
-use Rattle.std.proofs.Common.{◌≡◌, ℕ, zero, suc, ◌+◌, ◌*◌, ◌^◌, ◌<◌, ◌≤◌, List, [], ◌∷◌, ◌++◌, get_or, length}
-use Rattle.std.proofs.Common.{ap, refl, sym, ◌∙◌, arith, Bool, true, false, Some, None, if◌then◌else◌}
+use Rattle.std.proofs.Common.{◌≡◌, ℕ, zero, suc, ◌+◌, ◌*◌, ◌^◌, ◌≤◌, List, [], ◌∷◌, ◌++◌, get_or}
+use Rattle.std.proofs.Common.{ap, refl, sym, ◌∙◌, arith, true, Some, if◌then◌else◌}
 use Rattle.std.proofs.Common.{append_assoc}
 use Rattle.std.specs.Prelude.{slice_get}
 use Rattle.flat_meaning.specs.declared.instruction.FlatInstruction.{FlatInstruction}
@@ -11,7 +11,7 @@ use Rattle.c_tree.specs.declared.program.Variable.{Variable}
 use Rattle.tac_ir.specs.declared.function.CodeFunction.{CodeFunction}
 use Rattle.metadata_plan.specs.Registers.{all_variables, most_temporaries}
 use Rattle.metadata_relation.specs.Registers.{parameter_words, variable_words, home_words, total, before, register_in}
-use Rattle.metadata_relation.specs.Registers.{variable_register, variables_end, home_register, homes_end, tops_end}
+use Rattle.metadata_relation.specs.Registers.{variable_register, variables_end, home_register, homes_end}
 use Rattle.metadata_relation.specs.Registers.{parameters_end}
 use Rattle.instruction_selection.specs.declared.registers.Registers.{Registers}
 use Rattle.instruction_selection.specs.declared.registers.Words.TheVariants.{OfParameter, OfVariable, OfHome}
@@ -73,8 +73,7 @@ homes_total c =
 
 pub registers_few : (c : CodeFunction) → HasFewRegisters c
     → total parameter_words c.parameters + 1 + total variable_words c.variables + total home_words c.parameters
-    + total home_words c.variables + 1 + length c.blocks + 5 * most_temporaries c.code + 5 * most_temporaries c.code
-    + 16 ≤ 2 ^ 31
+    + total home_words c.variables + 5 * most_temporaries c.code + 5 * most_temporaries c.code + 16 ≤ 2 ^ 31
 registers_few c small =
     let homes = homes_total c in
     omega (arith, small, homes)
@@ -84,21 +83,19 @@ pub are_registers : (r : Registers) (c : CodeFunction) (behind homes_behind : �
     → behind ≡ total parameter_words c.parameters
     → r.first_home ≡ behind + 1 + total variable_words c.variables
     → homes_behind ≡ r.first_home + total home_words c.parameters
-    → r.first_top ≡ homes_behind + total home_words c.variables
+    → r.first_temporary ≡ homes_behind + total home_words c.variables
     → r.variables ≡ registers_from parameter_words 0 c.parameters ++ registers_from variable_words (behind + 1) c.variables
     → r.homes ≡ registers_from home_words r.first_home c.parameters ++ registers_from home_words homes_behind c.variables
-    → r.first_temporary ≡ r.first_top + 1 + length c.blocks
     → r.first_moved ≡ r.first_temporary + 5 * most_temporaries c.code
     → r.free ≡ r.first_moved + 5 * most_temporaries c.code → HasFewRegisters c → AreRegisters r c
-are_registers r c behind homes_behind begin home middle top variables homes temporary moved free small =
+are_registers r c behind homes_behind begin home middle end variables homes moved free small =
     let sum = homes_total c in
     let home_at : r.first_home ≡ variables_end c = omega (arith, begin, home) in
-    let top_at : r.first_top ≡ homes_end c = omega (arith, home_at, middle, top, sum) in
-    let temporary_at : r.first_temporary ≡ tops_end c = omega (arith, top_at, temporary) in
+    let temporary_at : r.first_temporary ≡ homes_end c = omega (arith, home_at, middle, end, sum) in
     let starts : behind + 1 ≡ 0 + total parameter_words c.parameters + 1 = omega (arith, begin) in
     let all : total home_words (all_variables c) ≡ total home_words c.parameters + total home_words c.variables =
     total_append home_words c.parameters c.variables in
-    let last : r.first_top ≡ r.first_home + total home_words (all_variables c) = omega (arith, middle, top, all) in
+    let last : r.first_temporary ≡ r.first_home + total home_words (all_variables c) = omega (arith, middle, end, all) in
     let list : r.homes ≡ registers_from home_words r.first_home (all_variables c) =
     homes ∙ ap (λ z. registers_from home_words r.first_home c.parameters ++ registers_from home_words z c.variables) middle
     ∙ sym (registers_append home_words r.first_home c.parameters c.variables) in
@@ -109,12 +106,11 @@ are_registers r c behind homes_behind begin home middle top variables homes temp
           variables_at 0 (behind + 1) c.parameters c.variables x r.first_home starts home in
           ap (λ ns. get_or ns x r.first_home) variables ∙ omega (arith, here);
       homes = λ x.
-          let here : get_or (registers_from home_words r.first_home (all_variables c)) x r.first_top
+          let here : get_or (registers_from home_words r.first_home (all_variables c)) x r.first_temporary
           ≡ r.first_home + before home_words x (all_variables c) =
-          registers_at home_words r.first_home (all_variables c) x r.first_top last in
-          ap (λ ns. get_or ns x r.first_top) list ∙ omega (arith, here, home_at);
+          registers_at home_words r.first_home (all_variables c) x r.first_temporary last in
+          ap (λ ns. get_or ns x r.first_temporary) list ∙ omega (arith, here, home_at);
       begin = home_at;
-      tops = top_at;
       temporaries = temporary_at;
       moved = omega (arith, temporary_at, moved);
       free = omega (arith, temporary_at, moved, free);
@@ -124,8 +120,7 @@ are_registers r c behind homes_behind begin home middle top variables homes temp
 -- the same of what the code counts
 pub words_few : (c : CodeFunction) (ps vs : List Variable) → ps ≡ c.parameters → vs ≡ c.variables → HasFewRegisters c
     → total (words_by OfParameter) ps + 1 + total (words_by OfVariable) vs + total (words_by OfHome) ps
-    + total (words_by OfHome) vs + 1 + length c.blocks + 5 * most_temporaries c.code + 5 * most_temporaries c.code
-    + 16 ≤ 2 ^ 31
+    + total (words_by OfHome) vs + 5 * most_temporaries c.code + 5 * most_temporaries c.code + 16 ≤ 2 ^ 31
 words_few c ps vs same also small =
     let few = registers_few c small in
     let parameters : total (words_by OfParameter) ps ≡ total parameter_words c.parameters =
@@ -154,7 +149,7 @@ variable_below r c x h =
     let free = h.free in
     omega (arith, below, free)
 
-pub home_below : (r : Registers) (c : CodeFunction) (x : ℕ) → AreRegisters r c → home_register c x < r.free
+pub home_below : (r : Registers) (c : CodeFunction) (x : ℕ) → AreRegisters r c → home_register c x ≤ r.free
 home_below r c x h =
     let below = before_all home_words x (all_variables c) in
     let free = h.free in
@@ -162,10 +157,10 @@ home_below r c x h =
 
 -- a parameter that is an object has a home behind its argument
 argument_in : (ps vs : List Variable) (x : ℕ) (v : Variable) → slice_get ps x ≡ Some v → v.is_object ≡ true
-    → register_in ps vs x + 5 ≤ total parameter_words ps + 1 + total home_words ps + 1
+    → register_in ps vs x + 5 ≤ total parameter_words ps + 1 + total home_words ps
 argument_in [] vs x v at is = absurd (none-some _ at)
 argument_in (p ∷ ps) vs zero v at is =
-    let there : home_words p ≡ 4 = ap (λ z. if z.is_object then 4 else 0) (same_Some _ _ at) ∙ ap (λ b. if b then 4 else 0) is in
+    let there : home_words p ≡ 5 = ap (λ z. if z.is_object then 5 else 0) (same_Some _ _ at) ∙ ap (λ b. if b then 5 else 0) is in
     omega (arith, there)
 argument_in (p ∷ ps) vs (suc x) v at is = omega (arith, argument_in ps vs x v at is)
 
@@ -177,6 +172,21 @@ parameter_below r c x v h at is =
     total_append home_words c.parameters c.variables in
     let free = h.free in
     omega (arith, below, both, free)
+
+home_at : (ps vs : List Variable) (x : ℕ) (v : Variable) → slice_get ps x ≡ Some v → v.is_object ≡ true
+    → before home_words x (ps ++ vs) + 5 ≤ total home_words (ps ++ vs)
+home_at [] vs x v at is = absurd (none-some _ at)
+home_at (p ∷ ps) vs zero v at is =
+    let there : home_words p ≡ 5 = ap (λ z. if z.is_object then 5 else 0) (same_Some _ _ at) ∙ ap (λ b. if b then 5 else 0) is in
+    omega (arith, there)
+home_at (p ∷ ps) vs (suc x) v at is = omega (arith, home_at ps vs x v at is)
+
+pub parameter_home_below : (r : Registers) (c : CodeFunction) (x : ℕ) (v : Variable) → AreRegisters r c
+    → slice_get c.parameters x ≡ Some v → v.is_object ≡ true → home_register c x + 5 ≤ r.free
+parameter_home_below r c x v h at is =
+    let below = home_at c.parameters c.variables x v at is in
+    let free = h.free in
+    omega (arith, below, free)
 
 -- ---- zeros one behind the other
 

@@ -15,14 +15,14 @@ use Rattle.metadata_relation.specs.Registers.{temporary_register, first_free}
 use Rattle.metadata_relation.specs.Blocks.{Expansion, block, function_code}
 use Rattle.instruction_selection.specs.declared.context.FunctionContext.{FunctionContext}
 use Rattle.instruction_selection.specs.Contexts.{type_at}
-use Rattle.instruction_selection.specs.Selected.{entry_behind, expansion_of, selected}
+use Rattle.instruction_selection.specs.Selected.{entry_behind, selected}
 
 module _ (i : InlineCode) (m : MapSizes) (t : Tac) (types ours : ℕ → ℕ) (entries : (function : ℕ) → Entries)
     (contents : (function : ℕ) → Contents) (same : (f : ℕ) → types f ≡ ours f) (u : ℕ) (c : CodeFunction) where
-  abbrev whole : Expansion
+  abbrev pub whole : Expansion
   whole = record { inline = i; map = m; code = t; types = types; entries = entries; contents = contents }
 
-  abbrev alone : Instruction → Expansion
+  abbrev pub alone : Instruction → Expansion
   alone x = record {
     inline = i;
     map = m;
@@ -32,7 +32,7 @@ module _ (i : InlineCode) (m : MapSizes) (t : Tac) (types ours : ℕ → ℕ) (e
     contents = λ v n y. false;
   }
 
-  by_one : (x : Instruction) → block whole u c x ≡ block (alone x) 0 c x
+  pub by_one : (x : Instruction) → block whole u c x ≡ block (alone x) 0 c x
   by_one (tac.Skip next) = refl
   by_one (tac.Constant d w next) = refl
   by_one (tac.FunctionPointer d f next) =

@@ -1,5 +1,5 @@
 -- Regions that stand one behind the other.
-use Rattle.std.proofs.Common.{◌≡◌, ℕ, ◌≤◌, ◌^◌, refl, arith}
+use Rattle.std.proofs.Common.{◌≡◌, ◌≤◌, ◌^◌, refl, arith}
 use Rattle.addr_map.specs.declared.region.Region.TheVariants.{Globals, Heap, Stack}
 use Rattle.addr_map.specs.Places.{MapSizes, region_start, region_end}
 

@@ -1,5 +1,5 @@
 -- Routines of the library that are functions of the runtime.
-use Rattle.std.proofs.Common.{◌≡◌, ℕ, Bool, Option, Some, None, List, ◌++◌, [], length, refl, ap, sym, arith, ◌+◌, ◌*◌, ◌≤◌, ◌∷◌}
+use Rattle.std.proofs.Common.{◌≡◌, ℕ, Bool, Option, Some, None, List, ◌++◌, [], length, ap, sym, arith, ◌+◌, ◌*◌, ◌≤◌, ◌∷◌}
 use Rattle.std.proofs.lemmas.Option.{same_Some, none-some}
 use Rattle.c_tree.specs.declared.expression.Routine.{Routine}
 use Rattle.c_tree.specs.declared.expression.Routine.TheVariants as routine

@@ -1,5 +1,5 @@
 -- Places of static objects in a table.
-use Rattle.std.proofs.Common.{◌≡◌, ℕ, zero, suc, ◌+◌, ◌*◌, ◌/◌, ◌^◌, ◌<◌, ◌≤◌, drop, length, List, [], ◌∷◌, get_or, refl, ap, ◌∙◌, arith}
+use Rattle.std.proofs.Common.{◌≡◌, ℕ, zero, suc, ◌+◌, ◌^◌, ◌<◌, ◌≤◌, drop, length, List, [], ◌∷◌, get_or, refl, ap, ◌∙◌, arith}
 use Rattle.std.proofs.lemmas.List.{drop_more}
 use Rattle.addr_map.specs.declared.region.Region.TheVariants.{Globals}
 use Rattle.addr_map.specs.Places.{MapSizes, region_start}
@@ -9,7 +9,6 @@ use Rattle.tac_ir.specs.declared.function.StaticData.{StaticData}
 use Rattle.tac_ir.specs.declared.function.Tac.{Tac}
 use Rattle.tac_ir.specs.Meaning.{placed_data}
 use Rattle.metadata_relation.specs.StartData.{statics_end}
-use Rattle.metadata_relation.specs.Blocks.{static_object}
 use Rattle.instruction_selection.specs.declared.statics.StaticPlace.{StaticPlace}
 use Rattle.instruction_selection.specs.Statics.{AreStaticPlaces, no_place, place_of, places_from}
 

@@ -1,5 +1,5 @@
 -- The pieces of a format of `printf` (C99 7.19.6.1), byte by byte.
-use Rattle.std.specs.Prelude.{ℕ, List, [], ◌∷◌, ◌++◌, Option, Some, None, option_map}
+use Rattle.std.specs.Prelude.{ℕ, List, [], ◌++◌, Option, Some, None, option_map}
 use Rattle.c_tree.specs.declared.format.Piece.{Piece}
 use Rattle.c_tree.specs.Format.{piece_before, pieces}
 use Rattle.c_tree.specs.Scanning.{pieces_from}

@@ -10,7 +10,7 @@ use Rattle.tac_ir.specs.Meaning.{objects_in, text_in}
 use Rattle.tac_ir.specs.declared.function.CodeFunction.{CodeFunction}
 use Rattle.tac_ir.specs.Temporaries.{temporaries}
 use Rattle.metadata_plan.specs.Registers.{most_temporaries}
-use Rattle.metadata_relation.specs.Registers.{variable_register, variables_end, home_register, homes_end, tops_end}
+use Rattle.metadata_relation.specs.Registers.{variable_register, variables_end, home_register, homes_end}
 use Rattle.metadata_relation.specs.Registers.{first_free}
 use Rattle.instruction_selection.specs.declared.registers.Registers.{Registers}
 use Rattle.instruction_selection.specs.Calls.{argument_count}
@@ -25,11 +25,10 @@ HasFewRegisters c = first_free c + block_registers ≤ 2 ^ 31
 
 pub record AreRegisters (registers : Registers) (function : CodeFunction) : Type 0 where
   pub variables : (x : ℕ) → get_or registers.variables x registers.first_home ≡ variable_register function x
-  pub homes : (x : ℕ) → get_or registers.homes x registers.first_top ≡ home_register function x
+  pub homes : (x : ℕ) → get_or registers.homes x registers.first_temporary ≡ home_register function x
   pub begin : registers.first_home ≡ variables_end function
-  pub tops : registers.first_top ≡ homes_end function
-  pub temporaries : registers.first_temporary ≡ tops_end function
-  pub moved : registers.first_moved ≡ tops_end function + 5 * most_temporaries function.code
+  pub temporaries : registers.first_temporary ≡ homes_end function
+  pub moved : registers.first_moved ≡ homes_end function + 5 * most_temporaries function.code
   pub free : registers.free ≡ first_free function
   pub small : HasFewRegisters function
 
@@ -43,21 +42,14 @@ abbrev pub function_named : Instruction → ℕ
 function_named (tac.FunctionPointer d f m) = f
 function_named i = 0
 
--- one more than the number of a block that is entered or left
-abbrev pub block_named : Instruction → ℕ
-block_named (tac.EnterBlock b line m) = b + 1
-block_named (tac.LeaveBlock b m) = b + 1
-block_named i = 0
-
 -- a block that is left has objects
 abbrev pub leaves_objects : CodeFunction → Instruction → Bool
 leaves_objects c (tac.LeaveBlock b m) = has_objects (objects_in (Some c) b)
 leaves_objects c i = true
 
--- an instruction names temporaries and blocks of its function, and functions that have an address in the jump table
+-- an instruction names temporaries of its function, and functions that have an address in the jump table
 pub record IsAmong (program : Tac) (function : CodeFunction) (instruction : Instruction) : Type 0 where
   pub temporaries : temporaries instruction ≤ most_temporaries function.code
   pub handed : last_handed program instruction ≤ most_temporaries function.code
   pub functions : function_named instruction ≤ 2 ^ 12
-  pub blocks : block_named instruction ≤ length function.blocks
   pub left : leaves_objects function instruction ≡ true

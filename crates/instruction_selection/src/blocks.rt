@@ -9,7 +9,7 @@ ghost use Rattle.lib_wrappers.specs.AllocatingRoutines.Entering.{block_bytes};
 ghost use Rattle.metadata_plan.specs.OperatorLists.Operators.{operators};
 ghost use Rattle.metadata_relation.specs.InlineLists.{inline_lists};
 ghost use Rattle.metadata_plan.specs.Registers.{all_variables};
-ghost use Rattle.metadata_relation.specs.Registers.{first_free, first_object};
+ghost use Rattle.metadata_relation.specs.Registers.{first_free, first_object, top_register};
 ghost use Rattle.metadata_relation.specs.Blocks.{enter_code, leave_code, place_home, place_homes};
 ghost use Rattle.metadata_relation.specs.Blocks.{read_top, write_top, zero_code};
 ghost use Rattle.c_tree.specs.Valid.{at_number};
@@ -196,21 +196,54 @@ pub fn block_bytes(variables: &[Variable]) -> u64
     end
 }
 
-/// Puts what makes the objects of a block behind a list, whose end of the object stack from before is kept in a
-/// register. It fails only for want of memory.
+/// Whether a variable is an object.
+pub fn has_objects(variables: &[Variable]) -> bool
+    ensures { result ≡ has_objects variables.now }
+{
+    for variable in variables {
+        if variable.is_object {
+            return true;
+        }
+    }
+    false
+}
+
+// The number of the first variable that is an object, and the count of all where there is none.
+fn first_object(variables: &[Variable]) -> usize
+    ensures { result ≡ first_object variables.now }
+{
+    for i in 0..variables.len() {
+        if variables[i].is_object {
+            return i;
+        }
+    }
+    variables.len()
+}
+
+// The register that keeps the end of the object stack from before a block.
+fn top_register(context: &FunctionContext, variables: &[Variable]) -> u32
+    requires { HasRegisters context.now }
+    ensures { result ≡ top_register context.now.function.now variables.now }
+{
+    let _room = context.free();
+    context.home(first_object(variables)) + 4
+}
+
+/// Puts what makes the objects of a block behind a list. The end of the object stack from before is kept in the home of
+/// the first. It fails only for want of memory.
 pub fn put_enter(
     code: &mut Vec<FlatInstruction>,
     context: &FunctionContext,
     variables: &[Variable],
     line: Line,
-    top: u32,
 ) -> Result<(), AllocError>
     requires prepared { IsPrepared context.now }
     requires small { block_bytes variables.now ≤ 2 ^ 62 }
     ensures { OnOk result (code.new.items ≡ code.old.items ++ enter_code operators context.now.map.now
-        context.now.program.now context.now.function.now variables.now line top) }
+        context.now.program.now context.now.function.now variables.now line) }
 {
     let free = context.free();
+    let top = top_register(context, variables);
     put_read_top(code, context.map, top)?;
     put(
         code,
@@ -239,30 +272,6 @@ pub fn put_enter(
     put_write_top(code, context.map, free + 4, free + 7)
 }
 
-/// Whether a variable is an object.
-pub fn has_objects(variables: &[Variable]) -> bool
-    ensures { result ≡ has_objects variables.now }
-{
-    for variable in variables {
-        if variable.is_object {
-            return true;
-        }
-    }
-    false
-}
-
-// The number of the first variable that is an object, and the count of all where there is none.
-fn first_object(variables: &[Variable]) -> usize
-    ensures { result ≡ first_object variables.now }
-{
-    for i in 0..variables.len() {
-        if variables[i].is_object {
-            return i;
-        }
-    }
-    variables.len()
-}
-
 /// Puts what ends the life of the objects of a block behind a list, and gives the object stack back up to an end. It
 /// fails only for want of memory.
 #[tactic(auto, using(crate::proofs::BlockObjects::lock_below))]
@@ -270,21 +279,20 @@ pub fn put_leave<S: ShadowForm>(
     code: &mut Vec<FlatInstruction>,
     context: &FunctionContext,
     variables: &[Variable],
-    top: u32,
 ) -> Result<(), AllocError>
     requires prepared { IsPrepared context.now }
     requires some { has_objects variables.now ≡ true }
     requires among { AreObjectsAmong (all_variables context.now.function.now) variables.now }
     ensures { OnOk result (code.new.items ≡ code.old.items
         ++ leave_code (inline_lists S.entry_read S.entry_write context.now.map.now) context.now.map.now
-        context.now.function.now variables.now top) }
+        context.now.function.now variables.now) }
 {
     sizes_are_in_range(context.map);
     let free = context.free();
     let lock = entry_from(context.home(first_object(variables))).lock;
     let list = leave::<S>(context.alloc, context.map, lock, free)?;
     append(code, &list)?;
-    put_write_top(code, context.map, top, free)
+    put_write_top(code, context.map, top_register(context, variables), free)
 }
 
 /// Puts what makes all bytes of the object of a variable zero behind a list. It fails only for want of memory.

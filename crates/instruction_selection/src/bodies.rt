@@ -6,7 +6,7 @@ ghost use Rattle.flat_meaning.specs.declared.instruction.FlatInstruction.TheVari
 ghost use Rattle.metadata_plan.specs.Registers.{most_temporaries};
 ghost use Rattle.metadata_plan.specs.OperatorLists.Operators.{operators};
 ghost use Rattle.metadata_relation.specs.InlineLists.{inline_lists};
-ghost use Rattle.metadata_relation.specs.Registers.{body_top_register, first_free, parameters_end, temporary_register};
+ghost use Rattle.metadata_relation.specs.Registers.{first_free, parameters_end, temporary_register};
 ghost use Rattle.metadata_relation.specs.Registers.{total, variable_words};
 ghost use Rattle.metadata_relation.specs.Blocks.{enter_body, leave_code, objects_of_body, prologue, store_parameter};
 ghost use Rattle.metadata_relation.specs.Blocks.{store_parameters, zero_variables, zeros};
@@ -66,7 +66,7 @@ fn put_store_parameter<S: ShadowForm>(
 {
     match parameter.kind {
         Kind::Scalar(scalar) => {
-            let home = context.home(number);
+            let home = context.parameter_home(number, parameter);
             let held = held_scalar(scalar, context.argument(number, parameter));
             put_store::<S>(code, context, home, held, context.free())
         }
@@ -137,13 +137,7 @@ pub fn put_prologue<S: ShadowForm>(
     if !has_objects(&objects) {
         return Ok(());
     }
-    put_enter(
-        code,
-        context,
-        &objects,
-        context.function.line,
-        context.body_top(),
-    )?;
+    put_enter(code, context, &objects, context.function.line)?;
     put_store_parameters::<S>(code, context)
 }
 
@@ -158,12 +152,11 @@ pub fn put_return<S: ShadowForm>(
     ensures { OnOk result (code.new.items ≡ code.old.items
         ++ ((if has_objects (objects_of_body context.now.function.now)
         then leave_code (inline_lists S.entry_read S.entry_write context.now.map.now) context.now.map.now
-        context.now.function.now (objects_of_body context.now.function.now) (body_top_register context.now.function.now)
-        else []) ++ Return from ∷ [])) }
+        context.now.function.now (objects_of_body context.now.function.now) else []) ++ Return from ∷ [])) }
 {
     let objects = body_objects(context.alloc, context.function)?;
     if has_objects(&objects) {
-        put_leave::<S>(code, context, &objects, context.body_top())?;
+        put_leave::<S>(code, context, &objects)?;
     }
     put(code, FlatInstruction::Return { from })
 }

@@ -39,8 +39,8 @@ pub fn body_objects(alloc: Global, function: &CodeFunction) -> Result<Vec<Variab
     Ok(list)
 }
 
-// The kind of the result of a function.
-pub(crate) fn result_of(program: &Tac, function: &CodeFunction) -> Kind
+/// The kind of the result of a function.
+pub fn result_of(program: &Tac, function: &CodeFunction) -> Kind
     ensures { result ≡ result_of program.now function.now }
 {
     match program.results.as_slice().get(function.type_number) {
@@ -200,16 +200,16 @@ fn area_words(kind: Kind) -> u32
     }
 }
 
-// How many registers the arguments of a function take, with the address of the area of a result that is a structure.
-fn taken_words(program: &Tac, function: &CodeFunction) -> u32
+/// How many registers the arguments of a function take, with the address of the area of a result that is a structure.
+pub fn taken_words(program: &Tac, function: &CodeFunction) -> u32
     requires { total parameter_words function.now.parameters < 2 ^ 31 }
     ensures { result ≡ parameters_end function.now + area_words (result_of program.now function.now) }
 {
     argument_words(function.parameters.as_slice()) + area_words(result_of(program, function))
 }
 
-// How many registers the result of a function takes.
-fn result_words(kind: Kind) -> u32
+/// How many registers the result of a function takes.
+pub fn result_words(kind: Kind) -> u32
     ensures { result ≡ result_words kind }
 {
     match kind {

@@ -5,7 +5,7 @@ ghost use Rattle.metadata_plan.specs.Registers.{most_temporaries};
 ghost use Rattle.metadata_relation.specs.Registers.{variable_register, home_register, temporary_register};
 ghost use Rattle.metadata_relation.specs.Registers.{moved_register};
 ghost use Rattle.metadata_relation.specs.Registers.{first_free};
-ghost use Rattle.metadata_relation.specs.Registers.{block_top_register, body_top_register, parameters_end, total};
+ghost use Rattle.metadata_relation.specs.Registers.{parameters_end, total};
 ghost use Rattle.metadata_relation.specs.Registers.{variable_words};
 ghost use Rattle.instruction_selection.specs.Contexts.{HasRegisters, type_at};
 
@@ -49,7 +49,7 @@ impl<'a> FunctionContext<'a> {
     pub fn home(&self, number: usize) -> u32
         requires { HasRegisters self.now }
         ensures value { result ≡ home_register self.now.function.now number }
-        ensures room { result < self.now.registers.now.free }
+        ensures room { result ≤ self.now.registers.now.free }
     {
         self.registers.home(self.function, number)
     }
@@ -75,21 +75,15 @@ impl<'a> FunctionContext<'a> {
         self.registers.variable(self.function, number)
     }
 
-    /// The register of the end of the object stack from before the block of the body.
-    pub fn body_top(&self) -> u32
-        requires { HasRegisters self.now }
-        ensures { result ≡ body_top_register self.now.function.now }
-    {
-        self.registers.first_top
-    }
-
-    /// The register of the end of the object stack from before another block.
-    pub fn block_top(&self, block: usize) -> u32
+    /// The first register of the home of a parameter that is an object.
+    pub fn parameter_home(&self, number: usize, parameter: Variable) -> u32
         requires registers { HasRegisters self.now }
-        requires there { block < length self.now.function.now.blocks }
-        ensures { result ≡ block_top_register self.now.function.now block }
+        requires there { slice_get self.now.function.now.parameters number ≡ Some parameter }
+        requires object { parameter.is_object ≡ true }
+        ensures value { result ≡ home_register self.now.function.now number }
+        ensures room { result + 5 ≤ self.now.registers.now.free }
     {
-        self.registers.first_top + 1 + block as u32
+        self.registers.home(self.function, number)
     }
 
     /// The first register of a temporary.

@@ -1,6 +1,6 @@
 //! `printf` with a format known at compile time (C99 7.19.6.1).
 
-ghost use Rattle.std.specs.Prelude.{◌≡◌, ◌+◌, ◌*◌, ◌<◌, ◌≤◌, ◌^◌, ◌++◌, ◌∷◌, [], length, OnOk};
+ghost use Rattle.std.specs.Prelude.{◌≡◌, ◌+◌, ◌*◌, ◌<◌, ◌≤◌, ◌^◌, ◌++◌, ◌∷◌, [], length, IfOk, OnOk, Some, slice_get};
 ghost use Rattle.c_tree.specs.declared.format.Directive.TheVariants.{String as StringDirective};
 ghost use Rattle.flat_meaning.specs.declared.instruction.RightOperand.TheVariants.{Register as InRegister};
 ghost use Rattle.flat_meaning.specs.declared.instruction.FlatInstruction.TheVariants.{Call as Invoke};
@@ -116,26 +116,53 @@ fn put_scan_argument(
     }
 }
 
+// One of some pieces, by its number.
+fn piece_at(pieces: &[Piece], number: usize) -> Piece
+    requires { number < length pieces.now }
+    ensures { slice_get pieces.now number ≡ Some result }
+{
+    pieces[number]
+}
+
+// Puts the scan for a piece behind a list, where it takes a string, and gives the temporary of the next argument.
+fn put_scan(
+    code: &mut Vec<FlatInstruction>,
+    context: &FunctionContext,
+    piece: Piece,
+    temporary: usize,
+    line: Line,
+) -> Result<usize, AllocError>
+    requires prepared { IsPrepared context.now }
+    requires among { temporary + length (directives (piece ∷ [])) ≤ most_temporaries context.now.function.now.code }
+    ensures put { OnOk result (code.new.items ≡ code.old.items ++ scan_pieces (runtime_number context.now.program.now)
+        (λ r. status_code r line scan_statuses) context.now.function.now (piece ∷ []) temporary) }
+    ensures next { IfOk result (λ n. n ≡ temporary + length (directives (piece ∷ []))) }
+{
+    match piece {
+        Piece::Byte(_) => Ok(temporary),
+        Piece::Directive(directive) => {
+            put_scan_argument(code, context, directive, temporary, line)?;
+            Ok(temporary + 1)
+        }
+    }
+}
+
 // Puts the scans of all strings among the arguments of a format behind a list.
 fn put_scans(
     code: &mut Vec<FlatInstruction>,
     context: &FunctionContext,
     pieces: &[Piece],
-    call: PrintCall,
+    first: usize,
+    line: Line,
 ) -> Result<(), AllocError>
     requires prepared { IsPrepared context.now }
-    requires among { call.first + length (directives pieces.now)
-        ≤ most_temporaries context.now.function.now.code }
+    requires among { first + length (directives pieces.now) ≤ most_temporaries context.now.function.now.code }
     ensures { OnOk result (code.new.items ≡ code.old.items ++ scan_pieces (runtime_number context.now.program.now)
-        (λ r. status_code r call.line scan_statuses) context.now.function.now pieces.now call.first) }
+        (λ r. status_code r line scan_statuses) context.now.function.now pieces.now first) }
 {
-    let line = call.line;
-    let mut temporary = call.first;
-    for piece in pieces {
-        if let Piece::Directive(directive) = *piece {
-            put_scan_argument(code, context, directive, temporary, line)?;
-            temporary += 1;
-        }
+    let mut temporary = first;
+    for i in 0..pieces.len() {
+        temporary = put_scan(code, context, piece_at(pieces, i), temporary, line)?;
     }
     Ok(())
 }
@@ -286,7 +313,7 @@ fn put_formatted(
 {
     let first = call.first;
     let count = context.free();
-    put_scans(code, context, pieces, call)?;
+    put_scans(code, context, pieces, first, call.line)?;
     put(
         code,
         FlatInstruction::Constant {

@@ -51,8 +51,8 @@ fn plain_words(kind: Kind) -> u32
 }
 
 impl Words {
-    // How many of them a variable has.
-    fn count(self, variable: &Variable) -> u32
+    /// How many of them a variable has.
+    pub fn count(self, variable: &Variable) -> u32
         ensures value { result ≡ words_by self variable.now }
         ensures few { result ≤ 5 }
     {
@@ -65,7 +65,7 @@ impl Words {
                     plain_words(variable.kind)
                 }
             }
-            Words::OfHome => { if variable.is_object { 4 } else { 0 } }
+            Words::OfHome => { if variable.is_object { 5 } else { 0 } }
         }
     }
 }
@@ -99,9 +99,7 @@ pub struct Registers {
     pub homes: Items<u32>,
     /// The first register behind those of the variables, with which homes begin.
     pub first_home: u32,
-    /// The first register behind those of the homes, with which the tops of the object stack begin.
-    pub first_top: u32,
-    /// The first register of the temporaries.
+    /// The first register behind those of the homes, with which temporaries begin.
     pub first_temporary: u32,
     /// The first register of arguments of calls.
     pub first_moved: u32,
@@ -127,14 +125,12 @@ impl Registers {
         )?;
         let mut homes = Vec::new(alloc);
         let behind = put_registers(&mut homes, Words::OfHome, first_home, parameters)?;
-        let first_top = put_registers(&mut homes, Words::OfHome, behind, others)?;
-        let first_temporary = first_top + 1 + function.blocks.as_slice().len() as u32;
+        let first_temporary = put_registers(&mut homes, Words::OfHome, behind, others)?;
         let words = 5 * most_temporaries(function.code.as_slice()) as u32;
         Ok(Registers {
             variables: Items::from_vec(variables),
             homes: Items::from_vec(homes),
             first_home,
-            first_top,
             first_temporary,
             first_moved: first_temporary + words,
             free: first_temporary + words + words,
@@ -159,7 +155,7 @@ impl Registers {
     {
         match self.homes.as_slice().get(number) {
             Some(register) => *register,
-            None => self.first_top,
+            None => self.first_temporary,
         }
     }
 

@@ -1,5 +1,5 @@
 -- When a table of the temporaries that have entries is closed.
-use Rattle.std.proofs.Common.{◌≡◌, ◌≢◌, ◌⊎◌, inl, inr, ℕ, zero, suc, Bool, true, false, not, ◌&&◌, ◌||◌, ◌==◌, List, [], ◌∷◌, refl, sym, ap}
+use Rattle.std.proofs.Common.{◌≡◌, ◌≢◌, inl, inr, ℕ, zero, suc, Bool, true, false, not, ◌&&◌, ◌||◌, ◌==◌, List, [], ◌∷◌, refl, sym, ap}
 use Rattle.std.proofs.Common.{◌∙◌, subst, Option, Some, None, ◌+◌, ◌-◌, ◌<◌, ◌≤◌, ◌++◌, length, get_or, arith}
 use Rattle.std.specs.Prelude.{slice_get, nat_le, nat_lt}
 use Rattle.std.proofs.lemmas.Bool.{eqb-true, eq-eqb, ne_eqb, false≢true, ltb-true, ltb-false, lt-ltb, le-leb, le-ltb}
@@ -22,9 +22,9 @@ use Rattle.metadata_expansion.specs.EntryTables.{HaveRoom, entries_of, is_in_som
 use Rattle.tac_ir.specs.declared.instruction.Instruction.{Instruction}
 use Rattle.tac_ir.specs.declared.function.CodeFunction.{CodeFunction}
 use Rattle.tac_ir.specs.declared.function.Tac.{Tac}
-use Rattle.tac_ir.specs.Edges.{successors, IsAmong, LeadsTo}
+use Rattle.tac_ir.specs.Edges.{successors, IsAmong}
 use Rattle.metadata_plan.specs.Entries.{Entries, AreClosed, IsOther, given, entry_source, reads_entry}
-use Rattle.metadata_expansion.specs.EntryTables.{has_at, is_it, is_source, is_passed_on, needs, ReadsNoEntry, AreNone}
+use Rattle.metadata_expansion.specs.EntryTables.{has_at, is_passed_on, needs, ReadsNoEntry, AreNone}
 
 either_left : (a b : Bool) → a ≡ true → (a || b) ≡ true
 either_left true b e = refl

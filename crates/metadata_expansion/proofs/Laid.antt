@@ -10,14 +10,15 @@ use Rattle.tac_ir.specs.declared.function.Tac.{Tac}
 use Rattle.tac_ir.specs.Edges.{successors}
 use Rattle.flat_meaning.specs.declared.instruction.FlatInstruction.{FlatInstruction}
 use Rattle.flat_meaning.specs.declared.function.FlatFunction.{FlatFunction}
-use Rattle.metadata_plan.specs.Laid.{begin_size, jumps, laid_from, place_of, size_at, size_from, function_of}
+use Rattle.metadata_plan.specs.Laid.{begin_size, falls, jump, jump_unless, jumps, laid_from, place_of, size_at, size_from}
+use Rattle.metadata_plan.specs.Laid.{function_of}
 use Rattle.metadata_plan.specs.Laid.{functions_of}
 use Rattle.metadata_plan.specs.OperatorLists.Operators.{operators}
 use Rattle.metadata_expansion.specs.declared.layout.Places.{Places}
 use Rattle.metadata_expansion.specs.Homes.{argument_count, most_arguments, homes}
 use Rattle.metadata_expansion.specs.Numbers.{callee, greatest_callee}
 use Rattle.metadata_expansion.specs.Numbering.{IsAmong}
-use Rattle.metadata_expansion.specs.Layout.{ArePlaces}
+use Rattle.metadata_expansion.specs.Laying.{ArePlaces, place_in}
 use Rattle.metadata_plan.proofs.Numbers.{most_at}
 use Rattle.metadata_plan.proofs.Laying.{drop_at}
 use Rattle.metadata_expansion.proofs.Lists.{nothing_behind}
@@ -249,3 +250,15 @@ module _ (put : Instruction → List FlatInstruction) (begin : List FlatInstruct
         list = ap (λ zs. reverse zs) list ∙ done.list;
         place = ap (λ z. p + z) sized ∙ done.place;
       }
+
+  -- the jumps by a table of the places
+  pub same_jumps : (places : Places) (n p : ℕ) (ns : List ℕ) (before after : List FlatInstruction)
+      → ArePlaces places put begin c → after ≡ before ++ jumps c (place_in places) n p ns
+      → after ≡ before ++ jumps c (place_of put begin c) n p ns
+  same_jumps places n p [] before after at led = led
+  same_jumps places n p (m ∷ []) before after at led =
+      led ∙ ap (λ x. before ++ jump_unless (falls c n m) p x) (at.of m)
+  same_jumps places n p (x ∷ y ∷ ms) before after at led =
+      led
+      ∙ (ap (λ z. before ++ (jump p z ∷ jump_unless (falls c n x) (p + 1) (place_in places x))) (at.of y)
+      ∙ ap (λ z. before ++ (jump p (place_of put begin c y) ∷ jump_unless (falls c n x) (p + 1) z)) (at.of x))

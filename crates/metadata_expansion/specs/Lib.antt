@@ -3,7 +3,7 @@ pub mod Numbers
 pub mod Joins
 pub mod Tables
 pub mod Numbering
-pub mod Layout
+pub mod Laying
 pub mod Contexts
 pub mod TemporarySets
 pub mod EntryTables

@@ -17,7 +17,6 @@ ghost use Rattle.metadata_plan.specs.Entries.{pointer_of, read_from, reads_entry
 ghost use Rattle.metadata_expansion.specs.TemporarySets.{is_in, room};
 ghost use Rattle.metadata_expansion.specs.EntryTables.{AreNone, HaveRoom, ReadsNoEntry, entries_in, entries_of, has_at};
 ghost use Rattle.metadata_expansion.specs.EntryTables.{is_passed_on, needs};
-ghost use Rattle.metadata_expansion.specs.Numbers.{register_count};
 
 use crate::layout::instruction_at;
 use crate::registers::most_temporaries;
@@ -553,7 +552,7 @@ pub fn entry_table(
     program: &Tac,
     function: &CodeFunction,
 ) -> Result<EntryTable, AllocError>
-    requires { register_count function.now < 2 ^ 32 }
+    requires { most_temporaries function.now.code < 2 ^ 32 }
     ensures closed { IfOk result (λ table. AreClosed program.now function.now (entries_in table)) }
     ensures none { IfOk result (λ table. ReadsNoEntry program.now function.now → AreNone (entries_in table)) }
 {

@@ -7,12 +7,9 @@ ghost use Rattle.metadata_expansion.specs.Numbering.{AreRegisters};
 ghost use Rattle.metadata_expansion.specs.Numbers.{AreAllSmall, AreSmall, body_size, callee, greatest_callee};
 ghost use Rattle.metadata_expansion.specs.Numbers.{greatest_line, greatest_word, line_in, register_count, word_in};
 
-use crate::body::prologue_size;
 use crate::context::FunctionContext;
 use crate::homes::{free_count, greater};
-use crate::joins::Joins;
-use crate::jumps::follows;
-use crate::layout::{instruction_at, node_size};
+use crate::layout::is_short;
 use crate::registers::{Registers, most_temporaries, words_of};
 use addr_map::AddrMap;
 use c_tree::Variable;
@@ -98,7 +95,7 @@ fn greatest_callee(instructions: &[Instruction]) -> usize
 }
 
 // Whether the body of a function has fewer than 2^31 instructions.
-fn is_short(
+fn has_short_body(
     alloc: Global,
     map: &AddrMap,
     program: &Tac,
@@ -116,20 +113,7 @@ fn is_short(
         function,
         registers: &registers,
     };
-    let joins = Joins::new(alloc, function)?;
-    let count = function.code.as_slice().len();
-    let mut size = prologue_size(alloc, function)? as u128;
-    if !follows(count, function.entry) {
-        size += 1;
-    }
-    for node in 0..count {
-        if size >= 1 << 31 {
-            return Ok(false);
-        }
-        let instruction = instruction_at(function, node);
-        size += node_size(alloc, &context, &joins, node, instruction)?;
-    }
-    Ok(size < 1 << 31)
+    is_short(alloc, &context, function)
 }
 
 // Whether the numbers of a function fit.
@@ -145,7 +129,7 @@ fn is_small(
     let _line = function.line.number();
     let greatest = greatest_callee(function.code.as_slice());
     if greatest < 1 << 32 && has_few_registers(function) {
-        return is_short(alloc, map, program, function);
+        return has_short_body(alloc, map, program, function);
     }
     Ok(false)
 }

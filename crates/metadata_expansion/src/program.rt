@@ -41,7 +41,7 @@ fn expand_function(
         registers: &registers,
     };
     let mut body = Vec::new(alloc);
-    put_body(&mut body, alloc, &context)?;
+    put_body(&mut body, alloc, &context, function)?;
     Ok(FlatFunction {
         parameters: words_in(function.parameters.as_slice()),
         results: 1,

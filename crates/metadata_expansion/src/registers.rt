@@ -151,8 +151,8 @@ fn temporaries(instruction: &Instruction) -> u128
     }
 }
 
-// How many temporaries instructions need.
-pub(crate) fn most_temporaries(instructions: &[Instruction]) -> u128
+/// How many temporaries instructions need.
+pub fn most_temporaries(instructions: &[Instruction]) -> u128
     ensures { result ≡ most_temporaries instructions.now }
 {
     let mut most = 0;

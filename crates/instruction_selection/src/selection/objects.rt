@@ -29,11 +29,11 @@ fn put_of_block<S: ShadowForm>(
     match instruction {
         Instruction::EnterBlock { block, line, .. } => {
             let objects = block_objects(context.alloc, context.function, *block)?;
-            put_enter(code, context, &objects, *line, context.block_top(*block))
+            put_enter(code, context, &objects, *line)
         }
         Instruction::LeaveBlock { block, .. } => {
             let objects = block_objects(context.alloc, context.function, *block)?;
-            put_leave::<S>(code, context, &objects, context.block_top(*block))
+            put_leave::<S>(code, context, &objects)
         }
         _ => Ok(()),
     }

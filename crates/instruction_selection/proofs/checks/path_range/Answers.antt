@@ -1,4 +1,4 @@
-use Rattle.std.proofs.Common.{◌≡◌, ◌^◌, max, min, refl, ap, ◌∙◌, arith}
+use Rattle.std.proofs.Common.{◌^◌, max, min, refl, ap, ◌∙◌, arith}
 use Rattle.instruction_selection.proofs.Ranges.{one_more}
 use Rattle.instruction_selection.proofs.checks.path_range.Goals as goal
 

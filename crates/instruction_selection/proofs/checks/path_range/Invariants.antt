@@ -1,4 +1,4 @@
-use Rattle.std.proofs.Common.{◌≡◌, ◌-◌, ◌<◌, ◌≤◌, ◌^◌, drop, length}
+use Rattle.std.proofs.Common.{◌≡◌, ◌-◌, ◌<◌, ◌≤◌, ◌^◌, drop}
 use Rattle.metadata_relation.specs.Blocks.{path_range}
 use Rattle.instruction_selection.proofs.checks.path_range.Given as goal
 

@@ -1,4 +1,4 @@
-use Rattle.std.proofs.Common.{◌≡◌, ◌++◌, Bool, Some, sym, subst}
+use Rattle.std.proofs.Common.{◌≡◌, ◌++◌, Bool, sym, subst}
 use Rattle.std.specs.Prelude.{OnOk}
 use Rattle.shadow_space.specs.Form.{EntryCode}
 use Rattle.metadata_relation.specs.Blocks.{judge_code}

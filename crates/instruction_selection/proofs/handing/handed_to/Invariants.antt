@@ -1,4 +1,4 @@
-use Rattle.std.proofs.Common.{◌≡◌, ◌+◌, ◌++◌, drop, map, length}
+use Rattle.std.proofs.Common.{◌≡◌, ◌++◌, drop, map, length}
 use Rattle.metadata_relation.specs.Registers.{passed_as}
 use Rattle.instruction_selection.specs.Calls.{passed_by}
 use Rattle.instruction_selection.proofs.handing.handed_to.Given as goal

@@ -1,4 +1,4 @@
-use Rattle.std.proofs.Common.{ap, arith, ◌+◌}
+use Rattle.std.proofs.Common.{ap}
 use Rattle.instruction_selection.proofs.Joined.{pointer_update_list}
 use Rattle.instruction_selection.proofs.place_updates.put_pointer_update.Goals as goal
 

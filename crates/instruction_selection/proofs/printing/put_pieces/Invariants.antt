@@ -1,7 +1,7 @@
 use Rattle.std.proofs.Common.{◌≡◌, ◌+◌, ◌++◌, drop, length}
 use Rattle.c_tree.specs.Format.{directives}
-use Rattle.metadata_relation.specs.Blocks.{runtime_number, status_code}
-use Rattle.metadata_relation.specs.Printing.{put_pieces, scan_pieces, scan_statuses}
+use Rattle.metadata_relation.specs.Blocks.{runtime_number}
+use Rattle.metadata_relation.specs.Printing.{put_pieces}
 use Rattle.instruction_selection.proofs.printing.put_pieces.Given as goal
 
 abbrev pub invariant-loop-piece : goal.invariant-loop-piece

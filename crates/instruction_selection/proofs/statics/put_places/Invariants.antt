@@ -1,4 +1,4 @@
-use Rattle.std.proofs.Common.{◌≡◌, ◌+◌, ◌++◌, drop}
+use Rattle.std.proofs.Common.{◌≡◌, ◌++◌, drop}
 use Rattle.metadata_relation.specs.StartData.{statics_end}
 use Rattle.instruction_selection.specs.Statics.{places_from}
 use Rattle.instruction_selection.proofs.statics.put_places.Given as goal

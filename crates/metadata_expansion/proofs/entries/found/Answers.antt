@@ -1,5 +1,4 @@
-use Rattle.std.proofs.Common.{◌≡◌, List, ◌++◌, [], ◌∷◌, sym, ap, ◌∙◌, subst, length}
-use Rattle.metadata_expansion.specs.declared.temporary_set.TemporarySet.{TemporarySet}
+use Rattle.std.proofs.Common.{◌≡◌, ◌++◌, [], ◌∷◌, sym, ap, ◌∙◌, subst, length}
 use Rattle.metadata_expansion.specs.EntryTables.{AreNone, HaveRoom, entries_of}
 use Rattle.metadata_expansion.proofs.EntryTables.{temporaries_at, none_needed, room_more, none_more, length_more}
 use Rattle.metadata_expansion.proofs.entries.found.Goals as goal

@@ -1,4 +1,4 @@
-use Rattle.std.proofs.Common.{◌<◌, sym, ap, ◌∙◌, length, arith}
+use Rattle.std.proofs.Common.{sym, ap, ◌∙◌, length, arith}
 use Rattle.std.proofs.lemmas.Bool.{false≢true}
 use Rattle.metadata_expansion.specs.EntryTables.{entries_of}
 use Rattle.metadata_expansion.proofs.EntryTables.{temporaries_at, none_needed, covers_more, there_below, closed_by_needs}

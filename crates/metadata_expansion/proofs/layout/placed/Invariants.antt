@@ -1,8 +1,7 @@
-use Rattle.metadata_expansion.specs.Contexts.{begin_in, block_in}
 use Rattle.metadata_expansion.proofs.Laid.{HavePlaces}
 use Rattle.metadata_expansion.proofs.layout.placed.Given as goal
 
 abbrev pub invariant-loop-behind : goal.invariant-loop-behind
-invariant-loop-behind l =
-    let x = l.context in
-    HavePlaces (block_in x) (begin_in x) x.function.now l.descending.items l.place l.behind
+invariant-loop-behind g l =
+    HavePlaces (g.B.BlockSource.block_for l.blocks) (g.B.BlockSource.beginning l.blocks) l.function l.descending.items
+    l.place l.behind

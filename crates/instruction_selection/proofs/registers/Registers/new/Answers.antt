@@ -1,4 +1,4 @@
-use Rattle.std.proofs.Common.{◌≡◌, ◌+◌, ◌*◌, ◌++◌, length, ap, ◌∙◌, arith}
+use Rattle.std.proofs.Common.{◌≡◌, ◌+◌, ◌*◌, ◌++◌, ap, ◌∙◌, arith}
 use Rattle.metadata_plan.specs.Registers.{most_temporaries}
 use Rattle.metadata_relation.specs.Registers.{parameter_words, variable_words, home_words, total}
 use Rattle.instruction_selection.specs.Words.{registers_from}
@@ -25,44 +25,26 @@ put_registers-requires-4 c =
     let few = words_few c.args.function.now _ _ c.as_slice-parameters.ensures c.as_slice-others.ensures c.requires in
     omega (arith, few, c.in_ok-parameters_end.ensures.next, c.in_ok-first_home.ensures.next, c.in_ok-behind.ensures.next)
 
-pub overflow_add-first_temporary : goal.overflow_add-first_temporary
-overflow_add-first_temporary c =
-    let few = words_few c.args.function.now _ _ c.as_slice-parameters.ensures c.as_slice-others.ensures c.requires in
-    omega (arith, few, c.in_ok-parameters_end.ensures.next, c.in_ok-first_home.ensures.next, c.in_ok-behind.ensures.next, c.in_ok-first_top.ensures.next)
-
-pub overflow_add-first_temporary-2 : goal.overflow_add-first_temporary-2
-overflow_add-first_temporary-2 c =
-    let few = words_few c.args.function.now _ _ c.as_slice-parameters.ensures c.as_slice-others.ensures c.requires in
-    let blocks : length c.as_slice.result.now ≡ length c.args.function.now.blocks =
-    ap (λ xs. length xs) c.as_slice.ensures in
-    omega (arith, few, c.in_ok-parameters_end.ensures.next, c.in_ok-first_home.ensures.next, c.in_ok-behind.ensures.next, c.in_ok-first_top.ensures.next, blocks)
-
 pub overflow_add-result : goal.overflow_add-result
 overflow_add-result c =
     let few = words_few c.args.function.now _ _ c.as_slice-parameters.ensures c.as_slice-others.ensures c.requires in
-    let blocks : length c.as_slice.result.now ≡ length c.args.function.now.blocks =
-    ap (λ xs. length xs) c.as_slice.ensures in
     let most : c.most_temporaries.result ≡ most_temporaries c.args.function.now.code =
-    c.most_temporaries.ensures ∙ ap (λ xs. most_temporaries xs) c.as_slice-2.ensures in
-    omega (arith, few, c.in_ok-parameters_end.ensures.next, c.in_ok-first_home.ensures.next, c.in_ok-behind.ensures.next, c.in_ok-first_top.ensures.next, blocks, most)
+    c.most_temporaries.ensures ∙ ap (λ xs. most_temporaries xs) c.as_slice.ensures in
+    omega (arith, few, c.in_ok-parameters_end.ensures.next, c.in_ok-first_home.ensures.next, c.in_ok-behind.ensures.next, c.in_ok-first_temporary.ensures.next, most)
 
 pub overflow_add-result-2 : goal.overflow_add-result-2
 overflow_add-result-2 c =
     let few = words_few c.args.function.now _ _ c.as_slice-parameters.ensures c.as_slice-others.ensures c.requires in
-    let blocks : length c.as_slice.result.now ≡ length c.args.function.now.blocks =
-    ap (λ xs. length xs) c.as_slice.ensures in
     let most : c.most_temporaries.result ≡ most_temporaries c.args.function.now.code =
-    c.most_temporaries.ensures ∙ ap (λ xs. most_temporaries xs) c.as_slice-2.ensures in
-    omega (arith, few, c.in_ok-parameters_end.ensures.next, c.in_ok-first_home.ensures.next, c.in_ok-behind.ensures.next, c.in_ok-first_top.ensures.next, blocks, most)
+    c.most_temporaries.ensures ∙ ap (λ xs. most_temporaries xs) c.as_slice.ensures in
+    omega (arith, few, c.in_ok-parameters_end.ensures.next, c.in_ok-first_home.ensures.next, c.in_ok-behind.ensures.next, c.in_ok-first_temporary.ensures.next, most)
 
 pub overflow_add-result-3 : goal.overflow_add-result-3
 overflow_add-result-3 c =
     let few = words_few c.args.function.now _ _ c.as_slice-parameters.ensures c.as_slice-others.ensures c.requires in
-    let blocks : length c.as_slice.result.now ≡ length c.args.function.now.blocks =
-    ap (λ xs. length xs) c.as_slice.ensures in
     let most : c.most_temporaries.result ≡ most_temporaries c.args.function.now.code =
-    c.most_temporaries.ensures ∙ ap (λ xs. most_temporaries xs) c.as_slice-2.ensures in
-    omega (arith, few, c.in_ok-parameters_end.ensures.next, c.in_ok-first_home.ensures.next, c.in_ok-behind.ensures.next, c.in_ok-first_top.ensures.next, blocks, most)
+    c.most_temporaries.ensures ∙ ap (λ xs. most_temporaries xs) c.as_slice.ensures in
+    omega (arith, few, c.in_ok-parameters_end.ensures.next, c.in_ok-first_home.ensures.next, c.in_ok-behind.ensures.next, c.in_ok-first_temporary.ensures.next, most)
 
 pub returns : goal.returns
 returns c =
@@ -75,10 +57,8 @@ returns c =
     ap (λ vs. total home_words vs) c.as_slice-parameters.ensures in
     let more_homes : total home_words c.as_slice-others.result.now ≡ total home_words f.variables =
     ap (λ vs. total home_words vs) c.as_slice-others.ensures in
-    let blocks : length c.as_slice.result.now ≡ length f.blocks =
-    ap (λ xs. length xs) c.as_slice.ensures in
     let most : c.most_temporaries.result ≡ most_temporaries f.code =
-    c.most_temporaries.ensures ∙ ap (λ xs. most_temporaries xs) c.as_slice-2.ensures in
+    c.most_temporaries.ensures ∙ ap (λ xs. most_temporaries xs) c.as_slice.ensures in
     let list : c.from_vec.result ≡ registers_from parameter_words 0 f.parameters
     ++ registers_from variable_words (c.in_ok-parameters_end.parameters_end + 1) f.variables =
     c.from_vec.ensures
@@ -96,7 +76,7 @@ returns c =
     let home_list : c.from_vec-2.result ≡ registers_from home_words c.in_ok-first_home.first_home f.parameters
     ++ registers_from home_words c.in_ok-behind.behind f.variables =
     c.from_vec-2.ensures
-    ∙ c.in_ok-first_top.ensures.list
+    ∙ c.in_ok-first_temporary.ensures.list
     ∙ ap (λ xs. xs ++ registers_from home_words c.in_ok-behind.behind c.as_slice-others.result.now)
     c.in_ok-behind.ensures.list
     ∙ ap (λ xs. (xs ++ registers_from home_words c.in_ok-first_home.first_home c.as_slice-parameters.result.now)
@@ -112,8 +92,6 @@ returns c =
     begin
     (c.in_ok-first_home.ensures.next ∙ ap (λ n. c.in_ok-parameters_end.parameters_end + 1 + n) others)
     (c.in_ok-behind.ensures.next ∙ ap (λ n. c.in_ok-first_home.first_home + n) homes)
-    (c.in_ok-first_top.ensures.next ∙ ap (λ n. c.in_ok-behind.behind + n) more_homes)
-    list home_list (ap (λ n. c.in_ok-first_top.first_top + 1 + n) blocks)
-    (ap (λ n. c.in_ok-first_top.first_top + 1 + length c.as_slice.result.now + 5 * n) most)
-    (ap (λ n. c.in_ok-first_top.first_top + 1 + length c.as_slice.result.now + 5 * c.most_temporaries.result + 5 * n)
-    most) c.requires
+    (c.in_ok-first_temporary.ensures.next ∙ ap (λ n. c.in_ok-behind.behind + n) more_homes)
+    list home_list (ap (λ n. c.in_ok-first_temporary.first_temporary + 5 * n) most)
+    (ap (λ n. c.in_ok-first_temporary.first_temporary + 5 * c.most_temporaries.result + 5 * n) most) c.requires

@@ -1,4 +1,4 @@
-use Rattle.std.proofs.Common.{◌/◌, ◌%◌, ◌==◌, ◌<◌, length, ap, ◌∙◌, w64, arith, refl, bit_or}
+use Rattle.std.proofs.Common.{◌/◌, ◌%◌, ◌==◌, ◌<◌, length, ap, ◌∙◌, w64, arith, refl}
 use Rattle.std.proofs.lemmas.Nat.Bits.{bit_at_set_same, bit_at_set_other}
 use Rattle.std.specs.Int.{bit_at}
 use Rattle.metadata_expansion.proofs.TemporaryWords.{bit_written, others_kept, any_default}

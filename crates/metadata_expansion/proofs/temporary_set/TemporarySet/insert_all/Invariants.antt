@@ -1,5 +1,5 @@
-use Rattle.std.proofs.Common.{◌≡◌, ◌/◌, ◌<◌, ◌≤◌, ◌||◌, ℕ, length, ◌==◌}
-use Rattle.metadata_expansion.specs.TemporarySets.{is_in, room, bit_in}
+use Rattle.std.proofs.Common.{◌≡◌, ◌/◌, ◌<◌, ◌≤◌, ◌||◌, ℕ}
+use Rattle.metadata_expansion.specs.TemporarySets.{is_in, room}
 use Rattle.metadata_expansion.proofs.temporary_set.TemporarySet.insert_all.Given as goal
 
 abbrev pub invariant-loop-i : goal.invariant-loop-i

@@ -1,5 +1,5 @@
 use Rattle.metadata_expansion.proofs.Lists.{zeros_put}
-use Rattle.metadata_expansion.proofs.body.put_zeros.Goals as goal
+use Rattle.metadata_expansion.proofs.prologue.put_zeros.Goals as goal
 
 pub loop-i-preserved : goal.loop-i-preserved
 loop-i-preserved c =

@@ -1,7 +1,7 @@
 use Rattle.std.proofs.Common.{◌≡◌, ◌+◌, ◌++◌, drop}
 use Rattle.metadata_plan.specs.Registers.{words_in}
 use Rattle.metadata_plan.specs.Blocks.{zero_variables}
-use Rattle.metadata_expansion.proofs.body.put_zero_variables.Given as goal
+use Rattle.metadata_expansion.proofs.prologue.put_zero_variables.Given as goal
 
 abbrev pub invariant-loop-variable : goal.invariant-loop-variable
 invariant-loop-variable l =

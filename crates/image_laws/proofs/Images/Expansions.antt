@@ -183,69 +183,69 @@ module _ (p : Program) (budgets : BudgetSizes) (valid : is_valid_program p ≡ t
         → Follows 21 (tac_meaning r m.budgets input)
         (flat_meaning m (program_of l.expansion l.homes l.runtime) memory input))
         (spaces : List ℕ) (starts_program : AreStartSpaces (sizes_of p budgets) entry (Good (sizes_of p budgets)) l spaces)
-        where
-      starts : AreStartSpaces m entry (Good m) l spaces
-      starts = subst (λ z. AreStartSpaces z entry (Good z) l spaces) (sym map_is) starts_program
+      where
+        starts : AreStartSpaces m entry (Good m) l spaces
+        starts = subst (λ z. AreStartSpaces z entry (Good z) l spaces) (sym map_is) starts_program
 
-      abbrev flat_code : FlatProgram
-      flat_code = program_of l.expansion l.homes l.runtime
+        abbrev flat_code : FlatProgram
+        flat_code = program_of l.expansion l.homes l.runtime
 
-      abbrev memory : Bytes
-      memory =
-          data_memory (filled (object_bytes m) (bytes_of_statics r.statics 0)) (filled (space_bytes m) spaces)
+        abbrev memory : Bytes
+        memory =
+            data_memory (filled (object_bytes m) (bytes_of_statics r.statics 0)) (filled (space_bytes m) spaces)
 
-      fit : objects_begin + statics_end r.statics 0 ≤ region_end m Globals
-      fit = subst (λ z. objects_begin + statics_end r.statics 0 ≤ region_end z Globals) own_sizes fit_own
+        fit : objects_begin + statics_end r.statics 0 ≤ region_end m Globals
+        fit = subst (λ z. objects_begin + statics_end r.statics 0 ≤ region_end z Globals) own_sizes fit_own
 
-      stand : (StandsFor (views c) (start_keys (views c)) (objects_before r c.setting)
-          (store 8 memory (global_lock m) 1)) × AreSpacesGood m (Good m) (store 8 memory (global_lock m) 1)
-      stand =
-          file_stands memory (holds m (bytes_of_statics r.statics 0) spaces r.statics refl mapped fit)
-          (has_spaces m (bytes_of_statics r.statics 0) spaces entry (Good m) (start_entries m l) starts.starts starts.fit)
+        stand : (StandsFor (views c) (start_keys (views c)) (objects_before r c.setting)
+            (store 8 memory (global_lock m) 1)) × AreSpacesGood m (Good m) (store 8 memory (global_lock m) 1)
+        stand =
+            file_stands memory (holds m (bytes_of_statics r.statics 0) spaces r.statics refl mapped fit)
+            (has_spaces m (bytes_of_statics r.statics 0) spaces entry (Good m) (start_entries m l) starts.starts starts.fit)
 
-      objects_few : length (bytes_of_statics r.statics 0) ≤ 0x400000
-      unfolding region_start region_size
-      objects_few =
-          let long = statics_length (length p.functions) (placed_data objects_begin r.statics 0) r.statics 0 sound.at in
-          let g = mapped.globals in
-          let f = fit in
-          omega (arith, long, f, g)
+        objects_few : length (bytes_of_statics r.statics 0) ≤ 0x400000
+        unfolding region_start region_size
+        objects_few =
+            let long = statics_length (length p.functions) (placed_data objects_begin r.statics 0) r.statics 0 sound.at in
+            let g = mapped.globals in
+            let f = fit in
+            omega (arith, long, f, g)
 
-      objects_fit : length (bytes_of_statics r.statics 0) ≤ object_bytes m
-      unfolding region_start region_size
-      objects_fit =
-          let long = statics_length (length p.functions) (placed_data objects_begin r.statics 0) r.statics 0 sound.at in
-          let f = fit in
-          omega (arith, long, f)
+        objects_fit : length (bytes_of_statics r.statics 0) ≤ object_bytes m
+        unfolding region_start region_size
+        objects_fit =
+            let long = statics_length (length p.functions) (placed_data objects_begin r.statics 0) r.statics 0 sound.at in
+            let f = fit in
+            omega (arith, long, f)
 
-      spaces_fit : length spaces ≤ space_bytes m
-      unfolding region_start region_size
-      spaces_fit = let f = starts.fit in omega (arith, f)
+        spaces_fit : length spaces ≤ space_bytes m
+        unfolding region_start region_size
+        spaces_fit = let f = starts.fit in omega (arith, f)
 
-      objects_bytes : All (λ b. b < 256) (bytes_of_statics r.statics 0)
-      objects_bytes = statics_bytes (length p.functions) (placed_data objects_begin r.statics 0) r.statics 0 sound.at
+        objects_bytes : All (λ b. b < 256) (bytes_of_statics r.statics 0)
+        objects_bytes = statics_bytes (length p.functions) (placed_data objects_begin r.statics 0) r.statics 0 sound.at
 
-      code_follows : AreBytes memory → (input : List ℕ)
-          → Follows 168 (meaning p m.budgets input) (flat_meaning m flat_code memory input)
-      code_follows are input =
-          follows_trans 8 21 (meaning p m.budgets input) (tac_meaning r m.budgets input)
-          (flat_meaning m flat_code memory input) (lowered input)
-          (followed memory are stand.0 stand.1 input (never input))
+        code_follows : AreBytes memory → (input : List ℕ)
+            → Follows 168 (meaning p m.budgets input) (flat_meaning m flat_code memory input)
+        code_follows are input =
+            follows_trans 8 21 (meaning p m.budgets input) (tac_meaning r m.budgets input)
+            (flat_meaning m flat_code memory input) (lowered input)
+            (followed memory are stand.0 stand.1 input (never input))
 
-      code_runs : AreBytes memory → (input : List ℕ) (k : ℕ)
-          → run (flat_step m flat_code) k (started flat_code memory input) ≡ flat.Stuck → ⊥
-      code_runs are input k e =
-          never_stuck (flat_step m flat_code) flat.seen (λ (x : flat.Stage). x ≡ flat.Stuck) (steps m flat_code) 168
-          (meaning p m.budgets input) (started flat_code memory input) refl (source input) (code_follows are input) k e
+        code_runs : AreBytes memory → (input : List ℕ) (k : ℕ)
+            → run (flat_step m flat_code) k (started flat_code memory input) ≡ flat.Stuck → ⊥
+        code_runs are input k e =
+            never_stuck (flat_step m flat_code) flat.seen (λ (x : flat.Stage). x ≡ flat.Stuck) (steps m flat_code) 168
+            (meaning p m.budgets input) (started flat_code memory input) refl (source input) (code_follows are input) k e
 
-      pub following : IsFollowing p budgets (sizes_of p budgets) flat_code (bytes_of_statics r.statics 0) spaces
-      following =
-          subst (λ (z : MapSizes). IsFollowing p z.budgets z flat_code (bytes_of_statics r.statics 0) spaces) map_is
-          (record {
-            few = objects_few;
-            objects_fit = objects_fit;
-            spaces_fit = spaces_fit;
-            bytes = objects_bytes;
-            follows = code_follows;
-            runs = code_runs;
-          })
+        pub following : IsFollowing p budgets (sizes_of p budgets) flat_code (bytes_of_statics r.statics 0) spaces
+        following =
+            subst (λ (z : MapSizes). IsFollowing p z.budgets z flat_code (bytes_of_statics r.statics 0) spaces) map_is
+            (record {
+              few = objects_few;
+              objects_fit = objects_fit;
+              spaces_fit = spaces_fit;
+              bytes = objects_bytes;
+              follows = code_follows;
+              runs = code_runs;
+            })

@@ -1,4 +1,3 @@
-
 use Rattle.instruction_selection.proofs.TypeKeys.{all_told, keys_told, keys_low}
 use Rattle.instruction_selection.proofs.type_keys.type_keys.Goals as goal
 

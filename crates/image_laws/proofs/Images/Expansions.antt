@@ -1,20 +1,20 @@
 -- An image of a laid expansion does what its program means.
-use Rattle.std.proofs.Common.{◌≡◌, ℕ, ◌+◌, ◌*◌, ◌^◌, ◌<◌, ◌≤◌, true, List, length, Some, refl, sym, ap, ◌∙◌, subst, arith}
+use Rattle.std.proofs.Common.{◌≡◌, ℕ, ◌+◌, ◌<◌, ◌≤◌, true, List, length, Some, refl, sym, ap, ◌∙◌, subst, arith}
 use Rattle.std.specs.Prelude.{map, slice_get}
 use Rattle.std.specs.List.{All}
 use Rattle.std.proofs.lemmas.List.{length-map}
-use Rattle.behaviours.specs.Behaviour.{Behaviour, Follows, IsSource, IsMachine, Faithful}
+use Rattle.behaviours.specs.Behaviour.{Follows, IsSource}
 use Rattle.behaviours.specs.Steps.{run, IsStepping}
 use Rattle.behaviours.proofs.Following.{follows_trans}
 use Rattle.behaviours.proofs.Running.{never_stuck}
 use Rattle.sb_base.specs.Budgets.{BudgetSizes}
-use Rattle.addr_map.specs.declared.region.Region.TheVariants.{Globals, Heap}
+use Rattle.addr_map.specs.declared.region.Region.TheVariants.{Globals}
 use Rattle.addr_map.specs.Places.{MapSizes, AreMapped, objects_begin, code_begin, function_address, region_start}
 use Rattle.addr_map.specs.Places.{region_size, region_end}
 use Rattle.obj_memory.specs.Sound.{IsSound}
 use Rattle.c_tree.specs.Programs.{Program, FunctionType}
 use Rattle.c_tree.specs.ValidProgram.{is_valid_program}
-use Rattle.source_meaning.specs.State.{Setting, Header}
+use Rattle.source_meaning.specs.State.{Setting}
 use Rattle.source_meaning.specs.Calls.{header_of}
 use Rattle.source_meaning.specs.Meaning.{meaning, setting_of, initial_objects}
 use Rattle.tac_ir.specs.declared.function.CodeFunction.{CodeFunction}
@@ -43,11 +43,11 @@ use Rattle.metadata_relation.specs.InlineCode.{IsInlineCode}
 use Rattle.metadata_relation.specs.InlineLists.{inline_lists}
 use Rattle.metadata_relation.specs.Laid.{program_of, layout_of}
 use Rattle.metadata_relation.specs.Expanded.{IsExpanded}
-use Rattle.metadata_relation.specs.Stages.{Compiled, map_of, expansion_of, views}
+use Rattle.metadata_relation.specs.Stages.{Compiled, views}
 use Rattle.metadata_relation.specs.StartData.{statics_end, bytes_of_statics, HoldsStatics, AreSpacesInFile}
-use Rattle.metadata_relation.specs.Steps.{IsCompiled, AreAllCovered}
+use Rattle.metadata_relation.specs.Steps.{IsCompiled}
 use Rattle.image_laws.specs.Images.Images.{sizes_of, IsChecked}
-use Rattle.image_laws.specs.Images.Expansions.{IsExpansion, Laid, code_of, compiled_of, start_entries, AreStartSpaces}
+use Rattle.image_laws.specs.Images.Expansions.{Laid, compiled_of, start_entries, AreStartSpaces}
 use Rattle.image_laws.specs.Images.Expansions.{IsLaidExpansion}
 use Rattle.image_laws.proofs.Images.Checks.{same_as_lowered}
 use Rattle.image_laws.proofs.Images.Data.{holds, has_spaces, statics_bytes, statics_length}

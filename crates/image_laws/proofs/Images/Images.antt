@@ -1,10 +1,9 @@
 -- An image does what its program means.
-use Rattle.std.proofs.Common.{◌≡◌, ℕ, ◌<◌, ◌≤◌, List, [], ◌∷◌, length, Some, true, refl, sym, ap, ◌∙◌, subst, arith}
+use Rattle.std.proofs.Common.{◌≡◌, ℕ, ◌<◌, List, [], ◌∷◌, Some, true, refl, sym, ap, subst, arith}
 use Rattle.std.proofs.lemmas.Bool.{false≢true}
 use Rattle.std.specs.List.{All, list_all}
 use Rattle.behaviours.specs.Behaviour.{Behaviour, Follows, IsSource, IsMachine, Faithful}
 use Rattle.behaviours.specs.Steps.{run, IsStepping}
-use Rattle.behaviours.proofs.Following.{follows_trans}
 use Rattle.sb_base.specs.Budgets.{BudgetSizes, AreInRange}
 use Rattle.addr_map.specs.Places.{MapSizes, AreMapped}
 use Rattle.c_tree.specs.Programs.{StaticObject, Program}
@@ -29,15 +28,10 @@ use Rattle.reg_plan.specs.declared.plan.FunctionPlan.{FunctionPlan}
 use Rattle.reg_plan.specs.Tests.{AreAccepted}
 use Rattle.rv_sim.specs.State.{MachineState}
 use Rattle.rv_sim.specs.Behaviour.{behaviour}
-use Rattle.rv_sim.specs.Start.{start_of}
 use Rattle.machine_laws.specs.View.Segments.{Hold}
 use Rattle.machine_laws.specs.Following.Matching.{object_bytes, space_bytes}
 use Rattle.flat_propagation.specs.Propagated.{propagated}
-use Rattle.elf_image.specs.Layout.{content_of}
-use Rattle.elf_image.proofs.Pages.{length-image_bytes}
-use Rattle.machine_laws.specs.Segments.Segments.{table_words, code_words}
-use Rattle.machine_laws.proofs.CodeLayout.Bytes.{bytes_length}
-use Rattle.rv_codegen.specs.MachineImages.Image.{written, IsImage, ImageFollows, filled, data_memory}
+use Rattle.rv_codegen.specs.MachineImages.Image.{IsImage, ImageFollows, filled, data_memory}
 use Rattle.image_laws.specs.Images.Images.{HaveFewParameters, sizes_of, IsChecked, flat_code, DoesWhatIsMeant}
 use Rattle.image_laws.proofs.Images.Instructions.{IsFit}
 use Rattle.image_laws.proofs.Images.Programs.{instruction_fit, encodable, startable}

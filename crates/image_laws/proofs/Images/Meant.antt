@@ -1,5 +1,5 @@
 -- An image of flat code that follows a program does what the program means.
-use Rattle.std.proofs.Common.{◌≡◌, ℕ, ◌^◌, ◌≤◌, List, length, refl, sym, ap, ◌∙◌, arith}
+use Rattle.std.proofs.Common.{◌≡◌, ℕ, ◌^◌, ◌≤◌, List, length, sym, ap, ◌∙◌, arith}
 use Rattle.behaviours.specs.Behaviour.{Behaviour, Follows, IsSource, IsMachine, Faithful}
 use Rattle.behaviours.specs.Steps.{run}
 use Rattle.behaviours.proofs.Following.{follows_trans}

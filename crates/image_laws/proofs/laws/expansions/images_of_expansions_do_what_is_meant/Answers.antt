@@ -1,14 +1,11 @@
 use Rattle.std.proofs.Common.{◌≡◌, ℕ, List, refl, sym, subst}
 use Rattle.behaviours.specs.Behaviour.{Follows}
 use Rattle.behaviours.specs.Steps.{run}
-use Rattle.addr_map.specs.Places.{MapSizes, AreMapped}
 use Rattle.source_meaning.specs.Meaning.{meaning}
 use Rattle.tac_ir.specs.Meaning.{tac_meaning, step, setting_of_code, first_stage}
 use Rattle.tac_ir.specs.Stage.{Stuck}
 use Rattle.flat_meaning.specs.State as flat
-use Rattle.flat_meaning.specs.Meaning.{step as flat_step, started, flat_meaning}
 use Rattle.machine_laws.specs.Following.Matching.{object_bytes, space_bytes}
-use Rattle.rv_codegen.specs.MachineImages.Image.{filled, data_memory}
 use Rattle.metadata_relation.specs.Laid.{program_of}
 use Rattle.metadata_relation.specs.StartData.{bytes_of_statics}
 use Rattle.image_laws.specs.Images.Images.{sizes_of, IsChecked}

@@ -61,7 +61,7 @@ pub sizes_are : (p : Program) (budgets : BudgetSizes) (m : MapSizes) → is_inte
 sizes_are p budgets m ints e =
     e ∙ ap {B = MapSizes} (λ n. record { budgets = budgets; global_bytes = n }) (sym (no_bytes p ints))
 
-checked_of : (p : Program) (t r : Tac) → IsLowered p t → IsWeighed p t → HaveBodiesOf p t → HasChecks t r
+pub checked_of : (p : Program) (t r : Tac) → IsLowered p t → IsWeighed p t → HaveBodiesOf p t → HasChecks t r
     → IsChecked p r
 checked_of p t r low weighed bodies h = record {
   lowered = t;
@@ -75,7 +75,7 @@ checked_of p t r low weighed bodies h = record {
   variables = h.variables;
 }
 
-all_checks : (p : Program) (t : Tac) → AwaitsChecks p t → checks t + checks_to_insert t ≡ checks_of p
+pub all_checks : (p : Program) (t : Tac) → AwaitsChecks p t → checks t + checks_to_insert t ≡ checks_of p
 all_checks p t awaits = omega (arith, awaits.none, awaits.to_come)
 
 pub built_for : (p : Program) (t : Tac) (m n : MapSizes) (b : Built) → IsLowered p t → IsWeighed p t → HaveBodiesOf p t

@@ -1,2 +1,4 @@
 pub mod Images
 pub mod Compiled
+pub mod Expanded
+pub mod ExpandedPrograms

@@ -7,7 +7,11 @@
 
 pub mod compiler;
 pub mod error;
+pub mod expanded_compiler;
+pub mod expansion;
 pub mod image;
 
 pub use crate::compiler::{Built, compile};
 pub use crate::error::CompileError;
+pub use crate::expanded_compiler::compile_expanded;
+pub use crate::expansion::ExpansionError;

@@ -162,12 +162,14 @@ module _ (read write : EntryCode) (m : MapSizes) (t : Tac) (types : ℕ → ℕ)
         ap (λ g. g ∷ fs) first ∙ ap (λ gs. function_of whole k c (homes c) ∷ gs) rest
 
     pub whole_program : (runtime : List FlatFunction) (p : FlatProgram) → HaveTypeKeys t.functions types
+        → ((f : ℕ) → types f < 2 ^ 63)
         → p ≡ record { functions = list ++ (runtime ++ entry_of m t ∷ []); entry = length t.functions + length runtime }
         → IsExpansionOf read write m t runtime p
-    whole_program runtime p keys made = record {
+    whole_program runtime p keys low made = record {
       types = types;
       entries = entries_of;
       keys = keys;
+      low = low;
       closed = record { by = λ u c e. (fits u c e).closed };
       kept = λ u c e. record { kept = λ n x y i at leads other none. refl; words = λ n y i at takes. refl };
       is = made

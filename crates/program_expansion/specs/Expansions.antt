@@ -112,6 +112,7 @@ pub record AreAllFunctionsOf (read write : EntryCode) (map : MapSizes) (code : T
     pub limits : AreWithinLimits code
     pub types : ℕ → ℕ
     pub keys : HaveTypeKeys code.functions types
+    pub low : (f : ℕ) → types f < 2 ^ 63
     pub functions : AreFunctionsOf read write map code types (length code.functions) list
 
 -- the flat program is the expansion of a program, with entries that were found for it
@@ -120,6 +121,7 @@ pub record IsExpansionOf (read write : EntryCode) (map : MapSizes) (code : Tac) 
   pub types : ℕ → ℕ
   pub entries : (function : ℕ) → Entries
   pub keys : HaveTypeKeys code.functions types
+  pub low : (f : ℕ) → types f < 2 ^ 63
   pub closed : AreAllClosed code entries
   pub kept : (u : ℕ) (c : CodeFunction) → slice_get code.functions u ≡ Some c
       → AreKept c ((expansion_of read write map code types entries).contents u)

@@ -1,16 +1,15 @@
 -- Images by expansion: flat code that passed its tests, and its data.
-use Rattle.std.proofs.Common.{◌≡◌, ℕ, zero, suc, ◌+◌, ◌*◌, ◌/◌, ◌^◌, ◌<◌, ◌≤◌, List, [], ◌∷◌, ◌++◌, length, Some, get_or}
+use Rattle.std.proofs.Common.{◌≡◌, ℕ, zero, suc, ◌+◌, ◌^◌, ◌<◌, ◌≤◌, List, [], ◌∷◌, ◌++◌, length, Some, get_or}
 use Rattle.std.proofs.Common.{refl, sym, ap, ◌∙◌, subst, arith}
 use Rattle.std.specs.Prelude.{slice_get}
-use Rattle.std.specs.List.{All}
-use Rattle.addr_map.specs.declared.region.Region.TheVariants.{Globals, Locks, Shadow}
-use Rattle.addr_map.specs.Places.{MapSizes, AreMapped, objects_begin, region_end, region_size, region_start}
+use Rattle.addr_map.specs.declared.region.Region.TheVariants.{Locks, Shadow}
+use Rattle.addr_map.specs.Places.{MapSizes, AreMapped, objects_begin, region_size, region_start}
 use Rattle.addr_map.proofs.Order.{ends_low}
 use Rattle.obj_memory.specs.declared.value.Tag.{Tag}
 use Rattle.obj_memory.specs.declared.value.Tag.TheVariants.{Untagged, OfFunction, OfObject}
 use Rattle.obj_memory.specs.Heap.{rounded_up}
 use Rattle.obj_memory.specs.Objects.{Objects, object_at}
-use Rattle.obj_memory.specs.Sound.{IsSoundTag, IsSoundObject, IsSound}
+use Rattle.obj_memory.specs.Sound.{IsSoundTag, IsSoundObject}
 use Rattle.c_tree.specs.Programs.{Program}
 use Rattle.tac_ir.specs.declared.function.CodeFunction.{CodeFunction}
 use Rattle.tac_ir.specs.declared.function.StaticData.{StaticData}
@@ -27,12 +26,12 @@ use Rattle.shadow_space.specs.Form.{EntryCode}
 use Rattle.shadow_space.specs.Start.{AreStartEntries, StartsShadow}
 use Rattle.runtime_functions.specs.declared.runtime.RuntimeFunction.{RuntimeFunction}
 use Rattle.runtime_functions.specs.Runtime.{runtime_list, AreOfRuntime}
-use Rattle.metadata_relation.specs.FunctionTypes.{HaveTypeKeys, type_key}
+use Rattle.metadata_relation.specs.FunctionTypes.{HaveTypeKeys}
 use Rattle.metadata_relation.specs.Homes.{homes}
-use Rattle.metadata_relation.specs.StartData.{bytes_of_statics, entry_of_tag, entries_of_tags, entries_of_statics, statics_end}
+use Rattle.metadata_relation.specs.StartData.{bytes_of_statics, entry_of_tag, entries_of_tags, entries_of_statics}
 use Rattle.metadata_relation.proofs.StartData.{are_start_entries}
 use Rattle.instruction_selection.specs.Covered.{IsCoveredCode, no_contents}
-use Rattle.instruction_selection.specs.StartData.{HasWords, HaveWords, NameFunctions, type_in}
+use Rattle.instruction_selection.specs.StartData.{HasWords, HaveWords}
 use Rattle.instruction_selection.proofs.Coverages.{all_covered}
 use Rattle.program_expansion.specs.Expansions.{IsExpansionOf, expansion_of}
 use Rattle.reg_plan.specs.declared.plan.FunctionPlan.{FunctionPlan}

@@ -1,5 +1,5 @@
 -- What is built of a program with objects and pointers, by the expansion of its checked code.
-use Rattle.std.specs.Prelude.{◌≡◌, ℕ, ◌+◌, ◌<◌, ◌≤◌, ◌^◌, List, length}
+use Rattle.std.specs.Prelude.{◌≡◌, ℕ, ◌+◌, ◌<◌, ◌≤◌, ◌^◌, length}
 use Rattle.std.specs.List.{All}
 use Rattle.addr_map.specs.declared.region.Region.TheVariants.{Globals, Locks, Shadow}
 use Rattle.addr_map.specs.Places.{MapSizes, objects_begin, region_end, region_size, region_start}

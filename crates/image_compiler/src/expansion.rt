@@ -47,7 +47,8 @@ impl From<AllocError> for ExpansionError {
 // What an error of the expansion is here.
 fn of_expand(error: ExpandError) -> ExpansionError {
     match error {
-        ExpandError::OutsideLimits | ExpandError::TooManyInstructions => ExpansionError::NotCompiled,
+        ExpandError::OutsideLimits | ExpandError::TooManyInstructions =>
+            ExpansionError::NotCompiled,
         ExpandError::Memory => ExpansionError::Memory,
     }
 }
@@ -55,7 +56,8 @@ fn of_expand(error: ExpandError) -> ExpansionError {
 // What an error of code generation is here.
 fn of_generate(error: GenerateError) -> ExpansionError {
     match error {
-        GenerateError::TooLarge(_) | GenerateError::RuntimeTooLarge(_) => ExpansionError::NotCompiled,
+        GenerateError::TooLarge(_) | GenerateError::RuntimeTooLarge(_) =>
+            ExpansionError::NotCompiled,
         GenerateError::Memory => ExpansionError::Memory,
     }
 }
@@ -164,7 +166,14 @@ pub fn image_of_expansion<S: ShadowForm>(
     let flat = tested_code::<S>(alloc, map, code)?;
     let plan = registers(alloc, &flat)?;
     let data = data_of::<S>(alloc, map, code)?;
-    match image_of(alloc, map, &flat, &plan.functions, data.objects, data.spaces) {
+    match image_of(
+        alloc,
+        map,
+        &flat,
+        &plan.functions,
+        data.objects,
+        data.spaces,
+    ) {
         Ok(file) => Ok(file),
         Err(error) => Err(of_generate(error)),
     }

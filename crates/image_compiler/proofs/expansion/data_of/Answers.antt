@@ -1,8 +1,6 @@
-use Rattle.std.proofs.Common.{◌≡◌, ℕ, ◌^◌, ◌<◌, sym, ap, ◌∙◌, subst, arith}
+use Rattle.std.proofs.Common.{ℕ, ◌^◌, ◌<◌, sym, ap, ◌∙◌, subst, arith}
 use Rattle.std.specs.List.{All}
-use Rattle.addr_map.specs.declared.region.Region.TheVariants.{Locks}
-use Rattle.addr_map.specs.Places.{objects_begin, region_start}
-use Rattle.shadow_space.specs.declared.start.StartEntry.{StartEntry}
+use Rattle.addr_map.specs.Places.{objects_begin}
 use Rattle.metadata_relation.specs.FunctionTypes.{HaveTypeKeys}
 use Rattle.metadata_relation.specs.StartData.{bytes_of_statics, entries_of_statics}
 use Rattle.instruction_selection.specs.StartData.{HaveWords, type_in}

@@ -1,5 +1,6 @@
 -- What keeps a command from its end, where its file is there and is what it has to be.
-use Rattle.std.proofs.Common.{◌≡◌, ◌≤◌, ℕ, List, length, Option, Some, None, Err, ⊎_elim, sym, subst, arith}
+use Rattle.std.proofs.Common.{◌≡◌, ◌≤◌, ℕ, true, false, List, length, Option, Some, None, Ok, Err, ⊎_elim, sym}
+use Rattle.std.proofs.Common.{subst, arith}
 use Rattle.std.specs.Prelude.{IfSome}
 use Rattle.sbcets_core.specs.declared.outcome.ReadFault.TheVariants.{TooLong}
 use Rattle.sbcets_core.specs.declared.outcome.ReadFault.TheVariants as reads
@@ -15,12 +16,14 @@ use Rattle.elf_image.specs.declared.fault.ImageFault.{ImageFault}
 use Rattle.sbcets_core.specs.Commands.{Outside, IsRead, IsTooLong, RefusesSource, RefusesImage, Goes, Runs, Builds}
 use Rattle.sbcets_core.specs.Listings.{Lists, Assembles, Spells, RefusesListing, SpellsNone}
 use Rattle.sb_base.specs.Budgets.{BudgetSizes}
+use Rattle.c_tree.specs.Programs.{Program}
+use Rattle.compiled_programs.specs.Programs.{is_integer_program}
 use Rattle.image_compiler.specs.declared.error.CompileError.{CompileError}
 use Rattle.image_compiler.specs.declared.error.CompileError.TheVariants as compile
-use Rattle.sbcets_core.specs.Accepted.{Judges, IsOfSize}
+use Rattle.sbcets_core.specs.Accepted.{Judges, IsOfSize, IsTooLarge, IsUncompiled, Refuses}
 use Rattle.sbcets_core.specs.Top.{Does, IsAcceptedFile, IsReadableFile, IsOfRun, IsOfGo, IsOfBuild, IsComplete}
-use Rattle.sbcets_core.specs.Top.{IsRefusalBySize, IsListingFile, IsOfListing}
-use Rattle.sbcets_core.proofs.Judging.{not_both}
+use Rattle.sbcets_core.specs.Top.{IsRefusalOf, IsListingFile, IsOfListing}
+use Rattle.sbcets_core.proofs.Judging.{not_both, one_program}
 
 -- what is read is what the file of the name holds
 pub read_is : (held : Option (List ℕ → Option (List ℕ))) (files : List ℕ → Option (List ℕ)) (name bytes read : List ℕ)
@@ -40,21 +43,38 @@ not_too_long held files name bytes max n most told there short t =
     let more = t.more in
     omega (arith, more, at_bytes, short)
 
--- a refusal of what is built is one by size
-by_size : (e : CompileError) (refusal : SourceRefusal) → IsOfSize e refusal → IsRefusalBySize refusal
-by_size compile.NumbersTooLarge refusal is = subst IsRefusalBySize (sym is) tt
-by_size (compile.TooLarge bytes) refusal is = subst IsRefusalBySize (sym is) tt
-by_size compile.Memory refusal is = absurd is
+-- a refusal of what is accepted is one by size, or for what is not compiled yet
+by_size : (p : Program) (e : CompileError) (refusal : SourceRefusal) → is_integer_program p ≡ true
+    → IsOfSize e refusal → IsRefusalOf p refusal
+by_size p compile.NumbersTooLarge refusal integers is = subst (IsRefusalOf p) (sym is) integers
+by_size p (compile.TooLarge bytes) refusal integers is = subst (IsRefusalOf p) (sym is) integers
+by_size p compile.Memory refusal integers is = absurd is
 
-refused_by_size : (held : Option (List ℕ → Option (List ℕ))) (name : List ℕ) (budgets : BudgetSizes)
-    (refusal : SourceRefusal) → IsAcceptedFile held name → RefusesSource name budgets refusal held
-    → IsRefusalBySize refusal
-refused_by_size held name budgets refusal f r =
+refused_by_size : (source : List ℕ) (p : Program) (budgets : BudgetSizes) (refusal : SourceRefusal)
+    → Judges source (Ok p) → IsTooLarge source budgets refusal → IsRefusalOf p refusal
+refused_by_size source p budgets refusal accepts t =
+    subst (λ q. IsRefusalOf q refusal) (one_program source t.program p t.accepts accepts)
+    (by_size t.program t.error refusal t.integers t.is)
+
+refused_uncompiled : (source : List ℕ) (p : Program) (refusal : SourceRefusal) → Judges source (Ok p)
+    → IsUncompiled source refusal → IsRefusalOf p refusal
+refused_uncompiled source p refusal accepts u =
+    let others = subst (λ q. is_integer_program q ≡ false) (one_program source u.program p u.accepts accepts) u.others in
+    subst (IsRefusalOf p) (sym u.is) others
+
+refused_of : (source : List ℕ) (p : Program) (budgets : BudgetSizes) (refusal : SourceRefusal) → Judges source (Ok p)
+    → Refuses source budgets refusal → IsRefusalOf p refusal
+refused_of source p budgets refusal accepts r =
+    ⊎_elim (λ j. absurd (not_both source p refusal accepts j))
+    (⊎_elim (refused_by_size source p budgets refusal accepts) (refused_uncompiled source p refusal accepts)) r
+
+refused_file : (held : Option (List ℕ → Option (List ℕ))) (name : List ℕ) (budgets : BudgetSizes)
+    (refusal : SourceRefusal) (f : IsAcceptedFile held name) → RefusesSource name budgets refusal held
+    → IsRefusalOf f.program refusal
+refused_file held name budgets refusal f r =
     let same = read_is held f.files name f.source r.source max_source f.told f.there r.read in
-    ⊎_elim
-    (λ j. absurd (not_both f.source f.program refusal f.accepts (subst (λ s. Judges s (Err refusal)) same j)))
-    (λ t. by_size t.error refusal t.is)
-    r.refused
+    refused_of f.source f.program budgets refusal f.accepts
+    (subst (λ s. Refuses s budgets refusal) same r.refused)
 
 not_image_refused : (held : Option (List ℕ → Option (List ℕ))) (name : List ℕ) (fault : ImageFault)
     → IsReadableFile held name → RefusesImage name fault held → ⊥
@@ -66,7 +86,8 @@ not_image_refused held name fault f r =
 
 go_ends : (name : List ℕ) (budgets : BudgetSizes) (limit : ℕ) (outcome : Outcome) (image : List ℕ)
     (before after : Outside)
-    → IsAcceptedFile before.files name → Goes name budgets limit outcome image before after → IsOfGo outcome
+    (f : IsAcceptedFile before.files name) → Goes name budgets limit outcome image before after
+    → IsOfGo f.program outcome
 go_ends name budgets limit (Exited code) image before after f d = tt
 go_ends name budgets limit (Limit n) image before after f d = tt
 go_ends name budgets limit Memory image before after f d = tt
@@ -76,7 +97,7 @@ go_ends name budgets limit (Trap kind pc) image before after f d = absurd d
 go_ends name budgets limit (outcomes.ReadFault reads.Failed) image before after f d = tt
 go_ends name budgets limit (outcomes.ReadFault (TooLong n most)) image before after f d = absurd
     (not_too_long before.files f.files name f.source max_source n most f.told f.there f.short d.0)
-go_ends name budgets limit (Refused refusal) image before after f d = refused_by_size before.files name budgets refusal
+go_ends name budgets limit (Refused refusal) image before after f d = refused_file before.files name budgets refusal
     f d.0
 go_ends name budgets limit (ImageRefused fault) image before after f d = absurd d
 go_ends name budgets limit Built image before after f d = absurd d
@@ -107,7 +128,8 @@ run_ends name limit (ListRefused kind line) image before after f d = absurd d
 
 build_ends : (name target : List ℕ) (budgets : BudgetSizes) (outcome : Outcome) (image : List ℕ)
     (before after : Outside)
-    → IsAcceptedFile before.files name → Builds name target budgets outcome image before after → IsOfBuild outcome
+    (f : IsAcceptedFile before.files name) → Builds name target budgets outcome image before after
+    → IsOfBuild f.program outcome
 build_ends name target budgets (Exited code) image before after f d = absurd d
 build_ends name target budgets (Limit n) image before after f d = absurd d
 build_ends name target budgets Memory image before after f d = tt
@@ -118,7 +140,7 @@ build_ends name target budgets (outcomes.ReadFault reads.Failed) image before af
 build_ends name target budgets (outcomes.ReadFault (TooLong n most)) image before after f d = absurd
     (not_too_long before.files f.files name f.source max_source n most f.told f.there f.short d.0)
 build_ends name target budgets (Refused refusal) image before after f d =
-    refused_by_size before.files name budgets refusal f d.0
+    refused_file before.files name budgets refusal f d.0
 build_ends name target budgets (ImageRefused fault) image before after f d = absurd d
 build_ends name target budgets Built image before after f d = tt
 build_ends name target budgets Usage image before after f d = absurd d

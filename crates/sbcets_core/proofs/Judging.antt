@@ -19,10 +19,10 @@ use Rattle.sbcets_core.specs.declared.refusal.SourceRefusal.{SourceRefusal}
 use Rattle.sbcets_core.specs.declared.refusal.SourceRefusal.TheVariants.{Lex, Pre, Unsupported, Syntax, Nesting}
 use Rattle.sbcets_core.specs.declared.refusal.SourceRefusal.TheVariants.{Typing, Const, TooLarge, Uncompiled}
 use Rattle.sbcets_core.specs.declared.refusal.SourceRefusal.TheVariants.{RoomTooLarge, NumbersTooLarge, Memory}
-use Rattle.sbcets_core.specs.Programs.{Judged, unless_large, if_compiled, judged_program, judged_unit}
+use Rattle.sbcets_core.specs.Programs.{Judged, unless_large, judged_program, judged_unit}
 use Rattle.sbcets_core.specs.Accepted.{Readable, expanded_tokens, unless_unsupported, with_support, of_readable}
 use Rattle.sbcets_core.specs.Accepted.{supported_tokens, RefusesTokens, IsTyped, HasProgram, JudgesTokens}
-use Rattle.sbcets_core.specs.Accepted.{JudgesReadable, Judges, UnlessMemory}
+use Rattle.sbcets_core.specs.Accepted.{JudgesReadable, Judges, EndsOn, UnlessMemory}
 
 -- what follows from the one follows of a refusal too
 pub unless_memory : (refusal : SourceRefusal) (A B : Type 0) → (A → B) → UnlessMemory refusal A → UnlessMemory refusal B
@@ -86,34 +86,27 @@ typed_tokens list (Ok p) t = t
 typed_tokens list (Err refusal) t = inr t
 
 pub tree_judged : (list : TokenList) (u : Tree) (judged : Judged) → first_unsupported list.tokens ≡ None
-    → IsTreeOf list.tokens u → judged_unit list.end (typed_unit list.end u) ≡ judged
+    → IsTreeOf list.tokens u → judged_unit (typed_unit list.end u) ≡ judged
     → JudgesReadable (with_support list) judged
 tree_judged list u judged none t e =
     judged_supported list judged none
     (typed_tokens list judged (record { tree = u; written = t; as_typed = sym e }))
 
 pub tree_refused : (list : TokenList) (u : Tree) (refusal : SourceRefusal) → first_unsupported list.tokens ≡ None
-    → IsTreeOf list.tokens u → UnlessMemory refusal (judged_unit list.end (typed_unit list.end u) ≡ Err refusal)
+    → IsTreeOf list.tokens u → UnlessMemory refusal (judged_unit (typed_unit list.end u) ≡ Err refusal)
     → UnlessMemory refusal (JudgesReadable (with_support list) (Err refusal))
 tree_refused list u refusal none t r = unless_memory refusal _ _ (tree_judged list u (Err refusal) none t) r
 
-pub room_refused : (end : ℕ) (typed : TypedUnit) (number : ℕ) → IsWithoutRoom number typed
-    → judged_unit end typed ≡ Err (RoomTooLarge number)
+pub room_refused : (typed : TypedUnit) (number : ℕ) → IsWithoutRoom number typed
+    → judged_unit typed ≡ Err (RoomTooLarge number)
 unfolding judged_program
-room_refused end typed number w =
-    let p = w.program in
-    ap (judged_unit end) w.is_program
-    ∙ ap (λ room. unless_large room (if_compiled end p)) w.is_first
+room_refused typed number w =
+    ap judged_unit w.is_program ∙ ap (λ room. unless_large room w.program) w.is_first
 
-pub program_judged : (list : TokenList) (p : Program) (judged : Judged) → HasProgram list p
-    → judged_program list.end p ≡ judged → JudgesReadable (with_support list) judged
-program_judged list p judged h e =
-    tree_judged list h.tree judged h.supported h.written (ap (judged_unit list.end) h.typed ∙ e)
-
-pub program_refused : (list : TokenList) (p : Program) (refusal : SourceRefusal) → HasProgram list p
-    → UnlessMemory refusal (judged_program list.end p ≡ Err refusal)
-    → UnlessMemory refusal (JudgesReadable (with_support list) (Err refusal))
-program_refused list p refusal h r = unless_memory refusal _ _ (program_judged list p (Err refusal) h) r
+pub program_judged : (list : TokenList) (p : Program) → HasProgram list p → judged_program p ≡ Ok p
+    → JudgesReadable (with_support list) (Ok p)
+program_judged list p h e =
+    tree_judged list h.tree (Ok p) h.supported h.written (ap judged_unit h.typed ∙ e)
 
 pub refusal_is : (a b : SourceRefusal) → ◌≡◌ {A = Judged} (Err a) (Err b) → a ≡ b
 refusal_is a b e = cc
@@ -149,7 +142,7 @@ by_judgement list (Err refusal) Holds j typed syntax nesting =
 typed_once : (list : TokenList) (a b : Judged) → IsTyped list a → IsTyped list b → a ≡ b
 typed_once list a b t u =
     let same = one_tree t.tree u.tree t.written.formed u.written.formed (t.written.same ∙ sym u.written.same) in
-    t.as_typed ∙ ap (λ x. judged_unit list.end (typed_unit list.end x)) same ∙ sym u.as_typed
+    t.as_typed ∙ ap (λ x. judged_unit (typed_unit list.end x)) same ∙ sym u.as_typed
 
 -- the reader stands at one token
 one_place : (list : TokenList) (at to line on : ℕ) (is_nesting other : Bool) → IsRefusedAt list at line is_nesting
@@ -225,7 +218,7 @@ by_reader : (list : TokenList) (o : Outcome Tree) → unit_from (positioned list
     → (answer : Judged) × JudgesTokens list answer
 by_reader list (Ok (u, r)) e =
     let tree = what_is_read (positioned list.tokens) u r e in
-    let judged = judged_unit list.end (typed_unit list.end u) in (
+    let judged = judged_unit (typed_unit list.end u) in (
       judged,
       typed_tokens list judged
           (record { tree = u; written = record { formed = tree.1; same = tree.2 }; as_typed = refl }),
@@ -246,4 +239,14 @@ pub not_both : (source : List ℕ) (program : Program) (refusal : SourceRefusal)
     → Judges source (Err refusal) → ⊥
 not_both source program refusal a r = let same = judged_once source (Ok program) (Err refusal) a r in cc same
 
-pub ruleset judging = (source_judged, source_refused, refused_early)
+-- a source is accepted as one program
+pub one_program : (source : List ℕ) (p q : Program) → Judges source (Ok p) → Judges source (Ok q) → p ≡ q
+one_program source p q a b = let same = judged_once source (Ok p) (Ok q) a b in cc same
+
+-- the text of the expanded tokens ends on a line
+pub source_ends : (source : List ℕ) (list : TokenList) (line : ℕ) → expanded_tokens source ≡ Ok list
+    → first_unsupported list.tokens ≡ None → line ≡ list.end → EndsOn source line
+source_ends source list line e none is =
+    record { list = list; expands = supported source list e ∙ none_unsupported list none; line_is = is }
+
+pub ruleset judging = (source_judged, source_refused, refused_early, source_ends)

@@ -1,4 +1,5 @@
 pub mod Answering
+pub mod Building
 pub mod Cases
 pub mod Complete
 pub mod Composition

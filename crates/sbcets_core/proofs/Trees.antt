@@ -13,13 +13,12 @@ use Rattle.c_parser.specs.declared.unsupported.UnsupportedWord.{UnsupportedWord}
 use Rattle.c_parser.specs.Unsupported.{first_unsupported}
 use Rattle.c_grammar.proofs.Unique.{one_tree}
 use Rattle.sbcets_core.specs.declared.refusal.SourceRefusal.{SourceRefusal}
-use Rattle.sbcets_core.specs.declared.refusal.SourceRefusal.TheVariants.{Syntax, Nesting, TooLarge, Uncompiled}
+use Rattle.sbcets_core.specs.declared.refusal.SourceRefusal.TheVariants.{Syntax, Nesting, TooLarge}
 use Rattle.sbcets_core.specs.declared.refusal.Counted.TheVariants.{Source}
 use Rattle.sbcets_core.specs.Outcomes.{max_source}
 use Rattle.c_tree.specs.Programs.{Program}
 use Rattle.c_programs.specs.Rooms.{first_without_room}
 use Rattle.c_unit_typing.specs.Typed.{TypedUnit, a_program, a_fault, not_constant, too_large, typed_unit}
-use Rattle.compiled_programs.specs.Programs.{is_integer_program}
 use Rattle.sbcets_core.specs.Programs.{Judged, judged_program, judged_unit, unless_large}
 use Rattle.sbcets_core.specs.Accepted.{Readable, RefusesTokens, IsTyped, expanded_tokens, supported_tokens}
 use Rattle.sbcets_core.specs.Accepted.{with_support}
@@ -82,21 +81,19 @@ early source =
     (early_tokens (tokens source)))
 
 -- no tree is typed as the parser refuses
-typed_late : (end : ℕ) (t : TypedUnit) → IsUnparsed (judged_unit end t) → ⊥
+typed_late : (t : TypedUnit) → IsUnparsed (judged_unit t) → ⊥
 unfolding judged_program
-typed_late end (a_program p) i = by (first_without_room 0 p.functions) (is_integer_program p) i
+typed_late (a_program p) i = by (first_without_room 0 p.functions) i
   where
-    by : (room : Option ℕ) (b : Bool)
-        → IsUnparsed (unless_large room (if b then Ok p else Err (Uncompiled end))) → ⊥
-    by (Some n) b i = i
-    by None false i = i
-    by None true i = i
-typed_late end (a_fault f) i = i
-typed_late end (not_constant line) i = i
-typed_late end (too_large which n) i = i
+    by : (room : Option ℕ) → IsUnparsed (unless_large room p) → ⊥
+    by (Some n) i = i
+    by None i = i
+typed_late (a_fault f) i = i
+typed_late (not_constant line) i = i
+typed_late (too_large which n) i = i
 
 not_typed : (list : TokenList) (judged : Judged) → IsUnparsed judged → IsTyped list judged → ⊥
-not_typed list judged i t = typed_late list.end (typed_unit list.end t.tree) (subst IsUnparsed t.as_typed i)
+not_typed list judged i t = typed_late (typed_unit list.end t.tree) (subst IsUnparsed t.as_typed i)
 
 -- a refusal of the parser comes of tokens
 alone_from : (source : List ℕ) (readable : Readable) (refusal : SourceRefusal) → supported_tokens source ≡ readable

@@ -15,6 +15,7 @@ use Rattle.c_tree.specs.Programs.{Program}
 use Rattle.c_tree.specs.ValidProgram.{is_valid_program}
 use Rattle.c_const.specs.Initializers.{first_not_constant}
 use Rattle.c_unit_typing.specs.Typed.{a_program, most_functions, typed_unit}
+use Rattle.source_meaning.specs.Meaning.{statics_end}
 use Rattle.c_typer.specs.Limited.{IsWithinLimits}
 use Rattle.compiled_programs.specs.Programs.{is_integer_program}
 use Rattle.program_lowering.specs.ProgramCode.Checks.{checks_of}
@@ -23,10 +24,13 @@ use Rattle.image_compiler.specs.declared.compiler.Built.{Built}
 use Rattle.image_compiler.specs.declared.error.CompileError.{CompileError}
 use Rattle.image_compiler.specs.declared.error.CompileError.TheVariants as compile
 use Rattle.image_compiler.specs.Built.{IsBuilt, IsRefused, NeedsNodes}
+use Rattle.image_compiler.specs.Expanded.{IsBuiltByExpansion}
+use Rattle.shadow_space.specs.TwoLevel.Tables.{two_level_entry, AreTablesGood}
+use Rattle.shadow_space.specs.TwoLevel.Code.{two_level_read_behind, two_level_write_behind}
 use Rattle.sbcets_core.specs.declared.refusal.Counted.TheVariants.{Source, Code}
 use Rattle.sbcets_core.specs.declared.refusal.SourceRefusal.{SourceRefusal}
 use Rattle.sbcets_core.specs.declared.refusal.SourceRefusal.TheVariants.{Lex, Pre, Unsupported, Syntax, Nesting}
-use Rattle.sbcets_core.specs.declared.refusal.SourceRefusal.TheVariants.{TooLarge, NumbersTooLarge}
+use Rattle.sbcets_core.specs.declared.refusal.SourceRefusal.TheVariants.{TooLarge, NumbersTooLarge, Uncompiled}
 use Rattle.sbcets_core.specs.declared.refusal.SourceRefusal.TheVariants.{Memory}
 use Rattle.sbcets_core.specs.Outcomes.{max_source}
 use Rattle.sbcets_core.specs.Programs.{Judged, judged_unit}
@@ -74,7 +78,7 @@ RefusesTokens list refusal = ⊥
 pub record IsTyped (list : TokenList) (judged : Judged) : Type 0 where
   pub tree : Tree
   pub written : IsTreeOf list.tokens tree
-  pub as_typed : judged ≡ judged_unit list.end (typed_unit list.end tree)
+  pub as_typed : judged ≡ judged_unit (typed_unit list.end tree)
 
 -- none of the tokens is unsupported, and a tree of them is typed as this program, which is as typing leaves it
 pub record HasProgram (list : TokenList) (program : Program) : Type 0 where
@@ -88,11 +92,11 @@ pub record HasProgram (list : TokenList) (program : Program) : Type 0 where
 
 -- what the compiler asks of a program
 pub record IsFine (program : Program) : Type 0 where
-  pub integers : is_integer_program program ≡ true
   pub valid : is_valid_program program ≡ true
   pub constant : first_not_constant program ≡ None
   pub few : length program.functions ≤ most_functions
   pub parameters : HaveFewParameters program
+  pub globals : statics_end program.statics 0 ≤ 0x400000
 
 abbrev pub JudgesTokens : TokenList → Judged → Type 0
 JudgesTokens list (Ok program) = IsTyped list (Ok program)
@@ -106,25 +110,55 @@ JudgesReadable (Ok list) judged = JudgesTokens list judged
 abbrev pub Judges : List ℕ → Judged → Type 0
 Judges source judged = JudgesReadable (supported_tokens source) judged
 
+-- the source has expanded tokens, none of them unsupported, and its text ends on this line
+pub record EndsOn (source : List ℕ) (line : ℕ) : Type 0 where
+  pub list : TokenList
+  pub expands : supported_tokens source ≡ Ok list
+  pub line_is : line ≡ list.end
+
 -- what the compiler of programs of integers refuses for its size
 abbrev pub IsOfSize : CompileError → SourceRefusal → Type 0
 IsOfSize compile.NumbersTooLarge refusal = refusal ≡ NumbersTooLarge
 IsOfSize (compile.TooLarge bytes) refusal = refusal ≡ TooLarge Code bytes
 IsOfSize compile.Memory refusal = ⊥
 
--- A source is accepted, and some checked code of its program under some plans of registers is too large. (Which plans
--- are made is not determined by the source.) More than 8388608 bytes come only of a text with more than 8192 nodes.
+-- A source is accepted, its program is one of integers alone, and some checked code of it under some plans of registers
+-- is too large. (Which plans are made is not determined by the source.) More than 8388608 bytes come only of a text
+-- with more than 8192 nodes.
 pub record IsTooLarge (source : List ℕ) (budgets : BudgetSizes) (refusal : SourceRefusal) : Type 0 where
   pub program : Program
   pub accepts : Judges source (Ok program)
+  pub integers : is_integer_program program ≡ true
   pub error : CompileError
   pub is : IsOfSize error refusal
   pub refused : IsRefused (IsChecked program) (sizes_of program budgets) error
   pub nodes : NeedsNodes error program
 
+-- A source is accepted, its program is not one of integers alone, and it is not compiled yet; the refusal tells the line
+-- on which the text ends. (Which of these programs the tests of the back end pass is not said.)
+pub record IsUncompiled (source : List ℕ) (refusal : SourceRefusal) : Type 0 where
+  pub program : Program
+  pub accepts : Judges source (Ok program)
+  pub others : is_integer_program program ≡ false
+  pub line : ℕ
+  pub ends : EndsOn source line
+  pub is : refusal ≡ Uncompiled line
+
 -- why a source has no image
 abbrev pub Refuses : List ℕ → BudgetSizes → SourceRefusal → Type 0
-Refuses source budgets refusal = Judges source (Err refusal) ⊎ IsTooLarge source budgets refusal
+Refuses source budgets refusal =
+    Judges source (Err refusal) ⊎ (IsTooLarge source budgets refusal ⊎ IsUncompiled source refusal)
+
+-- what was built of a program of integers alone, and of any other: with a shadow space in two levels
+
+pub record IsBuiltOfIntegers (program : Program) (budgets : BudgetSizes) (built : Built) : Type 0 where
+  pub integers : is_integer_program program ≡ true
+  pub is_built : IsBuilt (IsChecked program) (checks_of program) (sizes_of program budgets) built
+
+pub record IsBuiltWithObjects (program : Program) (budgets : BudgetSizes) (built : Built) : Type 0 where
+  pub others : is_integer_program program ≡ false
+  pub is_built : IsBuiltByExpansion two_level_read_behind two_level_write_behind two_level_entry
+      (AreTablesGood (sizes_of program budgets)) (IsChecked program) (checks_of program) (sizes_of program budgets) built
 
 -- the source is accepted, and what was built does what it means: the image, with the number of the checks of its text,
 -- of more than 2^64 - 1 so many, and of those that are not in it, which are the available ones
@@ -132,7 +166,7 @@ pub record IsBuiltFrom (source : List ℕ) (budgets : BudgetSizes) (built : Buil
   pub program : Program
   pub accepts : Judges source (Ok program)
   pub means : DoesWhatIsMeant program budgets built.image.items
-  pub is_built : IsBuilt (IsChecked program) (checks_of program) (sizes_of program budgets) built
+  pub is_built : IsBuiltOfIntegers program budgets built ⊎ IsBuiltWithObjects program budgets built
   pub checks_are : built.checks ≡ min (2 ^ 64 - 1) (checks_of program)
 
 -- this holds, unless the refusal is want of memory

@@ -1,12 +1,13 @@
 -- What the top call answers, and what it leaves outside.
-use Rattle.std.specs.Prelude.{◌≡◌, ◌⊎◌, ℕ, ◌≤◌, List, length, Option, Some, None, Ok}
+use Rattle.std.specs.Prelude.{◌≡◌, ◌⊎◌, ℕ, ◌≤◌, true, false, List, length, Option, Some, None, Ok}
 use Rattle.sb_outside.specs.Content.{gained, GainsPart}
 use Rattle.sb_outside.specs.Faults.{Rose}
 use Rattle.c_tree.specs.Programs.{Program}
+use Rattle.compiled_programs.specs.Programs.{is_integer_program}
 use Rattle.elf_image.specs.Tests.{image_fault}
 use Rattle.sbcets_core.specs.declared.refusal.Counted.TheVariants.{Code}
 use Rattle.sbcets_core.specs.declared.refusal.SourceRefusal.{SourceRefusal}
-use Rattle.sbcets_core.specs.declared.refusal.SourceRefusal.TheVariants.{NumbersTooLarge, TooLarge}
+use Rattle.sbcets_core.specs.declared.refusal.SourceRefusal.TheVariants.{NumbersTooLarge, TooLarge, Uncompiled}
 use Rattle.sbcets_core.specs.declared.outcome.ReadFault.TheVariants.{TooLong}
 use Rattle.sbcets_core.specs.declared.outcome.ReadFault.TheVariants as reads
 use Rattle.sbcets_core.specs.declared.outcome.Outcome.{Outcome}
@@ -82,11 +83,13 @@ Answers command WriteFault image before after =
     AnswersInFull command WriteFault image before after ⊎ AnswersInPart command image before after
 Answers command outcome image before after = AnswersInFull command outcome image before after
 
--- the refusals of an accepted source that is too large to be built
-abbrev pub IsRefusalBySize : SourceRefusal → Type 0
-IsRefusalBySize NumbersTooLarge = Unit {0}
-IsRefusalBySize (TooLarge Code bytes) = Unit {0}
-IsRefusalBySize refusal = ⊥
+-- the refusals of an accepted source, by its program: one of integers alone may be too large to be built, and another
+-- may not be compiled yet
+abbrev pub IsRefusalOf : Program → SourceRefusal → Type 0
+IsRefusalOf program NumbersTooLarge = is_integer_program program ≡ true
+IsRefusalOf program (TooLarge Code bytes) = is_integer_program program ≡ true
+IsRefusalOf program (Uncompiled line) = is_integer_program program ≡ false
+IsRefusalOf program refusal = ⊥
 
 -- what a run of an image can come to, that of an accepted source, and a build of it; the counts tell when a fault may
 -- come
@@ -100,17 +103,17 @@ IsOfRun (Trap kind pc) = Unit {0}
 IsOfRun (outcomes.ReadFault reads.Failed) = Unit {0}
 IsOfRun outcome = ⊥
 
-abbrev pub IsOfGo : Outcome → Type 0
-IsOfGo (Refused refusal) = IsRefusalBySize refusal
-IsOfGo outcome = IsOfRun outcome
+abbrev pub IsOfGo : Program → Outcome → Type 0
+IsOfGo program (Refused refusal) = IsRefusalOf program refusal
+IsOfGo program outcome = IsOfRun outcome
 
-abbrev pub IsOfBuild : Outcome → Type 0
-IsOfBuild (Refused refusal) = IsRefusalBySize refusal
-IsOfBuild Built = Unit {0}
-IsOfBuild Memory = Unit {0}
-IsOfBuild WriteFault = Unit {0}
-IsOfBuild (outcomes.ReadFault reads.Failed) = Unit {0}
-IsOfBuild outcome = ⊥
+abbrev pub IsOfBuild : Program → Outcome → Type 0
+IsOfBuild program (Refused refusal) = IsRefusalOf program refusal
+IsOfBuild program Built = Unit {0}
+IsOfBuild program Memory = Unit {0}
+IsOfBuild program WriteFault = Unit {0}
+IsOfBuild program (outcomes.ReadFault reads.Failed) = Unit {0}
+IsOfBuild program outcome = ⊥
 
 -- what listing an image can come to, and putting one together
 abbrev pub IsOfListing : Outcome → Type 0
@@ -149,11 +152,13 @@ pub record IsListingFile (held : Option (List ℕ → Option (List ℕ))) (name 
   pub image : List ℕ
   pub spells : Spells text image
 
--- THE ANSWER IS COMPLETE: nothing but a fault, want of memory or a refusal by size keeps a command from its end
+-- THE ANSWER IS COMPLETE: nothing but a fault, want of memory, code that is too large or that is not compiled yet keeps
+-- a command from its end
 abbrev pub IsComplete : Option Asked → Outcome → Held → Type 0
-IsComplete (Some (go name budgets limit)) outcome held = IsAcceptedFile held name → IsOfGo outcome
+IsComplete (Some (go name budgets limit)) outcome held = (f : IsAcceptedFile held name) → IsOfGo f.program outcome
 IsComplete (Some (run name limit)) outcome held = IsReadableFile held name → IsOfRun outcome
-IsComplete (Some (build name target budgets)) outcome held = IsAcceptedFile held name → IsOfBuild outcome
+IsComplete (Some (build name target budgets)) outcome held =
+    (f : IsAcceptedFile held name) → IsOfBuild f.program outcome
 IsComplete (Some (list name)) outcome held = IsReadableFile held name → IsOfListing outcome
 IsComplete (Some (assemble name target)) outcome held = IsListingFile held name → IsOfListing outcome
 IsComplete None outcome held = Unit {0}

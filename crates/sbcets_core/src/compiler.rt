@@ -1,5 +1,5 @@
 //! From a source text to an image.
-ghost use Rattle.std.specs.Prelude.{◌≡◌, ℕ, None, Ok, Err, IfOk, IfErr, OnOk};
+ghost use Rattle.std.specs.Prelude.{◌≡◌, ℕ, true, false, List, None, Ok, Err, IfOk, IfErr, OnOk};
 ghost use Rattle.c_lexer.specs.Spelled.{TokenList};
 ghost use Rattle.c_syntax.specs.StatementsView.{unit_of};
 ghost use Rattle.c_parser.specs.Parsed.{IsSupported, IsTreeOf, Parses};
@@ -7,13 +7,15 @@ ghost use Rattle.c_parser.specs.Unsupported.{first_unsupported};
 ghost use Rattle.c_tree.specs.View.{program_of};
 ghost use Rattle.c_typer.specs.Refused.{IsCauseOf, UnlessMemory as UnlessUntyped};
 ghost use Rattle.c_unit_typing.specs.Typed.{TypedUnit};
+ghost use Rattle.compiled_programs.specs.Programs.{is_integer_program};
+ghost use Rattle.sbcets_core.specs.declared.refusal.SourceRefusal.TheVariants.{Uncompiled};
 ghost use Rattle.sbcets_core.specs.Accepted.{Compiles, HasProgram, IsFine, JudgesReadable, Judges, UnlessMemory};
-ghost use Rattle.sbcets_core.specs.Accepted.{IsOfSize};
+ghost use Rattle.sbcets_core.specs.Accepted.{EndsOn, IsOfSize};
 ghost use Rattle.sbcets_core.specs.Accepted.{expanded_tokens, with_support};
 ghost use Rattle.sbcets_core.specs.Programs.{counted_as, judged_unit};
 
 use crate::refusal::{Counted, RefusedWord, SourceRefusal};
-use crate::typed_program::test;
+use crate::typed_program::has_rooms;
 use c_lexer::{LexError, Tokens, lex};
 use c_parser::{ParseFault, parse, release};
 use c_pre::{PreError, expand};
@@ -21,8 +23,10 @@ use c_syntax::Unit;
 use c_tree::Program;
 use c_typer::{UnitRefusal, type_unit};
 use c_unit_typing::limits::Limited;
-use image_compiler::{Built, CompileError};
+use compiled_programs::program::is_integer_program;
+use image_compiler::{Built, CompileError, ExpansionError, compile_expanded};
 use sb_base::{Budgets, Line};
+use shadow_space::two_levels::TwoLevel;
 use std::alloc::Global;
 
 /// The largest source that is read, in bytes.
@@ -33,13 +37,60 @@ pub const MAX_SOURCE: u64 = 1_048_576;
 pub fn compile(alloc: Global, source: &[u8], budgets: &Budgets) -> Result<Built, SourceRefusal>
     ensures { Compiles source.now budgets.now result }
 {
-    let program = match accepted(alloc, source) {
-        Ok(program) => program,
+    let (program, end) = match accepted(alloc, source) {
+        Ok(accepted) => accepted,
         Err(refusal) => return Err(refusal),
     };
-    match image_compiler::compile(alloc, budgets, &program) {
+    if is_integer_program(&program) {
+        built_of_integers(alloc, budgets, &program)
+    } else {
+        built_with_objects(alloc, budgets, &program, end)
+    }
+}
+
+// What is built of an accepted program of integers alone.
+#[tactic(auto, using(crate::proofs::Building::of_integers))]
+fn built_of_integers(
+    alloc: Global,
+    budgets: &Budgets,
+    program: &Program,
+) -> Result<Built, SourceRefusal>
+    requires fine { IsFine (program_of program.now) }
+    requires integers { is_integer_program (program_of program.now) ≡ true }
+    ensures { (source : List ℕ) → Judges source (Ok (program_of program.now)) → Compiles source budgets.now result }
+{
+    match image_compiler::compile(alloc, budgets, program) {
         Ok(built) => Ok(built),
         Err(error) => Err(size_refusal(error)),
+    }
+}
+
+// What is built of any other accepted program, of a text that ends on a line.
+#[tactic(auto, using(crate::proofs::Building::with_objects))]
+fn built_with_objects(
+    alloc: Global,
+    budgets: &Budgets,
+    program: &Program,
+    end: Line,
+) -> Result<Built, SourceRefusal>
+    requires fine { IsFine (program_of program.now) }
+    requires others { is_integer_program (program_of program.now) ≡ false }
+    ensures { (source : List ℕ) → Judges source (Ok (program_of program.now)) → EndsOn source end
+        → Compiles source budgets.now result }
+{
+    match compile_expanded::<TwoLevel>(alloc, budgets, program) {
+        Ok(built) => Ok(built),
+        Err(error) => Err(expansion_refusal(error, end)),
+    }
+}
+
+// The refusal of what is not compiled yet, of a text that ends on a line.
+fn expansion_refusal(error: ExpansionError, end: Line) -> SourceRefusal
+    ensures { UnlessMemory result (result ≡ Uncompiled end) }
+{
+    match error {
+        ExpansionError::NotCompiled => SourceRefusal::Uncompiled(end),
+        ExpansionError::Memory => SourceRefusal::Memory,
     }
 }
 
@@ -57,18 +108,23 @@ fn size_refusal(error: CompileError) -> SourceRefusal
     }
 }
 
-// The program of a source that is accepted.
+// The program of a source that is accepted, and the line on which its text ends.
 #[tactic(auto, using(crate::proofs::Judging::judging))]
-fn accepted(alloc: Global, source: &[u8]) -> Result<Program, SourceRefusal>
-    ensures ok { IfOk result (λ program. Judges source.now (Ok (program_of program))) }
-    ensures fine { IfOk result (λ program. IsFine (program_of program)) }
+fn accepted(alloc: Global, source: &[u8]) -> Result<(Program, Line), SourceRefusal>
+    ensures ok { IfOk result (λ accepted. Judges source.now (Ok (program_of accepted.0))) }
+    ensures fine { IfOk result (λ accepted. IsFine (program_of accepted.0)) }
+    ensures ends { IfOk result (λ accepted. EndsOn source.now accepted.1) }
     ensures err { IfErr result (λ refusal. UnlessMemory refusal (Judges source.now (Err refusal))) }
 {
     let tokens = match expanded_tokens(alloc, source) {
         Ok(tokens) => tokens,
         Err(refusal) => return Err(refusal),
     };
-    accepted_of(alloc, &tokens)
+    let end = tokens.end();
+    match accepted_of(alloc, &tokens) {
+        Ok(program) => Ok((program, end)),
+        Err(refusal) => Err(refusal),
+    }
 }
 
 // The expanded tokens of a source.
@@ -97,19 +153,19 @@ fn expanded_tokens<'a>(alloc: Global, source: &'a [u8]) -> Result<Tokens<'a>, So
 }
 
 // The program of expanded tokens that are accepted.
-#[tactic(auto, using(crate::proofs::Judging::program_judged, crate::proofs::Judging::program_refused, crate::proofs::Typing::fine))]
+#[tactic(auto, using(crate::proofs::Judging::program_judged, crate::proofs::Typing::fine))]
 fn accepted_of(alloc: Global, tokens: &Tokens) -> Result<Program, SourceRefusal>
     ensures ok { IfOk result (λ program. JudgesReadable (with_support tokens.now) (Ok (program_of program))) }
     ensures fine { IfOk result (λ program. IsFine (program_of program)) }
+    ensures supported { OnOk result (first_unsupported tokens.now.tokens ≡ None) }
     ensures err { IfErr result
         (λ refusal. UnlessMemory refusal (JudgesReadable (with_support tokens.now) (Err refusal))) }
 {
-    let program = match typed_of(alloc, tokens) {
-        Ok(program) => program,
-        Err(refusal) => return Err(refusal),
-    };
-    match test(tokens.end(), &program) {
-        Ok(()) => Ok(program),
+    match typed_of(alloc, tokens) {
+        Ok(program) => {
+            has_rooms(&program);
+            Ok(program)
+        }
         Err(refusal) => Err(refusal),
     }
 }
@@ -135,8 +191,8 @@ fn typed_of(alloc: Global, tokens: &Tokens) -> Result<Program, SourceRefusal>
 // The refusal of a file that has no typed program.
 #[tactic(auto, using(crate::proofs::Judging::room_refused))]
 fn typing_refusal(refusal: UnitRefusal) -> SourceRefusal
-    ensures { (end : ℕ) (typed : TypedUnit) → UnlessUntyped refusal (IsCauseOf refusal typed) →
-        UnlessMemory result (judged_unit end typed ≡ Err result) }
+    ensures { (typed : TypedUnit) → UnlessUntyped refusal (IsCauseOf refusal typed) →
+        UnlessMemory result (judged_unit typed ≡ Err result) }
 {
     match refusal {
         UnitRefusal::Fault(fault) => SourceRefusal::Typing(fault),

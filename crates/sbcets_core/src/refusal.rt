@@ -60,8 +60,9 @@ impl RefusedWord {
 
 /// Why a source is refused. First comes `TooLarge` of the source's bytes; then a lexical fault, a fault of a directive,
 /// an unsupported word, `Syntax` or `Nesting`; then a violated rule of typing, and last of these an initializer that is
-/// not constant; then `TooLarge` of functions, parameters, members or globals, in this order; then `RoomTooLarge`, and
-/// `Uncompiled`; and last what is too large to be built.
+/// not constant; then `TooLarge` of functions, parameters, members or globals, in this order; then `RoomTooLarge`. Last
+/// comes why an accepted source is not built: what is too large, of a program of integers alone, and `Uncompiled`, of any
+/// other.
 #[derive(Debug, Drop, Error)]
 pub enum SourceRefusal {
     /// The first place where no token stands.
@@ -104,8 +105,9 @@ pub enum SourceRefusal {
         which: Counted,
         count: u128,
     },
-    /// The source is typed, but no program of integers alone: it has an object, a pointer, a structure or a
-    /// library function other than `putchar`, `getchar`, `exit` and `abort`. The text ends on this line.
+    /// The source is accepted and its program is not one of integers alone, but it has no image: an instruction of its
+    /// code is not covered yet, as of structures by value, or a test of the back end fails. Which programs pass these
+    /// tests is not proved. The text ends on this line.
     #[error("the program of the source is not compiled yet")]
     Uncompiled(Line),
     /// The function with this number has a room of 2^64 bytes or more.

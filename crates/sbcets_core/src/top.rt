@@ -50,8 +50,9 @@ pub fn sbcets<F: Files, I: Source, O: Sink, E: Sink>(
               (O.faults output.new) (E.faults errors.new);
         }) }
 
-    // An accepted source is built and runs, unless it is too large to be built, a readable image runs and is listed, and
-    // a listing of one is assembled, where nothing fails and memory is there.
+    // An accepted source is built and runs, unless it is of integers alone and too large, or of others and not compiled
+    // yet; a readable image runs and is listed, and a listing of one is assembled: where nothing fails and memory is
+    // there.
     ensures complete { IsComplete (commanded words.now) result.0 (F.held files.old) }
 {
     let (outcome, image) = do_command(alloc, words, files, input, output, errors);

@@ -1,14 +1,10 @@
-//! What is tested of a typed program before it is compiled.
-ghost use Rattle.std.specs.Prelude.{◌≡◌, ◌^◌, nat_lt, true, None, Ok, Err, IfErr, OnOk, map};
+//! What is known of a typed program by the types of its numbers.
+ghost use Rattle.std.specs.Prelude.{◌≡◌, ◌^◌, nat_lt, true, None, Ok, map};
 ghost use Rattle.c_tree.specs.View.{function_of, program_of};
 ghost use Rattle.c_programs.specs.Rooms.{first_without_room};
-ghost use Rattle.sbcets_core.specs.Accepted.{UnlessMemory};
 ghost use Rattle.sbcets_core.specs.Programs.{judged_program};
 
-use crate::refusal::SourceRefusal;
 use c_tree::{Function, Program};
-use compiled_programs::program::is_integer_program;
-use sb_base::Line;
 
 // The room of a function is below 2^64 bytes.
 fn room_is_a_number(function: &Function)
@@ -26,17 +22,10 @@ fn rooms_are_numbers(functions: &[Function])
     }
 }
 
-/// Tests the program of a text that ends on a line: it is one of integers alone.
+/// A program that was typed has room for its functions.
 #[tactic(auto, unfolding(crate::specs::Programs::judged_program))]
-pub fn test(end: Line, program: &Program) -> Result<(), SourceRefusal>
-    ensures ok { OnOk result (judged_program end (program_of program.now) ≡ Ok (program_of program.now)) }
-    ensures err { IfErr result
-        (λ refusal. UnlessMemory refusal (judged_program end (program_of program.now) ≡ Err refusal)) }
+pub fn has_rooms(program: &Program)
+    ensures { judged_program (program_of program.now) ≡ Ok (program_of program.now) }
 {
     rooms_are_numbers(program.functions.as_slice());
-    if is_integer_program(program) {
-        Ok(())
-    } else {
-        Err(SourceRefusal::Uncompiled(end))
-    }
 }

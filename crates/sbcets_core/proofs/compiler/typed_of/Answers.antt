@@ -8,5 +8,5 @@ returns-in-Err-typed-clause-err c =
     let list = c.args.tokens.now in
     let tree = unit_of c.in-Ok.tree in
     tree_refused list tree c.typing_refusal.result c.in-Ok.ensures.supported c.in-Ok.ensures.ok
-    (c.typing_refusal.ensures list.end (typed_unit list.end tree)
+    (c.typing_refusal.ensures (typed_unit list.end tree)
     (rw c.end.ensures at c.in-Err-typed.ensures.refused))

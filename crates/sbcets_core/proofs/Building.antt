@@ -1,5 +1,5 @@
 -- What is built of an accepted source, or why nothing is.
-use Rattle.std.proofs.Common.{◌≡◌, ℕ, ◌-◌, ◌^◌, true, false, List, Ok, inl, inr, sym, subst}
+use Rattle.std.proofs.Common.{◌≡◌, ℕ, ◌-◌, ◌^◌, true, false, List, Ok, inl, inr}
 use Rattle.std.specs.Prelude.{min}
 use Rattle.sb_base.specs.Budgets.{BudgetSizes}
 use Rattle.c_tree.specs.Programs.{Program}

@@ -1,12 +1,10 @@
 -- What `list` and `asm` come to, and what they leave outside, the tool line apart.
-use Rattle.std.specs.Prelude.{◌≡◌, ℕ, List, [], Option, Some, None, Result, Ok, Err}
+use Rattle.std.specs.Prelude.{◌≡◌, ℕ, List, [], Some, None, Result, Ok, Err}
 use Rattle.sb_outside.specs.declared.source.Failed.{Failed}
 use Rattle.sb_outside.specs.Content.{gained, GainsPart, Writes}
 use Rattle.sb_outside.specs.Faults.{next_count}
-use Rattle.elf_image.specs.declared.fault.ImageFault.{ImageFault}
 use Rattle.elf_image.specs.Layout.{code_ranges}
 use Rattle.elf_image.specs.Tests.{image_fault}
-use Rattle.rv_listing.specs.declared.fault.ListFault.{ListFault}
 use Rattle.rv_listing.specs.Listings.{listing_text, read_listing}
 use Rattle.sbcets_core.specs.declared.outcome.ReadFault.TheVariants.{TooLong}
 use Rattle.sbcets_core.specs.declared.outcome.ReadFault.TheVariants as reads

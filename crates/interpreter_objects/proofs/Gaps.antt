@@ -2,13 +2,18 @@
 use Rattle.std.proofs.Common.{◌≡◌, ℕ, zero, suc, ◌+◌, ◌-◌, ◌*◌, ◌/◌, ◌%◌, ◌<◌, ◌≤◌, ◌⊎◌, inl, inr, ⊎_elim, Bool}
 use Rattle.std.proofs.Common.{true, false, ◌||◌, nat_le, if◌then◌else◌, List, [], ◌∷◌, refl, sym, ap, ◌∙◌, arith, subst}
 use Rattle.std.proofs.Common.{Option, Some, None}
-use Rattle.std.proofs.lemmas.Bool.{cases_lt, le-leb, leb-true, lt-ltb}
+use Rattle.std.proofs.lemmas.Bool.{cases_lt, le-leb, leb-true}
 use Rattle.obj_memory.specs.Heap.{block_room, has_room, is_live_block, least_place}
-use Rattle.obj_memory.specs.Objects.{ObjectState, Objects, object_at}
+use Rattle.obj_memory.specs.Objects.{Objects, object_at, with_new}
 use Rattle.obj_memory.specs.Sound.{IsClearOf}
-use Rattle.obj_memory.proofs.Placing.{has_room_tells, least_place_by, least_place_found, room_most}
+use Rattle.obj_memory.proofs.Placing.{has_room_tells, least_place_by, least_place_found, room_whole}
+use Rattle.obj_memory.specs.declared.object.Storage.TheVariants.{Allocated}
+use Rattle.std.specs.List.{insert, remove}
 use Rattle.interpreter_objects.specs.declared.blocks.Block.{Block}
-use Rattle.interpreter_objects.specs.Blocks.{AreInOrder, AreLive, block_of, first_gap, gap_in, live_weight, weight}
+use Rattle.interpreter_objects.specs.Blocks.{AreInOrder, AreLive, block_from, block_of, first_gap, gap_in}
+use Rattle.interpreter_objects.specs.Blocks.{gap_index, has_gap, index_of, is_same, live_weight, weight, with_block}
+use Rattle.interpreter_objects.specs.Blocks.{with_gap_filled, without}
+use Rattle.interpreter_objects.proofs.Weights.{made_live}
 
 -- a weight of one for each block that a range meets
 abbrev unless : Bool → ℕ
@@ -159,7 +164,7 @@ module _ (objects : Objects) (bs : List Block) (first last size : ℕ) (live : A
       let some = below_met first room q bs lo hi in
       let same = live.same (met q room) in
       let nothing = all_light (met q room) objects
-          (λ j l. not_met q room (block_of (object_at objects j)) (none j l)) in
+      (λ j l. not_met q room (block_of (object_at objects j)) (none j l)) in
       omega (arith, some, same, nothing)
 
   no_room_below : (q : ℕ) → first ≤ q → q < gap → (b : Bool) → has_room last room objects q ≡ b
@@ -204,3 +209,70 @@ module _ (objects : Objects) (bs : List Block) (first last size : ℕ) (live : A
           → nat_le (gap + room) (last + 1) ≡ false
       past true e high = absurd (let l = leb-true (gap + room) (last + 1) e in omega (arith, l, high))
       past false e high = e
+
+-- a block in the gap
+
+pub filled_live : (first last size p : ℕ) (objects : Objects) (bs : List Block)
+    → gap_in first last (block_room size) bs ≡ Some p → AreLive objects bs
+    → AreLive (with_new Allocated p size objects) (with_gap_filled first last (block_room size) bs)
+unfolding gap_in with_gap_filled
+filled_live first last size p objects bs found live = by (has_gap first last (block_room size) bs) found
+  where
+    by : (b : Bool) → (if b then Some (first_gap first (block_room size) bs) else None) ≡ Some p
+        → AreLive (with_new Allocated p size objects) (if b then with_block first (block_room size) bs else bs)
+    by true e = subst (λ q. AreLive (with_new Allocated q size objects) (with_block first (block_room size) bs)) (cc)
+        (made_live objects bs first size live)
+    by false e = absurd (cc)
+
+pub not_filled : (first last room : ℕ) (bs : List Block) → gap_in first last room bs ≡ None
+    → with_gap_filled first last room bs ≡ bs
+unfolding gap_in with_gap_filled
+not_filled first last room bs none = by (has_gap first last room bs) none
+  where
+    by : (b : Bool) → (if b then Some (first_gap first room bs) else None) ≡ None
+        → (if b then with_block first room bs else bs) ≡ bs
+    by true e = absurd (cc)
+    by false e = refl
+
+-- the order stays
+
+order_with : (low high room : ℕ) (bs : List Block) → AreInOrder low high bs → low % 16 ≡ 0 → room % 16 ≡ 0
+    → first_gap low room bs + room ≤ high → AreInOrder low high (with_block low room bs)
+unfolding first_gap gap_index
+order_with low high room [] h a w fits =
+    (omega arith, omega arith, a, omega (arith, a, w), fits)
+order_with low high room (b ∷ bs) h a w fits =
+    by (order_with b.end high room bs h.4 h.3 w) (nat_le (low + room) b.start) refl fits
+  where
+    by : (first_gap b.end room bs + room ≤ high → AreInOrder b.end high (with_block b.end room bs))
+        → (c : Bool) → nat_le (low + room) b.start ≡ c → (if c then low else first_gap b.end room bs) + room ≤ high
+        → AreInOrder low high (insert (b ∷ bs) (if c then 0 else suc (gap_index b.end room bs))
+        (block_from (if c then low else first_gap b.end room bs) room))
+    by others true e f =
+        (omega arith, omega arith, a, omega (arith, a, w), (leb-true (low + room) b.start e, h.1, h.2, h.3, h.4))
+    by others false e f = (h.0, h.1, h.2, h.3, others f)
+
+pub order_filled : (first last size : ℕ) (bs : List Block) → AreInOrder first (last + 1) bs → first % 16 ≡ 0
+    → AreInOrder first (last + 1) (with_gap_filled first last (block_room size) bs)
+unfolding with_gap_filled
+order_filled first last size bs h a = by (has_gap first last (block_room size) bs) refl
+  where
+    by : (b : Bool) → has_gap first last (block_room size) bs ≡ b
+        → AreInOrder first (last + 1) (if b then with_block first (block_room size) bs else bs)
+    by true e = order_with first (last + 1) (block_room size) bs h a (room_whole size) (leb-true _ _ e)
+    by false e = h
+
+lower : (low higher high : ℕ) (bs : List Block) → low ≤ higher → AreInOrder higher high bs → AreInOrder low high bs
+lower low higher high [] le h = omega (arith, le, h)
+lower low higher high (b ∷ bs) le h = (let a = h.0 in omega (arith, le, a), h.1, h.2, h.3, h.4)
+
+pub order_without : (x : Block) (low high : ℕ) (bs : List Block) → AreInOrder low high bs
+    → AreInOrder low high (without x bs)
+unfolding without index_of
+order_without x low high [] h = h
+order_without x low high (b ∷ bs) h = by (order_without x b.end high bs h.4) (is_same x b)
+  where
+    by : AreInOrder b.end high (remove bs (index_of x bs)) → (c : Bool)
+        → AreInOrder low high (remove (b ∷ bs) (if c then 0 else suc (index_of x bs)))
+    by others true = lower low b.end high bs (let a = h.0 in let c = h.1 in omega (arith, a, c)) h.4
+    by others false = (h.0, h.1, h.2, h.3, others)

@@ -1,6 +1,6 @@
 -- Blocks that weigh what the live blocks of objects weigh, and what changes both.
 use Rattle.std.proofs.Common.{◌≡◌, ℕ, zero, suc, ◌+◌, ◌≤◌, Bool, true, false, ◌&&◌, ◌==◌, if◌then◌else◌, List, [], ◌∷◌}
-use Rattle.std.proofs.Common.{◌++◌, length, take, drop, set, refl, sym, ap, ◌∙◌, arith}
+use Rattle.std.proofs.Common.{◌++◌, length, take, drop, refl, sym, ap, ◌∙◌, arith}
 use Rattle.std.proofs.lemmas.Bool.{eqb-true, eq-eqb}
 use Rattle.std.proofs.lemmas.List.{take-append-drop}
 use Rattle.std.specs.List.{insert, remove}
@@ -22,7 +22,7 @@ weight_insert : (f : Block → ℕ) (bs : List Block) (i : ℕ) (x : Block) → 
 unfolding weight
 weight_insert f bs i x =
     let whole : weight f (take i bs) + weight f (drop i bs) ≡ weight f bs
-        = sym (weight_append f (take i bs) (drop i bs)) ∙ ap (weight f) (take-append-drop i bs) in
+    = sym (weight_append f (take i bs) (drop i bs)) ∙ ap (weight f) (take-append-drop i bs) in
     weight_append f (take i bs) (x ∷ drop i bs) ∙ omega (arith, whole)
 
 -- a weight of one for each block that is the same as another
@@ -58,7 +58,7 @@ removed x f (b ∷ bs) h = by (removed x f bs) (is_same x b) refl
     by others true e = ap (λ y. f y + weight f bs) (same_block x b e)
     by others false e =
         let there : 1 ≤ weight (one_for x) bs
-            = let less = ap (λ c. (if c then 1 else 0) + weight (one_for x) bs) e in omega arith in
+        = let less = ap (λ c. (if c then 1 else 0) + weight (one_for x) bs) e in omega arith in
         let rest = others there in
         omega (arith, rest)
 

@@ -5,3 +5,5 @@ mod Tags
 mod Keeping
 mod Contents
 mod Ranges
+mod Weights
+mod Gaps

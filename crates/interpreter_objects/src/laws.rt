@@ -1,15 +1,19 @@
 //! Laws of the definitions, each as the contract of a function that does nothing: the objects that are kept stand for
-//! all objects of a run.
+//! all objects of a run, and the blocks in order for its live blocks.
 
-ghost use Rattle.std.specs.Prelude.{◌≡◌, ℕ, true};
+ghost use Rattle.std.specs.Prelude.{◌≡◌, ℕ, ◌+◌, ◌%◌, true, false, length, List, [], Some, None};
 ghost use Rattle.obj_memory.specs.declared.object.Storage.{Storage};
 ghost use Rattle.obj_memory.specs.declared.value.Place.{Place};
 ghost use Rattle.obj_memory.specs.declared.value.Scalar.{Scalar};
 ghost use Rattle.obj_memory.specs.declared.value.Value.{Value};
-ghost use Rattle.obj_memory.specs.Heap.{block_count, least_place};
+ghost use Rattle.obj_memory.specs.declared.object.Storage.TheVariants.{Allocated};
+ghost use Rattle.obj_memory.specs.Heap.{block_count, block_room, is_allocated, is_live_block, least_place};
 ghost use Rattle.obj_memory.specs.Judgement.{judge, named};
 ghost use Rattle.obj_memory.specs.Objects.{ObjectState, Objects, object_at, pointer_to, with_dead, with_new};
+ghost use Rattle.obj_memory.specs.Sound.{KeepsObjects};
 ghost use Rattle.source_meaning.specs.Structures.{contents_of};
+ghost use Rattle.interpreter_objects.specs.declared.blocks.Block.{Block};
+ghost use Rattle.interpreter_objects.specs.Blocks.{AreInOrder, AreLive, block_of, gap_in, with_gap_filled, without};
 ghost use Rattle.interpreter_objects.specs.Kept.{found, has_range, is_movable, is_puttable, is_there, kept};
 ghost use Rattle.interpreter_objects.specs.Kept.{with_buried, with_cleared, with_moved, with_put, with_written};
 
@@ -55,4 +59,39 @@ pub fn kept_objects_have_the_same_blocks()
     ensures count { (objects : Objects) → block_count (kept objects) ≡ block_count objects }
     ensures place { (first last size : ℕ) (objects : Objects)
         → least_place first last size (kept objects) ≡ least_place first last size objects }
+{}
+
+/// Of live blocks in order from the first address of the heap, a multiple of 16, to its last, the first gap is where a
+/// new block is placed, and there are as many as live blocks.
+pub fn live_blocks_tell_the_place()
+    ensures place { (objects : Objects) (bs : List Block) (first last size : ℕ) → AreLive objects bs
+        → AreInOrder first (last + 1) bs → first % 16 ≡ 0
+        → gap_in first last (block_room size) bs ≡ least_place first last size objects }
+    ensures count { (objects : Objects) (bs : List Block) → AreLive objects bs → length bs ≡ block_count objects }
+{}
+
+/// The blocks stay those that are live: where a block is placed in the gap, where one dies, and where objects are made,
+/// die and change that are none.
+pub fn live_blocks_stay_live()
+    ensures none { AreLive [] [] }
+    ensures made { (first last size p : ℕ) (objects : Objects) (bs : List Block)
+        → gap_in first last (block_room size) bs ≡ Some p → AreLive objects bs
+        → AreLive (with_new Allocated p size objects) (with_gap_filled first last (block_room size) bs) }
+    ensures not_made { (first last room : ℕ) (bs : List Block) → gap_in first last room bs ≡ None
+        → with_gap_filled first last room bs ≡ bs }
+    ensures other { (storage : Storage) (address size : ℕ) (objects : Objects) (bs : List Block)
+        → is_allocated storage ≡ false → AreLive objects bs → AreLive (with_new storage address size objects) bs }
+    ensures dead { (objects : Objects) (bs : List Block) (n : ℕ) → is_live_block (object_at objects n) ≡ true
+        → AreLive objects bs → AreLive (with_dead n objects) (without (block_of (object_at objects n)) bs) }
+    ensures dead_other { (objects : Objects) (bs : List Block) (n : ℕ) → is_live_block (object_at objects n) ≡ false
+        → AreLive objects bs → AreLive (with_dead n objects) bs }
+    ensures changed { (old new : Objects) (bs : List Block) → KeepsObjects old new → AreLive old bs → AreLive new bs }
+{}
+
+/// And they stay in order.
+pub fn live_blocks_stay_in_order()
+    ensures placed { (first last size : ℕ) (bs : List Block) → AreInOrder first (last + 1) bs → first % 16 ≡ 0
+        → AreInOrder first (last + 1) (with_gap_filled first last (block_room size) bs) }
+    ensures removed { (x : Block) (low high : ℕ) (bs : List Block) → AreInOrder low high bs
+        → AreInOrder low high (without x bs) }
 {}

@@ -1,0 +1,10 @@
+-- What is computed without a state, as a run.
+use Rattle.std.specs.Prelude.{ℕ, Option, Some, None}
+use Rattle.sb_base.specs.declared.ending.Ending.TheVariants.{Divide}
+use Rattle.obj_memory.specs.declared.value.Value.{Value}
+use Rattle.source_meaning.specs.State.{Run, done, stop}
+
+-- a value, or the end of the run by a division at a line
+abbrev pub value_or_end : Option Value → (line : ℕ) → Run Value
+value_or_end None line = stop (Divide line)
+value_or_end (Some v) line = done v

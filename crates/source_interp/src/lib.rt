@@ -1,0 +1,4 @@
+//! What a source means, run directly. So far values are computed, and nothing is run.
+#![tactic(auto)]
+
+pub mod value;

@@ -1,5 +1,5 @@
 -- What is computed without a state, as a run.
-use Rattle.std.specs.Prelude.{ℕ, Option, Some, None}
+use Rattle.std.specs.Prelude.{◌≡◌, ℕ, List, [], ◌∷◌, Option, Some, None}
 use Rattle.sb_base.specs.declared.ending.Ending.TheVariants.{Divide}
 use Rattle.obj_memory.specs.declared.value.Value.{Value}
 use Rattle.source_meaning.specs.State.{Run, done, stop}
@@ -8,3 +8,8 @@ use Rattle.source_meaning.specs.State.{Run, done, stop}
 abbrev pub value_or_end : Option Value → (line : ℕ) → Run Value
 value_or_end None line = stop (Divide line)
 value_or_end (Some v) line = done v
+
+-- the first of a list, if there is one, was taken away
+abbrev pub PopsTo : {A : Type 0} → (old new : List A) → Option A → Type 0
+PopsTo old new None = (old ≡ []) × (new ≡ [])
+PopsTo old new (Some x) = old ≡ x ∷ new

@@ -73,6 +73,12 @@ def call_units(what):
     return int(found[1]), int(found[2])
 
 
+def cleared_registers():
+    """How many registers a function of the runtime makes 0, each for a unit."""
+    found = re.search(r"^cleared_registers = (\d+)$", text_of("runtime_functions/specs/Functions.antt"), re.M)
+    return int(found[1])
+
+
 def signatures():
     """Of each routine of the library how many words it takes and gives, and its steps."""
     words = {"NoValue": 0, "OneWord": 1, "WithEntry": POINTER}
@@ -107,7 +113,7 @@ def called(parameters, results, price, steps, moved=0):
     call, word = call_units("Call")
     back, _ = call_units("Return")
     hands = call + word * parameters + back + word * (1 + results)
-    return hands + price * steps + 1 + program(MOVE * moved + BRANCH)
+    return hands + cleared_registers() + price * steps + 1 + program(MOVE * moved + BRANCH)
 
 
 def main():
@@ -138,6 +144,19 @@ def main():
     for name in ("stores_of", "parts_of"):
         table.row(f"structure, {name.split('_')[0]}", called(3, 0, 1, tagged[0], 3),
                   operation + c[f"{name} Structure"], tagged[1], 1)
+    areas = "lib_wrappers/specs/AreaRoutines"
+    taken, part = steps_of(f"{areas}/Values.antt", "IsTakeRoutine"), steps_of(f"{areas}/Parts.antt", "IsTakePartRoutine")
+    contents = steps_of(f"{areas}/Values.antt", "IsPutRoutine")
+    zeros = steps_of(f"{areas}/Values.antt", "IsMakeZeroRoutine")
+    read = steps_by_kind(f"{areas}/Reading.antt", "read_steps", "Pointer")
+    table.row("pointer out of contents", program(read), operation + c["entries_of Pointer"])
+    table.row("contents of zeros", called(2, 0, 1, zeros[0], 2), operation, zeros[1], 1)
+    # a part of contents is handed over with what a pointer has
+    table.row("contents taken", called(3, 0, 1, taken[0], 3), c["taking"], taken[1], 1)
+    table.row("part of contents taken", called(2 + POINTER, 0, 1, part[0], 2 + POINTER), c["taking"], part[1], 1)
+    for name in ("stores_of", "parts_of"):
+        table.row(f"contents, {name.split('_')[0]}", called(2 + POINTER, 0, 1, contents[0], 2 + POINTER),
+                  operation + c[f"{name} Structure"], contents[1], 1)
     table.row("object made zero", called(2, 0, 1, zero[0], 2), c["zeroing"], zero[1], 1)
     table.row("block entered", called(2, 4, 1, enter[0], 6), c["block_entry"], enter[1], 2)
     table.row("block left", program(leave[0]), c["block_exit"])
@@ -145,7 +164,7 @@ def main():
         table.row(name.lower(), called(takes, gives, 2, constant), c["routine_call"], 2 * factor)
     table.row("printf, a number", called(1, 1, 2, number[0], 2), c["printing first"] + c["printing each"], 2 * number[1])
     table.row("printf, a string", called(POINTER, 1, 1, scan[0], POINTER) + called(2, 0, 2, put[0], 2),
-              c["printing first"] + c["printing each"], scan[1] + 2 * put[1])
+              c["printing first"] + c["printing each"], scan[1] + 2 * put[1], 1)
     call, word = call_units("Call")
     back, _ = call_units("Return")
     tests = length_of("metadata_plan/specs/Blocks.antt", "call_tests") - 1

@@ -3,7 +3,7 @@
 riscv64-linux-gnu-gcc -O0 and -O1 (Debian's gcc-riscv64-linux-gnu), whose `putchar`, `getchar` and `exit` make the same
 environment calls, and the geometric means of both ratios.
 
-usage: python3 bench/instructions.py [NAME ..]     programs of crates/sbcets_tests/programs
+usage: python3 bench/instructions.py [NAME ..]     programs of crates/sbcets_tests/programs, as `queens` or `objects/sieve`
 """
 
 import math
@@ -19,7 +19,7 @@ FIFTEEN = ["ackermann", "calculator", "collatz", "conversions", "crc32", "hanoi"
 LEVELS = ("-O0", "-O1")
 GCC = ["riscv64-linux-gnu-gcc", "-std=c99", "-fwrapv", "-funsigned-char", "-march=rv64im", "-mabi=lp64", "-nostdlib", "-static", "-w",
        "-fno-builtin", "-fno-pic", "-no-pie", "-nostdinc"]
-HEADER = "#define EOF (-1)\nint putchar(int);\nint getchar(void);\nvoid exit(int);\nvoid abort(void);\n"
+HEADER = "#define EOF (-1)\n#undef NULL\n#define NULL ((void *)0)\nint putchar(int);\nint getchar(void);\nvoid exit(int);\nvoid abort(void);\n"
 RUNTIME = r"""
 static char stack[1 << 20] __attribute__((aligned(16), used));
 static long call(long number, long first, long second, long third)
@@ -32,9 +32,19 @@ int putchar(int c) { unsigned char b = c; call(64, 1, (long)&b, 1); return b; }
 int getchar(void) { unsigned char b; return call(63, 0, (long)&b, 1) == 1 ? b : -1; }
 void exit(int status) { call(93, status, 0, 0); for (;;); }
 void abort(void) { exit(134); }
+void *memset(void *to, int c, unsigned long n) { unsigned char *p = to; while (n--) *p++ = c; return to; }
+void *memcpy(void *to, const void *from, unsigned long n)
+{
+    unsigned char *p = to;
+    const unsigned char *q = from;
+    while (n--)
+        *p++ = *q++;
+    return to;
+}
 int main(void);
-void run(void) { exit(main()); }
-__asm__(".globl _start\n_start: la sp, stack\n li t0, 1 << 20\n add sp, sp, t0\n j run");
+void run_main(void) { exit(main()); }
+__asm__(".globl _start\n_start: .option push\n .option norelax\n la gp, __global_pointer$\n .option pop\n"
+        "la sp, stack\n li t0, 1 << 20\n add sp, sp, t0\n j run_main");
 """
 
 
@@ -76,7 +86,7 @@ def main(names):
     with tempfile.TemporaryDirectory() as folder:
         with open(f"{folder}/runtime.c", "w") as out:
             out.write(RUNTIME)
-        for header in ("stdio.h", "stdlib.h"):
+        for header in ("stdio.h", "stdlib.h", "stddef.h"):
             with open(f"{folder}/{header}", "w") as out:
                 out.write(HEADER)
         found = [ratios(name, folder) for name in names]

@@ -7,8 +7,6 @@ STATUS = {"spatial": 120, "temporal": 121, "bad free": 123, "stack": 125, "keys"
 REPORT = {"spatial": "spatial violation", "temporal": "temporal violation", "bad free": "bad free",
           "stack": "stack exhausted", "keys": "keys exhausted"}
 OBJECTS = 0x10000000
-# what a register holds before a run where no operand is, as the program sets it
-UNUSED = 0xa5a5000000000000
 
 
 class Number:

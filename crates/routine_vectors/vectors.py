@@ -7,7 +7,7 @@ import sys
 
 import model
 from model import POINTER, Function, Value
-from row import NOTHING, UNUSED, Given, Number, Part, Scene, pointer, word
+from row import NOTHING, Given, Number, Part, Scene, pointer, word
 
 LINE = 7
 # steps that docs/PROMISES.md allows: a constant, and a factor for each unit of the source's work
@@ -155,11 +155,11 @@ def printf(scene, pieces, line=LINE):
 
 
 def number(scene, directive, value):
-    """The digits are added to a count in a register, which begins as the program sets it."""
+    """The digits are added to a count in a register, which begins with 0."""
     def run(s):
         new = model.argument_bytes(s, directive, Value(value), LINE)
         model.put_bytes(s, new)
-        return word(UNUSED + 30 + len(new))
+        return word(len(new))
 
     scene.perform("number", LINE, lambda work: 12 + 15 * work, [Part(f"%{directive}"), Number(value)], run)
 
@@ -168,7 +168,7 @@ def digits(scene, value, base):
     def run(s):
         new = (f"{value:x}" if base == 16 else str(value)).encode()
         model.put_bytes(s, new)
-        return word(UNUSED + 30 + len(new))
+        return word(len(new))
 
     scene.perform("digits", LINE, lambda work: 12 + 15 * work, [Number(value), Number(base)], run)
 

@@ -1,2 +1,3 @@
 pub mod Assignment
 pub mod Instructions
+pub mod EntryLists

@@ -4,6 +4,7 @@ use Rattle.std.proofs.Common.{refl, sym, ap, ◌∙◌, subst, arith, true≢fal
 use Rattle.std.specs.Prelude.{not, ◌||◌, ◌==◌, slice_get}
 use Rattle.std.specs.List.{list_all}
 use Rattle.std.proofs.lemmas.Bool.{and_parts, and_from, or_right}
+use Rattle.c_tree.specs.declared.expression.Kind.TheVariants.{Void, Scalar as OfScalar, Structure, Array}
 use Rattle.tac_ir.specs.declared.instruction.Instruction.{Instruction}
 use Rattle.tac_ir.specs.declared.instruction.Instruction.TheVariants as tac
 use Rattle.tac_ir.specs.declared.function.CodeFunction.{CodeFunction}
@@ -71,7 +72,14 @@ all_calls t table n tabled all =
 admitted : (t : Tac) (u n : ℕ) (k : CodeFunction) (i : Instruction) → function_in t u ≡ Some k
     → admits_in t k i ≡ admits_with t no_contents u n i
 admitted t u n k (tac.Return a) there = ap (gives_scalar t) (sym there)
-admitted t u n k (tac.Read kind mode line key d a m) there = refl
+admitted t u n k (tac.Write Void mode line key d a b m) there = refl
+admitted t u n k (tac.Write (OfScalar q) mode line key d a b m) there = refl
+admitted t u n k (tac.Write (Structure size) mode line key d a b m) there = refl
+admitted t u n k (tac.Write (Array size) mode line key d a b m) there = refl
+admitted t u n k (tac.StorePart Void line x offset a m) there = refl
+admitted t u n k (tac.StorePart (OfScalar q) line x offset a m) there = refl
+admitted t u n k (tac.StorePart (Structure size) line x offset a m) there = refl
+admitted t u n k (tac.StorePart (Array size) line x offset a m) there = refl
 admitted t u n k i there = refl
 
 pub covered_by_test : (t : Tac) → is_covered_code t ≡ true → IsCoveredCode t no_contents
@@ -100,6 +108,14 @@ passes_test t fails c = true≢false (sym (passes t c) ∙ fails)
 
 admits_is : (c : Compiled) (u n : ℕ) (i : Instruction)
     → admits c u n i ≡ admits_with c.layout.expansion.code c.layout.expansion.contents u n i
+admits_is c u n (tac.Write Void mode line key d a b m) = refl
+admits_is c u n (tac.Write (OfScalar k) mode line key d a b m) = refl
+admits_is c u n (tac.Write (Structure size) mode line key d a b m) = refl
+admits_is c u n (tac.Write (Array size) mode line key d a b m) = refl
+admits_is c u n (tac.StorePart Void line x offset a m) = refl
+admits_is c u n (tac.StorePart (OfScalar k) line x offset a m) = refl
+admits_is c u n (tac.StorePart (Structure size) line x offset a m) = refl
+admits_is c u n (tac.StorePart (Array size) line x offset a m) = refl
 admits_is c u n i = refl
 
 pub all_covered : (c : Compiled) → IsCoveredCode c.layout.expansion.code c.layout.expansion.contents → AreAllCovered c

@@ -1,6 +1,8 @@
 -- Which programs are covered, over their code and the contents of temporaries alone.
 use Rattle.std.specs.Prelude.{◌≡◌, ℕ, Bool, true, false, not, ◌&&◌, List, map, Some, slice_get}
 use Rattle.std.specs.List.{list_all}
+use Rattle.c_tree.specs.declared.expression.Kind.{Kind}
+use Rattle.c_tree.specs.declared.expression.Kind.TheVariants.{Void, Scalar as OfScalar, Structure, Array}
 use Rattle.c_tree.specs.Format.{pieces}
 use Rattle.source_meaning.specs.Printing.{pieces_or_none}
 use Rattle.tac_ir.specs.declared.instruction.Instruction.{Instruction}
@@ -24,7 +26,10 @@ no_contents u n y = false
 -- what `admits` asks, of these
 abbrev pub admits_with : Tac → ProgramContents → (function node : ℕ) → Instruction → Bool
 admits_with t contents u n (tac.Read kind mode line key d a m) = not (contents u n a)
+admits_with t contents u n (tac.Write (Structure size) mode line key d a b m) =
+    not (contents u n a) && not (contents u n b)
 admits_with t contents u n (tac.Write kind mode line key d a b m) = not (contents u n a)
+admits_with t contents u n (tac.StorePart (Structure size) line x offset a m) = not (contents u n a)
 admits_with t contents u n (tac.Update w k f mode line at key d a right m) = not (contents u n a)
 admits_with t contents u n (tac.Member offset size d a m) = not (contents u n a)
 admits_with t contents u n (tac.Print x line d count m) = have_bytes (pieces_or_none (pieces (text_in t x)))

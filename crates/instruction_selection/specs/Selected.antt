@@ -9,26 +9,32 @@ use Rattle.flat_meaning.specs.declared.instruction.FlatInstruction.{FlatInstruct
 use Rattle.sb_base.specs.declared.ending.Ending.TheVariants.{Abort}
 use Rattle.flat_meaning.specs.declared.instruction.FlatInstruction.TheVariants.{Constant, End}
 use Rattle.tac_ir.specs.declared.function.CodeFunction.{CodeFunction}
+use Rattle.tac_ir.specs.declared.function.Tac.{Tac}
 use Rattle.metadata_plan.specs.Entries.{Entries}
 use Rattle.metadata_relation.specs.Registers.{first_free}
 use Rattle.metadata_relation.specs.InlineCode.{InlineCode}
 use Rattle.metadata_relation.specs.InlineLists.{inline_lists}
 use Rattle.metadata_relation.specs.Blocks.{Expansion, block, write_code, held_scalar, part_address, untagged}
+use Rattle.metadata_relation.specs.Blocks.{runtime_number, write_structure_code}
+use Rattle.metadata_relation.specs.Structures.{copy_code}
 use Rattle.instruction_selection.specs.declared.context.FunctionContext.{FunctionContext}
 use Rattle.instruction_selection.specs.Contexts.{type_at}
 
--- a value of a kind is assigned through a pointer, where it is a scalar
-abbrev pub assigned_code : InlineCode → Kind → (with_entry : Bool) → (into pointer value scratch : ℕ)
+-- a value of a kind is assigned through a pointer, where it is a scalar or a structure
+abbrev pub assigned_code : InlineCode → Tac → Kind → (with_entry : Bool) → (into pointer value scratch : ℕ)
     → List FlatInstruction
-assigned_code i (OfScalar k) b d p a s = write_code i k b d p a s
-assigned_code i kind b d p a s = End (Abort 1) ∷ []
+assigned_code i t (OfScalar k) b d p a s = write_code i k b d p a s
+assigned_code i t (Structure size) b d p a s = write_structure_code i.operators t b size d p a s
+assigned_code i t kind b d p a s = End (Abort 1) ∷ []
 
--- a value of a kind is stored in the object of a variable, where it is a scalar
-abbrev pub part_code : InlineCode → CodeFunction → Kind → (variable offset from : ℕ) → List FlatInstruction
-part_code i c (OfScalar k) x offset a =
+-- a value of a kind is stored in the object of a variable, where it is a scalar or a structure
+abbrev pub part_code : InlineCode → Tac → CodeFunction → Kind → (variable offset from : ℕ) → List FlatInstruction
+part_code i t c (OfScalar k) x offset a =
     part_address i.operators c x offset (first_free c)
     ++ i.store (first_free c) (held_scalar k a) (first_free c + 1)
-part_code i c kind x offset a = End (Abort 1) ∷ []
+part_code i t c (Structure size) x offset a =
+    part_address i.operators c x offset (first_free c) ++ copy_code i.operators (runtime_number t) a size (first_free c)
+part_code i t c kind x offset a = End (Abort 1) ∷ []
 
 -- a value of a kind is 0
 abbrev pub zero_of_code : Kind → (with_entry : Bool) → (into : ℕ) → List FlatInstruction

@@ -5,17 +5,19 @@ ghost use Rattle.sb_base.specs.declared.ending.Ending.TheVariants.{Abort};
 ghost use Rattle.flat_meaning.specs.declared.instruction.FlatInstruction.TheVariants.{End};
 ghost use Rattle.metadata_relation.specs.InlineLists.{inline_lists};
 ghost use Rattle.tac_ir.specs.Meaning.{text_in};
-ghost use Rattle.metadata_relation.specs.Blocks.{part_address, held_scalar, store_bytes};
+ghost use Rattle.metadata_relation.specs.Blocks.{part_address, held_scalar, store_bytes, runtime_number};
+ghost use Rattle.metadata_relation.specs.Structures.{copy_code};
 ghost use Rattle.metadata_plan.specs.OperatorLists.Operators.{operators};
 ghost use Rattle.metadata_relation.specs.Registers.{first_free};
 ghost use Rattle.lib_wrappers.specs.AccessRoutines.Accessing.{store_code};
-ghost use Rattle.instruction_selection.specs.Contexts.{HasRegisters};
+ghost use Rattle.instruction_selection.specs.Contexts.{HasRegisters, IsPrepared};
 ghost use Rattle.instruction_selection.specs.Selected.{part_code};
 
 use crate::accesses::{held_scalar, put_store};
 use crate::context::FunctionContext;
 use crate::list::put;
 use crate::pointers::put_member_address;
+use crate::structures::put_copy;
 use c_tree::Kind;
 use flat_meaning::{FlatInstruction, RightOperand};
 use obj_memory::Scalar;
@@ -49,8 +51,28 @@ fn put_scalar_part<S: ShadowForm>(
     put_store::<S>(code, context, free, held, free + 1)
 }
 
+// Puts a structure moved into the object of a variable, so many bytes from its beginning, behind a list.
+fn put_structure_part(
+    code: &mut Vec<FlatInstruction>,
+    context: &FunctionContext,
+    size: u64,
+    variable: usize,
+    offset: u64,
+    from: u32,
+) -> Result<(), AllocError>
+    requires { IsPrepared context.now }
+    ensures { OnOk result (code.new.items ≡ code.old.items
+        ++ (part_address operators context.now.function.now variable offset (first_free context.now.function.now)
+        ++ copy_code operators (runtime_number context.now.program.now) from size (first_free context.now.function.now))) }
+{
+    let free = context.free();
+    let home = context.home(variable);
+    put_member_address(code, offset, free, home, free)?;
+    put_copy(code, context, from, size, free)
+}
+
 /// Puts a value of a kind stored in the object of a variable, so many bytes from its beginning, behind a list, where it
-/// is a scalar; else the run ends. It fails only for want of memory.
+/// is a scalar or a structure; else the run ends. It fails only for want of memory.
 pub fn put_part<S: ShadowForm>(
     code: &mut Vec<FlatInstruction>,
     context: &FunctionContext,
@@ -59,17 +81,18 @@ pub fn put_part<S: ShadowForm>(
     offset: u64,
     from: u32,
 ) -> Result<(), AllocError>
-    requires registers { HasRegisters context.now }
+    requires prepared { IsPrepared context.now }
     requires from { from + 5 ≤ context.now.registers.now.free }
     ensures { OnOk result (code.new.items ≡ code.old.items
-        ++ part_code (inline_lists S.entry_read S.entry_write context.now.map.now) context.now.function.now kind variable
-        offset from) }
+        ++ part_code (inline_lists S.entry_read S.entry_write context.now.map.now) context.now.program.now
+        context.now.function.now kind variable offset from) }
 {
     match kind {
         Kind::Scalar(scalar) => {
             put_scalar_part::<S>(code, context, scalar, variable, offset, from)
         }
-        Kind::Void | Kind::Structure(_) | Kind::Array(_) => {
+        Kind::Structure(size) => { put_structure_part(code, context, size, variable, offset, from) }
+        Kind::Void | Kind::Array(_) => {
             put(code, FlatInstruction::End(Ending::Abort(Line::first())))
         }
     }

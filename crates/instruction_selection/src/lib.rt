@@ -27,6 +27,7 @@ pub mod runtime_calls;
 pub mod selection;
 pub mod start_data;
 pub mod statics;
+pub mod structures;
 mod temporaries;
 pub mod type_keys;
 pub mod updates;

@@ -26,6 +26,9 @@ use std::alloc::{AllocError, Global};
 /// The place among the functions of the runtime of the one that makes an object zero.
 pub const ZERO_PLACE: u32 = 23;
 
+/// The place of the one that moves a structure from one object to another.
+pub const COPY_PLACE: u32 = 24;
+
 /// The place of the one that makes the objects of a block.
 pub const ENTER_PLACE: u32 = 25;
 

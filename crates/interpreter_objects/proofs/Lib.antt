@@ -2,8 +2,8 @@ mod Insides
 mod LittleBytes
 mod Placed
 mod Tags
-mod Keeping
+pub mod Keeping
 mod Contents
-mod Ranges
-mod Weights
-mod Gaps
+pub mod Ranges
+pub mod Weights
+pub mod Gaps

@@ -2,6 +2,7 @@ pub mod MovingRoutines
 pub mod StringRoutines
 pub mod PrintingRoutines
 pub mod ComparingRoutines
+pub mod Quiet
 pub mod Shapes
 pub mod AccessRoutines
 pub mod AllocatingRoutines

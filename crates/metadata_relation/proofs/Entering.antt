@@ -224,7 +224,7 @@ module _ (c : Compiled) (IsGood : Bytes → Type 0) (right : IsCompiled c IsGood
       pub fits : s.charged + k.room ≤ (map_of c).budgets.calls
       pub space : nat_le (objects_end (objects_of_body k) s.stacked) (stack_end c.setting) ≡ true
       pub spare : has_objects (objects_of_body k) ≡ true → nat_lt s.keys c.setting.sizes.budgets.keys ≡ true
-      pub work : v.work + most + 88 + 2 * parameters_end k + 60 * length k.parameters
+      pub work : v.work + most + 91 + 2 * parameters_end k + 60 * length k.parameters
           ≤ factor * (s.work + 4 + 4 * length k.parameters)
       pub stands : StandsIn c IsGood keys s v
       pub separate : AreSeparate (map_of c) s.stacked s.objects

@@ -33,6 +33,7 @@ use Rattle.metadata_relation.proofs.Pointers.{home_pointer, offset}
 use Rattle.metadata_relation.proofs.Checking.{judge}
 use Rattle.metadata_relation.proofs.EnteredBlocks.{enter_step}
 use Rattle.metadata_relation.proofs.Leaving.{leave_step}
+use Rattle.metadata_relation.proofs.CopiedStructures.{store_structure, write_structure}
 use Rattle.metadata_relation.proofs.StoredParts.{store_part}
 use Rattle.metadata_relation.proofs.StoredTexts.{store_text}
 use Rattle.metadata_relation.proofs.Reading.{read, read_at}
@@ -121,7 +122,13 @@ module _ (c : Compiled) (IsGood : Bytes → Type 0) (right : IsCompiled c IsGood
       write c IsGood right u n temps ws s v xs h words.0 k mode line key d a b m e at (plain a (admitted i at))
       (and_parts (is_scalar_of k (temps b)) _ f).0 (fine i at)
   write_by Void mode line key d a b m at e f = cc
-  write_by (Structure size) mode line key d a b m at e f = cc
+  write_by (Structure size) mode line key d a b m at e f =
+      let i = tac.Write (Structure size) mode line key d a b m in
+      let p = and_parts (is_settled mode) (is_word size) e in
+      let q = and_parts (not (c.layout.expansion.contents u n a)) (not (c.layout.expansion.contents u n b))
+      (admitted i at) in
+      write_structure c IsGood right u n temps ws s v xs h words size mode line key d a b m p.0
+      (ltb-true size (2 ^ 64) p.1) at (plain a q.0) (plain b q.1) (fine i at)
   write_by (Array size) mode line key d a b m at e f = cc
 
   part_by : (kind : Kind) (line x offset a m : ℕ) → Does (tac.StorePart kind line x offset a m)
@@ -129,7 +136,11 @@ module _ (c : Compiled) (IsGood : Bytes → Type 0) (right : IsCompiled c IsGood
       let i = tac.StorePart (OfScalar k) line x offset a m in
       store_part c IsGood right u n temps ws s v xs h words k line x offset a m (ltb-true offset (2 ^ 64) e) at f (fine i at)
   part_by Void line x offset a m at e f = cc
-  part_by (Structure size) line x offset a m at e f = cc
+  part_by (Structure size) line x offset a m at e f =
+      let i = tac.StorePart (Structure size) line x offset a m in
+      let p = and_parts (is_word offset) (is_word size) e in
+      store_structure c IsGood right u n temps ws s v xs h words size line x offset a m (ltb-true offset (2 ^ 64) p.0)
+      (ltb-true size (2 ^ 64) p.1) at (plain a (admitted i at)) (fine i at)
   part_by (Array size) line x offset a m at e f = cc
 
   instruction : (i : Instruction) → Does i

@@ -1,6 +1,10 @@
 pub mod Accesses
 pub mod Acting
 pub mod Altering
+pub mod AreaPlaces
+pub mod AreaSteps
+pub mod AreasBeside
+pub mod AssignedContents
 pub mod Assigning
 pub mod Begins
 pub mod Behind
@@ -14,6 +18,7 @@ pub mod Calls
 pub mod CallsThrough
 pub mod Checking
 pub mod Comparing
+pub mod CopiedStructures
 pub mod Differences
 pub mod EnteredBlocks
 pub mod EnteredBodies
@@ -68,6 +73,7 @@ pub mod Statuses
 pub mod StoredParameters
 pub mod StoredParts
 pub mod StoredTexts
+pub mod TakenStructures
 pub mod ToldEndings
 pub mod TopCell
 pub mod UpdateSteps
@@ -75,4 +81,5 @@ pub mod UpdatedPlaces
 pub mod Updating
 pub mod Waiting
 pub mod Writing
+pub mod ZeroStructures
 pub mod Zeroing

@@ -42,7 +42,7 @@ use Rattle.lib_wrappers.proofs.AllocatingRoutines.SourceEntries.{placing_work}
 use Rattle.lib_wrappers.proofs.AllocatingRoutines.OuterBlocks.{still_of_lock}
 use Rattle.runtime_functions.specs.declared.runtime.RuntimeFunction.TheVariants.{Enter}
 use Rattle.runtime_functions.specs.Actions.{ComesBehind, work_of_call}
-use Rattle.runtime_functions.specs.Calls.{CallSite}
+use Rattle.runtime_functions.specs.Calls.{CallSite, calling_steps}
 use Rattle.runtime_functions.specs.Entering.{HasEnteredBlock, IsBlockServed}
 use Rattle.runtime_functions.proofs.Entering.{entered_at_line}
 use Rattle.metadata_plan.specs.Registers.{all_variables}
@@ -246,7 +246,7 @@ module _ (c : Compiled) (IsGood : Bytes → Type 0) (right : IsCompiled c IsGood
 
   abbrev pub Serves : flat.State → Completed Block → Type 0
   Serves y o =
-      ComesBehind (map_of c) c.layout.program (call_site y) (100 + 40 * ((state_of o).work - s.work) + 3)
+      ComesBehind (map_of c) c.layout.program (call_site y) (100 + 40 * ((state_of o).work - s.work) + calling_steps)
       (IsBlockServed (views c) keys IsGood (call_site y) (bound_of o) line s o)
 
   pub calls_has : HasAt body at_call calls

@@ -206,8 +206,8 @@ module _ (c : Compiled) (IsGood : Bytes → Type 0) (right : IsCompiled c IsGood
       -- what comes of the scan
       abbrev pub ScanLeaves : Outcome (List ℕ) → Type 0
       ScanLeaves (Gives bytes x') =
-          HasScanned o i (temps i).value.word (q + length list) (most + (65 + 16 * (x'.work - w))) y bytes
-      ScanLeaves (Ended e x') = HasStopped e o (most + (71 + 16 * (x'.work - w)))
+          HasScanned o i (temps i).value.word (q + length list) (most + (73 + 16 * (x'.work - w))) y bytes
+      ScanLeaves (Ended e x') = HasStopped e o (most + (79 + 16 * (x'.work - w)))
       ScanLeaves (Paused x') = ⊥
 
       -- it has happened, and the state of the source differs in work alone
@@ -235,7 +235,7 @@ module _ (c : Compiled) (IsGood : Bytes → Type 0) (right : IsCompiled c IsGood
           let k = altered o (q + 1) (q + 1 + length tests) (most + most_work counted) 2 z z.values g
           (record { steps = passed.steps; work = passed.work; few = passed.few; comes = passed.comes }) (λ r lt. refl) in
           let place : q + 1 + length tests ≡ q + length list = omega arith in
-          let most_is : most + most_work counted + 2 ≡ most + (65 + 16 * counted) = omega arith in
+          let most_is : most + most_work counted + 2 ≡ most + (73 + 16 * counted) = omega arith in
           let end_is = served.end_is in
           record {
             state = record z { work = z.work + passed.work };
@@ -377,7 +377,7 @@ module _ (c : Compiled) (IsGood : Bytes → Type 0) (right : IsCompiled c IsGood
         → HasAt body q (Call (runtime_number c.layout.expansion.code (directive_place d)) (temporary_register h.code i)
         (first_free h.code + 1) ∷ Operate Add (first_free h.code) (first_free h.code) (Register (first_free h.code + 2)) ∷ [])
         → HasPutOut (o ++ number_bytes d value.word) (done + length (number_bytes d value.word)) (q + 1 + 1)
-        (most + (49 + 30 * length (number_bytes d value.word))) first y
+        (most + (57 + 30 * length (number_bytes d value.word))) first y
     number_put d other i first low value held has =
         let x = record s { output = o; work = 0 } in
         let bytes = number_bytes d value.word in
@@ -402,7 +402,7 @@ module _ (c : Compiled) (IsGood : Bytes → Type 0) (right : IsCompiled c IsGood
         let all = add_to (q + 1) (o ++ bytes) (most + bound) (length bytes) first z (Register (free + 2)) g
         (b.behind.others free (inl (omega arith)) ∙ count) (ap z.values (omega arith) ∙ served.holds.counted)
         (λ r from lt. b.behind.others r (inl (omega (arith, lt)))) has.1 in
-        let sum : most + bound + 2 ≡ most + (49 + 30 * length bytes) = omega arith in
+        let sum : most + bound + 2 ≡ most + (57 + 30 * length bytes) = omega arith in
         subst (λ e. HasPutOut (o ++ bytes) (done + length bytes) (q + 1 + 1) e first y) sum all
 
     -- a string that was scanned
@@ -411,7 +411,7 @@ module _ (c : Compiled) (IsGood : Bytes → Type 0) (right : IsCompiled c IsGood
         → y.values (end_register h.code i) ≡ value.word + length bytes → AreBytesAt (map_of c) v.memory value.word bytes
         → HasAt body q (put_argument (λ k. runtime_number c.layout.expansion.code k) h.code directive.String i
         (first_free h.code))
-        → HasPutOut (o ++ bytes) (done + length bytes) (q + 1 + 1 + 1 + 1) (most + (33 + 10 * length bytes))
+        → HasPutOut (o ++ bytes) (done + length bytes) (q + 1 + 1 + 1 + 1) (most + (41 + 10 * length bytes))
         (string_register h.code i + 1) y
     string_put i low value bytes held end_is found has =
         let k = move_comes m p u q y xs (string i) (T i) has.0 in
@@ -465,5 +465,5 @@ module _ (c : Compiled) (IsGood : Bytes → Type 0) (right : IsCompiled c IsGood
         (λ r from lt. put_other z.values (free + 1) span r (λ e. omega (arith, e, lt))
         ∙ b.behind.others r (inl (omega (arith, lt)))
         ∙ put_other y.values (string i) (y.values (T i)) r (λ e. omega (arith, e, from))) has.1.1.1 in
-        let sum : most + 2 + bound + 2 + 2 ≡ most + (33 + 10 * length bytes) = omega arith in
+        let sum : most + 2 + bound + 2 + 2 ≡ most + (41 + 10 * length bytes) = omega arith in
         subst (λ e. HasPutOut (o ++ bytes) (done + length bytes) (q + 1 + 1 + 1 + 1) e (string i + 1) y) sum all

@@ -229,10 +229,10 @@ module _ (c : Compiled) (IsGood : Bytes → Type 0) (right : IsCompiled c IsGood
 
     abbrev FormatLeaves : (o : List ℕ) (q w most : ℕ) → flat.State → List Piece → (i k : ℕ) → Outcome (List ℕ) → Type 0
     FormatLeaves o q w most y ps i k (Gives bytes x') =
-        AreScanned o (q + length (scans ps i)) (most + 81 * (x'.work - w)) y ps i bytes
+        AreScanned o (q + length (scans ps i)) (most + (84 * (x'.work - w) + 5 * k)) y ps i bytes
         × IsWorked (record s { output = o; work = w }) x'
     FormatLeaves o q w most y ps i k (Ended e x') =
-        Stops e o (most + (81 * (x'.work - w) + 63 * k + 10)) × IsWorked (record s { output = o; work = w }) x'
+        Stops e o (most + (84 * (x'.work - w) + 63 * k + 18)) × IsWorked (record s { output = o; work = w }) x'
     FormatLeaves o q w most y ps i k (Paused x') = ⊥
 
     abbrev Formats : List Piece → Type 0
@@ -273,14 +273,16 @@ module _ (c : Compiled) (IsGood : Bytes → Type 0) (right : IsCompiled c IsGood
         ap (λ z. q + length (z ++ scans ps (i + 1))) (sym (no_scan e i other)) in (
           record {
             state = l.0.state;
-            far = subst (λ z. So o z l.0.state (most + 81 * (x'.work - w))) place l.0.far;
+            far = more o (q + length (scans (piece.Directive e ∷ ps) i)) l.0.state
+                (most + (84 * (x'.work - w) + 5 * k)) (most + (84 * (x'.work - w) + 5 * suc k)) (omega arith)
+                (subst (λ z. So o z l.0.state (most + (84 * (x'.work - w) + 5 * k))) place l.0.far);
             below = λ r lt. l.0.below r (omega (arith, lt));
             ready = (number_bytes e (temps i).value.word, bytes, refl, low, ready_number e i l.0.state.values other, l.0.ready);
           },
           l.1,
         )
     number_front o q w most y e ps i k other low (Ended x x') l = (
-      stops_within x o (most + (81 * (x'.work - w) + 63 * k + 10)) (most + (81 * (x'.work - w) + 63 * suc k + 10))
+      stops_within x o (most + (84 * (x'.work - w) + 63 * k + 18)) (most + (84 * (x'.work - w) + 63 * suc k + 18))
           (omega arith) l.0,
       l.1,
     )
@@ -292,7 +294,7 @@ module _ (c : Compiled) (IsGood : Bytes → Type 0) (right : IsCompiled c IsGood
         → ((r : ℕ) → r < string_register h.code i → y1.values r ≡ y.values r)
         → y1.values (end_register h.code i) ≡ (temps i).value.word + length bytes
         → AreBytesAt (map_of c) v.memory (temps i).value.word bytes → (r : Outcome (List ℕ))
-        → FormatLeaves o (q + suc (length (tests (string_register h.code i)))) w1 (most + (65 + 16 * (w1 - w))) y1 ps (i + 1) k r
+        → FormatLeaves o (q + suc (length (tests (string_register h.code i)))) w1 (most + (73 + 16 * (w1 - w))) y1 ps (i + 1) k r
         → FormatLeaves o q w most y (piece.Directive directive.String ∷ ps) i (suc k)
         (on r (λ others. done (bytes ++ others)))
     string_front o q w w1 most y y1 ps i k bytes low some below end_is found (Gives others x') l =
@@ -304,8 +306,10 @@ module _ (c : Compiled) (IsGood : Bytes → Type 0) (right : IsCompiled c IsGood
           record {
             state = l.0.state;
             far = more o (q + length (scans (piece.Directive directive.String ∷ ps) i)) l.0.state
-                (most + (65 + 16 * (w1 - w)) + 81 * (x'.work - w1)) (most + 81 * (x'.work - w)) (omega arith)
-                (subst (λ z. So o z l.0.state (most + (65 + 16 * (w1 - w)) + 81 * (x'.work - w1))) place l.0.far);
+                (most + (73 + 16 * (w1 - w)) + (84 * (x'.work - w1) + 5 * k))
+                (most + (84 * (x'.work - w) + 5 * suc k)) (omega arith)
+                (subst (λ z. So o z l.0.state (most + (73 + 16 * (w1 - w)) + (84 * (x'.work - w1) + 5 * k))) place
+                l.0.far);
             below = λ r lt. l.0.below r (omega (arith, lt)) ∙ below r lt;
             ready = (
               bytes,
@@ -320,8 +324,8 @@ module _ (c : Compiled) (IsGood : Bytes → Type 0) (right : IsCompiled c IsGood
         )
     string_front o q w w1 most y y1 ps i k bytes low some below end_is found (Ended x x') l =
         let later = l.1.work in (
-          stops_within x o (most + (65 + 16 * (w1 - w)) + (81 * (x'.work - w1) + 63 * k + 10))
-              (most + (81 * (x'.work - w) + 63 * suc k + 10)) (omega arith) l.0,
+          stops_within x o (most + (73 + 16 * (w1 - w)) + (84 * (x'.work - w1) + 63 * k + 18))
+              (most + (84 * (x'.work - w) + 63 * suc k + 18)) (omega arith) l.0,
           record { work = omega arith; same = l.1.same },
         )
     string_front o q w w1 most y y1 ps i k bytes low some below end_is found (Paused x') l = l
@@ -351,12 +355,12 @@ module _ (c : Compiled) (IsGood : Bytes → Type 0) (right : IsCompiled c IsGood
         (sym by.0.same)
         (string_front o q w x'.work most y r.state ps i k bytes low by.1 r.below r.end_is r.found
         (formatted ps (values_of (gathered temps (i + 1) k)) line x)
-        (rest (i + 1) k o (q + suc (length (tests (string_register h.code i)))) x'.work (most + (65 + 16 * (x'.work - w)))
+        (rest (i + 1) k o (q + suc (length (tests (string_register h.code i)))) x'.work (most + (73 + 16 * (x'.work - w)))
         r.state r.far
         (subst (λ z. HasAt body z (scans ps (i + 1))) place
         (has_back body (q + 1) (tests (string_register h.code i)) (scans ps (i + 1)) has.1)) fits (omega arith) (omega arith)))
     string_scanned ps rest i k o q w most y f has fits from to low held (Ended e x') has_one by l = (
-      stops_within e o (most + (71 + 16 * (x'.work - w))) (most + (81 * (x'.work - w) + 63 * suc k + 10)) (omega arith)
+      stops_within e o (most + (79 + 16 * (x'.work - w))) (most + (84 * (x'.work - w) + 63 * suc k + 18)) (omega arith)
           (l has_one),
       by.1,
     )
@@ -397,11 +401,11 @@ module _ (c : Compiled) (IsGood : Bytes → Type 0) (right : IsCompiled c IsGood
 
     formats : (ps : List Piece) → Formats ps
     formats [] i k o q w most y f has fits from to =
-        let place : q ≡ q + 0 = omega arith in
-        let sum : most ≡ most + 81 * (w - w) = omega arith in (
+        let place : q ≡ q + 0 = omega arith in (
           record {
             state = y;
-            far = subst (λ z. So o z y (most + 81 * (w - w))) place (subst (λ z. So o q y z) sum f);
+            far = more o (q + 0) y most (most + (84 * (w - w) + 5 * k)) (omega arith)
+                (subst (λ z. So o z y most) place f);
             below = λ r lt. refl;
             ready = refl;
           },
@@ -435,7 +439,7 @@ module _ (c : Compiled) (IsGood : Bytes → Type 0) (right : IsCompiled c IsGood
         → AreReady ps i y.values bytes → have_bytes ps ≡ true → d ≤ i → i + length (directives ps) ≤ d + count
         → HasAt body q (puts ps i)
         → PutOut (o ++ bytes) (a + length bytes) (q + length (puts ps i))
-        (most + (63 * length (directives ps) + 30 * length bytes)) (first_free h.code) y
+        (most + (58 * length (directives ps) + 30 * length bytes)) (first_free h.code) y
 
     -- the pieces behind one
     behind_one : (ps : List Piece) → Puts ps → (i first : ℕ) (o bytes rest : List ℕ) (a q most : ℕ) (y : flat.State)
@@ -443,14 +447,14 @@ module _ (c : Compiled) (IsGood : Bytes → Type 0) (right : IsCompiled c IsGood
         → AreReady ps i y.values rest → have_bytes ps ≡ true → d ≤ i → i + length (directives ps) ≤ d + count
         → HasAt body q (puts ps i)
         → PutOut (o ++ (bytes ++ rest)) (a + length (bytes ++ rest)) (q + length (puts ps i))
-        (most + (63 * length (directives ps) + 30 * length rest)) (first_free h.code) y
+        (most + (58 * length (directives ps) + 30 * length rest)) (first_free h.code) y
     behind_one ps all i first o bytes rest a q most y f below ready small from to has =
         let r = all i (o ++ bytes) (a + length bytes) q most f.state rest f.far f.counted
         (ready_kept ps i y.values f.state.values rest (λ r le lt. f.others r (omega (arith, le, below)) lt) ready) small from
         to has in
         put_as ((o ++ bytes) ++ rest) (o ++ (bytes ++ rest)) (a + length bytes + length rest) (a + length (bytes ++ rest))
-        (q + length (puts ps i)) (q + length (puts ps i)) (most + (63 * length (directives ps) + 30 * length rest))
-        (most + (63 * length (directives ps) + 30 * length rest)) (first_free h.code) f.state y r (append_assoc o bytes rest)
+        (q + length (puts ps i)) (q + length (puts ps i)) (most + (58 * length (directives ps) + 30 * length rest))
+        (most + (58 * length (directives ps) + 30 * length rest)) (first_free h.code) f.state y r (append_assoc o bytes rest)
         (omega (arith, length-append bytes rest)) refl (omega arith)
 
     number_list : (e : Directive) (i : ℕ) → (e ≡ directive.String → ⊥)
@@ -473,21 +477,21 @@ module _ (c : Compiled) (IsGood : Bytes → Type 0) (right : IsCompiled c IsGood
         → HasAt body q (put_argument (λ k. runtime_number c.layout.expansion.code k) h.code e i (first_free h.code))
         → PutOut (o ++ bytes) (a + length bytes)
         (q + length (put_argument (λ k. runtime_number c.layout.expansion.code k) h.code e i (first_free h.code)))
-        (most + (63 + 30 * length bytes)) (string_register h.code i + 1) y
+        (most + (58 + 30 * length bytes)) (string_register h.code i + 1) y
     one_put e (inr other) i o a q most y bytes f counted low ready from to has =
         let is = number_is e i y.values bytes other ready in
         let list_is = number_list e i other in
         let first = string_register h.code i + 1 in
         let r = number_put c IsGood right u n temps ws s v xs h words o a q most y f counted e other i first low (temps i).value
         (held_at i from to).word (subst (HasAt body q) list_is has) in
-        let r' = subst (λ z. PutOut (o ++ z) (a + length z) (q + 1 + 1) (most + (49 + 30 * length z)) first y) (sym is) r in
+        let r' = subst (λ z. PutOut (o ++ z) (a + length z) (q + 1 + 1) (most + (57 + 30 * length z)) first y) (sym is) r in
         let place : q + 1 + 1
         ≡ q + length (put_argument (λ k. runtime_number c.layout.expansion.code k) h.code e i (first_free h.code)) =
         omega (arith, ap length list_is) in
         record {
           state = r'.state;
-          far = subst (λ z. So (o ++ bytes) z r'.state (most + (63 + 30 * length bytes))) place
-              (more (o ++ bytes) (q + 1 + 1) r'.state (most + (49 + 30 * length bytes)) (most + (63 + 30 * length bytes))
+          far = subst (λ z. So (o ++ bytes) z r'.state (most + (58 + 30 * length bytes))) place
+              (more (o ++ bytes) (q + 1 + 1) r'.state (most + (57 + 30 * length bytes)) (most + (58 + 30 * length bytes))
               (omega arith) r'.far);
           counted = r'.counted;
           others = r'.others;
@@ -497,23 +501,23 @@ module _ (c : Compiled) (IsGood : Bytes → Type 0) (right : IsCompiled c IsGood
         → HasAt body q (put_argument (λ k. runtime_number c.layout.expansion.code k) h.code e i (first_free h.code))
         → PutOut (o ++ bytes) (a + length bytes)
         (q + length (put_argument (λ k. runtime_number c.layout.expansion.code k) h.code e i (first_free h.code)))
-        (most + (63 + 30 * length bytes)) (string_register h.code i + 1) y) (sym is)
+        (most + (58 + 30 * length bytes)) (string_register h.code i + 1) y) (sym is)
         (λ ready has.
         (let r = string_put c IsGood right u n temps ws s v xs h words o a q most y f counted i low (temps i).value bytes
         (held_at i from to).word ready.0 ready.1 has in
         let place : q + 1 + 1 + 1 + 1 ≡ q + 4 = omega arith in
         record {
           state = r.state;
-          far = subst (λ z. So (o ++ bytes) z r.state (most + (63 + 30 * length bytes))) place
-              (more (o ++ bytes) (q + 1 + 1 + 1 + 1) r.state (most + (33 + 10 * length bytes))
-              (most + (63 + 30 * length bytes)) (omega arith) r.far);
+          far = subst (λ z. So (o ++ bytes) z r.state (most + (58 + 30 * length bytes))) place
+              (more (o ++ bytes) (q + 1 + 1 + 1 + 1) r.state (most + (41 + 10 * length bytes))
+              (most + (58 + 30 * length bytes)) (omega arith) r.far);
           counted = r.counted;
           others = r.others;
         })) ready has
 
     put_all : (ps : List Piece) → Puts ps
     put_all [] i o a q most y bytes f counted ready small from to has =
-        put_as o (o ++ bytes) a (a + length bytes) q (q + 0) most (most + (63 * 0 + 30 * length bytes)) (first_free h.code) y y
+        put_as o (o ++ bytes) a (a + length bytes) q (q + 0) most (most + (58 * 0 + 30 * length bytes)) (first_free h.code) y y
         (record { state = y; far = f; counted = counted; others = λ r from lt. refl })
         (sym (append-nil o) ∙ ap (λ z. o ++ z) (sym ready)) (omega (arith, ap length ready)) (omega arith) (omega arith)
     put_all (piece.Byte b ∷ ps) i o a q most y bytes f counted ready small from to has =
@@ -528,8 +532,8 @@ module _ (c : Compiled) (IsGood : Bytes → Type 0) (right : IsCompiled c IsGood
         (has_back body q (byte_code b (first_free h.code) (first_free h.code + 1)) (puts ps i) has)) in
         put_as (o ++ (b ∷ ready.0)) (o ++ bytes) (a + length (b ∷ ready.0)) (a + length bytes)
         (q + 1 + 1 + 1 + length (puts ps i)) (q + length (puts (piece.Byte b ∷ ps) i))
-        (most + 8 + (63 * length (directives ps) + 30 * length ready.0))
-        (most + (63 * length (directives ps) + 30 * length bytes)) (first_free h.code) y y rest
+        (most + 8 + (58 * length (directives ps) + 30 * length ready.0))
+        (most + (58 * length (directives ps) + 30 * length bytes)) (first_free h.code) y y rest
         (ap (λ z. o ++ z) (sym ready.1)) (ap (λ z. a + length z) (sym ready.1)) (omega arith)
         (omega (arith, ap length ready.1))
     put_all (piece.Directive e ∷ ps) i o a q most y bytes f counted ready small from to has =
@@ -537,14 +541,14 @@ module _ (c : Compiled) (IsGood : Bytes → Type 0) (right : IsCompiled c IsGood
         let one = one_put e (is_string e) i o a q most y ready.0 f counted ready.3 ready.4 from (omega arith)
         (has_front body q list (puts ps (i + 1)) has) in
         let rest = behind_one ps (put_all ps) (i + 1) (string_register h.code i + 1) o ready.0 ready.1 a (q + length list)
-        (most + (63 + 30 * length ready.0)) y one (omega arith) ready.5 small (omega arith) (omega arith)
+        (most + (58 + 30 * length ready.0)) y one (omega arith) ready.5 small (omega arith) (omega arith)
         (has_back body q list (puts ps (i + 1)) has) in
         let sizes = length-append ready.0 ready.1 in
         let lists = length-append list (puts ps (i + 1)) in
         put_as (o ++ (ready.0 ++ ready.1)) (o ++ bytes) (a + length (ready.0 ++ ready.1)) (a + length bytes)
         (q + length list + length (puts ps (i + 1))) (q + length (puts (piece.Directive e ∷ ps) i))
-        (most + (63 + 30 * length ready.0) + (63 * length (directives ps) + 30 * length ready.1))
-        (most + (63 * suc (length (directives ps)) + 30 * length bytes)) (first_free h.code) y y rest
+        (most + (58 + 30 * length ready.0) + (58 * length (directives ps) + 30 * length ready.1))
+        (most + (58 * suc (length (directives ps)) + 30 * length bytes)) (first_free h.code) y y rest
         (ap (λ z. o ++ z) (sym ready.2)) (ap (λ z. a + length z) (sym ready.2)) (omega (arith, lists))
         (omega (arith, ap length ready.2, sizes))
 
@@ -587,7 +591,7 @@ module _ (c : Compiled) (IsGood : Bytes → Type 0) (right : IsCompiled c IsGood
 
       -- where all strings were scanned
       gave : (bytes : List ℕ) (w : ℕ) → s.work + (2 + 3 * count) ≤ w
-          → AreScanned s.output (c.layout.address u n + length (scans ps d)) (0 + 81 * (w - (s.work + (2 + 3 * count)))) v ps d
+          → AreScanned s.output (c.layout.address u n + length (scans ps d)) (0 + (84 * (w - (s.work + (2 + 3 * count))) + 5 * count)) v ps d
           bytes
           → Follows (Stands u next (with_temp temps d (rvalue (integer (fit Int (length bytes))))) ws
           (spent (3 * (w + length bytes - (s.work + (2 + 3 * count)))) (record s {
@@ -596,7 +600,7 @@ module _ (c : Compiled) (IsGood : Bytes → Type 0) (right : IsCompiled c IsGood
           })))
       gave bytes w le a =
           let q1 = pc + length (scans ps d) in
-          let most1 = 0 + 81 * (w - (s.work + (2 + 3 * count))) in
+          let most1 = 0 + (84 * (w - (s.work + (2 + 3 * count))) + 5 * count) in
           let has1 = has_back body pc (scans ps d) behind_scans opening in
           let k1 = constant_comes m p u q1 a.state xs free 0 has1.0 in
           let f1 = set c IsGood right u n temps ws s v xs h words s.output q1 most1 free 0 a.state a.far (omega arith) k1 in
@@ -609,7 +613,7 @@ module _ (c : Compiled) (IsGood : Bytes → Type 0) (right : IsCompiled c IsGood
           (omega (arith, length_is)) (has_front body (q1 + 1) (puts ps d) counted has1.1) in
           let y2 = all.state in
           let q2 = q1 + 1 + length (puts ps d) in
-          let most2 = most1 + 2 + (63 * length (directives ps) + 30 * length bytes) in
+          let most2 = most1 + 2 + (58 * length (directives ps) + 30 * length bytes) in
           let at_count = (has_back body (q1 + 1) (puts ps d) counted has1.1).0 in
           let number_is = reg32_result Addw (low_word (y2.values free)) (low_word 0) in
           let y3 : flat.State = record y2 {

@@ -75,6 +75,7 @@ use Rattle.metadata_relation.specs.Contents.{Contents}
 use Rattle.metadata_relation.specs.FunctionTypes.{first_of_type}
 use Rattle.metadata_relation.specs.InlineCode.{InlineCode}
 use Rattle.metadata_relation.specs.Printing.{print_code, scan_statuses}
+use Rattle.metadata_relation.specs.Structures.{copy_code}
 use Rattle.metadata_relation.specs.Registers.{passed_as, parameters_end, area_words, result_words, variable_words, total}
 use Rattle.metadata_relation.specs.Registers.{variable_register, home_register, home_entry, lock_register, top_register}
 use Rattle.metadata_relation.specs.Registers.{temporary_register, moved_register, first_free}
@@ -476,6 +477,11 @@ zero_code o t c x size s =
     Move s (home_register c x)
     ∷ (o.constant (s + 1) size (s + 2) ++ (Call (runtime_number t zero_place) s (s + 2) ∷ []))
 
+-- what the assignment of a structure gives is its place
+abbrev pub write_structure_code : OperatorCode → Tac → (with_entry : Bool) → (size into pointer value scratch : ℕ)
+    → List FlatInstruction
+write_structure_code o t b size d p a s = Move s p ∷ (copy_code o (runtime_number t) a size s ++ move_value b d p)
+
 -- ---- blocks
 
 -- the home of an object: it begins so many bytes behind the first of its block, and shares key and lock word with it
@@ -641,7 +647,8 @@ block e u c (tac.StaticPointer d n m) =
     static_code e.inline.operators (static_object e.map e.code n) (region_start e.map Locks) (e.entries u m d)
     (temporary_register c d) (first_free c)
 block e u c (tac.ZeroOf (Structure size) d m) = End (AbortAt 1) ∷ []
-block e u c (tac.ZeroOf kind d m) = Constant (temporary_register c d) 0 ∷ untagged (e.entries u m d) (temporary_register c d)
+block e u c (tac.ZeroOf kind d m) =
+    Constant (temporary_register c d) 0 ∷ untagged (e.entries u m d) (temporary_register c d)
 block e u c (tac.Convert kind d a m) =
     conversion e.inline kind (e.entries u m d) (temporary_register c d) (temporary_register c a) (first_free c)
 block e u c (tac.Unary op ty d a m) =
@@ -668,6 +675,9 @@ block e u c (tac.Read kind mode line key d a m) =
 block e u c (tac.Write (OfScalar k) mode line key d a b m) =
     write_code e.inline k (e.entries u m d) (temporary_register c d) (temporary_register c a) (temporary_register c b)
     (first_free c)
+block e u c (tac.Write (Structure size) mode line key d a b m) =
+    write_structure_code e.inline.operators e.code (e.entries u m d) size (temporary_register c d)
+    (temporary_register c a) (temporary_register c b) (first_free c)
 block e u c (tac.Update w k f mode line at key d a right m) =
     update_code e.inline c w k f at (e.entries u m d) (temporary_register c d) (temporary_register c a) right
     (first_free c)
@@ -678,6 +688,9 @@ block e u c (tac.Zero x m) =
 block e u c (tac.StorePart (OfScalar k) line x offset a m) =
     part_address e.inline.operators c x offset (first_free c)
     ++ e.inline.store (first_free c) (held_scalar k (temporary_register c a)) (first_free c + 1)
+block e u c (tac.StorePart (Structure size) line x offset a m) =
+    part_address e.inline.operators c x offset (first_free c)
+    ++ copy_code e.inline.operators (runtime_number e.code) (temporary_register c a) size (first_free c)
 block e u c (tac.StoreText n x offset m) =
     part_address e.inline.operators c x offset (first_free c)
     ++ store_bytes (text_in e.code n) (first_free c) (first_free c + 1)

@@ -12,5 +12,6 @@ pub mod Registers
 pub mod Scopes
 pub mod Stages
 pub mod Steps
+pub mod Structures
 pub mod Waiting
 pub mod StartData

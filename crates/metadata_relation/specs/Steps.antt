@@ -132,9 +132,11 @@ covers c (tac.Binary op ty line d a b m) = true
 covers c (tac.Offset form size d a b m) = is_word size
 covers c (tac.Read kind mode line key d a m) = is_settled mode
 covers c (tac.Write (OfScalar k) mode line key d a b m) = is_settled mode
+covers c (tac.Write (Structure size) mode line key d a b m) = is_settled mode && is_word size
 covers c (tac.Update w k f mode line at key d a right m) = is_settled mode && is_update_by_word w
 covers c (tac.Judge test size line key a m) = nat_le 1 size && is_word size
 covers c (tac.StorePart (OfScalar k) line x offset a m) = is_word offset
+covers c (tac.StorePart (Structure size) line x offset a m) = is_word offset && is_word size
 covers c (tac.StoreText n x offset m) = true
 covers c (tac.Zero x m) = true
 covers c (tac.EnterBlock b line m) = can_be_entered (objects_in (Some c) b)
@@ -193,7 +195,10 @@ have_bytes (piece.Directive d ∷ ps) = have_bytes ps
 -- what is asked of the node besides: contents are read and written by other instructions, and a member of them is another
 abbrev pub admits : Compiled → (function node : ℕ) → Instruction → Bool
 admits c u n (tac.Read kind mode line key d a m) = not (c.layout.expansion.contents u n a)
+admits c u n (tac.Write (Structure size) mode line key d a b m) =
+    not (c.layout.expansion.contents u n a) && not (c.layout.expansion.contents u n b)
 admits c u n (tac.Write kind mode line key d a b m) = not (c.layout.expansion.contents u n a)
+admits c u n (tac.StorePart (Structure size) line x offset a m) = not (c.layout.expansion.contents u n a)
 admits c u n (tac.Update w k f mode line at key d a right m) = not (c.layout.expansion.contents u n a)
 admits c u n (tac.Member offset size d a m) = not (c.layout.expansion.contents u n a)
 admits c u n (tac.Print x line d count m) =

@@ -16,6 +16,9 @@ const FRAME: RuntimeFrame = RuntimeFrame {
     registers: REGISTERS as u32,
 };
 
+/// How many instructions a function has in front of its routine: they make the registers from the status on 0.
+pub const CLEARED: u32 = 8;
+
 const STATUSES: [ReturnStatus; 9] = [
     ReturnStatus::Completed,
     ReturnStatus::Spatial,
@@ -30,7 +33,7 @@ const STATUSES: [ReturnStatus; 9] = [
 
 /// The function of a routine.
 pub fn function_of(alloc: Global, code: &[FlatInstruction]) -> Result<FlatFunction> {
-    if code.len() >= 1 << 31 {
+    if code.len() >= (1 << 31) - CLEARED as usize {
         bail!("a routine is too long");
     }
     let function = runtime_function(alloc, code, FRAME)?;
@@ -45,6 +48,13 @@ fn status_of(number: u64) -> Option<ReturnStatus> {
         }
     }
     None
+}
+
+/// Makes the registers 0 that the function makes 0.
+pub fn clear(machine: &mut Machine) {
+    for register in STATUS..STATUS + CLEARED {
+        machine.set(register, 0);
+    }
 }
 
 /// Calls a function at a line, and tells how its routine was left.

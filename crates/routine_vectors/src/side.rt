@@ -4,7 +4,7 @@ ghost use Rattle.addr_map.specs.Places.{AreMapped};
 
 use crate::changes::{write_born, write_bytes, write_lives, write_spaces, write_tags};
 use crate::code::{RESULT, SCRATCH, code_of, line_of};
-use crate::function::{STATUS, call_function, function_of};
+use crate::function::{CLEARED, STATUS, call_function, clear, function_of};
 use crate::machine::{Left, Machine, REGISTERS};
 use crate::memory::Memory;
 use crate::objects::{Metadata, Object, Objects, hexadecimal};
@@ -78,9 +78,13 @@ pub fn side_of<S: ShadowForm>(alloc: Global, map: &AddrMap) -> Result<Side>
     })
 }
 
-// What the registers below the scratch registers hold where no operand is.
+// What the registers below the scratch registers hold where no operand is: those that a function makes 0 are 0.
 fn unused(register: u32) -> u64 {
-    0xa5a5_0000_0000_0000 | register as u64
+    if STATUS <= register && register < STATUS + CLEARED {
+        0
+    } else {
+        0xa5a5_0000_0000_0000 | register as u64
+    }
 }
 
 impl Side {
@@ -212,11 +216,11 @@ impl Side {
         }
         let at = line_of(call.line);
         call.line = 1;
-        // a return, and the number of an ending
-        call.limit = call.limit.saturating_add(2);
+        // the registers that are made 0, a return, and the number of an ending
+        call.limit = call.limit.saturating_add(CLEARED.into()).saturating_add(2);
         let code = code_of::<S>(alloc, map, &call)?;
         let function = function_of(alloc, &code)?;
-        after.set(STATUS, 0);
+        clear(&mut after);
         let operands = after.values;
         let left = call_function(&mut after, &function, at)?;
         let text = self.told::<S>(alloc, map, &call, &operands, left, &mut after)?;

@@ -29,16 +29,17 @@ use Rattle.flat_routines.specs.Laws.{work_of as work_left, report_length}
 use Rattle.flat_routines.specs.InputOutput.{has_input_output}
 use Rattle.flat_routines.specs.Metadata.{View, ShowsNothing}
 use Rattle.flat_routines.specs.Objects.StandsFor.{Views, Keys}
-use Rattle.flat_routines.proofs.Steps.{has_self}
+use Rattle.flat_routines.proofs.Steps.{has_self, has_back}
 use Rattle.flat_routines.proofs.Words.{same_metadata}
 use Rattle.flat_routines.proofs.Work.{work_within, work_of_weight}
 use Rattle.flat_actions.specs.Actions.{views_of, IsShown, IsFor, Holder, Nowhere, Word}
 use Rattle.flat_actions.specs.Actions.{Pointer, registers_of, IsHeldBy, AreHeldBy, IsGivenIn, HasGiven, HasEnded}
 use Rattle.flat_actions.specs.Actions.{Leaves, work_of}
 use Rattle.flat_actions.proofs.Standing.{for_still, shown_still}
+use Rattle.runtime_functions.specs.Functions.{zeros, with_zeros, cleared_registers}
 use Rattle.runtime_functions.specs.declared.status.ReturnStatus.{ReturnStatus}
 use Rattle.runtime_functions.specs.Status.{return_status, status_number, ending_at}
-use Rattle.runtime_functions.specs.Calls.{CallSite, waits_at, begins_in, CallsRuntime, HasReturned, Reports, Returned}
+use Rattle.runtime_functions.specs.Calls.{CallSite, waits_at, begins_in, CallsRuntime, HasReturned, Reports, Returned, calling_steps}
 use Rattle.runtime_functions.specs.Calls.{Exited, IsCalled, ComesOfCall}
 use Rattle.runtime_functions.specs.Actions.{over_registers, argument_register, result_register, AreParameters}
 use Rattle.runtime_functions.specs.Actions.{AreResults, AreTaken, Interface, price_of, IsActionFunction}
@@ -99,20 +100,20 @@ same_state line (Paused x) = refl
 
 -- ---- work
 
--- a run of a routine, each of whose instructions weighs 1
-priced_run : (c : Context) (r : List FlatInstruction) → c.weight ≡ 1 → (steps : ℕ) (s : State) (place : ℕ) (x : Outcome)
-    → local_run c r steps (Goes 0 s) ≡ left_at place x → work_left x ≤ s.work + (price_of r * steps + report_length x)
-priced_run c r one steps s place x comes = by (has_input_output r) refl
+-- a run of code from a place on, each of whose instructions weighs 1
+priced_run : (c : Context) (r : List FlatInstruction) → c.weight ≡ 1 → (steps pc : ℕ) (s : State) (place : ℕ)
+    (x : Outcome) → local_run c r steps (Goes pc s) ≡ left_at place x → work_left x ≤ s.work + (price_of r * steps + report_length x)
+priced_run c r one steps pc s place x comes = by (has_input_output r) refl
   where
     by : (b : Bool) → has_input_output r ≡ b → work_left x ≤ s.work + (price_of r * steps + report_length x)
     by true e =
-        let w = work_within c r steps 0 s place x comes in
+        let w = work_within c r steps pc s place x comes in
         let unit : c.weight * (2 * steps + report_length x) ≡ 2 * steps + report_length x =
         ap (λ k. k * (2 * steps + report_length x)) one ∙ omega arith in
         let price : price_of r * steps ≡ 2 * steps = ap (λ b. (if b then 2 else 1) * steps) e in
         omega arith
     by false e =
-        let w = work_of_weight c r e steps 0 s place x comes in
+        let w = work_of_weight c r e steps pc s place x comes in
         let unit : c.weight * (steps + report_length x) ≡ steps + report_length x =
         ap (λ k. k * (steps + report_length x)) one ∙ omega arith in
         let price : price_of r * steps ≡ 1 * steps = ap (λ b. (if b then 2 else 1) * steps) e in
@@ -230,7 +231,7 @@ module _ (s : CallSite) (a : ℕ) where
 pub record Serves (m : MapSizes) (p : FlatProgram) (s : CallSite) (r : List FlatInstruction) (a n bound : ℕ)
     (Q : Outcome → Type 0) : Type 0 where
   pub outcome : Outcome
-  pub comes : ComesOfCall m p s a n (bound + 3) outcome
+  pub comes : ComesOfCall m p s a n (bound + calling_steps) outcome
   pub holds : Q outcome
   pub work : work_left outcome ≤ (begins_in s a).work + (price_of r * bound + report_length outcome)
 
@@ -242,12 +243,14 @@ module _ (m : MapSizes) (p : FlatProgram) (s : CallSite) (fn : FlatFunction) (r 
   pub serves : (P : State → Type 0) (B : State → ℕ) (Q : State → Outcome → Type 0) → Does c r P B Q
       → IsOfWords s.state → P (begins_in s a) → Serves m p s r a n (B (begins_in s a)) (Q (begins_in s a))
   serves P B Q does words holds =
-      let t = does.from r 0 (begins_in s a) (has_self r) (begins_of_words s a words) holds in
-      let place : 0 + length r ≡ length r = omega arith in
-      let d = comes_of_call m p s fn r a n h t.steps t.outcome
-      (t.comes ∙ ap (λ q. left_at q t.outcome) place) in
+      let whole = with_zeros r a in
+      let has = has_back whole 0 (zeros a cleared_registers) r (has_self whole) in
+      let t = does.from whole cleared_registers (begins_in s a) has (begins_of_words s a words) holds in
+      let d = comes_of_call m p s fn r a n h t.steps t.outcome t.comes in
       let within = d.within in let few = t.within in
-      let paid = priced_run c r (weight_is m p s fn r a n h) t.steps (begins_in s a) (0 + length r) t.outcome t.comes in
+      let paid : work_left t.outcome ≤ (begins_in s a).work + (price_of r * t.steps + report_length t.outcome) =
+      priced_run c whole (weight_is m p s fn r a n h) t.steps cleared_registers (begins_in s a)
+      (cleared_registers + length r) t.outcome t.comes in
       let less : price_of r * t.steps ≤ price_of r * B (begins_in s a) = mul-le _ _ _ _ (omega arith) few in
       record {
         outcome = t.outcome;
@@ -280,7 +283,7 @@ module _ (m : MapSizes) (p : FlatProgram) (s : CallSite) (fn : FlatFunction) (r 
 -- the work of a call: the values handed over, the status, and the routine's
 module _ (s : CallSite) (a n line w : ℕ) where
   abbrev ended_cost : ℕ
-  ended_cost = 16 + 2 * (a + (1 + n)) + 1 + w
+  ended_cost = 16 + 2 * (a + (1 + n)) + 1 + cleared_registers + w
 
   pub told : {map : MapSizes} (e : Ending) (x' : Source) (status : ℕ) (report : List ℕ) (z : State) (stage : Stage)
       → HasEnded map e x' status report (begins_in s a) z → Reports s a n status report z stage
@@ -348,9 +351,9 @@ module _ (s : CallSite) (a n : ℕ) (result : Holder) (scratch : ℕ) (behind_st
   pub went_on : (g : Views) (k : Keys) (IsGood : Bytes → Type 0) (x : Source) (w : ℕ) (v : Value) (x' : Source)
       (z : State) (stage : Stage) → HasGiven g k IsGood result scratch x (begins_in s a) v x' z
       → HasReturned s a n (z.values a) z stage → z.work ≤ (begins_in s a).work + w
-      → HasCompleted g k IsGood result s a n (16 + 2 * (a + (1 + n)) + 1 + w) x v x' stage
+      → HasCompleted g k IsGood result s a n (16 + 2 * (a + (1 + n)) + 1 + cleared_registers + w) x v x' stage
   went_on g k IsGood x w v x' z stage given back work = record {
-    behind = behind s a n (z.values a) z stage back (16 + 2 * (a + (1 + n)) + 1 + w) given.turns (omega arith);
+    behind = behind s a n (z.values a) z stage back (16 + 2 * (a + (1 + n)) + 1 + cleared_registers + w) given.turns (omega arith);
     status = back.status_is
         ∙ given.others a (omega arith) (none_of_results a n (registers_of result) behind_status)
         ∙ status_is_zero s a;
@@ -404,7 +407,7 @@ module _ (m : MapSizes) (entry : View) (IsGood : Bytes → Type 0) (P : Source �
   -- ---- the call
 
   pub at_one : IsReady g k IsGood face s x vs → P x vs
-      → ComesBehind m p s (steps + 3) (Q (outcome_at line (at_line 1 vs x)))
+      → ComesBehind m p s (steps + calling_steps) (Q (outcome_at line (at_line 1 vs x)))
   at_one ready premise =
       let held = arguments_held s a g k x.objects face.arguments vs act.laid.taken ready.held in
       let t = serves_in_runtime m p s fn act.routine a n h
@@ -429,8 +432,8 @@ module _ (m : MapSizes) (entry : View) (IsGood : Bytes → Type 0) (P : Source �
       let same = alike.by x in
       let work : work_of (at_line line vs) x ≡ work_of (at_line 1 vs) x =
       ap (λ o. (state_of o).work - x.work) same ∙ ap (λ (y : Source). y.work - x.work) (same_state line (at_line 1 vs x)) in
-      subst (λ o. ComesBehind m p s (steps_of face (at_line line vs) x + 3) (IsServed g k IsGood face.result s a n
+      subst (λ o. ComesBehind m p s (steps_of face (at_line line vs) x + calling_steps) (IsServed g k IsGood face.result s a n
       (work_of_call a n face.price (steps_of face (at_line line vs) x)) line x o)) (sym same)
-      (subst (λ w. ComesBehind m p s (face.constant + face.factor * w + 3) (IsServed g k IsGood face.result s a n
+      (subst (λ w. ComesBehind m p s (face.constant + face.factor * w + calling_steps) (IsServed g k IsGood face.result s a n
       (work_of_call a n face.price (face.constant + face.factor * w)) line x (outcome_at line (at_line 1 vs x))))
       (sym work) (at_one ready premise))

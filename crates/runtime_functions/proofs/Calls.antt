@@ -30,11 +30,13 @@ use Rattle.flat_routines.specs.Lifted.{stage_of}
 use Rattle.flat_routines.specs.ExitStubs.{DoesWithStubs, EndsThere, AtStub, ComesToStub}
 use Rattle.flat_routines.proofs.ExitStubs.{stubbed}
 use Rattle.flat_routines.proofs.Lifted.{lifted}
+use Rattle.flat_routines.proofs.Steps.{has_front, has_self, run_add as local_run_add}
 use Rattle.runtime_functions.specs.declared.status.ReturnStatus.{ReturnStatus}
 use Rattle.runtime_functions.specs.Status.{return_status, status_number}
-use Rattle.runtime_functions.specs.Functions.{stub_place, function_body}
-use Rattle.runtime_functions.specs.Calls.{CallSite, waits_at, begins_in, CallsRuntime, HasReturned, Returned}
-use Rattle.runtime_functions.specs.Calls.{Exited, ComesOfCall}
+use Rattle.runtime_functions.specs.Functions.{stub_place, function_body, zeros, with_zeros, cleared_registers}
+use Rattle.runtime_functions.specs.Calls.{CallSite, waits_at, enters_in, begins_in, CallsRuntime, HasReturned, Returned}
+use Rattle.runtime_functions.specs.Calls.{Exited, ComesOfCall, calling_steps}
+use Rattle.runtime_functions.proofs.Zeros.{zeros_run}
 use Rattle.runtime_functions.proofs.Stubs.{numbered, has_return, has_stub, place_by, stub_of, has_exit_stubs, stays_without}
 
 -- ---- a run that ends with a report ends at an ending
@@ -147,11 +149,15 @@ module _ (m : MapSizes) (p : FlatProgram) (s : CallSite) (fn : FlatFunction) (r 
   abbrev f : ℕ
   f = s.function
 
+  -- the routine behind the registers that are made 0
+  abbrev whole : List FlatInstruction
+  whole = with_zeros r a
+
   abbrev frames : List Frame
   frames = waits_at s
 
   abbrev body : List FlatInstruction
-  body = function_body r a
+  body = function_body whole a
 
   abbrev c : Context
   c = context m p f frames
@@ -191,7 +197,7 @@ module _ (m : MapSizes) (p : FlatProgram) (s : CallSite) (fn : FlatFunction) (r 
       (le-leb (room_if false (Some fn) + rooms false p frames) m.budgets.calls (omega arith))
       (le-leb (room_if true (Some fn) + rooms true p frames) (region_size m RuntimeCalls) (omega arith))
 
-  enters_it : step m p begin ≡ Stands f 0 (begins_in s a) frames
+  enters_it : step m p begin ≡ Stands f 0 (enters_in s a) frames
   enters_it =
       let k = parameters_of (function_in p f) in
       let state : State = record s.state { work = s.state.work + (8 + 2 * k) } in
@@ -254,24 +260,24 @@ module _ (m : MapSizes) (p : FlatProgram) (s : CallSite) (fn : FlatFunction) (r 
 
   -- ---- by how the routine is left
 
-  entered : (k : ℕ) (x : Stage) → run (step m p) k (Stands f 0 (begins_in s a) frames) ≡ x
+  entered : (k : ℕ) (x : Stage) → run (step m p) k (Stands f 0 (enters_in s a) frames) ≡ x
       → run (step m p) (1 + k) begin ≡ x
   entered k x e = run_add (step m p) 1 k begin ∙ ap (run (step m p) k) enters_it ∙ e
 
-  lifts : (k : ℕ) (place : ℕ) (x : Outcome) → local_run c body k (Goes 0 (begins_in s a)) ≡ left_at place x
+  lifts : (k : ℕ) (place : ℕ) (x : Outcome) → local_run c body k (Goes 0 (enters_in s a)) ≡ left_at place x
       → run (step m p) (1 + k) begin ≡ stage_of f frames place x
   lifts k place x e =
-      entered k (stage_of f frames place x) (lifted m p f frames k 0 (begins_in s a) place x
-      (ap (λ l. local_run c l k (Goes 0 (begins_in s a))) body_is ∙ e))
+      entered k (stage_of f frames place x) (lifted m p f frames k 0 (enters_in s a) place x
+      (ap (λ l. local_run c l k (Goes 0 (enters_in s a))) body_is ∙ e))
 
-  completed : (k : ℕ) (z : State) → local_run c body k (Goes 0 (begins_in s a)) ≡ Goes (length r) z
+  completed : (k : ℕ) (z : State) → local_run c body k (Goes 0 (enters_in s a)) ≡ Goes (length whole) z
       → ComesOfCall m p s a n (k + 3) (Continues z)
   completed k z e = record {
     steps = 1 + k + 1;
     within = omega arith;
     stage = Stands s.caller (s.place + 1) (after z) s.frames;
-    comes = run_add (step m p) (1 + k) 1 begin ∙ ap (run (step m p) 1) (lifts k (length r) (Continues z) e)
-        ∙ returns_it (length r) z (has_return r a).0;
+    comes = run_add (step m p) (1 + k) 1 begin ∙ ap (run (step m p) 1) (lifts k (length whole) (Continues z) e)
+        ∙ returns_it (length whole) z (has_return whole a).0;
     called = has_returned z z (z.values a) z.work refl (λ i l. refl) refl (omega arith);
   }
 
@@ -283,19 +289,19 @@ module _ (m : MapSizes) (p : FlatProgram) (s : CallSite) (fn : FlatFunction) (r 
   }
 
   reported : (k status : ℕ) (report : List ℕ) (z : State)
-      → (t : ComesToStub c body (stub_of r a) k (Goes (0 + 0) (begins_in s a)) status report z)
+      → (t : ComesToStub c body (stub_of whole a) k (Goes (0 + 0) (enters_in s a)) status report z)
       → (x : ReturnStatus) → return_status t.ending ≡ Some x
       → ComesOfCall m p s a n (k + 3) (Halts status report z)
   reported k status report z t x is =
       let few = numbered t.ending x is in
       let some = few.0 in let most = few.1 in
-      let stands = has_stub r a x few.0 few.1 in
-      let place = stub_place (length r) x in
+      let stands = has_stub whole a x few.0 few.1 in
+      let place = stub_place (length whole) x in
       let y : State = record z { work = t.work } in
-      let at : stub_of r a t.ending ≡ place = ap (λ o. place_by r a o) is in
+      let at : stub_of whole a t.ending ≡ place = ap (λ o. place_by whole a o) is in
       let start : 0 + 0 ≡ 0 = omega arith in
-      let comes : local_run c body t.steps (Goes 0 (begins_in s a)) ≡ Goes place y =
-      ap (λ q. local_run c body t.steps (Goes q (begins_in s a))) (sym start) ∙ t.comes ∙ ap (λ q. Goes q y) at in
+      let comes : local_run c body t.steps (Goes 0 (enters_in s a)) ≡ Goes place y =
+      ap (λ q. local_run c body t.steps (Goes q (enters_in s a))) (sym start) ∙ t.comes ∙ ap (λ q. Goes q y) at in
       let words = some_report t.ending x is in
       let length_is : length report ≡ length (report_of t.ending) = ap length t.report_is in
       let less = t.less in let within = t.within in
@@ -320,39 +326,39 @@ module _ (m : MapSizes) (p : FlatProgram) (s : CallSite) (fn : FlatFunction) (r 
       }
 
   over : (k status : ℕ) (report : List ℕ) (z : State)
-      → local_run c body k (Goes 0 (begins_in s a)) ≡ Ends status report z
+      → local_run c body k (Goes 0 (enters_in s a)) ≡ Ends status report z
       → ComesOfCall m p s a n (k + 3) (Halts status report z)
   over k status report z e = record {
     steps = 1 + k;
     within = omega arith;
     stage = Over status report z;
     comes = lifts k 0 (Halts status report z) e;
-    called = Exited (by (subst (FromOf c body) e (run_from c body k (Goes 0 (begins_in s a)) tt))) refl;
+    called = Exited (by (subst (FromOf c body) e (run_from c body k (Goes 0 (enters_in s a)) tt))) refl;
   }
     where
       by : ComesFrom body report → report ≡ []
       by (NoReport h) = h
-      by (AtEnding q x at is) = is ∙ no_report x (stays_without r a q x at)
+      by (AtEnding q x at is) = is ∙ no_report x (stays_without whole a q x at)
 
-  pub comes_of_call : (k : ℕ) (x : Outcome) → local_run c r k (Goes 0 (begins_in s a)) ≡ left_at (length r) x
+  comes_of_entry : (k : ℕ) (x : Outcome) → local_run c whole k (Goes 0 (enters_in s a)) ≡ left_at (length whole) x
       → ComesOfCall m p s a n (k + 3) x
-  comes_of_call k x e =
-      by x (subst (DoesWithStubs c body 0 (stub_of r a) k (Goes (0 + 0) (begins_in s a))) e
-      (stubbed c (stub_of r a) r body 0 (has_exit_stubs r a) k 0 (begins_in s a)))
+  comes_of_entry k x e =
+      by x (subst (DoesWithStubs c body 0 (stub_of whole a) k (Goes (0 + 0) (enters_in s a))) e
+      (stubbed c (stub_of whole a) whole body 0 (has_exit_stubs whole a) k 0 (enters_in s a)))
     where
       start : 0 + 0 ≡ 0
       start = omega arith
 
-      from_start : (l : Local) → local_run c body k (Goes (0 + 0) (begins_in s a)) ≡ l
-          → local_run c body k (Goes 0 (begins_in s a)) ≡ l
-      from_start l = subst (λ q. local_run c body k (Goes q (begins_in s a)) ≡ l) start
+      from_start : (l : Local) → local_run c body k (Goes (0 + 0) (enters_in s a)) ≡ l
+          → local_run c body k (Goes 0 (enters_in s a)) ≡ l
+      from_start l = subst (λ q. local_run c body k (Goes q (enters_in s a)) ≡ l) start
 
       by : (x : Outcome)
-          → DoesWithStubs c body 0 (stub_of r a) k (Goes (0 + 0) (begins_in s a)) (left_at (length r) x)
+          → DoesWithStubs c body 0 (stub_of whole a) k (Goes (0 + 0) (enters_in s a)) (left_at (length whole) x)
           → ComesOfCall m p s a n (k + 3) x
       by (Continues z) d =
-          let there : 0 + length r ≡ length r = omega arith in
-          completed k z (from_start (Goes (length r) z) (d ∙ ap (λ q. Goes q z) there))
+          let there : 0 + length whole ≡ length whole = omega arith in
+          completed k z (from_start (Goes (length whole) z) (d ∙ ap (λ q. Goes q z) there))
       by (Halts status report z) (EndsThere ends) =
           over k status report z (from_start (Ends status report z) ends)
       by (Halts status report z) (AtStub t) = stopped (return_status t.ending) refl
@@ -361,5 +367,32 @@ module _ (m : MapSizes) (p : FlatProgram) (s : CallSite) (fn : FlatFunction) (r 
               → ComesOfCall m p s a n (k + 3) (Halts status report z)
           stopped (Some y) is = reported k status report z t y is
           stopped None is =
-              let none : stub_of r a t.ending ≡ 0 = ap (λ o. place_by r a o) is in
+              let none : stub_of whole a t.ending ≡ 0 = ap (λ o. place_by whole a o) is in
               let before = t.before in absurd (omega arith)
+
+  -- ---- the registers that are made 0
+
+  weight_one : (k : ℕ) → c.weight * k ≡ k
+  weight_one k = ap (λ w. w * k) weight_is ∙ omega arith
+
+  behind_parameters : (x : ℕ) → a ≤ x → (enters_in s a).values x ≡ 0
+  behind_parameters x l = ap (λ b. if b then s.state.values (s.first + x) else 0) (le-ltb x a l)
+
+  begins : local_run c whole cleared_registers (Goes 0 (enters_in s a)) ≡ Goes cleared_registers (begins_in s a)
+  begins =
+      zeros_run c whole cleared_registers 0 a (enters_in s a)
+      (has_front whole 0 (zeros a cleared_registers) r (has_self whole)) behind_parameters
+      ∙ ap (λ w. Goes cleared_registers (record (enters_in s a) { work = s.state.work + (8 + 2 * a) + w }))
+      (weight_one cleared_registers)
+
+  -- from where the routine begins
+  pub comes_of_call : (k : ℕ) (x : Outcome)
+      → local_run c whole k (Goes cleared_registers (begins_in s a)) ≡ left_at (cleared_registers + length r) x
+      → ComesOfCall m p s a n (k + calling_steps) x
+  comes_of_call k x e =
+      let place : cleared_registers + length r ≡ length whole = omega arith in
+      let steps : cleared_registers + k + 3 ≡ k + calling_steps = omega arith in
+      subst (λ b. ComesOfCall m p s a n b x) steps
+      (comes_of_entry (cleared_registers + k) x
+      (local_run_add c whole cleared_registers k (Goes 0 (enters_in s a)) ∙ ap (local_run c whole k) begins
+      ∙ e ∙ ap (λ q. left_at q x) place))

@@ -27,13 +27,13 @@ use Rattle.lib_wrappers.proofs.MovingRoutines.Bytes.{in_runtime}
 use Rattle.lib_wrappers.proofs.MovingRoutines.Moves.{allowed_range, with_moved, moved_is}
 use Rattle.lib_wrappers.proofs.AreaRoutines.Values.{named_is}
 use Rattle.runtime_functions.specs.declared.runtime.RuntimeFunction.TheVariants.{CopyTagged}
-use Rattle.runtime_functions.specs.Calls.{CallSite, CallsFunction}
+use Rattle.runtime_functions.specs.Calls.{CallSite, CallsFunction, calling_steps}
 use Rattle.runtime_functions.specs.Actions.{IsReady, ServesCall, IsActionFunction, IsServed, work_of_call, steps_of}
 use Rattle.runtime_functions.specs.Actions.{ComesBehind}
 use Rattle.runtime_functions.specs.Runtime.{IsOfRuntime}
 use Rattle.runtime_functions.specs.Copying.{copying, AreToCopy, copying_interface}
 use Rattle.runtime_functions.proofs.Actions.{at_one}
-use Rattle.runtime_functions.proofs.LibraryCalls.{price_at_most}
+use Rattle.runtime_functions.proofs.LibraryCalls.{price_alone}
 
 -- ---- in the source
 
@@ -113,8 +113,8 @@ module _ (map : MapSizes) (mapped : AreMapped map) (entry : View) (IsGood : Byte
   act = record {
     routine = of.routine;
     is = of.is;
-    does = copies_words map mapped entry IsGood of.routine of.code;
-    priced = price_at_most of.routine;
+    does = copies_words map mapped entry IsGood of.routine of.code.0;
+    priced = price_alone of.routine of.code.1;
     laid = record {
       taken = ((omega arith, tt), ((omega arith, tt), ((omega arith, tt), tt)));
       given = tt;
@@ -134,11 +134,11 @@ module _ (map : MapSizes) (mapped : AreMapped map) (entry : View) (IsGood : Byte
       let same : copying line vs x ≡ outcome_at line (copying 1 vs x) = other ∙ sym (ap (outcome_at line) own) in
       let work : work_of (copying line vs) x ≡ work_of (copying 1 vs) x =
       ap (λ o. (state_of o).work - x.work) (other ∙ sym own) in
-      subst (λ o. ComesBehind map p s (steps_of copying_interface (copying line vs) x + 3)
-      (IsServed g k IsGood Nowhere s 3 0 (work_of_call 3 0 2 (steps_of copying_interface (copying line vs) x)) line x o))
+      subst (λ o. ComesBehind map p s (steps_of copying_interface (copying line vs) x + calling_steps)
+      (IsServed g k IsGood Nowhere s 3 0 (work_of_call 3 0 1 (steps_of copying_interface (copying line vs) x)) line x o))
       (sym same)
-      (subst (λ w. ComesBehind map p s (40 + 16 * w + 3)
-      (IsServed g k IsGood Nowhere s 3 0 (work_of_call 3 0 2 (40 + 16 * w)) line x
+      (subst (λ w. ComesBehind map p s (40 + 16 * w + calling_steps)
+      (IsServed g k IsGood Nowhere s 3 0 (work_of_call 3 0 1 (40 + 16 * w)) line x
       (outcome_at line (copying 1 vs x))))
       (sym work)
       (at_one map entry IsGood AreToCopy copying copying_interface p s fn 3 0 act

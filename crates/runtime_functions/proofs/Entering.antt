@@ -22,7 +22,7 @@ use Rattle.flat_routines.specs.Objects.StandsFor.{Views, Keys}
 use Rattle.flat_actions.specs.Actions.{views_of, IsFor, work_of}
 use Rattle.lib_wrappers.specs.AllocatingRoutines.Entering.{block_bytes, AreOfLock, CanEnter, HasEntered, IsEntered}
 use Rattle.lib_wrappers.specs.AllocatingRoutines.Entering.{IsEnterRoutine}
-use Rattle.runtime_functions.specs.Calls.{CallSite, begins_in, CallsRuntime, HasReturned, IsCalled}
+use Rattle.runtime_functions.specs.Calls.{CallSite, begins_in, CallsRuntime, HasReturned, IsCalled, calling_steps}
 use Rattle.runtime_functions.specs.Actions.{price_of, work_of_call, ComesBehind}
 use Rattle.runtime_functions.specs.Runtime.{entered_registers}
 use Rattle.runtime_functions.specs.Entering.{IsToEnter, IsBlockServed, entering_steps, ServesBlock}
@@ -94,7 +94,7 @@ module _ (m : MapSizes) (entry : View) (IsGood : Bytes → Type 0) (p : FlatProg
   abbrev P : State → Type 0
   P = λ f. IsFor g k IsGood x f × (f.values 0 ≡ x.stacked) × (f.values 1 ≡ block_bytes vs) × CanEnter m vs x
 
-  at_one : IsToEnter m g k IsGood s x vs → ComesBehind m p s (steps + 3) (Q (outcome_at line (enter_block set vs 1 x)))
+  at_one : IsToEnter m g k IsGood s x vs → ComesBehind m p s (steps + calling_steps) (Q (outcome_at line (enter_block set vs 1 x)))
   at_one ready =
       let top : s.first + 0 ≡ s.first = omega arith in
       let t = serves_in_runtime m p s fn r 2 4 h P (λ f. steps)
@@ -122,8 +122,8 @@ module _ (m : MapSizes) (entry : View) (IsGood : Bytes → Type 0) (p : FlatProg
       let work : work_of (enter_block set vs line) x ≡ work_of (enter_block set vs 1) x =
       ap (λ o. (state_of o).work - x.work) same
       ∙ ap (λ (y : Source). y.work - x.work) (same_state line (enter_block set vs 1 x)) in
-      subst (λ o. ComesBehind m p s (entering_steps set vs line x + 3) (IsBlockServed g k IsGood s
+      subst (λ o. ComesBehind m p s (entering_steps set vs line x + calling_steps) (IsBlockServed g k IsGood s
       (work_of_call 2 4 1 (entering_steps set vs line x)) line x o)) (sym same)
-      (subst (λ w. ComesBehind m p s (100 + 40 * w + 3) (IsBlockServed g k IsGood s
+      (subst (λ w. ComesBehind m p s (100 + 40 * w + calling_steps) (IsBlockServed g k IsGood s
       (work_of_call 2 4 1 (100 + 40 * w)) line x (outcome_at line (enter_block set vs 1 x))))
       (sym work) (at_one ready))

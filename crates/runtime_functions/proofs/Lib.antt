@@ -1,4 +1,5 @@
 pub mod Stubs
+mod Zeros
 pub mod Calls
 pub mod Actions
 pub mod LibraryCalls

@@ -33,7 +33,7 @@ use Rattle.lib_wrappers.proofs.StringRoutines.AfterScan.{over}
 use Rattle.lib_wrappers.proofs.StringRoutines.Between.{scanned_range}
 use Rattle.lib_wrappers.proofs.StringRoutines.PutLoop.{same_bytes, range_to_put}
 use Rattle.lib_wrappers.proofs.PrintingRoutines.Scans.{number_done}
-use Rattle.runtime_functions.specs.Calls.{CallSite, begins_in, CallsRuntime, HasReturned, IsCalled}
+use Rattle.runtime_functions.specs.Calls.{CallSite, begins_in, CallsRuntime, HasReturned, IsCalled, calling_steps}
 use Rattle.runtime_functions.specs.Library.{held_from}
 use Rattle.runtime_functions.specs.Actions.{price_of, work_of_call, ComesBehind}
 use Rattle.runtime_functions.specs.Printing.{HasGoneBehind, IsToScan, IsScanServed}
@@ -114,7 +114,7 @@ module _ (m : MapSizes) (entry : View) (IsGood : Bytes → Type 0) (p : FlatProg
     by_outcome (Ended e x') is (Continues z) stage l w called = absurd l
     by_outcome (Paused x') is out stage l w called = absurd l
 
-    at_one : ComesBehind m p s (steps + 3) (Q (outcome_at line (scan v 1 x)))
+    at_one : ComesBehind m p s (steps + calling_steps) (Q (outcome_at line (scan v 1 x)))
     at_one =
         let held = argument_held s 5 g k x.objects (Pointer (held_from 0)) v
         (omega arith, (omega arith, (omega arith, (omega arith, (omega arith, tt))))) ready.held in
@@ -138,9 +138,9 @@ module _ (m : MapSizes) (entry : View) (IsGood : Bytes → Type 0) (p : FlatProg
         let work : work_of (scan v line) x ≡ work_of (scan v 1) x =
         ap (λ o. (state_of o).work - x.work) same
         ∙ ap (λ (y : Source). y.work - x.work) (same_state line (scan v 1 x)) in
-        subst (λ o. ComesBehind m p s (scanning_steps v line x + 3) (IsScanServed g k IsGood s
+        subst (λ o. ComesBehind m p s (scanning_steps v line x + calling_steps) (IsScanServed g k IsGood s
         (work_of_call 5 1 2 (scanning_steps v line x)) line v o)) (sym same)
-        (subst (λ w. ComesBehind m p s (16 + 8 * w + 3) (IsScanServed g k IsGood s
+        (subst (λ w. ComesBehind m p s (16 + 8 * w + calling_steps) (IsScanServed g k IsGood s
         (work_of_call 5 1 2 (16 + 8 * w)) line v (outcome_at line (scan v 1 x))))
         (sym work) at_one)
 

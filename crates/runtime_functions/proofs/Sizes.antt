@@ -23,6 +23,7 @@ use Rattle.runtime_functions.specs.declared.runtime.RuntimeFunction.TheVariants.
 use Rattle.runtime_functions.specs.declared.status.ReturnStatus.{ReturnStatus}
 use Rattle.runtime_functions.specs.Status.{return_status}
 use Rattle.runtime_functions.specs.Functions.{with_status, with_stub, with_stubs, stubs, function_body}
+use Rattle.runtime_functions.specs.Functions.{zeros, cleared_registers, with_zeros}
 use Rattle.runtime_functions.specs.Runtime.{runtime_list, most_instructions, argument_count, result_count, IsOfRuntime, AreOfRuntime}
 use Rattle.runtime_functions.specs.Sizes.{is_encodable, are_encodable, instruction_words, body_words, function_words}
 use Rattle.runtime_functions.specs.Sizes.{all_words, most_registers}
@@ -107,24 +108,35 @@ module _ (r : ℕ) where
         few = omega arith;
       }
 
-  body_part : (routine : List FlatInstruction) (d n : ℕ) → d < most_registers → HasShape routine n most_registers
-      → Is r (15 * (n + 8) + 9 * (2 + 6 * r)) (function_body routine d)
+  -- registers that are made 0 in front of a list
+  zeros_shaped : (d n : ℕ) (is : List FlatInstruction) → d + n ≤ most_registers → are_shaped most_registers is ≡ true
+      → are_shaped most_registers (zeros d n ++ is) ≡ true
+  zeros_shaped d zero is l h = h
+  zeros_shaped d (suc n) is l h =
+      let named : nat_lt d most_registers ≡ true = lt-ltb d most_registers (omega arith) in
+      and_from (nat_lt d most_registers && is_short 0) (are_shaped most_registers (zeros (d + 1) n ++ is))
+      (and_from (nat_lt d most_registers) (is_short 0) named refl) (zeros_shaped (d + 1) n is (omega arith) h)
+
+  body_part : (routine : List FlatInstruction) (d n : ℕ) → d + cleared_registers ≤ most_registers
+      → HasShape routine n most_registers
+      → Is r (15 * (n + cleared_registers + 8) + 9 * (2 + 6 * r)) (function_body (with_zeros routine d) d)
   body_part routine d n l h =
-      let first = routine_part (length routine) 0 routine h.each in
-      let last = stub_part d 1 8 l (omega arith) in
-      let named = lt-ltb d most_registers l in
+      let whole = with_zeros routine d in
+      let first = routine_part (length whole) 0 whole (zeros_shaped d cleared_registers routine l h.each) in
+      let last = stub_part d 1 8 (omega arith) (omega arith) in
+      let named = lt-ltb d most_registers (omega arith) in
       let rest : Is r (2 + 6 * r + times 8 (15 + (2 + 6 * r))) (Return d ∷ stubs d 1 8) =
       record {
         encodable = and_from (nat_lt d most_registers) (are_encodable (stubs d 1 8)) named last.encodable;
         few = let f = last.few in omega arith;
       } in
-      let whole = appended (with_stubs (length routine) 0 routine) (Return d ∷ stubs d 1 8) (15 * length routine)
+      let all = appended (with_stubs (length whole) 0 whole) (Return d ∷ stubs d 1 8) (15 * length whole)
       (2 + 6 * r + times 8 (15 + (2 + 6 * r))) first rest in
-      record { encodable = whole.encodable; few = let f = whole.few in let g = h.few in omega arith }
+      record { encodable = all.encodable; few = let f = all.few in let g = h.few in omega arith }
 
 -- ---- the functions
 
-few_arguments : (f : RuntimeFunction) → argument_count f < most_registers
+few_arguments : (f : RuntimeFunction) → argument_count f + cleared_registers ≤ most_registers
 few_arguments (Library library.Malloc) = omega arith
 few_arguments (Library library.Calloc) = omega arith
 few_arguments (Library library.Free) = omega arith
@@ -179,12 +191,15 @@ few_instructions PutArea = omega arith
 few_instructions MoveArea = omega arith
 
 -- no list of the runtime is as long as a jump
-pub short_list : {m : ℕ} (is : List FlatInstruction) (n : ℕ) → n ≤ 384 → HasShape is n m → length is < 2 ^ 31
+pub short_list : {m : ℕ} (is : List FlatInstruction) (n : ℕ) → n ≤ 384 → HasShape is n m
+    → length is + cleared_registers < 2 ^ 31
 short_list is n l h = let few = h.few in omega arith
 
 -- of one of the list
 abbrev words_at_most : RuntimeFunction → ℕ
-words_at_most f = 2 + 6 * argument_count f + (15 * (most_instructions f + 8) + 9 * (2 + 6 * (1 + result_count f)))
+words_at_most f =
+    2 + 6 * argument_count f
+    + (15 * (most_instructions f + cleared_registers + 8) + 9 * (2 + 6 * (1 + result_count f)))
 
 abbrev all_at_most : List RuntimeFunction → ℕ
 all_at_most [] = 0
@@ -192,8 +207,9 @@ all_at_most (f ∷ fs) = words_at_most f + all_at_most fs
 
 module _ (map : MapSizes) (entry : View) (IsGood : Bytes → Type 0) where
   part : (f : RuntimeFunction) (g : FlatFunction) → (of : IsOfRuntime map entry IsGood f g)
-      → Is g.results (15 * (most_instructions f + 8) + 9 * (2 + 6 * g.results)) g.body
-  part f g of = subst (Is g.results (15 * (most_instructions f + 8) + 9 * (2 + 6 * g.results))) (sym of.is.body)
+      → Is g.results (15 * (most_instructions f + cleared_registers + 8) + 9 * (2 + 6 * g.results)) g.body
+  part f g of = subst (Is g.results (15 * (most_instructions f + cleared_registers + 8) + 9 * (2 + 6 * g.results)))
+      (sym of.is.body)
       (body_part g.results of.routine (argument_count f) (most_instructions f) (few_arguments f) of.shape)
 
   pub encodable_function : (f : RuntimeFunction) (g : FlatFunction) → IsOfRuntime map entry IsGood f g

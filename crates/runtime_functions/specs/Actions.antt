@@ -22,8 +22,8 @@ use Rattle.flat_actions.specs.Actions.{registers_of, AreHeldBy, IsGivenIn, Stays
 use Rattle.flat_actions.specs.Actions.{StaysUnwritten, work_of}
 use Rattle.runtime_functions.specs.declared.status.ReturnStatus.{ReturnStatus}
 use Rattle.runtime_functions.specs.Status.{return_status, status_number, ending_at}
-use Rattle.runtime_functions.specs.Functions.{IsRuntimeFunction}
-use Rattle.runtime_functions.specs.Calls.{CallSite}
+use Rattle.runtime_functions.specs.Functions.{IsRuntimeFunction, cleared_registers}
+use Rattle.runtime_functions.specs.Calls.{CallSite, calling_steps}
 
 -- ---- registers
 
@@ -99,9 +99,10 @@ pub record IsReady (views : Views) (keys : Keys) (IsGood : Bytes → Type 0) (fa
   pub held : AreHeldBy views keys source.objects (map (over_registers (argument_register site)) face.arguments) values
       site.state.values
 
--- the call, the return, the status and the values that are handed over; and the routine's steps
+-- the call, the return, the status and the values that are handed over, and the registers that are made 0; and the
+-- routine's steps
 abbrev pub work_of_call : (parameters results price steps : ℕ) → ℕ
-work_of_call a n price steps = 16 + 2 * (a + (1 + n)) + 1 + price * steps
+work_of_call a n price steps = 16 + 2 * (a + (1 + n)) + 1 + cleared_registers + price * steps
 
 -- the run stands behind the call, and the caller's registers but those of the status and the results are as they were
 pub record IsBehind (site : CallSite) (results bound : ℕ) (stage : Stage) : Type 0 where
@@ -167,5 +168,5 @@ steps_of face run x = face.constant + face.factor * work_of run x
 abbrev pub ServesCall : MapSizes → FlatProgram → Views → Keys → (Bytes → Type 0) → Interface → CallSite
     → (parameters results line : ℕ) → Source → Run Value → Type 0
 ServesCall m p g k IsGood face s a n line x run =
-    ComesBehind m p s (steps_of face run x + 3)
+    ComesBehind m p s (steps_of face run x + calling_steps)
     (IsServed g k IsGood face.result s a n (work_of_call a n face.price (steps_of face run x)) line x (run x))

@@ -13,7 +13,7 @@ use Rattle.flat_routines.specs.Objects.StandsFor.{Views, Keys}
 use Rattle.flat_actions.specs.Actions.{Nowhere, IsFor, work_of}
 use Rattle.lib_wrappers.specs.AreaRoutines.Areas.{IsArea, area_bytes}
 use Rattle.lib_wrappers.specs.AreaRoutines.Values.{putting, work_from}
-use Rattle.runtime_functions.specs.Calls.{CallSite}
+use Rattle.runtime_functions.specs.Calls.{CallSite, calling_steps}
 use Rattle.runtime_functions.specs.Actions.{IsBehind, ComesBehind, IsServed, work_of_call}
 
 -- the caller's state stands for one of the source
@@ -50,8 +50,8 @@ IsAreaServed g k IsGood s b a (Paused x') stage = ⊥
 abbrev pub ServesArea : MapSizes → FlatProgram → Views → Keys → (Bytes → Type 0) → CallSite
     → (parameters constant factor : ℕ) → Source → Run Rvalue → Type 0
 ServesArea m p g k IsGood s a constant factor x run =
-    ComesBehind m p s (constant + factor * work_from run x + 3)
-    (IsAreaServed g k IsGood s (work_of_call a 0 2 (constant + factor * work_from run x)) (s.state.values s.first)
+    ComesBehind m p s (constant + factor * work_from run x + calling_steps)
+    (IsAreaServed g k IsGood s (work_of_call a 0 1 (constant + factor * work_from run x)) (s.state.values s.first)
     (run x))
 
 -- ---- contents are put to a place
@@ -63,5 +63,5 @@ abbrev pub ServesPlace : MapSizes → FlatProgram → Views → Keys → (Bytes 
     → (size : ℕ) → (is_judged : Bool) → Value → (line : ℕ) → Value → Source → Type 0
 ServesPlace m p g k IsGood s c size is_judged to line v x =
     let steps = placing_steps c size is_judged to line v x in
-    ComesBehind m p s (steps + 3)
-    (IsServed g k IsGood Nowhere s 7 0 (work_of_call 7 0 2 steps) line x (putting c size is_judged to line v x))
+    ComesBehind m p s (steps + calling_steps)
+    (IsServed g k IsGood Nowhere s 7 0 (work_of_call 7 0 1 steps) line x (putting c size is_judged to line v x))

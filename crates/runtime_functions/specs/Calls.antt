@@ -16,7 +16,7 @@ use Rattle.flat_meaning.specs.Meaning.{instruction_at, waiting, step}
 use Rattle.flat_routines.specs.Routine.{Outcome, Continues, Halts}
 use Rattle.runtime_functions.specs.declared.status.ReturnStatus.{ReturnStatus}
 use Rattle.runtime_functions.specs.Status.{return_status, status_number}
-use Rattle.runtime_functions.specs.Functions.{IsRuntimeFunction}
+use Rattle.runtime_functions.specs.Functions.{IsRuntimeFunction, cleared_registers}
 
 -- a call: where it stands, in which state and under which records, and what it calls
 pub record CallSite : Type 0 where
@@ -32,12 +32,21 @@ pub record CallSite : Type 0 where
 abbrev pub waits_at : CallSite → List Frame
 waits_at s = waiting s.caller s.place s.into s.state ∷ s.frames
 
--- the state in which the routine begins, with so many arguments
-abbrev pub begins_in : CallSite → (parameters : ℕ) → State
-begins_in s a = record s.state {
+-- the state in which the function begins, with so many arguments
+abbrev pub enters_in : CallSite → (parameters : ℕ) → State
+enters_in s a = record s.state {
   values = arguments s.first a s.state.values;
   work = s.state.work + (8 + 2 * a);
 }
+
+-- and that in which the routine begins: the registers that are made 0 had no other value, and each counts 1
+abbrev pub begins_in : CallSite → (parameters : ℕ) → State
+begins_in s a = record (enters_in s a) { work = s.state.work + (8 + 2 * a) + cleared_registers }
+
+-- the steps of a call beside those of its routine: the call, the registers that are made 0, what is put into the status
+-- and the return
+abbrev pub calling_steps : ℕ
+calling_steps = 3 + cleared_registers
 
 -- a function is called, with room for its record in the region of those of the runtime
 pub record CallsFunction (map : MapSizes) (program : FlatProgram) (site : CallSite) (function : FlatFunction)

@@ -25,5 +25,5 @@ copying_interface = record {
   scratch = 4;
   constant = 40;
   factor = 16;
-  price = 2;
+  price = 1;
 }

@@ -13,7 +13,7 @@ use Rattle.flat_meaning.specs.Words.{IsOfWords}
 use Rattle.flat_routines.specs.Objects.StandsFor.{Views, Keys}
 use Rattle.flat_actions.specs.Actions.{IsFor, KeepsHeld, work_of}
 use Rattle.lib_wrappers.specs.AllocatingRoutines.Entering.{block_bytes, AreOfLock, CanEnter}
-use Rattle.runtime_functions.specs.Calls.{CallSite}
+use Rattle.runtime_functions.specs.Calls.{CallSite, calling_steps}
 use Rattle.runtime_functions.specs.Actions.{IsBehind, HasTold, HasExited, ComesBehind, work_of_call}
 
 -- the caller's state stands for one of the source, and its registers hold the end of the object stack and the bytes of
@@ -61,5 +61,5 @@ entering_steps set vs line x = 100 + 40 * work_of (enter_block set vs line) x
 abbrev pub ServesBlock : MapSizes → FlatProgram → Views → Keys → (Bytes → Type 0) → CallSite → Setting → List Variable
     → (line : ℕ) → Source → Type 0
 ServesBlock m p g k IsGood s set vs line x =
-    ComesBehind m p s (entering_steps set vs line x + 3)
+    ComesBehind m p s (entering_steps set vs line x + calling_steps)
     (IsBlockServed g k IsGood s (work_of_call 2 4 1 (entering_steps set vs line x)) line x (enter_block set vs line x))

@@ -1,5 +1,6 @@
 -- A routine as a function of the runtime. Its arguments are its first registers; the status stands in the next, and the
--- routine's results behind it.
+-- routine's results behind it. The function makes the registers behind its arguments 0 before the routine begins, so that
+-- it needs nothing else of its caller.
 use Rattle.std.specs.Prelude.{◌≡◌, ℕ, zero, suc, ◌+◌, ◌-◌, ◌*◌, ◌≤◌, ◌^◌, List, [], ◌∷◌, ◌++◌, length, true}
 use Rattle.std.specs.Prelude.{Option, Some, None}
 use Rattle.sb_base.specs.declared.ending.Ending.{Ending}
@@ -31,6 +32,18 @@ abbrev pub stubs : (register number count : ℕ) → List FlatInstruction
 stubs d k zero = []
 stubs d k (suc n) = Constant d k ∷ Return d ∷ stubs d (suc k) n
 
+-- so many registers from one on are made 0
+abbrev pub zeros : (register count : ℕ) → List FlatInstruction
+zeros d zero = []
+zeros d (suc n) = Constant d 0 ∷ zeros (d + 1) n
+
+-- how many: the status, at most five results, and two of the routine's own
+abbrev pub cleared_registers : ℕ
+cleared_registers = 8
+
+abbrev pub with_zeros : (routine : List FlatInstruction) → (status : ℕ) → List FlatInstruction
+with_zeros r d = zeros d cleared_registers ++ r
+
 abbrev pub function_body : (routine : List FlatInstruction) → (status : ℕ) → List FlatInstruction
 function_body r d = with_stubs (length r) 0 r ++ Return d ∷ stubs d 1 8
 
@@ -44,5 +57,5 @@ pub record IsRuntimeFunction (routine : List FlatInstruction) (arguments results
     pub parameters : f.parameters ≡ arguments
     pub results_are : f.results ≡ 1 + results
     pub of_runtime : f.is_runtime ≡ true
-    pub body : f.body ≡ function_body routine arguments
+    pub body : f.body ≡ function_body (with_zeros routine arguments) arguments
     pub room : f.room ≤ 2 ^ 11

@@ -17,7 +17,7 @@ use Rattle.flat_meaning.specs.Words.{IsOfWords}
 use Rattle.flat_routines.specs.Objects.StandsFor.{Views, Keys}
 use Rattle.flat_actions.specs.Actions.{Pointer, IsHeldBy, IsFor, work_of}
 use Rattle.flat_actions.specs.Ranges.{IsObjectRange}
-use Rattle.runtime_functions.specs.Calls.{CallSite}
+use Rattle.runtime_functions.specs.Calls.{CallSite, calling_steps}
 use Rattle.runtime_functions.specs.Library.{held_from}
 use Rattle.runtime_functions.specs.Actions.{argument_register, over_registers, IsBehind, HasTold, HasExited}
 use Rattle.runtime_functions.specs.Actions.{ComesBehind, work_of_call}
@@ -68,7 +68,7 @@ scanning_steps v line x = 16 + 8 * work_of (scan v line) x
 abbrev pub ServesScan : MapSizes → FlatProgram → Views → Keys → (Bytes → Type 0) → CallSite → Value → (line : ℕ)
     → Source → Type 0
 ServesScan m p g k IsGood s v line x =
-    ComesBehind m p s (scanning_steps v line x + 3)
+    ComesBehind m p s (scanning_steps v line x + calling_steps)
     (IsScanServed g k IsGood s (work_of_call 5 1 2 (scanning_steps v line x)) line v (scan v line x))
 
 -- ---- bytes are put out
@@ -92,7 +92,7 @@ putting_steps bytes = 2 + 5 * length bytes
 abbrev pub ServesPut : MapSizes → FlatProgram → Views → Keys → (Bytes → Type 0) → CallSite → (bytes : List ℕ) → Source
     → Type 0
 ServesPut m p g k IsGood s bytes x =
-    ComesBehind m p s (putting_steps bytes + 3)
+    ComesBehind m p s (putting_steps bytes + calling_steps)
     (HasGoneBehind g k IsGood s 0 (work_of_call 2 0 2 (putting_steps bytes)) (with_bytes bytes x))
 
 -- ---- an argument is put out
@@ -118,5 +118,5 @@ number_steps bytes = 12 + 15 * length bytes
 abbrev pub ServesArgument : MapSizes → FlatProgram → Views → Keys → (Bytes → Type 0) → CallSite → (bytes : List ℕ)
     → Source → Type 0
 ServesArgument m p g k IsGood s bytes x =
-    ComesBehind m p s (number_steps bytes + 3)
+    ComesBehind m p s (number_steps bytes + calling_steps)
     (HasPutArgument g k IsGood s (work_of_call 1 1 2 (number_steps bytes)) bytes (with_bytes bytes x))

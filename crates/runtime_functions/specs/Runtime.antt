@@ -104,8 +104,8 @@ entered_registers = record { first = 3; end = 4; key = 5; lock = 6 }
 -- begins with 0; `Zero` takes the first address and how many bytes; `CopyTagged` to where, from where and how many;
 -- `Enter` the end of the object stack and the bytes of the block's objects. Of those on areas, `ZeroArea` takes where the
 -- area begins and how many bytes, `TakeArea` where the area begins, the address of the structure and how many bytes, and
--- `PutArea` and `MoveArea` where to, how many bytes and the registers of the part. `Zero` and `Enter` take no input and
--- put no output.
+-- `PutArea` and `MoveArea` where to, how many bytes and the registers of the part. Those that move or make zero, and
+-- `Enter`, take no input and put no output.
 abbrev pub IsRuntimeCode : MapSizes → View → (Bytes → Type 0) → RuntimeFunction → (line : ℕ) → List FlatInstruction
     → Type 0
 IsRuntimeCode map entry IsGood (Library f) line r = IsLibraryCode map entry IsGood f line r
@@ -114,13 +114,16 @@ IsRuntimeCode map entry IsGood Scan line r =
 IsRuntimeCode map entry IsGood PutBytes line r = IsPutBytesRoutine map 0 1 3 r
 IsRuntimeCode map entry IsGood (PutNumber d) line r = IsNumberRoutine map d 0 2 3 r
 IsRuntimeCode map entry IsGood Zero line r = IsZeroRoutine map entry IsGood 0 1 3 r × IsWithoutInputOutput r
-IsRuntimeCode map entry IsGood CopyTagged line r = IsTaggedMoveRoutine map entry IsGood 0 1 2 4 r
+IsRuntimeCode map entry IsGood CopyTagged line r =
+    IsTaggedMoveRoutine map entry IsGood 0 1 2 4 r × IsWithoutInputOutput r
 IsRuntimeCode map entry IsGood Enter line r =
     IsEnterRoutine map entry IsGood 0 1 entered_registers line 7 r × IsWithoutInputOutput r
-IsRuntimeCode map entry IsGood ZeroArea line r = IsMakeZeroRoutine map entry IsGood 0 1 3 r
-IsRuntimeCode map entry IsGood TakeArea line r = IsTakeRoutine map entry IsGood 0 1 2 4 r
-IsRuntimeCode map entry IsGood PutArea line r = IsPutRoutine map entry IsGood 0 (held_from 2) 1 8 r
-IsRuntimeCode map entry IsGood MoveArea line r = IsTakePartRoutine map entry IsGood 0 (held_from 2) 1 8 r
+IsRuntimeCode map entry IsGood ZeroArea line r = IsMakeZeroRoutine map entry IsGood 0 1 3 r × IsWithoutInputOutput r
+IsRuntimeCode map entry IsGood TakeArea line r = IsTakeRoutine map entry IsGood 0 1 2 4 r × IsWithoutInputOutput r
+IsRuntimeCode map entry IsGood PutArea line r =
+    IsPutRoutine map entry IsGood 0 (held_from 2) 1 8 r × IsWithoutInputOutput r
+IsRuntimeCode map entry IsGood MoveArea line r =
+    IsTakePartRoutine map entry IsGood 0 (held_from 2) 1 8 r × IsWithoutInputOutput r
 
 -- a function of the list, whose code is built for line 1, and no longer than a function of the runtime may be
 pub record IsOfRuntime (map : MapSizes) (entry : View) (IsGood : Bytes → Type 0) (f : RuntimeFunction)

@@ -5,7 +5,8 @@ ghost use Rattle.std.specs.Prelude.{IfOk, OnOk, length};
 ghost use Rattle.flat_meaning.specs.declared.instruction.FlatInstruction.TheVariants.{Constant, Return};
 ghost use Rattle.runtime_functions.specs.Status.{return_status};
 ghost use Rattle.runtime_functions.specs.Functions.{IsRuntimeFunction, function_body, own_homes, stub_place};
-ghost use Rattle.runtime_functions.specs.Functions.{stubs, with_status, with_stub, with_stubs};
+ghost use Rattle.runtime_functions.specs.Functions.{cleared_registers, stubs, with_status, with_stub, with_stubs};
+ghost use Rattle.runtime_functions.specs.Functions.{with_zeros, zeros};
 
 use crate::list::put;
 use crate::status::ReturnStatus;
@@ -24,6 +25,9 @@ pub struct RuntimeFrame {
     /// How many registers it has in all.
     pub registers: u32,
 }
+
+// How many registers are made 0: the status, at most five results, and two of the routine's own.
+const CLEARED: u32 = 8;
 
 // An ending at a place of a routine of so many becomes a jump to its stub, if it has one.
 fn ended(ending: Ending, place: u32, length: u32) -> FlatInstruction
@@ -77,6 +81,38 @@ fn put_with_stubs(
     Ok(())
 }
 
+// Puts the instructions that make the registers from one on 0 behind a list.
+fn put_zeros(code: &mut Vec<FlatInstruction>, first: u32) -> Result<(), AllocError>
+    requires { first ≤ 254 }
+    ensures { OnOk result (code.new.items ≡ code.old.items ++ zeros first cleared_registers) }
+{
+    for number in 0..CLEARED {
+        put(
+            code,
+            FlatInstruction::Constant {
+                into: first + number,
+                value: 0,
+            },
+        )?;
+    }
+    Ok(())
+}
+
+// A routine behind the registers from one on that are made 0.
+fn with_zeros(
+    alloc: Global,
+    routine: &[FlatInstruction],
+    status: u32,
+) -> Result<Vec<FlatInstruction>, AllocError>
+    requires { status ≤ 254 }
+    ensures { IfOk result (λ r. r.items ≡ with_zeros routine.now status) }
+{
+    let mut code = Vec::new(alloc);
+    put_zeros(&mut code, status)?;
+    code.extend_from_slice(routine)?;
+    Ok(code)
+}
+
 // Puts the stub of a status behind a list.
 fn put_stub(code: &mut Vec<FlatInstruction>, status: u32, number: u64) -> Result<(), AllocError>
     ensures { OnOk result (code.new.items ≡ code.old.items ++ Constant status number ∷ Return status ∷ []) }
@@ -119,22 +155,24 @@ fn homes(alloc: Global, registers: u32) -> Result<Vec<u32>, AllocError>
 }
 
 /// A routine as a function of the runtime, whose arguments, status and results are consecutive registers. The routine
-/// takes its arguments in the first registers, leaves the next alone, and gives its results in those behind it. The only
-/// refusal is that memory fails.
+/// takes its arguments in the first registers, leaves the next alone, and gives its results in those behind it. The
+/// function makes the eight registers from the status on 0 first. The only refusal is that memory fails.
 pub fn runtime_function(
     alloc: Global,
     routine: &[FlatInstruction],
     frame: RuntimeFrame,
 ) -> Result<FlatFunction, AllocError>
-    requires routine { length routine.now < 2 ^ 31 }
+    requires routine { length routine.now + cleared_registers < 2 ^ 31 }
     requires registers { frame.registers ≤ 254 }
     requires results { frame.parameters + 1 + frame.results ≤ frame.registers }
+    requires cleared { frame.parameters + cleared_registers ≤ frame.registers }
     ensures function { IfOk result (λ f. IsRuntimeFunction routine.now frame.parameters frame.results f) }
     ensures record { IfOk result (λ f. f.room ≡ 16 + 8 * frame.registers) }
     ensures homes { IfOk result (λ f. f.homes ≡ own_homes frame.registers) }
 {
+    let whole = with_zeros(alloc, routine, frame.parameters)?;
     let mut body = Vec::new(alloc);
-    put_with_stubs(&mut body, routine)?;
+    put_with_stubs(&mut body, &whole)?;
     put_stubs(&mut body, frame.parameters)?;
     let homes = homes(alloc, frame.registers)?;
     Ok(FlatFunction {

@@ -36,7 +36,8 @@ ghost use Rattle.runtime_functions.specs.Areas.{IsAtCall, ServesArea, ServesPlac
 ghost use Rattle.runtime_functions.specs.Zeroing.{zeroing, IsToZeroObject, zeroing_interface};
 ghost use Rattle.runtime_functions.specs.Copying.{copying, AreToCopy, copying_interface};
 ghost use Rattle.runtime_functions.specs.Calls.{CallSite, CallsFunction, CallsRuntime, ComesOfCall, begins_in};
-ghost use Rattle.runtime_functions.specs.Calls.{waits_at};
+ghost use Rattle.runtime_functions.specs.Calls.{waits_at, calling_steps};
+ghost use Rattle.runtime_functions.specs.Functions.{with_zeros, cleared_registers};
 ghost use Rattle.runtime_functions.specs.Actions.{IsReady, ServesCall};
 ghost use Rattle.runtime_functions.specs.Library.{library_interface, parameters_of, results_of, routine_of, held_from};
 ghost use Rattle.runtime_functions.specs.Runtime.{runtime_list, IsOfRuntime, AreOfRuntime};
@@ -46,14 +47,15 @@ ghost use Rattle.runtime_functions.specs.Entering.{IsToEnter, ServesBlock};
 use shadow_space::ShadowForm;
 use source_meaning::laws::lines::runs_do_the_same_at_each_line;
 
-/// The call of a function of the runtime does what its routine does, in three more steps at most: the status and the
-/// results are in the registers for them, the caller's others stay, and all else is as the routine leaves it. The work
-/// is 16 and twice the values that are handed over, and the routine's own.
+/// The call of a function of the runtime does what its routine does behind the registers that it makes 0, in eleven more
+/// steps at most: the status and the results are in the registers for them, the caller's others stay, and all else is
+/// as the routine leaves it. The work is 24 and twice the values that are handed over, and the routine's own.
 pub fn calls_do_what_routines_do()
     ensures { (m : MapSizes) (p : FlatProgram) (s : CallSite) (f : FlatFunction) (r : List FlatInstruction) (a n : ℕ)
         → CallsRuntime m p s f r a n → (k : ℕ) (x : Outcome)
-        → local_run (context m p s.function (waits_at s)) r k (Goes 0 (begins_in s a)) ≡ left_at (length r) x
-        → ComesOfCall m p s a n (k + 3) x }
+        → local_run (context m p s.function (waits_at s)) (with_zeros r a) k (Goes cleared_registers (begins_in s a))
+        ≡ left_at (cleared_registers + length r) x
+        → ComesOfCall m p s a n (k + calling_steps) x }
 {}
 
 /// The call of a routine of the library, at any line, does what the routine does there, from a state that stands for one

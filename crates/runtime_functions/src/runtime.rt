@@ -1,8 +1,9 @@
 //! The functions of the runtime, a fixed list that stands behind the functions of the text.
 
-ghost use Rattle.std.specs.Prelude.{◌≡◌, ◌<◌, ◌^◌, IfOk, length};
+ghost use Rattle.std.specs.Prelude.{◌≡◌, ◌+◌, ◌<◌, ◌^◌, IfOk, length};
 ghost use Rattle.addr_map.specs.Places.{AreMapped};
 ghost use Rattle.flat_routines.specs.Shape.{HasShape};
+ghost use Rattle.runtime_functions.specs.Functions.{cleared_registers};
 ghost use Rattle.runtime_functions.specs.Sizes.{most_registers};
 ghost use Rattle.runtime_functions.specs.Runtime.{most_instructions};
 ghost use Rattle.runtime_functions.specs.Runtime.{runtime_list, argument_count, result_count, IsRuntimeCode};
@@ -171,7 +172,7 @@ fn runtime_code<S: ShadowForm>(
     requires map { AreMapped map.now }
     ensures code { IfOk result (λ r. IsRuntimeCode map.now S.entry (S.IsGood map.now) function line r.items) }
     ensures shape { IfOk result (λ r. HasShape r.items (most_instructions function) most_registers) }
-    ensures few { IfOk result (λ r. length r.items < 2 ^ 31) }
+    ensures few { IfOk result (λ r. length r.items + cleared_registers < 2 ^ 31) }
 {
     match function {
         RuntimeFunction::Library(function) => library_code::<S>(alloc, map, function, line),

@@ -1,1 +1,6 @@
 mod Moves
+mod Acting
+mod Least
+mod Accesses
+mod Updates
+mod Putting

@@ -1,5 +1,5 @@
 -- What is computed without a state, as a run.
-use Rattle.std.specs.Prelude.{◌≡◌, ℕ, List, [], ◌∷◌, Option, Some, None}
+use Rattle.std.specs.Prelude.{◌≡◌, ℕ, Bool, true, false, List, [], ◌∷◌, Option, Some, None}
 use Rattle.sb_base.specs.declared.ending.Ending.TheVariants.{Divide}
 use Rattle.obj_memory.specs.declared.value.Value.{Value}
 use Rattle.source_meaning.specs.State.{Run, done, stop}
@@ -13,3 +13,8 @@ value_or_end (Some v) line = done v
 abbrev pub PopsTo : {A : Type 0} → (old new : List A) → Option A → Type 0
 PopsTo old new None = (old ≡ []) × (new ≡ [])
 PopsTo old new (Some x) = old ≡ x ∷ new
+
+-- whether there is one
+abbrev pub is_there : {A : Type 0} → Option A → Bool
+is_there None = false
+is_there (Some x) = true

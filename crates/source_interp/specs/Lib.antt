@@ -1,1 +1,4 @@
 pub mod Answers
+pub mod Outside
+pub mod Standing
+pub mod Putting

@@ -1,12 +1,16 @@
 //! Values that were found, with the contents of structures.
 
-ghost use Rattle.std.specs.Prelude.{◌≡◌, List, [], ◌∷◌, Option, Some, None, OnOk, OnErr};
+ghost use Rattle.std.specs.Prelude.{◌≡◌, List, [], ◌∷◌, Option, Some, None, IfNone, IfSome, OnOk, OnErr};
+ghost use Rattle.obj_memory.specs.Objects.{ObjectState};
 ghost use Rattle.source_meaning.specs.State.{Rvalue};
+ghost use Rattle.source_meaning.specs.Actions.{integer};
 ghost use Rattle.source_meaning.specs.Structures.{member_of, rvalue};
-ghost use Rattle.source_interp.specs.Answers.{PopsTo};
+ghost use Rattle.interpreter_objects.specs.Kept.{found_in};
+ghost use Rattle.source_interp.specs.Answers.{PopsTo, is_there};
 
+use crate::value::integer;
 use interpreter_objects::Object;
-use obj_memory::Value;
+use obj_memory::{Scalar, Value};
 use std::alloc::{AllocError, Global};
 use std::marker::Model;
 
@@ -33,6 +37,44 @@ impl Found {
         Found {
             value,
             contents: None,
+        }
+    }
+
+    /// A structure that stands for no place: all of some contents.
+    pub fn with_contents(contents: Object) -> Found
+        ensures { result ≡ record { value = integer 0; contents = Some contents } }
+    {
+        Found {
+            value: integer(0),
+            contents: Some(contents),
+        }
+    }
+
+    /// The contents, where it has any.
+    pub fn contents(&self) -> Option<&Object>
+        ensures some { IfSome result (λ contents. self.now.contents ≡ Some contents.now) }
+        ensures none { IfNone result (self.now.contents ≡ None) }
+    {
+        self.contents.as_ref()
+    }
+
+    /// Whether it has contents.
+    pub fn has_contents(&self) -> bool
+        ensures { result ≡ is_there self.now.contents }
+    {
+        match &self.contents {
+            Some(_) => true,
+            None => false,
+        }
+    }
+
+    /// The scalar that is at the value's offset of the contents, where it is there.
+    pub fn scalar(&self, scalar: Scalar) -> Option<Value>
+        ensures { (c : ObjectState) → self.now.contents ≡ Some c → result ≡ found_in scalar self.now.value.word c }
+    {
+        match &self.contents {
+            Some(contents) => contents.read(scalar, self.value.word),
+            None => None,
         }
     }
 

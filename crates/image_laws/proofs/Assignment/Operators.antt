@@ -57,7 +57,7 @@ module _ (p : FlatProgram) (u : ℕ) (P : Registers) where
       → Straight p u P 0 (With (With R d) d) rest → Straight p u P 0 R (appended k d n ++ rest)
   appended_flow R k d n rest r t h = ((r, tt), t, tt, ((inr refl, tt), t, tt, h))
 
-  wide_flow : (R : Registers) (d w : ℕ) → P d → Straight p u P 0 R (wide_code d w)
+  pub wide_flow : (R : Registers) (d w : ℕ) → P d → Straight p u P 0 R (wide_code d w)
   wide_flow R d w t =
       let again = appended_flow (With (With (With R d) d) d) 20 d (w % 2 ^ 20) [] (inr refl) t tt in
       (tt, t, tt, appended_flow (With R d) 20 d (w / 2 ^ 20 % 2 ^ 20) (appended 20 d (w % 2 ^ 20)) (inr refl) t again)

@@ -144,7 +144,7 @@ module _ (p : FlatProgram) (u : ℕ) (P : Registers) where
 
   -- ---- a pointer narrowed
 
-  more_operand : (R S : Registers) (z : RightOperand) → ((y : ℕ) → R y → S y) → OfOperand R z → OfOperand S z
+  pub more_operand : (R S : Registers) (z : RightOperand) → ((y : ℕ) → R y → S y) → OfOperand R z → OfOperand S z
   more_operand R S (Register x) k r = k x r
   more_operand R S (Number n) k r = tt
 

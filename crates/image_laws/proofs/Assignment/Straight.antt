@@ -19,7 +19,7 @@ use Rattle.reg_plan.specs.declared.effects.Span.{Span}
 use Rattle.reg_plan.specs.Effects.{read_by, is_read, made_by, is_among, one, none, many, two, operand}
 use Rattle.reg_plan.specs.Effects.{Leads}
 use Rattle.image_laws.specs.Plans.Assignment.{Registers, IsOneOf, StaysWithin}
-use Rattle.image_laws.proofs.Plans.Flow.{one_is, one_has, many_is, many_has, none_has, reads_nothing, With, OfOperand}
+use Rattle.image_laws.proofs.Plans.Flow.{one_is, one_has, many_is, many_has, none_has, With, OfOperand}
 use Rattle.image_laws.proofs.Assignment.Flows.{Local, Flows}
 
 -- so many registers from one on are among some
@@ -276,7 +276,7 @@ module _ (p : FlatProgram) (u : ℕ) (P : Registers) where
   onward b R i is pc q s g (inr e) = absurd (none-some q e)
 
   -- what makes registers leads to the next one
-  maker_onward : (R : Registers) (i : FlatInstruction) (y pc q : ℕ) → Sources R i → is_among (made_by p i) y ≡ true
+  pub maker_onward : (R : Registers) (i : FlatInstruction) (y pc q : ℕ) → Sources R i → is_among (made_by p i) y ≡ true
       → Leads i pc q → q ≡ pc + 1
   maker_onward R (Branch op a z past) y pc q s m l = absurd (none_has y m)
   maker_onward R (JumpForward past) y pc q s m l = absurd s
@@ -435,14 +435,15 @@ if_flows p u P G false is js b M f g = g
 pub nothing : (p : FlatProgram) (u : ℕ) (P G : Registers) → ((y : ℕ) → G y → P y) → Flows p u P G [] 0 []
 nothing p u P G low = straight p u P 0 G [] tt low [] tt
 
--- code that ends the run at once makes what one likes
+-- an instruction that ends the run or returns makes what one likes
 record AtEnd (G P : Registers) (k y : ℕ) : Type 0 where
   first : k ≡ 0 → G y
   low : P y
 
-pub ends_run : (p : FlatProgram) (u : ℕ) (P G : Registers) (e : Ending) (M : List ℕ) → ((y : ℕ) → G y → P y)
-    → AreIn M P → Flows p u P G (End e ∷ []) 0 M
-ends_run p u P G e M low all = record {
+pub stops_run : (p : FlatProgram) (u : ℕ) (P G : Registers) (i : FlatInstruction) (M : List ℕ)
+    → ((y : ℕ) → G y → P y) → AreIn M P → Sources p u P G i → StaysWithin 1 0 i → ((pc q : ℕ) → Leads i pc q → ⊥)
+    → ((y : ℕ) → is_among (made_by p i) y ≡ true → ⊥) → Flows p u P G (i ∷ []) 0 M
+stops_run p u P G i M low all sources stays nowhere makes = record {
   at = AtEnd G P;
   start = λ y a. a.first refl;
   keeps = λ k y r. record { first = λ s. r; low = low y r };
@@ -452,12 +453,18 @@ ends_run p u P G e M low all = record {
   made = λ y m. record { first = λ s. absurd (omega (arith, s)); low = one_in M P y all m };
 }
   where
-    by : (pc : ℕ) (i : FlatInstruction) → slice_get (End e ∷ []) pc ≡ Some i → Local p u P (AtEnd G P) 1 pc i
-    by (suc pc) i at = absurd (none-some i at)
-    by zero i at = subst (Local p u P (AtEnd G P) 1 0) (same_Some (End e) i at) (record {
-      stays = tt;
-      reads = λ y r. absurd (reads_nothing y r);
-      steps = λ q y l a. absurd (⊎_elim (none-some q) (none-some q) l);
-      makes = λ q y l m only. absurd (none_has y m);
-      named = λ y m. absurd (none_has y m);
+    by : (pc : ℕ) (x : FlatInstruction) → slice_get (i ∷ []) pc ≡ Some x → Local p u P (AtEnd G P) 1 pc x
+    by (suc pc) x at = absurd (none-some x at)
+    by zero x at = subst (Local p u P (AtEnd G P) 1 0) (same_Some i x at) (record {
+      stays = stays;
+      reads = λ y r.
+          let g = sources_read p u P G i y sources r in record { first = λ s. g; low = low y g };
+      steps = λ q y l a. absurd (nowhere 0 q l);
+      makes = λ q y l m only. absurd (makes y m);
+      named = λ y m. absurd (makes y m);
     })
+
+pub ends_run : (p : FlatProgram) (u : ℕ) (P G : Registers) (e : Ending) (M : List ℕ) → ((y : ℕ) → G y → P y)
+    → AreIn M P → Flows p u P G (End e ∷ []) 0 M
+ends_run p u P G e M low all =
+    stops_run p u P G (End e) M low all tt tt (λ pc q l. ⊎_elim (none-some q) (none-some q) l) (λ y m. none_has y m)

@@ -1,21 +1,26 @@
 -- The registers of a temporary whose value is needed at a node are made on each path to it.
 use Rattle.std.proofs.Common.{◌≡◌, ◌⊎◌, inl, inr, ⊎_elim, ℕ, suc, refl, sym, ◌∙◌, subst}
-use Rattle.std.proofs.Common.{Bool, true, false, List, [], ◌∷◌, Some}
+use Rattle.std.proofs.Common.{Bool, true, false, List, [], ◌∷◌, Option, Some, None}
 use Rattle.std.specs.Prelude.{slice_get, ◌==◌, ◌≢◌}
 use Rattle.std.proofs.lemmas.Bool.{eqb-true, eq-eqb, cases_Bool, false≢true}
+use Rattle.obj_memory.specs.declared.value.Scalar.TheVariants.{Pointer}
+use Rattle.c_tree.specs.declared.expression.Kind.{Kind}
+use Rattle.c_tree.specs.declared.expression.Kind.TheVariants.{Scalar as OfScalar}
 use Rattle.tac_ir.specs.declared.instruction.Instruction.{Instruction}
 use Rattle.tac_ir.specs.declared.instruction.Instruction.TheVariants as tac
 use Rattle.tac_ir.specs.declared.function.CodeFunction.{CodeFunction}
 use Rattle.tac_ir.specs.Edges.{LeadsTo}
+use Rattle.tac_ir.specs.Meaning.{function_in}
 use Rattle.flat_routines.specs.Metadata.{entry_registers}
 use Rattle.runtime_functions.specs.Library.{held_from}
 use Rattle.metadata_plan.specs.Entries.{IsOther, given}
 use Rattle.metadata_relation.specs.Registers.{temporary_register}
-use Rattle.metadata_relation.specs.Blocks.{Expansion}
+use Rattle.metadata_relation.specs.FunctionTypes.{first_of_type}
+use Rattle.metadata_relation.specs.Blocks.{Expansion, result_of}
 use Rattle.c_lower.specs.Liveness.Liveness.{reads, writes, LiveWithin}
 use Rattle.check_elim.specs.Paths.{Path, Start, On}
 use Rattle.image_laws.specs.Plans.Assignment.{Registers, IsOneOf, IsMadeBefore, IsAssignedAt, IsBegun}
-use Rattle.image_laws.specs.Plans.Instructions.{entry_of, value_of, made_registers, IsSetOut}
+use Rattle.image_laws.specs.Plans.Instructions.{entry_of, value_of, result_made, call_made, made_registers, IsSetOut}
 use Rattle.image_laws.proofs.Assignment.Straight.{AreIn}
 
 -- each of a list is one of it
@@ -47,6 +52,24 @@ module _ (e : Expansion) (u : ℕ) (c : CodeFunction) where
       (sym (eqb-true z d same)) (made_value (temporary_register c d) (e.entries u next d)))
   wrote d m next z same (inr none) = absurd none
 
+  -- of a result whose entry is made in any case
+  wrote_more : (d m next z : ℕ) → (z == d) ≡ true
+      → IsMade (value_of true (temporary_register c d)) (temporary_register c z) (e.entries u m z)
+  wrote_more d m next z same =
+      subst (λ k. IsMade (value_of true (temporary_register c d)) (temporary_register c k) (e.entries u m z))
+      (sym (eqb-true z d same)) (record { value = inl refl; entry = λ y has one. inr one })
+
+  given_back : (kind : Kind) (d m next z : ℕ) → (z == d) ≡ true → (m ≡ next) ⊎ ⊥
+      → IsMade (result_made kind (e.entries u next d) (temporary_register c d)) (temporary_register c z) (e.entries u m z)
+  given_back (OfScalar Pointer) d m next z same to = wrote_more d m next z same
+  given_back _ d m next z same to = wrote d m next z same to
+
+  called : (callee : Option CodeFunction) (d m next z : ℕ) → (z == d) ≡ true → (m ≡ next) ⊎ ⊥
+      → IsMade (call_made e.code callee (e.entries u next d) (temporary_register c d)) (temporary_register c z)
+      (e.entries u m z)
+  called None d m next z same to = wrote d m next z same to
+  called (Some k) d m next z same to = given_back (result_of e.code k) d m next z same to
+
   written : (i : Instruction) (m z : ℕ) → LeadsTo i m → writes i z ≡ true
       → IsMade (made_registers e u c i) (temporary_register c z) (e.entries u m z)
   written (tac.Constant d w k) m z to h = wrote d m k z h to
@@ -69,8 +92,9 @@ module _ (e : Expansion) (u : ℕ) (c : CodeFunction) where
   written (tac.Update w k' f mode line at key d a right k) m z to h = wrote d m k z h to
   written (tac.Library r line d n k) m z to h = wrote d m k z h to
   written (tac.Print x line d n k) m z to h = wrote d m k z h to
-  written (tac.Call f line d n k) m z to h = wrote d m k z h to
-  written (tac.CallThrough type_number line d n k) m z to h = wrote d m k z h to
+  written (tac.Call f line d n k) m z to h = called (function_in e.code f) d m k z h to
+  written (tac.CallThrough type_number line d n k) m z to h =
+      called (slice_get e.code.functions (first_of_type e.code.functions type_number)) d m k z h to
   written _ m z to h = absurd (false≢true h)
 
   unequal : (d z : ℕ) → (z == d) ≡ false → z ≢ d

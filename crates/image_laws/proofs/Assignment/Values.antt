@@ -151,7 +151,7 @@ module _ (p : FlatProgram) (u : ℕ) (P : Registers) where
 
   -- ---- addresses
 
-  quiet_constant : (E : Registers) (d w : ℕ) → LastIn p E (constant_code d w)
+  pub quiet_constant : (E : Registers) (d w : ℕ) → LastIn p E (constant_code d w)
   quiet_constant E d w =
       quiet_last p E (constant_code d w) (constant_gives p u (λ y. Unit {0}) (λ y. Unit {0}) d w tt).quiet
 

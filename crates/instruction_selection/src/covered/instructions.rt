@@ -96,6 +96,11 @@ fn covers_access(instruction: &Instruction) -> bool
             mode,
             ..
         } => is_settled(*mode),
+        Instruction::Write {
+            kind: Kind::Structure(size),
+            mode,
+            ..
+        } => is_settled(*mode) && is_word(*size),
         Instruction::Update { update, mode, .. } => {
             is_settled(*mode) && is_update_by_word(*update)
         }
@@ -104,6 +109,11 @@ fn covers_access(instruction: &Instruction) -> bool
             offset,
             ..
         } => is_word(*offset),
+        Instruction::StorePart {
+            kind: Kind::Structure(size),
+            offset,
+            ..
+        } => is_word(*offset) && is_word(*size),
         _ => false,
     }
 }

@@ -11,6 +11,7 @@ use crate::checks::{Check, put_judge};
 use crate::context::FunctionContext;
 use crate::list::put;
 use crate::place_updates::{PlaceUpdate, put_update};
+use crate::structures::put_structure_write;
 use c_tree::Kind;
 use flat_meaning::FlatInstruction;
 use sb_base::{Ending, Line};
@@ -26,17 +27,19 @@ fn put_assigned<S: ShadowForm>(
     with_entry: bool,
     registers: WriteRegisters,
 ) -> Result<(), AllocError>
+    requires prepared { IsPrepared context.now }
     requires into { registers.into + 5 ≤ registers.scratch }
     requires pointer { registers.pointer + 5 ≤ registers.scratch }
     requires value { registers.value + 5 ≤ registers.scratch }
     requires room { registers.scratch + 16 ≤ 2 ^ 31 }
     ensures { OnOk result (code.new.items ≡ code.old.items
-        ++ assigned_code (inline_lists S.entry_read S.entry_write context.now.map.now) kind with_entry registers.into
-        registers.pointer registers.value registers.scratch) }
+        ++ assigned_code (inline_lists S.entry_read S.entry_write context.now.map.now) context.now.program.now kind
+        with_entry registers.into registers.pointer registers.value registers.scratch) }
 {
     match kind {
         Kind::Scalar(scalar) => put_write::<S>(code, context, scalar, with_entry, registers),
-        Kind::Void | Kind::Structure(_) | Kind::Array(_) => {
+        Kind::Structure(size) => put_structure_write(code, context, size, with_entry, registers),
+        Kind::Void | Kind::Array(_) => {
             put(code, FlatInstruction::End(Ending::Abort(Line::first())))
         }
     }

@@ -1,5 +1,5 @@
 -- What the routines on objects are made of.
-use Rattle.std.proofs.Common.{◌≡◌, ℕ, ◌+◌, ◌/◌, ◌%◌, ◌^◌, ◌<◌, ◌≤◌, List, [], ◌∷◌, ◌++◌, Bool, true, false, ◌||◌, refl, sym, ap, ◌∙◌, subst, arith}
+use Rattle.std.proofs.Common.{◌≡◌, ℕ, ◌+◌, ◌/◌, ◌%◌, ◌^◌, ◌<◌, ◌≤◌, List, [], ◌∷◌, ◌++◌, refl, arith}
 use Rattle.rv_isa.specs.declared.instruction.BranchOp.TheVariants.{Beq, Bne}
 use Rattle.addr_map.specs.declared.region.Region.TheVariants.{Heap, FreeLocks}
 use Rattle.addr_map.specs.Places.{MapSizes, AreMapped}
@@ -15,8 +15,8 @@ use Rattle.flat_routines.proofs.Shape.{shaped, both, short_below, start_short, p
 use Rattle.flat_routines.proofs.Shape.{shaped_append, shaped_registers, shaped_unless, up_to, at_most}
 use Rattle.flat_actions.proofs.Shapes.{pointer_from}
 use Rattle.flat_routines.specs.InputOutput.{IsWithoutInputOutput}
-use Rattle.flat_routines.specs.InputOutput.{does_input_output, has_input_output}
 use Rattle.flat_routines.proofs.InputOutput.{computes}
+use Rattle.lib_wrappers.proofs.Quiet.{joined_quiet}
 use Rattle.lib_wrappers.specs.declared.allocating.entering.EntryRegisters.{EntryRegisters}
 use Rattle.lib_wrappers.specs.AllocatingRoutines.Zeroing.{word_bytes, zero_bytes, zero_code}
 use Rattle.lib_wrappers.specs.AllocatingRoutines.Allocating.{keys_code, untagged, key_test, whole_bounds, make_code}
@@ -26,26 +26,6 @@ use Rattle.lib_wrappers.specs.AllocatingRoutines.Reallocating.{tests_code, lesse
 use Rattle.lib_wrappers.specs.AllocatingRoutines.Reallocating.{reallocating_code}
 use Rattle.lib_wrappers.specs.AllocatingRoutines.Entering.{registers_in, round_code, room_code, room_test}
 use Rattle.lib_wrappers.specs.AllocatingRoutines.Entering.{end_of_block, enter_code}
-
--- ---- lists that take no input and put no output
-
-none_of : (x y : Bool) → (x || y) ≡ false → (x ≡ false) × (y ≡ false)
-none_of false y e = (refl, e)
-none_of true y e = absurd cc
-
-neither : (x y : Bool) → x ≡ false → y ≡ false → (x || y) ≡ false
-neither x y e f = ap (λ b. b || y) e ∙ f
-
-pub joined_quiet : (xs ys : List FlatInstruction) → IsWithoutInputOutput xs → IsWithoutInputOutput ys
-    → IsWithoutInputOutput (xs ++ ys)
-joined_quiet [] ys h k = k
-joined_quiet (x ∷ xs) ys h k =
-    let p = none_of (does_input_output x) (has_input_output xs) h.none in
-    let rest = joined_quiet xs ys (record { none = p.1 }) k in
-    record { none = neither (does_input_output x) (has_input_output (xs ++ ys)) p.0 rest.none }
-
-pub same_quiet : {r x : List FlatInstruction} → r ≡ x → IsWithoutInputOutput x → IsWithoutInputOutput r
-same_quiet e h = subst IsWithoutInputOutput (sym e) h
 
 -- ---- a range made zero
 

@@ -2,6 +2,7 @@
 
 ghost use Rattle.std.specs.Prelude.{◌≡◌, ◌+◌, ◌≤◌, ◌^◌, IfOk, [], ◌∷◌, ◌++◌, length};
 ghost use Rattle.addr_map.specs.Places.{AreMapped};
+ghost use Rattle.flat_routines.specs.InputOutput.{IsWithoutInputOutput};
 ghost use Rattle.flat_routines.specs.Shape.{HasShape};
 ghost use Rattle.flat_routines.specs.Registers.{AreBelow};
 ghost use Rattle.flat_routines.specs.Metadata.{held_registers};
@@ -22,8 +23,8 @@ use std::alloc::{AllocError, Global};
 
 /// Moves a part of contents to the beginning of another area, or of its own: its bytes, and the entries of its whole
 /// words where it begins with a word; elsewhere the area holds none. `to` holds where the area begins, `part` the part,
-/// and `bytes` how many bytes it has. It may write the registers from `scratch` on, and shows nothing. The only refusal
-/// is that memory fails.
+/// and `bytes` how many bytes it has. It may write the registers from `scratch` on, shows nothing, takes no input and
+/// puts no output. The only refusal is that memory fails.
 pub fn move_area(
     alloc: Global,
     map: &AddrMap,
@@ -36,6 +37,7 @@ pub fn move_area(
     requires below { AreBelow scratch (to ∷ bytes ∷ held_registers part) }
     requires room { scratch + 16 ≤ 2 ^ 31 }
     ensures does { IfOk result (λ r. IsMoveAreaRoutine map.now to part bytes scratch r.items) }
+    ensures computes { IfOk result (λ r. IsWithoutInputOutput r.items) }
     ensures shape { IfOk result (λ r. HasShape r.items 80 (scratch + 9)) }
 {
     let moves = move_usable(alloc, map, to, part.value, bytes, scratch)?;
@@ -48,7 +50,8 @@ pub fn move_area(
 
 /// Takes a part of contents to an area, as the source does: where a structure is returned (C99 6.8.6.4), or an argument
 /// is a member of a result. `to` holds where the area begins, which may be that of the contents, `part` the part, and
-/// `bytes` how many bytes it has. It may write the registers from `scratch` on. The only refusal is that memory fails.
+/// `bytes` how many bytes it has. It may write the registers from `scratch` on, takes no input and puts no output. The
+/// only refusal is that memory fails.
 pub fn take_part<S: ShadowForm>(
     alloc: Global,
     map: &AddrMap,
@@ -61,6 +64,7 @@ pub fn take_part<S: ShadowForm>(
     requires below { AreBelow scratch (to ∷ bytes ∷ held_registers part) }
     requires room { scratch + 16 ≤ 2 ^ 31 }
     ensures does { IfOk result (λ r. IsTakePartRoutine map.now S.entry (S.IsGood map.now) to part bytes scratch r.items) }
+    ensures computes { IfOk result (λ r. IsWithoutInputOutput r.items) }
     ensures shape { IfOk result (λ r. HasShape r.items 80 (scratch + 9)) }
 {
     S::entries_are_local();

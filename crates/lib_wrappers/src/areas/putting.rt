@@ -2,6 +2,7 @@
 
 ghost use Rattle.std.specs.Prelude.{◌≡◌, ◌+◌, ◌≤◌, ◌^◌, IfOk, [], ◌∷◌, ◌++◌, length};
 ghost use Rattle.addr_map.specs.Places.{AreMapped};
+ghost use Rattle.flat_routines.specs.InputOutput.{IsWithoutInputOutput};
 ghost use Rattle.flat_routines.specs.Shape.{HasShape};
 ghost use Rattle.flat_routines.specs.Registers.{AreBelow};
 ghost use Rattle.flat_routines.specs.Metadata.{held_registers};
@@ -19,9 +20,10 @@ use rv_isa::RegOp;
 use shadow_space::ShadowForm;
 use std::alloc::{AllocError, Global};
 
-/// Puts a part of contents from an area to a range of object space: its bytes, and the entries of the whole words of the
-/// range where both places are equal modulo 8. `to` holds where the range begins, `part` the part, and `bytes` how many
-/// bytes. It may write the registers from `scratch` on, and shows nothing. The only refusal is that memory fails.
+/// Puts a part of contents from an area to a range of object space: its bytes, and the entries of the whole words of
+/// the range where both places are equal modulo 8. `to` holds where the range begins, `part` the part, and `bytes` how
+/// many bytes. It may write the registers from `scratch` on, shows nothing, takes no input and puts no output. The only
+/// refusal is that memory fails.
 pub fn put_range<S: ShadowForm>(
     alloc: Global,
     map: &AddrMap,
@@ -34,6 +36,7 @@ pub fn put_range<S: ShadowForm>(
     requires below { AreBelow scratch (to ∷ bytes ∷ held_registers part) }
     requires room { scratch + 8 ≤ 2 ^ 31 }
     ensures does { IfOk result (λ r. IsPutRangeRoutine map.now S.entry (S.IsGood map.now) to part bytes scratch r.items) }
+    ensures computes { IfOk result (λ r. IsWithoutInputOutput r.items) }
     ensures shape { IfOk result (λ r. HasShape r.items 96 (scratch + 13)) }
 {
     S::entries_are_local();
@@ -50,9 +53,10 @@ pub fn put_range<S: ShadowForm>(
     Ok(code)
 }
 
-/// Puts a part of contents from an area to a place in a live object, as the source does where a structure is assigned or
-/// stored (C99 6.5.16.1). `to` holds the address of the place, `part` the part, and `bytes` how many bytes it has. It may
-/// write the registers from `scratch` on. The only refusal is that memory fails.
+/// Puts a part of contents from an area to a place in a live object, as the source does where a structure is assigned
+/// or stored (C99 6.5.16.1). `to` holds the address of the place, `part` the part, and `bytes` how many bytes it has.
+/// It may write the registers from `scratch` on, takes no input and puts no output. The only refusal is that memory
+/// fails.
 pub fn put_structure<S: ShadowForm>(
     alloc: Global,
     map: &AddrMap,
@@ -65,6 +69,7 @@ pub fn put_structure<S: ShadowForm>(
     requires below { AreBelow scratch (to ∷ bytes ∷ held_registers part) }
     requires room { scratch + 8 ≤ 2 ^ 31 }
     ensures does { IfOk result (λ r. IsPutRoutine map.now S.entry (S.IsGood map.now) to part bytes scratch r.items) }
+    ensures computes { IfOk result (λ r. IsWithoutInputOutput r.items) }
     ensures shape { IfOk result (λ r. HasShape r.items 96 (scratch + 13)) }
 {
     put_range::<S>(alloc, map, to, part, bytes, scratch)

@@ -2,6 +2,7 @@
 
 ghost use Rattle.std.specs.Prelude.{◌≡◌, ◌+◌, ◌≤◌, ◌^◌, IfOk, [], ◌∷◌, length};
 ghost use Rattle.addr_map.specs.Places.{AreMapped};
+ghost use Rattle.flat_routines.specs.InputOutput.{IsWithoutInputOutput};
 ghost use Rattle.flat_routines.specs.Shape.{HasShape};
 ghost use Rattle.flat_routines.specs.Registers.{AreBelow};
 ghost use Rattle.lib_wrappers.specs.AreaRoutines.Taking.{IsTakeRangeRoutine, count_entries, take_entries};
@@ -18,10 +19,10 @@ use rv_isa::RegOp;
 use shadow_space::ShadowForm;
 use std::alloc::{AllocError, Global};
 
-/// Takes a range of object space to an area: its bytes, and the entries of its whole words where it begins at a multiple
-/// of 8; elsewhere the area holds none. `to` holds where the area begins, `from` where the range does, and `bytes` how
-/// many bytes it has. It may write the registers from `scratch` on, and shows nothing. The only refusal is that memory
-/// fails.
+/// Takes a range of object space to an area: its bytes, and the entries of its whole words where it begins at a
+/// multiple of 8; elsewhere the area holds none. `to` holds where the area begins, `from` where the range does, and
+/// `bytes` how many bytes it has. It may write the registers from `scratch` on, shows nothing, takes no input and puts
+/// no output. The only refusal is that memory fails.
 pub fn take_range<S: ShadowForm>(
     alloc: Global,
     map: &AddrMap,
@@ -34,6 +35,7 @@ pub fn take_range<S: ShadowForm>(
     requires below { AreBelow scratch (to ∷ from ∷ bytes ∷ []) }
     requires room { scratch + 8 ≤ 2 ^ 31 }
     ensures does { IfOk result (λ r. IsTakeRangeRoutine map.now S.entry (S.IsGood map.now) to from bytes scratch r.items) }
+    ensures computes { IfOk result (λ r. IsWithoutInputOutput r.items) }
     ensures shape { IfOk result (λ r. HasShape r.items 96 (scratch + 13)) }
 {
     S::entries_are_local();
@@ -54,7 +56,7 @@ pub fn take_range<S: ShadowForm>(
 
 /// Takes the contents of a structure from its place in a live object to an area, as the source does. `to` holds where
 /// the area begins, `from` the address of the structure, and `bytes` how many bytes it has. It may write the registers
-/// from `scratch` on. The only refusal is that memory fails.
+/// from `scratch` on, takes no input and puts no output. The only refusal is that memory fails.
 pub fn take_structure<S: ShadowForm>(
     alloc: Global,
     map: &AddrMap,
@@ -67,6 +69,7 @@ pub fn take_structure<S: ShadowForm>(
     requires below { AreBelow scratch (to ∷ from ∷ bytes ∷ []) }
     requires room { scratch + 8 ≤ 2 ^ 31 }
     ensures does { IfOk result (λ r. IsTakeRoutine map.now S.entry (S.IsGood map.now) to from bytes scratch r.items) }
+    ensures computes { IfOk result (λ r. IsWithoutInputOutput r.items) }
     ensures shape { IfOk result (λ r. HasShape r.items 96 (scratch + 13)) }
 {
     S::entries_are_local();

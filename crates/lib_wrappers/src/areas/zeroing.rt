@@ -2,6 +2,7 @@
 
 ghost use Rattle.std.specs.Prelude.{◌≡◌, ◌+◌, ◌≤◌, ◌^◌, IfOk, [], ◌∷◌};
 ghost use Rattle.addr_map.specs.Places.{AreMapped};
+ghost use Rattle.flat_routines.specs.InputOutput.{IsWithoutInputOutput};
 ghost use Rattle.flat_routines.specs.Shape.{HasShape};
 ghost use Rattle.flat_routines.specs.Registers.{AreBelow};
 ghost use Rattle.lib_wrappers.specs.AreaRoutines.Values.{IsMakeZeroRoutine};
@@ -16,8 +17,8 @@ use shadow_space::ShadowForm;
 use std::alloc::{AllocError, Global};
 
 /// Makes an area zero: its bytes, and its entries those of words without a pointer. `at` holds where it begins, and
-/// `bytes` how many bytes its contents have. It may write the registers from `scratch` on, and shows nothing. The only
-/// refusal is that memory fails.
+/// `bytes` how many bytes its contents have. It may write the registers from `scratch` on, shows nothing, takes no
+/// input and puts no output. The only refusal is that memory fails.
 pub fn zero_area(
     alloc: Global,
     map: &AddrMap,
@@ -29,14 +30,15 @@ pub fn zero_area(
     requires below { AreBelow scratch (at ∷ bytes ∷ []) }
     requires room { scratch + 8 ≤ 2 ^ 31 }
     ensures does { IfOk result (λ r. IsZeroAreaRoutine map.now at bytes scratch r.items) }
+    ensures computes { IfOk result (λ r. IsWithoutInputOutput r.items) }
     ensures shape { IfOk result (λ r. HasShape r.items 16 (scratch + 4)) }
 {
     zero_area_instructions(alloc, at, bytes, scratch)
 }
 
 /// Makes the contents of a structure of zeros in an area, as the source does. `at` holds where the area begins, and
-/// `bytes` how many bytes the structure has. It may write the registers from `scratch` on. The only refusal is that
-/// memory fails.
+/// `bytes` how many bytes the structure has. It may write the registers from `scratch` on, takes no input and puts no
+/// output. The only refusal is that memory fails.
 pub fn make_zero<S: ShadowForm>(
     alloc: Global,
     map: &AddrMap,
@@ -48,6 +50,7 @@ pub fn make_zero<S: ShadowForm>(
     requires below { AreBelow scratch (at ∷ bytes ∷ []) }
     requires room { scratch + 8 ≤ 2 ^ 31 }
     ensures does { IfOk result (λ r. IsMakeZeroRoutine map.now S.entry (S.IsGood map.now) at bytes scratch r.items) }
+    ensures computes { IfOk result (λ r. IsWithoutInputOutput r.items) }
     ensures shape { IfOk result (λ r. HasShape r.items 16 (scratch + 4)) }
 {
     S::entries_are_local();

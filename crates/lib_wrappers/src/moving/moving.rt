@@ -2,6 +2,7 @@
 
 ghost use Rattle.std.specs.Prelude.{◌≡◌, ◌+◌, ◌≤◌, ◌<◌, ◌^◌, ◌++◌, IfOk, [], ◌∷◌, length};
 ghost use Rattle.addr_map.specs.Places.{AreMapped};
+ghost use Rattle.flat_routines.specs.InputOutput.{IsWithoutInputOutput};
 ghost use Rattle.flat_routines.specs.Shape.{HasShape};
 ghost use Rattle.flat_routines.specs.Registers.{AreBelow};
 ghost use Rattle.flat_actions.specs.Ranges.{IsByteMoveRoutine, IsTaggedMoveRoutine};
@@ -17,9 +18,9 @@ use rv_isa::{BranchOp, LoadOp, RegOp, StoreOp};
 use shadow_space::ShadowForm;
 use std::alloc::{AllocError, Global};
 
-/// Moves as many bytes of object space as `bytes` holds from the address in `from` on to those from the address in
-/// `to` on, as by `memmove`, also where the ranges overlap. It may write the registers from `scratch` on, and shows
-/// nothing else. The only refusal is that memory fails.
+/// Moves as many bytes of object space as `bytes` holds from the address in `from` on to those from the address in `to`
+/// on, as by `memmove`, also where the ranges overlap. It may write the registers from `scratch` on, shows nothing
+/// else, takes no input and puts no output. The only refusal is that memory fails.
 pub fn move_bytes(
     alloc: Global,
     map: &AddrMap,
@@ -32,14 +33,15 @@ pub fn move_bytes(
     requires below { AreBelow scratch (to ∷ from ∷ bytes ∷ []) }
     requires room { scratch + 8 ≤ 2 ^ 31 }
     ensures does { IfOk result (λ r. IsByteMoveRoutine map.now to from bytes scratch r.items) }
+    ensures computes { IfOk result (λ r. IsWithoutInputOutput r.items) }
     ensures shape { IfOk result (λ r. HasShape r.items 24 (scratch + 5)) }
 {
     move_bytes_instructions(alloc, to, from, bytes, scratch)
 }
 
 /// Moves as many bytes as `bytes` holds from the address in `from` on to those from the address in `to` on, as by
-/// `memmove`, also where the ranges overlap: of object space or of the runtime's spaces. It may write the registers from
-/// `scratch` on, and shows nothing else. The only refusal is that memory fails.
+/// `memmove`, also where the ranges overlap: of object space or of the runtime's spaces. It may write the registers
+/// from `scratch` on, shows nothing else, takes no input and puts no output. The only refusal is that memory fails.
 pub fn move_usable(
     alloc: Global,
     map: &AddrMap,
@@ -52,6 +54,7 @@ pub fn move_usable(
     requires below { AreBelow scratch (to ∷ from ∷ bytes ∷ []) }
     requires room { scratch + 8 ≤ 2 ^ 31 }
     ensures does { IfOk result (λ r. IsUsableMoveRoutine map.now to from bytes scratch r.items) }
+    ensures computes { IfOk result (λ r. IsWithoutInputOutput r.items) }
     ensures shape { IfOk result (λ r. HasShape r.items 24 (scratch + 5)) }
 {
     move_bytes_instructions(alloc, to, from, bytes, scratch)
@@ -213,9 +216,10 @@ fn loop_instructions(
     )
 }
 
-/// Moves as many bytes of object space as `bytes` holds from the address in `from` on to those from the address in
-/// `to` on, as by `memmove`, with the entries of the whole words of the range where both places are equal modulo 8. It
-/// may write the registers from `scratch` on, and shows nothing else. The only refusal is that memory fails.
+/// Moves as many bytes of object space as `bytes` holds from the address in `from` on to those from the address in `to`
+/// on, as by `memmove`, with the entries of the whole words of the range where both places are equal modulo 8. It may
+/// write the registers from `scratch` on, shows nothing else, takes no input and puts no output. The only refusal is
+/// that memory fails.
 pub fn move_tagged<S: ShadowForm>(
     alloc: Global,
     map: &AddrMap,
@@ -229,6 +233,7 @@ pub fn move_tagged<S: ShadowForm>(
     requires room { scratch + 8 ≤ 2 ^ 31 }
     ensures does { IfOk result (λ r. IsTaggedMoveRoutine map.now S.entry (S.IsGood map.now) to from bytes scratch
         r.items) }
+    ensures computes { IfOk result (λ r. IsWithoutInputOutput r.items) }
     ensures shape { IfOk result (λ r. HasShape r.items 128 (scratch + 14)) }
 {
     S::entries_are_local();
@@ -249,6 +254,7 @@ fn entry_body<S: ShadowForm>(
     requires room { scratch + 8 ≤ 2 ^ 31 }
     ensures does { IfOk result (λ r. CopiesEntry map.now S.entry (S.IsGood map.now) scratch r.items) }
     ensures short { IfOk result (λ r. length r.items ≤ 128) }
+    ensures computes { IfOk result (λ r. IsWithoutInputOutput r.items) }
     ensures shape { IfOk result (λ r. HasShape r.items 64 (scratch + 14)) }
 {
     let entry = Entry {

@@ -3,5 +3,5 @@ use Rattle.runtime_functions.proofs.laws.calls_of_take_area_take_structures.Goal
 
 pub returns : goal.returns
 returns g c = λ m p s fn of calls functions types k x v size line ready q.
-    take_served m g.S.ShadowForm.entry (g.S.ShadowForm.IsGood m) p s fn of.routine functions types k x
-    (record { calls = calls; is = of.is }) of.code v size line ready q
+    take_served m g.S.ShadowForm.entry (g.S.ShadowForm.IsGood m) p s fn of.routine of.code.1 functions types k x
+    (record { calls = calls; is = of.is }) of.code.0 v size line ready q

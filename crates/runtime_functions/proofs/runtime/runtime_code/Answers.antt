@@ -47,7 +47,7 @@ returns-in-CopyTagged-clause-code g c =
     let a = c.args in
     IfOk-weaker _ _ _
     (λ r h. runtime_code_of_same a.map.now g.S.ShadowForm.entry (g.S.ShadowForm.IsGood a.map.now) a.line _ _ _
-    c.in-CopyTagged.is h) c.move_tagged.ensures.does
+    c.in-CopyTagged.is h) (both_of _ _ _ c.move_tagged.ensures.does c.move_tagged.ensures.computes)
 
 pub returns-in-Enter-clause-code : goal.returns-in-Enter-clause-code
 returns-in-Enter-clause-code g c =
@@ -61,28 +61,28 @@ returns-in-ZeroArea-clause-code g c =
     let a = c.args in
     IfOk-weaker _ _ _
     (λ r h. runtime_code_of_same a.map.now g.S.ShadowForm.entry (g.S.ShadowForm.IsGood a.map.now) a.line _ _ _
-    c.in-ZeroArea.is h) c.make_zero.ensures.does
+    c.in-ZeroArea.is h) (both_of _ _ _ c.make_zero.ensures.does c.make_zero.ensures.computes)
 
 pub returns-in-TakeArea-clause-code : goal.returns-in-TakeArea-clause-code
 returns-in-TakeArea-clause-code g c =
     let a = c.args in
     IfOk-weaker _ _ _
     (λ r h. runtime_code_of_same a.map.now g.S.ShadowForm.entry (g.S.ShadowForm.IsGood a.map.now) a.line _ _ _
-    c.in-TakeArea.is h) c.take_structure.ensures.does
+    c.in-TakeArea.is h) (both_of _ _ _ c.take_structure.ensures.does c.take_structure.ensures.computes)
 
 pub returns-in-PutArea-clause-code : goal.returns-in-PutArea-clause-code
 returns-in-PutArea-clause-code g c =
     let a = c.args in
     IfOk-weaker _ _ _
     (λ r h. runtime_code_of_same a.map.now g.S.ShadowForm.entry (g.S.ShadowForm.IsGood a.map.now) a.line _ _ _
-    c.in-PutArea.is h) c.put_structure.ensures.does
+    c.in-PutArea.is h) (both_of _ _ _ c.put_structure.ensures.does c.put_structure.ensures.computes)
 
 pub returns-in-MoveArea-clause-code : goal.returns-in-MoveArea-clause-code
 returns-in-MoveArea-clause-code g c =
     let a = c.args in
     IfOk-weaker _ _ _
     (λ r h. runtime_code_of_same a.map.now g.S.ShadowForm.entry (g.S.ShadowForm.IsGood a.map.now) a.line _ _ _
-    c.in-MoveArea.is h) c.take_part.ensures.does
+    c.in-MoveArea.is h) (both_of _ _ _ c.take_part.ensures.does c.take_part.ensures.computes)
 
 pub returns-in-Scan-clause-shape : goal.returns-in-Scan-clause-shape
 returns-in-Scan-clause-shape g c = IfOk-weaker _ _ _

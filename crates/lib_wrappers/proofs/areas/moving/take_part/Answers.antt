@@ -11,5 +11,8 @@ returns-clause-does g c =
     a.scratch _ h)
     c.move_area.ensures.does
 
+pub returns-clause-computes : goal.returns-clause-computes
+returns-clause-computes g c = c.move_area.ensures.computes
+
 pub returns-clause-shape : goal.returns-clause-shape
 returns-clause-shape g c = c.move_area.ensures.shape

@@ -10,5 +10,8 @@ returns-clause-does g c =
     a.bytes a.scratch _ h)
     c.put_range.ensures.does
 
+pub returns-clause-computes : goal.returns-clause-computes
+returns-clause-computes g c = c.put_range.ensures.computes
+
 pub returns-clause-shape : goal.returns-clause-shape
 returns-clause-shape g c = c.put_range.ensures.shape

@@ -11,5 +11,8 @@ returns-clause-does g c =
     a.scratch _ h)
     c.take_range.ensures.does
 
+pub returns-clause-computes : goal.returns-clause-computes
+returns-clause-computes g c = c.take_range.ensures.computes
+
 pub returns-clause-shape : goal.returns-clause-shape
 returns-clause-shape g c = c.take_range.ensures.shape

@@ -11,5 +11,8 @@ returns-clause-does g c =
     _ h)
     c.zero_area.ensures.does
 
+pub returns-clause-computes : goal.returns-clause-computes
+returns-clause-computes g c = c.zero_area.ensures.computes
+
 pub returns-clause-shape : goal.returns-clause-shape
 returns-clause-shape g c = c.zero_area.ensures.shape

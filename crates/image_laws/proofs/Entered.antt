@@ -5,3 +5,4 @@ pub mod Statements
 pub mod Checked
 pub mod Functions
 pub mod Plans
+pub mod OwnHomes

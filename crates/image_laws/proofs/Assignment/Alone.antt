@@ -66,6 +66,26 @@ alone_plannable p u count f small a names homes = record {
 
 -- ---- the function with which a run begins
 
+-- each of its two registers has a home of its own
+pub homes_own : (m : MapSizes) (t : Tac) → HasOwnHomes (entry_of m t) 2
+homes_own m t = record { few = omega arith; inside = inside; apart = apart }
+  where
+    inside : (y : ℕ) → y < 2 → HasHome (entry_of m t) y
+    inside zero lt = record { word = 0; is = refl; inside = omega arith }
+    inside (suc zero) lt = record { word = 1; is = refl; inside = omega arith }
+    inside (suc (suc y)) lt = absurd (omega (arith, lt))
+
+    apart : (x y w : ℕ) → x < 2 → y < 2 → slice_get (0 ∷ 1 ∷ []) x ≡ Some w → slice_get (0 ∷ 1 ∷ []) y ≡ Some w
+        → x ≡ y
+    apart zero zero w a b ex ey = refl
+    apart (suc zero) (suc zero) w a b ex ey = refl
+    apart zero (suc zero) w a b ex ey =
+        let s = same_Some 0 w ex in let t = same_Some 1 w ey in absurd (omega (arith, s, t))
+    apart (suc zero) zero w a b ex ey =
+        let s = same_Some 1 w ex in let t = same_Some 0 w ey in absurd (omega (arith, s, t))
+    apart (suc (suc x)) y w a b ex ey = absurd (omega (arith, a))
+    apart x (suc (suc y)) w a b ex ey = absurd (omega (arith, b))
+
 module _ (p : FlatProgram) (u : ℕ) (m : MapSizes) (t : Tac)
     (takes : parameters_of (function_in p t.main) ≡ 0) (gives : results_of (function_in p t.main) ≤ 2) where
   abbrev P : Registers
@@ -179,28 +199,9 @@ module _ (p : FlatProgram) (u : ℕ) (m : MapSizes) (t : Tac)
       tests_few None = omega arith
       tests_few (Some c) = let few = objects_few (objects_of_body c) c.line in omega (arith, few)
 
-  homes_own : HasOwnHomes (entry_of m t) 2
-  homes_own = record { few = omega arith; inside = inside; apart = apart }
-    where
-      inside : (y : ℕ) → y < 2 → HasHome (entry_of m t) y
-      inside zero lt = record { word = 0; is = refl; inside = omega arith }
-      inside (suc zero) lt = record { word = 1; is = refl; inside = omega arith }
-      inside (suc (suc y)) lt = absurd (omega (arith, lt))
-
-      apart : (x y w : ℕ) → x < 2 → y < 2 → slice_get (0 ∷ 1 ∷ []) x ≡ Some w → slice_get (0 ∷ 1 ∷ []) y ≡ Some w
-          → x ≡ y
-      apart zero zero w a b ex ey = refl
-      apart (suc zero) (suc zero) w a b ex ey = refl
-      apart zero (suc zero) w a b ex ey =
-          let s = same_Some 0 w ex in let t = same_Some 1 w ey in absurd (omega (arith, s, t))
-      apart (suc zero) zero w a b ex ey =
-          let s = same_Some 1 w ex in let t = same_Some 0 w ey in absurd (omega (arith, s, t))
-      apart (suc (suc x)) y w a b ex ey = absurd (omega (arith, a))
-      apart x (suc (suc y)) w a b ex ey = absurd (omega (arith, b))
-
   pub entry_plannable : IsPlannable p u (entry_of m t)
   entry_plannable =
       alone_plannable p u 2 (entry_of m t) entry_few
       (flow_assigns p u P G (entry_code m t) 0 [] entry_flows
       (last_ends p (λ y. G y ⊎ IsOneOf [] y) (entry_code m t) (entry_last (λ y. G y ⊎ IsOneOf [] y))))
-      (flow_names p u P G (entry_code m t) 0 [] entry_flows) homes_own
+      (flow_names p u P G (entry_code m t) 0 [] entry_flows) (homes_own m t)

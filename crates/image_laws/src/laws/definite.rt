@@ -1,12 +1,13 @@
 //! Laws of the functions of checked code, for the plans of their expansions.
 
-ghost use Rattle.std.specs.Prelude.{◌≡◌, ℕ, true, Some, slice_get};
+ghost use Rattle.std.specs.Prelude.{◌≡◌, ℕ, ◌+◌, length, true, Some, slice_get};
 ghost use Rattle.addr_map.specs.Places.{MapSizes};
 ghost use Rattle.c_tree.specs.Programs.{Program};
 ghost use Rattle.c_tree.specs.ValidProgram.{is_valid_program};
 ghost use Rattle.tac_ir.specs.declared.function.CodeFunction.{CodeFunction};
 ghost use Rattle.tac_ir.specs.declared.function.Tac.{Tac};
 ghost use Rattle.tac_ir.specs.Meaning.{function_in};
+ghost use Rattle.flat_meaning.specs.declared.function.FlatFunction.{FlatFunction};
 ghost use Rattle.c_lower.specs.Liveness.Liveness.{IsLive};
 ghost use Rattle.shadow_space.specs.Form.{EntryCode};
 ghost use Rattle.metadata_relation.specs.Homes.{HasRoom, homes, register_count};
@@ -17,10 +18,13 @@ ghost use Rattle.metadata_relation.specs.Steps.{AreAllCovered};
 ghost use Rattle.reg_plan.specs.Planned.{ArePlannable};
 ghost use Rattle.image_laws.specs.Images.Images.{IsChecked};
 ghost use Rattle.image_laws.specs.Images.Expansions.{Laid, IsLaidExpansion, HasPlannableParts};
+ghost use Rattle.flat_propagation.specs.Propagated.{propagated};
+ghost use Rattle.image_laws.specs.Propagation.Homes.{HasHomes};
 ghost use Rattle.image_laws.specs.Plans.Assignment.{HasOwnHomes};
 ghost use Rattle.image_laws.specs.Plans.EntryLists.{AssignEntries};
 ghost use Rattle.image_laws.specs.Plans.Instructions.{HasHomesEntered, IsDefinite, IsWhole};
 
+use crate::laws::propagation::propagated_programs_are_plannable;
 use metadata_relation::laws::laid::{
     homes_fit_into_activation_records, laid_programs_are_expanded,
 };
@@ -63,4 +67,18 @@ pub fn laid_expansions_are_plannable<S: ShadowForm>()
 {
     laid_programs_are_expanded::<S>();
     homes_fit_into_activation_records();
+}
+
+/// So it can be planned when it is propagated, where each register that a function of the runtime uses has a home of its own.
+pub fn propagated_expansions_are_plannable<S: ShadowForm>()
+    ensures { (p : Program) (r : Tac) (map : MapSizes) (l : Laid) (read write : EntryCode) → is_valid_program p ≡ true
+        → IsChecked p r → AssignEntries read write → IsLaidExpansion read write S.entry (S.IsGood map) map r l
+        → HasPlannableParts l
+        → ((k : ℕ) (f : FlatFunction) → slice_get l.runtime k ≡ Some f
+        → HasHomes (program_of l.expansion homes l.runtime) (length l.expansion.code.functions + k) f)
+        → ArePlannable (propagated (program_of l.expansion homes l.runtime)) }
+{
+    laid_programs_are_expanded::<S>();
+    homes_fit_into_activation_records();
+    propagated_programs_are_plannable();
 }

@@ -14,6 +14,7 @@ pub mod EntryLists
 pub mod Accesses
 pub mod Updates
 pub mod Checks
+pub mod Structures
 pub mod Calls
 pub mod Homes
 pub mod Printing
@@ -23,3 +24,6 @@ pub mod Blocks
 pub mod Instructions
 pub mod Beginning
 pub mod Expanded
+pub mod Alone
+pub mod Programs
+pub mod Coverage

@@ -5,3 +5,5 @@ pub mod Assignment
 pub mod Images
 pub mod Sizes
 pub mod CodeSizes
+pub mod Encoding
+pub mod Entered

@@ -10,3 +10,4 @@ pub mod Homes
 pub mod Functions
 pub mod Entry
 pub mod Programs
+pub mod Expansions

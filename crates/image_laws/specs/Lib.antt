@@ -3,3 +3,4 @@ pub mod Propagation
 pub mod Plans
 pub mod Sizes
 pub mod CodeSizes
+pub mod Encoding

@@ -2,6 +2,8 @@
 
 pub mod assignment;
 pub mod code_sizes;
+pub mod definite;
+pub mod encoding;
 pub mod expansions;
 pub mod images;
 pub mod lowering;

@@ -75,7 +75,7 @@ code_at (x ∷ cs) (y ∷ fs) e (suc u) below =
     code_at cs fs (ap (drop 1) e) u
     (let b = ltb-true (suc u) (suc (length fs)) below in lt-ltb u (length fs) (omega arith))
 
-valid_at : (q : Program) (fs : List Function) (n u : ℕ) (f : Function) → are_functions q n fs ≡ true
+pub valid_at : (q : Program) (fs : List Function) (n u : ℕ) (f : Function) → are_functions q n fs ≡ true
     → function_at fs u ≡ Some f → is_function q (n + u) f ≡ true
 valid_at q [] n u f e at = absurd (none-some f at)
 valid_at q (x ∷ fs) n zero f e at =
@@ -96,7 +96,7 @@ integers_at (x ∷ fs) zero f e at =
 integers_at (x ∷ fs) (suc u) f e at =
     integers_at fs u f (both (p.is_integer_function x) (list_all p.is_integer_function fs) e).1 at
 
-signature_of_function : (q : Program) (fs : List Function) (u : ℕ) (f : Function) → function_at fs u ≡ Some f
+pub signature_of_function : (q : Program) (fs : List Function) (u : ℕ) (f : Function) → function_at fs u ≡ Some f
     → get_or (map (λ (g : Function). signature_at q g.type_number) fs) u no_signature ≡ signature_at q f.type_number
 signature_of_function q [] u f at = absurd (none-some f at)
 signature_of_function q (x ∷ fs) zero f at = ap (λ (g : Function). signature_at q g.type_number) (same_Some x f at)
@@ -205,7 +205,7 @@ before_some None (Some x) c' i e = absurd i
 before_some (Some c) None c' i e = absurd i
 before_some (Some c) (Some x) c' i e = (c, refl, subst (SameButChecksIn c) (same_Some x c' e) i)
 
-lowered_at : (texts : List (List ℕ)) (literals : List Bool) (result : Option Function → Kind) (height : Option Function
+pub lowered_at : (texts : List (List ℕ)) (literals : List Bool) (result : Option Function → Kind) (height : Option Function
     → ℕ)
     (o : Option Function) (o' : Option CodeFunction) (f : Function) (c : CodeFunction)
     → LowersAt texts literals (result o) (height o) o o' → o ≡ Some f → o' ≡ Some c

@@ -1,6 +1,6 @@
 -- What stands between a program of objects and pointers and its image: the expansion of its checked code, the functions of
 -- the runtime, and what the data of the file is.
-use Rattle.std.specs.Prelude.{◌≡◌, ℕ, ◌<◌, ◌≤◌, ◌^◌, List, length, Some, slice_get}
+use Rattle.std.specs.Prelude.{◌≡◌, ℕ, ◌+◌, ◌<◌, ◌≤◌, ◌^◌, List, length, Some, slice_get}
 use Rattle.std.specs.List.{All}
 use Rattle.addr_map.specs.declared.region.Region.TheVariants.{Shadow}
 use Rattle.addr_map.specs.Places.{MapSizes, objects_begin, region_size}
@@ -22,16 +22,19 @@ use Rattle.metadata_relation.specs.Blocks.{Expansion}
 use Rattle.metadata_relation.specs.Contents.{AreKept}
 use Rattle.metadata_relation.specs.FunctionTypes.{HaveTypeKeys}
 use Rattle.metadata_relation.specs.InlineLists.{inline_lists}
-use Rattle.metadata_relation.specs.Laid.{program_of, layout_of}
+use Rattle.metadata_relation.specs.Homes.{homes}
+use Rattle.metadata_relation.specs.Laid.{function_of, program_of, layout_of}
 use Rattle.metadata_relation.specs.Stages.{Compiled}
 use Rattle.metadata_relation.specs.StartData.{entries_of_statics, bytes_of_statics}
 use Rattle.metadata_relation.specs.Steps.{AreAllCovered}
 use Rattle.flat_propagation.specs.Propagated.{propagated}
 use Rattle.reg_plan.specs.declared.plan.FunctionPlan.{FunctionPlan}
+use Rattle.reg_plan.specs.Planned.{IsPlannable}
 use Rattle.reg_plan.specs.Tests.{AreAccepted}
 use Rattle.machine_laws.specs.Following.Code.{IsEncodable}
 use Rattle.machine_laws.specs.Following.Start.{IsStartable}
 use Rattle.rv_codegen.specs.MachineImages.Image.{IsImage}
+use Rattle.image_laws.specs.Plans.Instructions.{IsWhole}
 
 -- An expansion under a form of the shadow space that reads and writes entries by these lists: its keys of functions tell
 -- their types, and what has an entry or may have contents is closed.
@@ -97,3 +100,12 @@ pub record IsExpandedImage (read write : EntryCode) (entry : View) (IsGood : Byt
   pub spaces : List ℕ
   pub starts : AreStartSpaces map entry IsGood laid spaces
   pub image : IsImage map (code_of laid) plans (bytes_of_statics laid.expansion.code.statics 0) spaces file
+
+-- What the plan of a laid expansion rests on beside: its code is whole, no body has 2^32 instructions, and the functions of
+-- the runtime can be planned.
+pub record HasPlannableParts (l : Laid) : Type 0 where
+  pub whole : (u : ℕ) (c : CodeFunction) → slice_get l.expansion.code.functions u ≡ Some c → IsWhole l.expansion.code c
+  pub short : (u : ℕ) (c : CodeFunction) → slice_get l.expansion.code.functions u ≡ Some c
+      → length (function_of l.expansion u c (homes c)).body < 2 ^ 32
+  pub runtime : (k : ℕ) (f : FlatFunction) → slice_get l.runtime k ≡ Some f
+      → IsPlannable (program_of l.expansion homes l.runtime) (length l.expansion.code.functions + k) f

@@ -1,6 +1,6 @@
 -- The registers that the block of an instruction makes and those of homes that it reads, of which instructions it is shown
 -- that their blocks assign what they read, and what is asked of a function and its program for that.
-use Rattle.std.specs.Prelude.{◌≡◌, ℕ, zero, suc, ◌+◌, ◌<◌, Bool, true, false, ◌&&◌, ◌==◌, nat_le, if◌then◌else◌, List, [], ◌∷◌}
+use Rattle.std.specs.Prelude.{◌≡◌, ℕ, zero, suc, ◌+◌, ◌^◌, ◌<◌, Bool, true, false, ◌&&◌, ◌==◌, nat_le, if◌then◌else◌, List, [], ◌∷◌}
 use Rattle.std.specs.Prelude.{◌++◌, length, Option, Some, None, slice_get}
 use Rattle.obj_memory.specs.declared.value.Scalar.{Scalar}
 use Rattle.obj_memory.specs.declared.value.Scalar.TheVariants.{Integer, Pointer}
@@ -34,12 +34,14 @@ use Rattle.runtime_functions.specs.Runtime.{runtime_list, argument_count, result
 use Rattle.metadata_plan.specs.Registers.{all_variables}
 use Rattle.metadata_plan.specs.Entries.{AreClosed, can_compare, key_in}
 use Rattle.metadata_relation.specs.FunctionTypes.{first_of_type}
+use Rattle.metadata_relation.specs.Homes.{register_count}
+use Rattle.metadata_relation.specs.Laid.{function_of}
 use Rattle.metadata_relation.specs.Registers.{temporary_register, variable_register, home_entry, lock_register, top_register}
 use Rattle.metadata_relation.specs.Registers.{first_free, parameters_end, area_words, result_words}
 use Rattle.metadata_relation.specs.Registers.{total, variable_words}
 use Rattle.metadata_relation.specs.Blocks.{Expansion, objects_of_body, result_of, runtime_number}
 use Rattle.c_lower.specs.Liveness.Liveness.{IsLive}
-use Rattle.image_laws.specs.Plans.Assignment.{IsOneOf, IsBegun, IsAssignedAt}
+use Rattle.image_laws.specs.Plans.Assignment.{IsOneOf, IsBegun, IsAssignedAt, HasOwnHomes}
 
 -- ---- what blocks make
 
@@ -71,7 +73,7 @@ abbrev pub entered_registers : CodeFunction → (entered : List Variable) → Li
 entered_registers c vs = top_register c vs ∷ homes_from c 0 vs
 
 -- Those of the temporary that gets a value, of which the next node tells whether it has an entry there, and those of a
--- block that is entered. The function that makes bytes zero gives a status, which nothing reads.
+-- block that is entered. The functions that make bytes zero and move a structure give a status, which nothing reads.
 abbrev pub made_registers : Expansion → (function : ℕ) → CodeFunction → Instruction → List ℕ
 made_registers e u c (tac.Constant d w m) = value_of (e.entries u m d) (temporary_register c d)
 made_registers e u c (tac.FunctionPointer d f m) = value_of (e.entries u m d) (temporary_register c d)
@@ -99,6 +101,7 @@ made_registers e u c (tac.CallThrough type_number line d n m) =
     call_made e.code (slice_get e.code.functions (first_of_type e.code.functions type_number)) (e.entries u m d)
     (temporary_register c d)
 made_registers e u c (tac.Zero x m) = (first_free c + 2) ∷ []
+made_registers e u c (tac.StorePart (Structure size) line x offset a m) = (first_free c + 3) ∷ []
 made_registers e u c (tac.EnterBlock b line m) = entered_registers c (objects_in (Some c) b)
 made_registers e u c _ = []
 
@@ -164,13 +167,11 @@ gives_no_structure t None = true
 gives_no_structure t (Some callee) = is_no_structure (result_of t callee)
 
 -- These name plain variables where they read one, update what the update is of, hand over as many arguments as are taken,
--- call no function that gives a structure, and assign and store none.
+-- and call no function that gives a structure.
 abbrev pub assigns_alone : Tac → CodeFunction → Instruction → Bool
 assigns_alone t c (tac.GetPlain d x m) = is_plain (plain_type (all_variables c) x)
 assigns_alone t c (tac.UpdatePlain w k f line d x right m) =
     is_updated_as (plain_type (all_variables c) x) k && is_update_of w k
-assigns_alone t c (tac.Write (Structure size) mode line key d a b m) = false
-assigns_alone t c (tac.StorePart (Structure size) line x offset a m) = false
 assigns_alone t c (tac.Update w k f mode line at key d a right m) = is_update_of w k
 assigns_alone t c (tac.Library r line d n m) = length (routine_signature r).parameters == n
 assigns_alone t c (tac.Print x line d n m) = nat_le (length (directives (pieces_or_none (pieces (text_in t x))))) n
@@ -178,6 +179,15 @@ assigns_alone t c (tac.Call f line d n m) = gives_no_structure t (function_in t 
 assigns_alone t c (tac.CallThrough type_number line d n m) =
     gives_no_structure t (slice_get t.functions (first_of_type t.functions type_number))
 assigns_alone t c _ = true
+
+-- What coverage does not test of these: updates are of what they are of, and calls hand over what is taken.
+abbrev pub hands_over : Tac → CodeFunction → Instruction → Bool
+hands_over t c (tac.UpdatePlain w k f line d x right m) =
+    is_updated_as (plain_type (all_variables c) x) k && is_update_of w k
+hands_over t c (tac.Update w k f mode line at key d a right m) = is_update_of w k
+hands_over t c (tac.Library r line d n m) = length (routine_signature r).parameters == n
+hands_over t c (tac.Print x line d n m) = nat_le (length (directives (pieces_or_none (pieces (text_in t x))))) n
+hands_over t c _ = true
 
 -- ---- what is asked of the function
 
@@ -232,3 +242,15 @@ pub record HasCallees (program : FlatProgram) (code : Tac) : Type 0 where
   pub runtime : (k : ℕ) (callee : RuntimeFunction) → slice_get runtime_list k ≡ Some callee
       → (parameters_of (flat_function program (runtime_number code k)) ≡ argument_count callee)
       × (results_of (flat_function program (runtime_number code k)) ≡ 1 + result_count callee)
+
+-- Each function of the code is definite, has fewer than 2^32 instructions, and has a home of its own for each register.
+pub record HasDefiniteFunctions (e : Expansion) (homes : CodeFunction → List ℕ) : Type 0 where
+  pub each : (u : ℕ) (c : CodeFunction) → function_in e.code u ≡ Some c
+      → IsDefinite e.code u c × (length (function_of e u c (homes c)).body < 2 ^ 32)
+      × HasOwnHomes (function_of e u c (homes c)) (register_count c)
+
+-- Each instruction of a function, whether or not a path from the entry comes to it, leads to nodes, and hands over what is
+-- taken.
+pub record IsWhole (code : Tac) (function : CodeFunction) : Type 0 where
+  pub nodes : (n m : ℕ) (i : Instruction) → slice_get function.code n ≡ Some i → LeadsTo i m → m < length function.code
+  pub handed : (n : ℕ) (i : Instruction) → slice_get function.code n ≡ Some i → hands_over code function i ≡ true

@@ -2,14 +2,14 @@
 """Makes stdin and stdout of this program by Debian's gcc and from cases.txt, and by nothing of this repository.
 
 The programs are those of programs/, each with its inputs beside it where it reads one, those of examples/, and the texts of
-rows/ that have integers alone, whose run C99 determines, and that write UTF-8. stdin has them one behind the other: the lines of a text, then a
-line `%<` and its input where it has one, and a line `%%` between each two. stdout has for each what gcc's program writes and its
-status (128 and the signal's number where a signal ends it).
+rows/ that have integers alone, whose run C99 determines, and that write UTF-8. stdin has them one behind the other: the
+lines of a text, then a line `%<` and its input where it has one, and a line `%%` between each two. stdout has for each what
+gcc's program writes and its status (128 and the signal's number where a signal ends it).
 
 Behind a line `%%%` come the cases of cases.txt, where the lines `%= ` are those of stdout. Then come the rows of WORKED, of
-which crates/source_meaning_rows proves what they mean, and then those of FOLDERS, each
-a folder of programs/, by their table programs/expected.txt. A row of it is a program's name and the line that is printed of its run. The
-rows with a report were worked out by hand; `expect` writes the others by gcc, each for a file of a folder.
+which crates/source_meaning_rows proves what they mean, and then those of FOLDERS, each a folder of programs/, by their table
+programs/expected.txt. A row of it is a program's name and the line that is printed of its run. The rows with a report were
+worked out by hand; `expect` writes the others by gcc, each for a file of a folder.
 
 usage: python3 crates/sbcets_tests/vectors.py make | expect
 """
@@ -26,8 +26,8 @@ sys.dont_write_bytecode = True
 sys.path.insert(0, os.path.join(TOP, "bench"))
 import row_images  # noqa: E402
 
-# folders of programs/ whose programs are cases too; bench/program_rows.py runs the others
-FOLDERS = []
+# folders of programs/ whose programs are cases too: all but those with structures as arguments and results
+FOLDERS = ["applications", "objects", "vulnerabilities", "wrong_accesses"]
 TABLE = f"{HERE}/programs/expected.txt"
 COMMAND = "%call go hi.c --heap 1048576 --stack 65536 --calls 1048576 --blocks 4096"
 OPTIONS = ["-std=c99", "-O1", "-fwrapv", "-funsigned-char", "-fno-builtin", "-w", "-include", "stdio.h", "-include", "stdlib.h"]
